@@ -9,7 +9,8 @@ use Rattle.dap_messages.specs.Messages.{Said, done, event, refused}
 use Rattle.dap_messages.specs.Requests.{request_of}
 use Rattle.dap_messages.specs.declared.request.Move.TheVariants.{Go}
 use Rattle.dap_messages.specs.declared.request.Request.{Request}
-use Rattle.dap_messages.specs.declared.request.Request.TheVariants.{Moves}
+use Rattle.dap_messages.specs.declared.request.Request.TheVariants.{InSession}
+use Rattle.dap_messages.specs.declared.request.SessionRequest.TheVariants.{Moves}
 use Rattle.dap_session.specs.Served.{Serves}
 use Rattle.dap_session.specs.declared.serving.Adapter.{Adapter}
 use Rattle.mon_steps.specs.declared.wording.TheConstants.{NO_STOP}
@@ -18,7 +19,7 @@ use Rattle.serde_json.specs.Data.{Data}
 -- ---- a run that nothing has stopped
 
 abbrev pub is_continue : Request → Bool
-is_continue (Moves Go) = true
+is_continue (InSession (Moves Go)) = true
 is_continue asked = false
 
 abbrev pub is_no_stop : Option (List ℕ) → Bool

@@ -74,17 +74,8 @@ fn is_end(asked: Request) -> bool
 {
     match asked {
         Request::Disconnect => true,
-        Request::Initialize | Request::NoRequest | Request::Launch | Request::Moves(_) => false,
-        Request::SetBreakpoints | Request::SetInstructionBreakpoints => false,
-        Request::SetExceptionBreakpoints | Request::ConfigurationDone => false,
-        Request::Threads | Request::StackTrace | Request::Scopes | Request::Variables => false,
-        Request::SetVariable | Request::Evaluate | Request::ReadMemory => false,
-        Request::Disassemble | Request::WriteMemory => false,
-        Request::GotoTargets | Request::Goto => false,
-        Request::DataBreakpointInfo | Request::SetDataBreakpoints => false,
-        Request::Completions => false,
-        Request::ExceptionInfo | Request::Pause | Request::Restart => false,
-        Request::Terminate | Request::Other => false,
+        Request::Initialize | Request::Launch => false,
+        Request::InSession(_) | Request::NoRequest => false,
     }
 }
 

@@ -11,7 +11,7 @@ ghost use Rattle.dap_session.specs.Served.{Serves};
 ghost use Rattle.serde_json.specs.View.{view};
 
 use crate::sending::send;
-use dap_messages::{Message, Move, Request, request_of, text_at};
+use dap_messages::{Message, Move, Request, SessionRequest, request_of, text_at};
 use dap_session::{Adapter, serve};
 use message_stream::{Incoming, StreamFault};
 use mon_steps::wording::NO_STOP;
@@ -26,7 +26,7 @@ fn is_continue(asked: Request) -> bool
     ensures { result ≡ is_continue asked }
 {
     match asked {
-        Request::Moves(Move::Go) => true,
+        Request::InSession(SessionRequest::Moves(Move::Go)) => true,
         _ => false,
     }
 }

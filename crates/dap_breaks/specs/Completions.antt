@@ -1,9 +1,8 @@
--- What can stand in a line of the console for the word that is typed. Source: Debug Adapter Protocol
--- 1.65, "Completions Request", "CompletionItem"; which words and names, mos65.
-use Rattle.std.specs.Prelude.{ℕ, ℤ, pos, negsuc, ◌+◌, ◌-◌, nat_le, nat_lt, Bool, true, false, if◌then◌else◌, List, [], ◌∷◌, codes, length, take, drop, Option, Some, None, unwrap_or}
+-- What can stand in a line of the console for the word that is typed. Source: Debug Adapter
+-- Protocol 1.65, "Completions Request", "CompletionItem"; which words and names, mos65.
+use Rattle.std.specs.Prelude.{ℕ, ◌+◌, ◌-◌, nat_lt, Bool, true, false, if◌then◌else◌, List, [], ◌∷◌, codes, length, take, drop, Option, Some, None, unwrap_or}
 use Rattle.std.specs.List.{flat_map, list_all}
 use Rattle.std.specs.Str.Lossy.{utf8_lossy}
-use Rattle.assembler.specs.Assembly.{AssemblyView}
 use Rattle.dap_messages.specs.Answers.{completion, targets_body}
 use Rattle.dap_messages.specs.Counting.{first_column}
 use Rattle.dap_messages.specs.Fields.{number_at, text_at}
@@ -13,6 +12,7 @@ use Rattle.mon_line_parts.specs.Topics.{TopicWord, begins_with, words}
 use Rattle.mon_line_parts.specs.declared.topic.Topic.{Topic}
 use Rattle.mon_line_parts.specs.declared.topic.Topic.TheVariants as topic
 use Rattle.serde_json.specs.Data.{Data}
+use Rattle.source_map.specs.Names.{Named}
 
 -- ---- the text before the column
 
@@ -52,18 +52,12 @@ abbrev pub word_begun : ℕ → List ℕ → TopicWord → List Data
 word_begun start typed (name, topic.Trace) = []
 word_begun start typed (name, other) = if_begun start typed name
 
--- A name whose number is an address.
-abbrev pub name_begun : ℕ → List ℕ → List ℕ × ℤ → List Data
-name_begun start typed (name, pos n) = if nat_le n 65535 then if_begun start typed name else []
-name_begun start typed (name, negsuc n) = []
-
 -- The words in the order of their table, the names in the order of their definition.
 abbrev pub words_begun : ℕ → List ℕ → List Data
 words_begun start typed = flat_map (word_begun start typed) words
 
-abbrev pub names_begun : ℕ → List ℕ → Option AssemblyView → List Data
-names_begun start typed (Some assembly) = flat_map (name_begun start typed) assembly.names
-names_begun start typed None = []
+abbrev pub names_begun : ℕ → List ℕ → List Named → List Data
+names_begun start typed names = flat_map (λ name. if_begun start typed name.text) names
 
 -- ---- what is offered
 
@@ -72,21 +66,21 @@ abbrev pub column_behind : Counting → List ℕ → ℕ
 column_behind counting text = length text + first_column counting
 
 -- The words of `mon` for the first word of a line, and names of the program behind it.
-abbrev pub begun_behind : Counting → Option AssemblyView → List ℕ → List ℕ → List Data
-begun_behind counting assembly before typed = if list_all is_blank before
+abbrev pub begun_behind : Counting → List Named → List ℕ → List ℕ → List Data
+begun_behind counting names before typed = if list_all is_blank before
     then words_begun (column_behind counting before) typed
-    else names_begun (column_behind counting before) typed assembly
+    else names_begun (column_behind counting before) typed names
 
 -- A column counts the units of UTF-16, which are bytes in a text of ASCII: nothing is offered in
 -- another.
 abbrev pub is_ascii : List ℕ → Bool
 is_ascii text = list_all (λ b. nat_lt b 128) text
 
-abbrev pub offered : Counting → Option AssemblyView → List ℕ → List Data
-offered counting assembly front = if is_ascii front
-    then begun_behind counting assembly (before_typed front) (typed_in front)
+abbrev pub offered : Counting → List Named → List ℕ → List Data
+offered counting names front = if is_ascii front
+    then begun_behind counting names (before_typed front) (typed_in front)
     else []
 
-abbrev pub completions : Counting → Option AssemblyView → Data → Data
-completions counting assembly request
-    = targets_body (offered counting assembly (front_of counting request))
+abbrev pub completions : Counting → List Named → Data → Data
+completions counting names request
+    = targets_body (offered counting names (front_of counting request))

@@ -59,18 +59,17 @@ watches_named address access = if bytes_eq access (codes "read")
     then byte_watch address Read ∷ byte_watch address Write ∷ []
     else byte_watch address Change ∷ []
 
--- Without an access changes are watched.
-abbrev pub watches_by : ℕ → Option (List ℕ) → List Watch
-watches_by address (Some access) = watches_named address access
-watches_by address None = byte_watch address Change ∷ []
+-- The access for which a client wants a byte watched: that of changes if it names none.
+abbrev pub access_of : Data → List ℕ
+access_of wanted = unwrap_or (text_at (codes "/accessType") wanted) (codes "write")
 
-abbrev pub watches_at : Option ℕ → Option (List ℕ) → List Watch
-watches_at (Some address) access = watches_by address access
+abbrev pub watches_at : Option ℕ → List ℕ → List Watch
+watches_at (Some address) access = watches_named address access
 watches_at None access = []
 
 abbrev pub watches_of : Data → List Watch
-watches_of wanted = watches_at (place_at (codes "/dataId") (codes "/offset") wanted)
-    (text_at (codes "/accessType") wanted)
+watches_of wanted
+    = watches_at (place_at (codes "/dataId") (codes "/offset") wanted) (access_of wanted)
 
 abbrev pub watches_in : List Data → List Watch
 watches_in listed = flat_map watches_of listed
@@ -124,9 +123,6 @@ is_watched watches address access = if bytes_eq access (codes "read")
     else if bytes_eq access (codes "readWrite")
     then has_access Read address watches && has_access Write address watches
     else has_access Change address watches
-
-abbrev pub access_of : Data → List ℕ
-access_of wanted = unwrap_or (text_at (codes "/accessType") wanted) (codes "write")
 
 -- A byte that a client wants watched is told to be watched, or why it is not.
 abbrev pub told_at : List Watch → Option ℕ → List ℕ → Data

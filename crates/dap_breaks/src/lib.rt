@@ -3,13 +3,15 @@
 //!
 //! `wanted` reads the breakpoints of a list, `breaks` sets and clears those of a session, `listed`
 //! puts both together and answers. `watches` watches bytes, `targets` has the addresses at which a
-//! line can be gone to, `completion` what can stand for a word that is typed. What a list does
-//! stands in `specs/Breaks.antt` and `specs/Watches.antt`, what is answered in
-//! `specs/Answered.antt`, what can be chosen in `specs/Targets.antt` and `specs/Completions.antt`.
+//! line can be gone to, `completion` what can stand for a word that is typed. `fields` has texts
+//! that a message may not have. What a list does stands in `specs/Breaks.antt` and
+//! `specs/Watches.antt`, what is answered in `specs/Answered.antt`, what can be chosen in
+//! `specs/Targets.antt` and `specs/Completions.antt`.
 #![tactic(auto)]
 
 mod breaks;
 mod completion;
+mod fields;
 mod listed;
 mod targets;
 mod wanted;

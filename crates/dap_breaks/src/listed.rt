@@ -1,7 +1,7 @@
 //! Requests that list breakpoints: each replaces those of the one before.
 
 ghost use Rattle.std.specs.Prelude.{◌≡◌, [], IfOk, OnOk, codes, map as each, option_map};
-ghost use Rattle.dap_breaks.specs.Answered.{IsAnswer, answer_at, answer_of, elsewhere};
+ghost use Rattle.dap_breaks.specs.Answered.{IsAnswer, answer_of, elsewhere};
 ghost use Rattle.dap_breaks.specs.Breaks.{KeepsEvents, SetsBreaks, SetsSourceBreaks, all_cleared};
 ghost use Rattle.dap_breaks.specs.Breaks.{all_set, place_of};
 ghost use Rattle.dap_breaks.specs.Targets.{row_in};
@@ -82,14 +82,6 @@ fn new_list(alloc: Global) -> List
     }
 }
 
-/// Appends that no line has bytes.
-fn push_no_bytes(alloc: Global, list: &mut List, line: u32) -> Result<(), AllocError>
-    ensures { OnOk result (Matches list.old → Matches list.new) }
-{
-    let wanted = unset(alloc, line, NO_BYTES)?;
-    push_unset(list, wanted)
-}
-
 /// Returns the first line of a source with bytes at a line or behind it, with its address.
 pub fn row_in(source: &Source<'_>, line: u32) -> Option<(u32, u16)>
     ensures { result ≡ row_in line (option_map (λ a. a.now) source.now.assembly) }
@@ -113,7 +105,10 @@ fn push_line(
     let line = source.counting.line_at(wanted);
     match row_in(source, line) {
         Some((line, address)) => push_at(alloc, list, desk, wanted, line, address),
-        None => push_no_bytes(alloc, list, line),
+        None => {
+            let wanted = unset(alloc, line, NO_BYTES)?;
+            push_unset(list, wanted)
+        }
     }
 }
 
@@ -133,14 +128,6 @@ fn lines_listed(
     Ok(list)
 }
 
-/// Appends that a breakpoint has no address.
-fn push_no_address(alloc: Global, list: &mut List) -> Result<(), AllocError>
-    ensures { OnOk result (Matches list.old → Matches list.new) }
-{
-    let wanted = unset(alloc, 0, "this is no address")?;
-    push_unset(list, wanted)
-}
-
 /// Appends a breakpoint at an address.
 fn push_address(
     alloc: Global,
@@ -155,7 +142,10 @@ fn push_address(
             let line = desk.places.line_at(address).unwrap_or(0);
             push_at(alloc, list, desk, wanted, line, address)
         }
-        None => push_no_address(alloc, list),
+        None => {
+            let wanted = unset(alloc, 0, "this is no address")?;
+            push_unset(list, wanted)
+        }
     }
 }
 
@@ -181,18 +171,7 @@ fn addresses_of(alloc: Global, stops: &[Break]) -> Result<Vec<u16>, AllocError>
     Ok(found)
 }
 
-/// Returns what is answered of a breakpoint that stands at an address, if it is set.
-fn answer_at(alloc: Global, session: &Session, line: u64, address: u16) -> Result<Value, AllocError>
-    ensures { IfOk result (λ v. view v ≡ answer_at session.now line address) }
-{
-    if is_break(session, address) {
-        breakpoint_set(alloc, address, line)
-    } else {
-        breakpoint_unset(alloc, line, NO_ROOM)
-    }
-}
-
-/// Returns what is answered of a breakpoint.
+/// Returns what is answered of a breakpoint: whether it is set, if it stands at an address.
 fn answer(
     alloc: Global,
     session: &Session,
@@ -203,7 +182,13 @@ fn answer(
 {
     let line = counting.shown_line(wanted.line);
     match wanted.address {
-        Some(address) => answer_at(alloc, session, line, address),
+        Some(address) => {
+            if is_break(session, address) {
+                breakpoint_set(alloc, address, line)
+            } else {
+                breakpoint_unset(alloc, line, NO_ROOM)
+            }
+        }
         None => breakpoint_unset(alloc, line, wanted.words.as_str()),
     }
 }

@@ -1,14 +1,15 @@
 //! Bytes that are watched: each list of them replaces the one before.
 
-ghost use Rattle.std.specs.Prelude.{◌≡◌, ◌++◌, ◌∷◌, [], IfOk, OnOk, map as each, option_map};
+ghost use Rattle.std.specs.Prelude.{◌≡◌, ◌++◌, ◌∷◌, [], IfOk, OnOk, map as each};
 ghost use Rattle.dap_messages.specs.Answers.{breakpoints_body};
-ghost use Rattle.dap_breaks.specs.Watches.{KeepsBreaks, SetsWatches, TellsWatches, access_of};
-ghost use Rattle.dap_breaks.specs.Watches.{all_unset, byte_watch, is_watched, told_at, told_of};
-ghost use Rattle.dap_breaks.specs.Watches.{data_by, data_shown, has_bytes, name_of, none_watched};
-ghost use Rattle.dap_breaks.specs.Watches.{place_if, place_of, unset, watched_of, watches_by, watches_in};
-ghost use Rattle.dap_breaks.specs.Watches.{watches_named, watches_of, with_all, with_one};
+ghost use Rattle.dap_breaks.specs.Watches.{KeepsBreaks, SetsWatches, TellsWatches, all_unset};
+ghost use Rattle.dap_breaks.specs.Watches.{byte_watch, data_shown, has_bytes, is_watched, name_of};
+ghost use Rattle.dap_breaks.specs.Watches.{none_watched, place_if, place_of, told_of, unset};
+ghost use Rattle.dap_breaks.specs.Watches.{watched_of, watches_in, watches_named, watches_of};
+ghost use Rattle.dap_breaks.specs.Watches.{with_all, with_one};
 ghost use Rattle.serde_json.specs.View.{view};
 
+use crate::fields::text_or;
 use crate::listed::{Listed, list_of};
 use dap_messages::{
     breakpoints_body, data_at, data_unwatched, data_watched, no_data, number_at, place_at, text_at,
@@ -76,22 +77,14 @@ fn place_of(alloc: Global, desk: &Desk, request: &Value) -> Result<Option<u16>, 
     )
 }
 
-/// Returns what can be watched of the byte at an address, if there is an address.
-fn data_by(alloc: Global, address: Option<u16>) -> Result<Value, AllocError>
-    ensures { IfOk result (λ v. view v ≡ data_by address) }
-{
-    match address {
-        Some(address) => data_at(alloc, address),
-        None => no_data(alloc, NO_DATA),
-    }
-}
-
 /// Returns what can be watched of the byte that a request names.
 pub fn data_shown(alloc: Global, desk: &Desk, request: &Value) -> Result<Value, AllocError>
     ensures { IfOk result (λ v. view v ≡ data_shown desk.now (view request.now)) }
 {
-    let address = place_of(alloc, desk, request)?;
-    data_by(alloc, address)
+    match place_of(alloc, desk, request)? {
+        Some(address) => data_at(alloc, address),
+        None => no_data(alloc, NO_DATA),
+    }
 }
 
 /// Appends a watch of one byte.
@@ -121,23 +114,13 @@ fn push_named(list: &mut Vec<Watch>, address: u16, access: &str) -> Result<(), A
     }
 }
 
-/// Appends the watches of one byte for an access. Without one changes are watched.
-fn push_by(list: &mut Vec<Watch>, address: u16, access: Option<&str>) -> Result<(), AllocError>
-    ensures { OnOk result (list.new.items
-        ≡ list.old.items ++ watches_by address (option_map (λ s. s.now) access.entry)) }
-{
-    match access {
-        Some(access) => push_named(list, address, access),
-        None => push_watch(list, address, WatchKind::Change),
-    }
-}
-
-/// Appends the watches that a client wants of one byte, if it names one.
+/// Appends the watches that a client wants of one byte, if it names one. Without an access changes
+/// are watched.
 fn push_wanted(list: &mut Vec<Watch>, wanted: &Value) -> Result<(), AllocError>
     ensures { OnOk result (list.new.items ≡ list.old.items ++ watches_of (view wanted.now)) }
 {
     match place_at(wanted, "/dataId", "/offset") {
-        Some(address) => push_by(list, address, text_at(wanted, "/accessType")),
+        Some(address) => push_named(list, address, text_or(wanted, "/accessType", "write")),
         None => Ok(()),
     }
 }
@@ -224,29 +207,13 @@ fn is_watched(stops: &Stops, address: u16, access: &str) -> bool
     }
 }
 
-/// Returns the access for which a client wants a byte watched: that of changes if it names none.
-fn access_of(wanted: &Value) -> &str
-    ensures { result.now ≡ access_of (view wanted.now) }
+/// Returns what is answered of a byte that a client wants watched.
+fn told(alloc: Global, stops: &Stops, wanted: &Value) -> Result<Value, AllocError>
+    ensures { IfOk result (λ v. view v ≡ told_of stops.now.watches.items (view wanted.now)) }
 {
-    match text_at(wanted, "/accessType") {
-        Some(access) => access,
-        None => "write",
-    }
-}
-
-/// Returns what is answered of a byte that a client wants watched for an access.
-fn told_at(
-    alloc: Global,
-    stops: &Stops,
-    address: Option<u16>,
-    access: &str,
-) -> Result<Value, AllocError>
-    ensures { IfOk result
-        (λ v. view v ≡ told_at stops.now.watches.items address access.now) }
-{
-    match address {
+    match place_at(wanted, "/dataId", "/offset") {
         Some(address) => {
-            if is_watched(stops, address, access) {
+            if is_watched(stops, address, text_or(wanted, "/accessType", "write")) {
                 data_watched(alloc)
             } else {
                 data_unwatched(alloc, NOT_WATCHED)
@@ -254,14 +221,6 @@ fn told_at(
         }
         None => data_unwatched(alloc, NO_DATA),
     }
-}
-
-/// Returns what is answered of a byte that a client wants watched.
-fn told(alloc: Global, stops: &Stops, wanted: &Value) -> Result<Value, AllocError>
-    ensures { IfOk result (λ v. view v ≡ told_of stops.now.watches.items (view wanted.now)) }
-{
-    let address = place_at(wanted, "/dataId", "/offset");
-    told_at(alloc, stops, address, access_of(wanted))
 }
 
 /// Returns what is answered of bytes that a client wants watched.

@@ -1,10 +1,11 @@
 //! How what a launch asks for is read.
 
 ghost use Rattle.std.specs.Prelude.{◌≡◌, ◌≤◌, ℕ, IfOk, List, Some, codes, option_map, string_bytes};
+ghost use Rattle.std.specs.Prelude.{unwrap_or};
 ghost use Rattle.arguments.specs.Asked.{file_view};
-ghost use Rattle.dap_messages.specs.Fields.{text_at};
+ghost use Rattle.dap_messages.specs.Fields.{flag_at, text_at};
 ghost use Rattle.dap_launch.specs.Options.{AreOptions, IsAgain, file_of, form_at, history_of};
-ghost use Rattle.dap_launch.specs.Options.{is_set, steps_of, stops_on_entry};
+ghost use Rattle.dap_launch.specs.Options.{steps_of};
 ghost use Rattle.serde_json.specs.View.{view};
 
 use crate::fault::{Fault, refused};
@@ -28,13 +29,13 @@ fn owned(alloc: Global, text: Option<&str>) -> Result<Option<String>, AllocError
     }
 }
 
-/// Returns whether the flag at a path of a message is set.
-fn is_set(message: &Value, path: &str) -> bool
-    ensures { result ≡ is_set path.now (view message.now) }
+/// Returns the flag at a path of a message: another if there is none.
+fn flag_or(message: &Value, path: &str, other: bool) -> bool
+    ensures { result ≡ unwrap_or (flag_at path.now (view message.now)) other }
 {
     match flag_at(message, path) {
         Some(flag) => flag,
-        None => false,
+        None => other,
     }
 }
 
@@ -43,9 +44,9 @@ fn form_at(request: &Value) -> Option<FileForm>
     ensures { result ≡ form_at (view request.now) }
 {
     form_asked(
-        is_set(request, "/arguments/tape"),
+        flag_or(request, "/arguments/tape", false),
         text_at(request, "/arguments/bin"),
-        is_set(request, "/arguments/prg"),
+        flag_or(request, "/arguments/prg", false),
     )
 }
 
@@ -70,20 +71,17 @@ fn steps_of(request: &Value) -> Option<u32>
     }
 }
 
-/// Returns whether the machine stands before the first instruction: unless the launch says no.
-fn stops_on_entry(request: &Value) -> bool
-    ensures { result ≡ stops_on_entry (view request.now) }
+/// Returns what a launch asks for.
+///
+/// Errors: `Refused` if it names no program, or gives an option a value that it cannot have.
+pub fn options_of(alloc: Global, request: &Value) -> Result<Options, Fault>
+    ensures { IfOk result (λ options. (file : List ℕ)
+        × (text_at (codes "/arguments/program") (view request.now) ≡ Some file)
+        × AreOptions file (view request.now) options) }
 {
-    match flag_at(request, "/arguments/stopOnEntry") {
-        Some(flag) => flag,
-        None => true,
-    }
-}
-
-/// Returns what a launch of a file asks for.
-fn options_with(alloc: Global, request: &Value, file: &str) -> Result<Options, Fault>
-    ensures { IfOk result (AreOptions file.now (view request.now)) }
-{
+    let Some(file) = text_at(request, "/arguments/program") else {
+        return Err(refused(alloc, "launch names no program"));
+    };
     let Some(form) = form_at(request) else {
         return Err(refused(alloc, "one of tape, bin and prg is allowed"));
     };
@@ -107,25 +105,8 @@ fn options_with(alloc: Global, request: &Value, file: &str) -> Result<Options, F
         history: history_of(request),
         symbols,
         steps: steps_of(request),
-        stops_on_entry: stops_on_entry(request),
+        stops_on_entry: flag_or(request, "/arguments/stopOnEntry", true),
     })
-}
-
-/// Returns what a launch asks for.
-///
-/// Errors: `Refused` if it names no program, or gives an option a value that it cannot have.
-pub fn options_of(alloc: Global, request: &Value) -> Result<Options, Fault>
-    ensures { IfOk result (λ options. (file : List ℕ)
-        × (text_at (codes "/arguments/program") (view request.now) ≡ Some file)
-        × AreOptions file (view request.now) options) }
-{
-    match text_at(request, "/arguments/program") {
-        Some(file) => {
-            let options = options_with(alloc, request, file)?;
-            Ok(options)
-        }
-        None => Err(refused(alloc, "launch names no program")),
-    }
 }
 
 impl Options {

@@ -1,9 +1,7 @@
 //! How a session begins.
 
 ghost use Rattle.std.specs.Prelude.{◌≡◌, IfOk, OnOk, option_map, string_bytes};
-ghost use Rattle.arguments.specs.Asked.{map_of};
-ghost use Rattle.assembler.specs.Assembly.{AssemblyView, IsAssembled};
-ghost use Rattle.dap_launch.specs.Begun.{AddsNames, IsBegun, IsSeated, places_in, with_names};
+ghost use Rattle.dap_launch.specs.Begun.{AddsNames, IsBegun, IsSeated, places_in};
 ghost use Rattle.dap_launch.specs.Options.{file_of};
 ghost use Rattle.source_map.specs.Lines.{PlacesView};
 
@@ -84,26 +82,6 @@ fn unloaded(alloc: Global, fault: LoadFault, file: &str) -> Fault {
     }
 }
 
-/// Adds the names of a file of names.
-fn add_from<H: Files + AllocGlobal>(
-    rt: &H,
-    options: &Options,
-    path: &str,
-    places: &mut Places,
-) -> Result<(), Fault>
-    ensures { OnOk result ((names : AssemblyView)
-        × IsAssembled (map_of (file_of options.now)) names
-        × (places.new ≡ with_names names places.old)) }
-{
-    match load_names(rt, &options.words(), path) {
-        Ok(names) => {
-            places.add_names(rt.alloc(), &names)?;
-            Ok(())
-        }
-        Err(refusal) => Err(unloaded(rt.alloc(), LoadFault::Refused(refusal), path)),
-    }
-}
-
 /// Adds the names of a file of names, if one is named.
 fn add_names<H: Files + AllocGlobal>(
     rt: &H,
@@ -114,9 +92,15 @@ fn add_names<H: Files + AllocGlobal>(
     ensures { OnOk result (AddsNames (option_map string_bytes symbols.now) (file_of options.now)
         places.old places.new) }
 {
-    match symbols {
-        Some(path) => add_from(rt, options, path.as_str(), places),
-        None => Ok(()),
+    let Some(path) = symbols else {
+        return Ok(());
+    };
+    match load_names(rt, &options.words(), path.as_str()) {
+        Ok(names) => {
+            places.add_names(rt.alloc(), &names)?;
+            Ok(())
+        }
+        Err(refusal) => { Err(unloaded(rt.alloc(), LoadFault::Refused(refusal), path.as_str())) }
     }
 }
 

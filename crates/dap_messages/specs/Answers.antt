@@ -7,18 +7,20 @@ use Rattle.std.specs.Prelude.{ℕ, true, false, List, [], ◌∷◌, codes}
 use Rattle.dap_messages.specs.Bodies.{only}
 use Rattle.dap_messages.specs.Messages.{count, object_of, word}
 use Rattle.dap_messages.specs.Texts.{address_text, reference}
-use Rattle.dap_messages.specs.Variables.{list_of}
+use Rattle.dap_messages.specs.Variables.{list_body, list_of}
 use Rattle.serde_json.specs.Data.{Data, boolean, null}
 
 -- ---- frames
+
+abbrev pub source : List ℕ → List ℕ → Data
+source name path = object_of ((codes "name", word name) ∷ (codes "path", word path) ∷ [])
 
 -- A frame has an address, words that say where it is, and a line of a source.
 abbrev pub frame_at_line : ℕ → List ℕ → ℕ → ℕ → List ℕ → List ℕ → Data
 frame_at_line address words line column name path = object_of ((codes "column", count column)
     ∷ (codes "id", count 1) ∷ (codes "instructionPointerReference", word (reference address))
     ∷ (codes "line", count line) ∷ (codes "name", word words)
-    ∷ (codes "source", object_of ((codes "name", word name) ∷ (codes "path", word path) ∷ []))
-    ∷ [])
+    ∷ (codes "source", source name path) ∷ [])
 
 -- Without a line it has the line 0, and is shown as less important.
 abbrev pub frame_without_line : ℕ → List ℕ → Data
@@ -43,7 +45,7 @@ breakpoint_unset line words = object_of ((codes "line", count line)
     ∷ (codes "message", word words) ∷ (codes "verified", boolean false) ∷ [])
 
 abbrev pub breakpoints_body : List Data → Data
-breakpoints_body ds = object_of ((codes "breakpoints", list_of ds) ∷ [])
+breakpoints_body ds = list_body (codes "breakpoints") ds
 
 -- ---- a disassembly
 
@@ -66,7 +68,7 @@ no_instruction = object_of ((codes "address", word (codes "0xFFFF"))
     ∷ (codes "instruction", word []) ∷ (codes "presentationHint", word (codes "invalid")) ∷ [])
 
 abbrev pub instructions_body : List Data → Data
-instructions_body ds = object_of ((codes "instructions", list_of ds) ∷ [])
+instructions_body ds = list_body (codes "instructions") ds
 
 -- ---- lines to go to
 
@@ -86,7 +88,7 @@ completion text start length = object_of ((codes "label", word text)
 
 -- Both are called targets.
 abbrev pub targets_body : List Data → Data
-targets_body ds = object_of ((codes "targets", list_of ds) ∷ [])
+targets_body ds = list_body (codes "targets") ds
 
 -- ---- watched bytes
 

@@ -1,7 +1,8 @@
 -- The bodies of answers. Source: Debug Adapter Protocol 1.65.
-use Rattle.std.specs.Prelude.{ℕ, true, false, List, [], ◌∷◌, codes}
+use Rattle.std.specs.Prelude.{ℕ, true, false, List, [], ◌∷◌, codes, map}
 use Rattle.dap_messages.specs.Messages.{count, object_of, word}
-use Rattle.serde_json.specs.Data.{Data, array, boolean, item, no_items}
+use Rattle.dap_messages.specs.Variables.{list_body}
+use Rattle.serde_json.specs.Data.{Data, array, boolean, item, no_items, Members, put}
 
 abbrev pub yes : Data
 yes = boolean true
@@ -16,18 +17,26 @@ nothing = object_of []
 abbrev pub continued : Data
 continued = object_of ((codes "allThreadsContinued", yes) ∷ [])
 
+-- An object whose members have these names, and are all true.
+abbrev pub all_true : List (List ℕ) → Data
+all_true names = object_of (map (λ name. (name, yes)) names)
+
+-- Members of these names, all true, are put into an object.
+abbrev pub put_true : List (List ℕ) → Members → Members
+put_true [] ms = ms
+put_true (name ∷ names) ms = put_true names (put name yes ms)
+
 -- What the adapter can do.
 unfoldable pub capabilities : Data
-capabilities = object_of ((codes "supportsCompletionsRequest", yes)
-    ∷ (codes "supportsConditionalBreakpoints", yes)
-    ∷ (codes "supportsConfigurationDoneRequest", yes) ∷ (codes "supportsDataBreakpoints", yes)
-    ∷ (codes "supportsDisassembleRequest", yes) ∷ (codes "supportsEvaluateForHovers", yes)
-    ∷ (codes "supportsExceptionInfoRequest", yes) ∷ (codes "supportsGotoTargetsRequest", yes)
-    ∷ (codes "supportsHitConditionalBreakpoints", yes)
-    ∷ (codes "supportsInstructionBreakpoints", yes) ∷ (codes "supportsReadMemoryRequest", yes)
-    ∷ (codes "supportsRestartRequest", yes) ∷ (codes "supportsSetVariable", yes)
-    ∷ (codes "supportsStepBack", yes) ∷ (codes "supportsSteppingGranularity", yes)
-    ∷ (codes "supportsTerminateRequest", yes) ∷ (codes "supportsWriteMemoryRequest", yes) ∷ [])
+capabilities = all_true (codes "supportsCompletionsRequest"
+    ∷ codes "supportsConditionalBreakpoints" ∷ codes "supportsConfigurationDoneRequest"
+    ∷ codes "supportsDataBreakpoints" ∷ codes "supportsDisassembleRequest"
+    ∷ codes "supportsEvaluateForHovers" ∷ codes "supportsExceptionInfoRequest"
+    ∷ codes "supportsGotoTargetsRequest" ∷ codes "supportsHitConditionalBreakpoints"
+    ∷ codes "supportsInstructionBreakpoints" ∷ codes "supportsReadMemoryRequest"
+    ∷ codes "supportsRestartRequest" ∷ codes "supportsSetVariable" ∷ codes "supportsStepBack"
+    ∷ codes "supportsSteppingGranularity" ∷ codes "supportsTerminateRequest"
+    ∷ codes "supportsWriteMemoryRequest" ∷ [])
 
 -- One thread.
 abbrev pub threads : Data
@@ -42,12 +51,9 @@ scope name n = object_of ((codes "expensive", boolean false) ∷ (codes "name", 
     ∷ (codes "variablesReference", count n) ∷ [])
 
 unfoldable pub scopes : Data
-scopes = object_of ((
-  codes "scopes",
-  array (item (scope (codes "Registers") 1) (item (scope (codes "Flags") 2)
-      (item (scope (codes "Symbols") 3) (item (scope (codes "Stack") 4)
-      (item (scope (codes "Zero page") 5) (item (scope (codes "Machine") 6) no_items)))))),
-) ∷ [])
+scopes = list_body (codes "scopes") (scope (codes "Registers") 1 ∷ scope (codes "Flags") 2
+    ∷ scope (codes "Symbols") 3 ∷ scope (codes "Stack") 4 ∷ scope (codes "Zero page") 5
+    ∷ scope (codes "Machine") 6 ∷ [])
 
 -- ---- events
 

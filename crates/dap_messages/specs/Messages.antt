@@ -1,5 +1,5 @@
 -- Messages to the client. Source: Debug Adapter Protocol 1.65, "Base protocol".
-use Rattle.std.specs.Prelude.{ℕ, ◌+◌, ◌==◌, true, false, if◌then◌else◌, List, [], ◌∷◌, codes, string_bytes}
+use Rattle.std.specs.Prelude.{ℕ, ◌+◌, ◌==◌, Bool, true, false, if◌then◌else◌, List, [], ◌∷◌, codes, string_bytes}
 use Rattle.dap_messages.specs.Requests.{command_of, number_of}
 use Rattle.dap_messages.specs.declared.message.Message.{Message}
 use Rattle.dap_messages.specs.declared.message.Message.TheVariants.{Done, Refused, Event}
@@ -36,11 +36,15 @@ said_of (Event name body) = event name.now (view body)
 
 -- ---- messages
 
-abbrev pub response_data : ℕ → Data → Data → Data
-response_data n request body = object_of ((codes "body", body)
-    ∷ (codes "command", word (command_of request))
+-- The members that each response has.
+abbrev pub response_members : ℕ → Data → Bool → Members
+response_members n request is_done = members ((codes "command", word (command_of request))
     ∷ (codes "request_seq", count (number_of request)) ∷ (codes "seq", count n)
-    ∷ (codes "success", boolean true) ∷ (codes "type", word (codes "response")) ∷ [])
+    ∷ (codes "success", boolean is_done) ∷ (codes "type", word (codes "response")) ∷ [])
+
+abbrev pub response_data : ℕ → Data → Data → Data
+response_data n request body
+    = object (member (codes "body") body (response_members n request true))
 
 abbrev pub refusal_data : ℕ → Data → List ℕ → Data
 refusal_data n request words = object_of ((codes "command", word (command_of request))

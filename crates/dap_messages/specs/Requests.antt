@@ -1,43 +1,79 @@
 -- What a message asks for. Source: Debug Adapter Protocol 1.65.
-use Rattle.std.specs.Prelude.{ℕ, Bool, false, bytes_eq, if◌then◌else◌, List, [], ◌∷◌, codes, Option, Some, None, unwrap_or}
+use Rattle.std.specs.Prelude.{ℕ, Bool, true, false, bytes_eq, if◌then◌else◌, List, [], ◌∷◌, codes, Option, Some, None, unwrap_or}
+use Rattle.std.specs.Borrow.{Bor}
 use Rattle.serde_json.specs.Data.{Data}
 use Rattle.dap_messages.specs.Fields.{number_at, text_at}
+use Rattle.dap_messages.specs.declared.request.Breakpoints.{Breakpoints}
+use Rattle.dap_messages.specs.declared.request.Breakpoints.TheVariants as breakpoints
+use Rattle.dap_messages.specs.declared.request.Change.{Change}
+use Rattle.dap_messages.specs.declared.request.Change.TheVariants as change
+use Rattle.dap_messages.specs.declared.request.Move.{Move}
 use Rattle.dap_messages.specs.declared.request.Move.TheVariants as move
+use Rattle.dap_messages.specs.declared.request.Query.{Query}
+use Rattle.dap_messages.specs.declared.request.Query.TheVariants as query
 use Rattle.dap_messages.specs.declared.request.Request.{Request}
 use Rattle.dap_messages.specs.declared.request.Request.TheVariants as to
+use Rattle.dap_messages.specs.declared.request.SessionRequest.{SessionRequest}
+use Rattle.dap_messages.specs.declared.request.SessionRequest.TheVariants as session
 
--- The requests that move the machine. Those by instructions are told apart.
-abbrev pub moves : Bool → List (List ℕ × Request)
-moves by_instructions
-    = (codes "next", to.Moves (if by_instructions then move.Step else move.Over))
-    ∷ (codes "stepIn", to.Moves move.Step) ∷ (codes "stepOut", to.Moves move.Out)
-    ∷ (codes "stepBack", to.Moves (if by_instructions then move.Back else move.BackOver))
-    ∷ (codes "continue", to.Moves move.Go)
-    ∷ (codes "reverseContinue", to.Moves move.BackToStop) ∷ []
+-- ---- names, each with what it asks for
 
--- The others.
-unfoldable pub others : List (List ℕ × Request)
-others = (codes "initialize", to.Initialize) ∷ (codes "launch", to.Launch)
-    ∷ (codes "setBreakpoints", to.SetBreakpoints)
-    ∷ (codes "setInstructionBreakpoints", to.SetInstructionBreakpoints)
-    ∷ (codes "setExceptionBreakpoints", to.SetExceptionBreakpoints)
-    ∷ (codes "configurationDone", to.ConfigurationDone) ∷ (codes "threads", to.Threads)
-    ∷ (codes "stackTrace", to.StackTrace) ∷ (codes "scopes", to.Scopes)
-    ∷ (codes "variables", to.Variables) ∷ (codes "setVariable", to.SetVariable)
-    ∷ (codes "evaluate", to.Evaluate) ∷ (codes "completions", to.Completions)
-    ∷ (codes "readMemory", to.ReadMemory)
-    ∷ (codes "disassemble", to.Disassemble) ∷ (codes "writeMemory", to.WriteMemory)
-    ∷ (codes "gotoTargets", to.GotoTargets) ∷ (codes "goto", to.Goto)
-    ∷ (codes "dataBreakpointInfo", to.DataBreakpointInfo)
-    ∷ (codes "setDataBreakpoints", to.SetDataBreakpoints)
-    ∷ (codes "exceptionInfo", to.ExceptionInfo) ∷ (codes "pause", to.Pause)
-    ∷ (codes "restart", to.Restart) ∷ (codes "terminate", to.Terminate)
-    ∷ (codes "disconnect", to.Disconnect) ∷ []
+abbrev pub Row : Type 0
+Row = List ℕ × Request
 
--- The first of these of a name.
-abbrev pub find : Request → List ℕ → List (List ℕ × Request) → Request
+-- The same without where the name lies in memory.
+abbrev pub row_view : Bor (List ℕ) × Request → Row
+row_view row = (row.0.now, row.1)
+
+abbrev pub in_session : List ℕ → SessionRequest → Row
+in_session name asked = (name, to.InSession asked)
+
+abbrev pub moves : List ℕ → Move → Row
+moves name way = in_session name (session.Moves way)
+
+abbrev pub sets : List ℕ → Breakpoints → Row
+sets name kind = in_session name (session.Sets kind)
+
+abbrev pub changes : List ℕ → Change → Row
+changes name kind = in_session name (session.Changes kind)
+
+abbrev pub shows : List ℕ → Query → Row
+shows name kind = in_session name (session.Shows kind)
+
+-- All but moves by instructions.
+unfoldable pub requests : List Row
+requests = (codes "initialize", to.Initialize) ∷ (codes "launch", to.Launch)
+    ∷ (codes "disconnect", to.Disconnect)
+    ∷ moves (codes "next") move.Over ∷ moves (codes "stepIn") move.Step
+    ∷ moves (codes "stepOut") move.Out ∷ moves (codes "stepBack") move.BackOver
+    ∷ moves (codes "continue") move.Go ∷ moves (codes "reverseContinue") move.BackToStop
+    ∷ sets (codes "setBreakpoints") breakpoints.Source
+    ∷ sets (codes "setInstructionBreakpoints") breakpoints.Instruction
+    ∷ sets (codes "setDataBreakpoints") breakpoints.Data
+    ∷ changes (codes "evaluate") change.Evaluate ∷ changes (codes "setVariable") change.SetVariable
+    ∷ changes (codes "goto") change.Goto ∷ changes (codes "writeMemory") change.WriteMemory
+    ∷ shows (codes "threads") query.Threads ∷ shows (codes "stackTrace") query.StackTrace
+    ∷ shows (codes "scopes") query.Scopes ∷ shows (codes "variables") query.Variables
+    ∷ shows (codes "readMemory") query.ReadMemory ∷ shows (codes "disassemble") query.Disassemble
+    ∷ shows (codes "gotoTargets") query.GotoTargets
+    ∷ shows (codes "dataBreakpointInfo") query.DataBreakpointInfo
+    ∷ shows (codes "completions") query.Completions
+    ∷ shows (codes "exceptionInfo") query.ExceptionInfo
+    ∷ shows (codes "setExceptionBreakpoints") query.SetExceptionBreakpoints
+    ∷ shows (codes "pause") query.Pause
+    ∷ in_session (codes "configurationDone") session.ConfigurationDone
+    ∷ in_session (codes "restart") session.Restart
+    ∷ in_session (codes "terminate") session.Terminate ∷ []
+
+unfoldable pub moves_by_instructions : List Row
+moves_by_instructions = moves (codes "next") move.Step ∷ moves (codes "stepBack") move.Back ∷ []
+
+-- What the first of these asks for that has a name, or else what is given.
+abbrev pub find : Request → List ℕ → List Row → Request
 find none name [] = none
 find none name (row ∷ rows) = if bytes_eq name row.0 then row.1 else find none name rows
+
+-- ---- a message
 
 -- Whether a text is there, and is this.
 abbrev pub is_text : List ℕ → Option (List ℕ) → Bool
@@ -48,9 +84,13 @@ abbrev pub by_instructions : Data → Bool
 by_instructions message = is_text (codes "instruction")
     (text_at (codes "/arguments/granularity") message)
 
+-- Nothing that is known is another request.
+abbrev pub request_known : List ℕ → Request
+request_known name = find (to.InSession session.Other) name requests
+
 abbrev pub request_named : Bool → List ℕ → Request
-request_named by_instructions name
-    = find (find to.Other name others) name (moves by_instructions)
+request_named true name = find (request_known name) name moves_by_instructions
+request_named false name = request_known name
 
 abbrev pub request_by : Data → Option (List ℕ) → Request
 request_by message None = to.NoRequest

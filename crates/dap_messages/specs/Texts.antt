@@ -7,8 +7,11 @@ use Rattle.model.specs.Text.{hex_address, hex_byte}
 abbrev pub byte_text : ℕ → List ℕ
 byte_text byte = utf8_lossy (codes "$" ++ hex_byte byte)
 
+abbrev pub marked : List ℕ → ℕ → List ℕ
+marked mark address = utf8_lossy (mark ++ hex_address address)
+
 abbrev pub address_text : ℕ → List ℕ
-address_text address = utf8_lossy (codes "$" ++ hex_address address)
+address_text address = marked (codes "$") address
 
 abbrev pub reference : ℕ → List ℕ
-reference address = utf8_lossy (codes "0x" ++ hex_address address)
+reference address = marked (codes "0x") address

@@ -11,6 +11,10 @@ use Rattle.serde_json.specs.View.{items_of}
 abbrev pub list_of : List Data → Data
 list_of ds = array (items_of ds)
 
+-- An object with one member, which is a list.
+abbrev pub list_body : List ℕ → List Data → Data
+list_body name ds = object_of ((name, list_of ds) ∷ [])
+
 -- A variable of a name, with its value. It has no variables of its own.
 abbrev pub variable : List ℕ → List ℕ → Data
 variable name value = object_of ((codes "evaluateName", word name) ∷ (codes "name", word name)
@@ -38,4 +42,4 @@ flags_shown flags = flag_variable (codes "N") flags.n ∷ flag_variable (codes "
     ∷ flag_variable (codes "Z") flags.z ∷ flag_variable (codes "C") flags.c ∷ []
 
 abbrev pub variables_body : List Data → Data
-variables_body ds = object_of ((codes "variables", list_of ds) ∷ [])
+variables_body ds = list_body (codes "variables") ds

@@ -5,8 +5,9 @@ ghost use Rattle.serde_json.specs.View.{view};
 ghost use Rattle.dap_messages.specs.Answers.{evaluated_body, exception_body, invalidated_body};
 ghost use Rattle.dap_messages.specs.Answers.{looked_at_body, memory_body, value_set_body, written_body};
 
+use crate::bodies::{put_count, put_text};
 use crate::texts::reference;
-use serde_json::{Value, json};
+use serde_json::{Map, Value, json};
 use std::alloc::{AllocError, Global};
 
 /// Returns what a line of the console, or a register, is answered by.
@@ -21,9 +22,11 @@ pub fn looked_at(alloc: Global, address: u16, words: &str) -> Result<Value, Allo
     ensures { IfOk result (λ v. view v ≡ looked_at_body address words.now) }
 {
     let place = reference(alloc, address)?;
-    json!(in alloc; {
-        "memoryReference": place.as_str(), "result": words, "variablesReference": 0
-    })
+    let mut map = Map::new(alloc);
+    put_text(alloc, &mut map, "memoryReference", place.as_str())?;
+    put_text(alloc, &mut map, "result", words)?;
+    put_count(alloc, &mut map, "variablesReference", 0)?;
+    Ok(Value::Object(map))
 }
 
 /// Returns what a variable that was set is answered by.
@@ -43,9 +46,11 @@ pub fn memory_body(
     ensures { IfOk result (λ v. view v ≡ memory_body address text.now unread) }
 {
     let place = reference(alloc, address)?;
-    json!(in alloc; {
-        "address": place.as_str(), "data": text, "unreadableBytes": unread
-    })
+    let mut map = Map::new(alloc);
+    put_text(alloc, &mut map, "address", place.as_str())?;
+    put_text(alloc, &mut map, "data", text)?;
+    put_count(alloc, &mut map, "unreadableBytes", unread)?;
+    Ok(Value::Object(map))
 }
 
 /// Returns how many bytes were written to memory.

@@ -1,30 +1,90 @@
 //! The bodies of answers that say the same whatever the session.
 
-ghost use Rattle.std.specs.Prelude.{◌≡◌, IfOk};
-ghost use Rattle.serde_json.specs.View.{view};
-ghost use Rattle.dap_messages.specs.Bodies.{capabilities, continued, nothing, output_body};
+ghost use Rattle.std.specs.Prelude.{◌≡◌, ◌++◌, IfOk, OnOk, map as each};
+ghost use Rattle.serde_json.specs.View.{members_view, view};
+ghost use Rattle.dap_messages.specs.Bodies.{capabilities, continued, nothing, output_body, put_true};
 ghost use Rattle.dap_messages.specs.Bodies.{scope, scopes, stopped_body};
 ghost use Rattle.dap_messages.specs.Bodies.{threads};
+ghost use Rattle.dap_messages.specs.Messages.{count, word};
+ghost use Rattle.dap_messages.specs.Variables.{list_body};
+ghost use Rattle.serde_json.specs.Data.{put};
 
-use serde_json::{Value, json};
+use serde_json::{Map, Value, json, put};
 use std::alloc::{AllocError, Global};
 
+/// What the adapter can do, by the protocol's names.
+const ABILITIES: [&str; 17] = [
+    "supportsCompletionsRequest",
+    "supportsConditionalBreakpoints",
+    "supportsConfigurationDoneRequest",
+    "supportsDataBreakpoints",
+    "supportsDisassembleRequest",
+    "supportsEvaluateForHovers",
+    "supportsExceptionInfoRequest",
+    "supportsGotoTargetsRequest",
+    "supportsHitConditionalBreakpoints",
+    "supportsInstructionBreakpoints",
+    "supportsReadMemoryRequest",
+    "supportsRestartRequest",
+    "supportsSetVariable",
+    "supportsStepBack",
+    "supportsSteppingGranularity",
+    "supportsTerminateRequest",
+    "supportsWriteMemoryRequest",
+];
+
+/// Puts a text into an object, as the member of a name.
+pub fn put_text(
+    alloc: Global,
+    map: &mut Map<String, Value>,
+    name: &str,
+    text: &str,
+) -> Result<(), AllocError>
+    ensures { OnOk result (members_view map.new.entries
+        ≡ put name.now (word text.now) (members_view map.old.entries)) }
+{
+    let value = Value::try_from_str(alloc, text)?;
+    put(map, alloc, name, value)
+}
+
+/// Puts a number into an object, as the member of a name.
+pub fn put_count(
+    alloc: Global,
+    map: &mut Map<String, Value>,
+    name: &str,
+    number: u64,
+) -> Result<(), AllocError>
+    ensures { OnOk result (members_view map.new.entries
+        ≡ put name.now (count number) (members_view map.old.entries)) }
+{
+    put(map, alloc, name, Value::from(number))
+}
+
+/// Puts members into an object that have these names, and are all true.
+fn put_true(alloc: Global, map: &mut Map<String, Value>, names: &[&str]) -> Result<(), AllocError>
+    ensures { OnOk result (members_view map.new.entries
+        ≡ put_true (each (λ s. s.now) names.now) (members_view map.old.entries)) }
+{
+    for name in names {
+        put(map, alloc, name, Value::Bool(true))?;
+    }
+    Ok(())
+}
+
 /// Returns what the adapter can do.
-#[tactic(auto, unfolding(crate::specs::Bodies::capabilities))]
 pub fn capabilities(alloc: Global) -> Result<Value, AllocError>
     ensures { IfOk result (λ v. view v ≡ capabilities) }
 {
-    json!(in alloc; {
-        "supportsCompletionsRequest": true, "supportsConditionalBreakpoints": true,
-        "supportsConfigurationDoneRequest": true, "supportsDataBreakpoints": true,
-        "supportsDisassembleRequest": true, "supportsEvaluateForHovers": true,
-        "supportsExceptionInfoRequest": true, "supportsGotoTargetsRequest": true,
-        "supportsHitConditionalBreakpoints": true, "supportsInstructionBreakpoints": true,
-        "supportsReadMemoryRequest": true, "supportsRestartRequest": true,
-        "supportsSetVariable": true, "supportsStepBack": true,
-        "supportsSteppingGranularity": true, "supportsTerminateRequest": true,
-        "supportsWriteMemoryRequest": true
-    })
+    let mut map = Map::new(alloc);
+    put_true(alloc, &mut map, &ABILITIES)?;
+    Ok(Value::Object(map))
+}
+
+/// Returns a body with one member, which is a list.
+pub fn list_body(alloc: Global, name: &str, list: Vec<Value>) -> Result<Value, AllocError>
+    ensures { IfOk result (λ v. view v ≡ list_body name.now (each view list.items)) }
+{
+    json!(in alloc; {name: Value::Array(list)})
 }
 
 /// Returns a body without members.
@@ -48,27 +108,48 @@ fn scope(alloc: Global, name: &str, number: u64) -> Result<Value, AllocError>
     json!(in alloc; {"name": name, "variablesReference": number, "expensive": false})
 }
 
+/// The scopes, each by the number that its variables are asked for by.
+const SCOPES: [(&str, u64); 6] = [
+    ("Registers", 1),
+    ("Flags", 2),
+    ("Symbols", 3),
+    ("Stack", 4),
+    ("Zero page", 5),
+    ("Machine", 6),
+];
+
+/// Appends scopes.
+fn push_scopes(alloc: Global, list: &mut Vec<Value>, rows: &[(&str, u64)]) -> Result<(), AllocError>
+    ensures { OnOk result (each view list.new.items
+        ≡ each view list.old.items ++ each (λ row. scope row.0.now row.1) rows.now) }
+{
+    for (name, number) in rows {
+        let value = scope(alloc, name, *number)?;
+        list.push(value)?;
+    }
+    Ok(())
+}
+
 /// Returns the scopes: registers, flags, symbols, the stack, the zero page and the machine.
 #[tactic(auto, unfolding(crate::specs::Bodies::scopes))]
 pub fn scopes(alloc: Global) -> Result<Value, AllocError>
     ensures { IfOk result (λ v. view v ≡ scopes) }
 {
-    let registers = scope(alloc, "Registers", 1)?;
-    let flags = scope(alloc, "Flags", 2)?;
-    let symbols = scope(alloc, "Symbols", 3)?;
-    let stack = scope(alloc, "Stack", 4)?;
-    let page = scope(alloc, "Zero page", 5)?;
-    let machine = scope(alloc, "Machine", 6)?;
-    json!(in alloc; {"scopes": [registers, flags, symbols, stack, page, machine]})
+    let mut list = Vec::new(alloc);
+    push_scopes(alloc, &mut list, &SCOPES)?;
+    list_body(alloc, "scopes", list)
 }
 
 /// Returns what the event says that the machine has stopped: the reason, and words of why.
 pub fn stopped_body(alloc: Global, reason: &str, words: &str) -> Result<Value, AllocError>
     ensures { IfOk result (λ v. view v ≡ stopped_body reason.now words.now) }
 {
-    json!(in alloc; {
-        "reason": reason, "description": words, "threadId": 1, "allThreadsStopped": true
-    })
+    let mut map = Map::new(alloc);
+    put(&mut map, alloc, "allThreadsStopped", Value::Bool(true))?;
+    put_text(alloc, &mut map, "description", words)?;
+    put_text(alloc, &mut map, "reason", reason)?;
+    put_count(alloc, &mut map, "threadId", 1)?;
+    Ok(Value::Object(map))
 }
 
 /// Returns what the event says that has a text, of the console of the program or of the adapter.

@@ -8,7 +8,7 @@ use crate::fields::{flag_at, number_at};
 use serde_json::Value;
 
 /// How a client counts lines and columns.
-#[derive(Clone, Copy, Debug, PartialEq, Eq)]
+#[derive(Clone, Copy)]
 pub struct Counting {
     /// Whether the first line has the number 1, and not 0.
     pub lines_start_at_1: bool,
@@ -20,10 +20,7 @@ pub struct Counting {
 fn flag_or_true(message: &Value, path: &str) -> bool
     ensures { result ≡ flag_or_true path.now (view message.now) }
 {
-    match flag_at(message, path) {
-        Some(flag) => flag,
-        None => true,
-    }
+    flag_at(message, path).unwrap_or(true)
 }
 
 impl Counting {

@@ -5,8 +5,9 @@ ghost use Rattle.dap_messages.specs.Answers.{instruction_at_line, instruction_ro
 ghost use Rattle.dap_messages.specs.Answers.{instructions_body, no_instruction};
 ghost use Rattle.serde_json.specs.View.{view};
 
+use crate::bodies::{list_body, put_count, put_text};
 use crate::texts::reference;
-use serde_json::{Value, json};
+use serde_json::{Map, Value, json, put};
 use std::alloc::{AllocError, Global};
 
 /// Returns the row of an instruction that begins a line of a source, which has a path.
@@ -22,10 +23,14 @@ pub fn instruction_at_line(
         (λ v. view v ≡ instruction_at_line address bytes.now text.now line path.now) }
 {
     let place = reference(alloc, address)?;
-    json!(in alloc; {
-        "address": place.as_str(), "instruction": text, "instructionBytes": bytes, "line": line,
-        "location": {"path": path}
-    })
+    let source = json!(in alloc; {"path": path})?;
+    let mut map = Map::new(alloc);
+    put_text(alloc, &mut map, "address", place.as_str())?;
+    put_text(alloc, &mut map, "instruction", text)?;
+    put_text(alloc, &mut map, "instructionBytes", bytes)?;
+    put_count(alloc, &mut map, "line", line)?;
+    put(&mut map, alloc, "location", source)?;
+    Ok(Value::Object(map))
 }
 
 /// Returns the row of an instruction that begins no line.
@@ -38,9 +43,11 @@ pub fn instruction_row(
     ensures { IfOk result (λ v. view v ≡ instruction_row address bytes.now text.now) }
 {
     let place = reference(alloc, address)?;
-    json!(in alloc; {
-        "address": place.as_str(), "instruction": text, "instructionBytes": bytes
-    })
+    let mut map = Map::new(alloc);
+    put_text(alloc, &mut map, "address", place.as_str())?;
+    put_text(alloc, &mut map, "instruction", text)?;
+    put_text(alloc, &mut map, "instructionBytes", bytes)?;
+    Ok(Value::Object(map))
 }
 
 /// Returns a row where no memory is.
@@ -54,5 +61,5 @@ pub fn no_instruction(alloc: Global) -> Result<Value, AllocError>
 pub fn instructions_body(alloc: Global, list: Vec<Value>) -> Result<Value, AllocError>
     ensures { IfOk result (λ v. view v ≡ instructions_body (each view list.items)) }
 {
-    json!(in alloc; {"instructions": Value::Array(list)})
+    list_body(alloc, "instructions", list)
 }

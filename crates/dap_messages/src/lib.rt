@@ -40,7 +40,7 @@ pub use frames::{frame_at_line, frame_without_line, frames_body};
 pub use instructions::{instruction_at_line, instruction_row, instructions_body, no_instruction};
 pub use message::{Message, message_value, next_number};
 pub use references::{offset_at, place_at};
-pub use request::{Move, Request};
+pub use request::{Breakpoints, Change, Move, Query, Request, SessionRequest};
 pub use requests::{command_of, number_of, request_of};
 pub use targets::{completion, goto_target, targets_body};
 pub use texts::{address_text, byte_text, reference};

@@ -1,7 +1,7 @@
 //! How a client names an address: a reference, `0x` and four hex digits, and an offset.
 
 ghost use Rattle.std.specs.Prelude.{◌≡◌, ◌≤◌, length, option_and_then, true};
-ghost use Rattle.dap_messages.specs.References.{address_of, begins_reference, in_memory, moved_by};
+ghost use Rattle.dap_messages.specs.References.{address_of, begins_reference, moved_by};
 ghost use Rattle.dap_messages.specs.References.{offset_at, place_at};
 ghost use Rattle.serde_json.specs.View.{view};
 
@@ -28,10 +28,11 @@ fn address_of(reference: &[u8]) -> Option<u16>
     }
 }
 
-/// Returns a number as an address, if there is one of it.
-fn in_memory(place: i128) -> Option<u16>
-    ensures { result ≡ in_memory place }
+/// Returns an address moved by an offset, if that stays within the memory.
+fn moved_by(address: u16, offset: i64) -> Option<u16>
+    ensures { result ≡ moved_by address offset }
 {
+    let place = i128::from(address) + i128::from(offset);
     if place >= 0 && place <= 65535 {
         Some(place as u16)
     } else {
@@ -39,21 +40,11 @@ fn in_memory(place: i128) -> Option<u16>
     }
 }
 
-/// Returns an address moved by an offset, if that stays within the memory.
-fn moved_by(address: u16, offset: i64) -> Option<u16>
-    ensures { result ≡ moved_by address offset }
-{
-    in_memory(i128::from(address) + i128::from(offset))
-}
-
 /// Returns the number at a path of a message: 0 if there is none.
 pub fn offset_at(message: &Value, path: &str) -> i64
     ensures { result ≡ offset_at path.now (view message.now) }
 {
-    match message.pointer(path).and_then(Value::as_i64) {
-        Some(offset) => offset,
-        None => 0,
-    }
+    message.pointer(path).and_then(Value::as_i64).unwrap_or(0)
 }
 
 /// Returns an address moved by an offset, if there is an address, and that stays within the memory.

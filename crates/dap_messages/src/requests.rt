@@ -1,87 +1,178 @@
 //! A message read.
 
-ghost use Rattle.std.specs.Prelude.{◌≡◌, if◌then◌else◌};
+ghost use Rattle.std.specs.Prelude.{◌≡◌, map as each};
 ghost use Rattle.serde_json.specs.View.{view};
 ghost use Rattle.std.specs.Option.{option_map};
 ghost use Rattle.dap_messages.specs.Requests.{by_instructions, command_of, find, is_request};
-ghost use Rattle.dap_messages.specs.Requests.{is_text, moves, number_of, others, request_named};
-ghost use Rattle.dap_messages.specs.Requests.{request_of};
-ghost use Rattle.dap_messages.specs.declared.request.Move.TheVariants.{Back, BackOver, Over, Step};
-ghost use Rattle.dap_messages.specs.declared.request.Request.TheVariants.{Other};
+ghost use Rattle.dap_messages.specs.Requests.{is_text, moves_by_instructions, number_of};
+ghost use Rattle.dap_messages.specs.Requests.{request_named, request_of, requests, row_view};
 
 use crate::fields::{number_at, text_at};
-use crate::request::{Move, Request};
+use crate::request::{Breakpoints, Change, Move, Query, Request, SessionRequest};
 use serde_json::Value;
 
-/// Returns the request of a name that is no move.
-#[tactic(auto, unfolding(crate::specs::Requests::others))]
-fn other_named(name: &str) -> Request
-    ensures { result ≡ find Other name.now others }
+/// The names of requests, each with what it asks for, but for moves by instructions.
+const REQUESTS: [(&str, Request); 31] = [
+    ("initialize", Request::Initialize),
+    ("launch", Request::Launch),
+    ("disconnect", Request::Disconnect),
+    (
+        "next",
+        Request::InSession(SessionRequest::Moves(Move::Over)),
+    ),
+    (
+        "stepIn",
+        Request::InSession(SessionRequest::Moves(Move::Step)),
+    ),
+    (
+        "stepOut",
+        Request::InSession(SessionRequest::Moves(Move::Out)),
+    ),
+    (
+        "stepBack",
+        Request::InSession(SessionRequest::Moves(Move::BackOver)),
+    ),
+    (
+        "continue",
+        Request::InSession(SessionRequest::Moves(Move::Go)),
+    ),
+    (
+        "reverseContinue",
+        Request::InSession(SessionRequest::Moves(Move::BackToStop)),
+    ),
+    (
+        "setBreakpoints",
+        Request::InSession(SessionRequest::Sets(Breakpoints::Source)),
+    ),
+    (
+        "setInstructionBreakpoints",
+        Request::InSession(SessionRequest::Sets(Breakpoints::Instruction)),
+    ),
+    (
+        "setDataBreakpoints",
+        Request::InSession(SessionRequest::Sets(Breakpoints::Data)),
+    ),
+    (
+        "evaluate",
+        Request::InSession(SessionRequest::Changes(Change::Evaluate)),
+    ),
+    (
+        "setVariable",
+        Request::InSession(SessionRequest::Changes(Change::SetVariable)),
+    ),
+    (
+        "goto",
+        Request::InSession(SessionRequest::Changes(Change::Goto)),
+    ),
+    (
+        "writeMemory",
+        Request::InSession(SessionRequest::Changes(Change::WriteMemory)),
+    ),
+    (
+        "threads",
+        Request::InSession(SessionRequest::Shows(Query::Threads)),
+    ),
+    (
+        "stackTrace",
+        Request::InSession(SessionRequest::Shows(Query::StackTrace)),
+    ),
+    (
+        "scopes",
+        Request::InSession(SessionRequest::Shows(Query::Scopes)),
+    ),
+    (
+        "variables",
+        Request::InSession(SessionRequest::Shows(Query::Variables)),
+    ),
+    (
+        "readMemory",
+        Request::InSession(SessionRequest::Shows(Query::ReadMemory)),
+    ),
+    (
+        "disassemble",
+        Request::InSession(SessionRequest::Shows(Query::Disassemble)),
+    ),
+    (
+        "gotoTargets",
+        Request::InSession(SessionRequest::Shows(Query::GotoTargets)),
+    ),
+    (
+        "dataBreakpointInfo",
+        Request::InSession(SessionRequest::Shows(Query::DataBreakpointInfo)),
+    ),
+    (
+        "completions",
+        Request::InSession(SessionRequest::Shows(Query::Completions)),
+    ),
+    (
+        "exceptionInfo",
+        Request::InSession(SessionRequest::Shows(Query::ExceptionInfo)),
+    ),
+    (
+        "setExceptionBreakpoints",
+        Request::InSession(SessionRequest::Shows(Query::SetExceptionBreakpoints)),
+    ),
+    (
+        "pause",
+        Request::InSession(SessionRequest::Shows(Query::Pause)),
+    ),
+    (
+        "configurationDone",
+        Request::InSession(SessionRequest::ConfigurationDone),
+    ),
+    ("restart", Request::InSession(SessionRequest::Restart)),
+    ("terminate", Request::InSession(SessionRequest::Terminate)),
+];
+
+/// The moves by instructions.
+const MOVES_BY_INSTRUCTIONS: [(&str, Request); 2] = [
+    (
+        "next",
+        Request::InSession(SessionRequest::Moves(Move::Step)),
+    ),
+    (
+        "stepBack",
+        Request::InSession(SessionRequest::Moves(Move::Back)),
+    ),
+];
+
+/// Returns the names of requests, but for moves by instructions.
+#[tactic(auto, unfolding(crate::specs::Requests::requests))]
+fn requests() -> &'static [(&'static str, Request)]
+    ensures { each row_view result.now ≡ requests }
 {
-    match name {
-        "initialize" => Request::Initialize,
-        "launch" => Request::Launch,
-        "setBreakpoints" => Request::SetBreakpoints,
-        "setInstructionBreakpoints" => Request::SetInstructionBreakpoints,
-        "setExceptionBreakpoints" => Request::SetExceptionBreakpoints,
-        "configurationDone" => Request::ConfigurationDone,
-        "threads" => Request::Threads,
-        "stackTrace" => Request::StackTrace,
-        "scopes" => Request::Scopes,
-        "variables" => Request::Variables,
-        "setVariable" => Request::SetVariable,
-        "evaluate" => Request::Evaluate,
-        "completions" => Request::Completions,
-        "readMemory" => Request::ReadMemory,
-        "disassemble" => Request::Disassemble,
-        "writeMemory" => Request::WriteMemory,
-        "gotoTargets" => Request::GotoTargets,
-        "goto" => Request::Goto,
-        "dataBreakpointInfo" => Request::DataBreakpointInfo,
-        "setDataBreakpoints" => Request::SetDataBreakpoints,
-        "exceptionInfo" => Request::ExceptionInfo,
-        "pause" => Request::Pause,
-        "restart" => Request::Restart,
-        "terminate" => Request::Terminate,
-        "disconnect" => Request::Disconnect,
-        _ => Request::Other,
-    }
+    &REQUESTS
 }
 
-/// Returns the move of `next`.
-fn next_move(by_instructions: bool) -> Move
-    ensures { result ≡ (if by_instructions then Step else Over) }
+/// Returns the moves by instructions.
+#[tactic(auto, unfolding(crate::specs::Requests::moves_by_instructions))]
+fn moves_by_instructions() -> &'static [(&'static str, Request)]
+    ensures { each row_view result.now ≡ moves_by_instructions }
 {
-    if by_instructions {
-        Move::Step
-    } else {
-        Move::Over
-    }
+    &MOVES_BY_INSTRUCTIONS
 }
 
-/// Returns the move of `stepBack`.
-fn back_move(by_instructions: bool) -> Move
-    ensures { result ≡ (if by_instructions then Back else BackOver) }
+/// Returns what the first of some names asks for that is this, or else what is given.
+fn find(none: Request, name: &str, rows: &[(&str, Request)]) -> Request
+    ensures { result ≡ find none name.now (each row_view rows.now) }
 {
-    if by_instructions {
-        Move::Back
-    } else {
-        Move::BackOver
+    for (known, asked) in rows {
+        if name == *known {
+            return *asked;
+        }
     }
+    none
 }
 
-/// Returns the request of a name. A move by instructions is told apart.
+/// Returns what a name asks for. A move by instructions is told apart.
 fn request_named(by_instructions: bool, name: &str) -> Request
     ensures { result ≡ request_named by_instructions name.now }
 {
-    match name {
-        "next" => Request::Moves(next_move(by_instructions)),
-        "stepIn" => Request::Moves(Move::Step),
-        "stepOut" => Request::Moves(Move::Out),
-        "stepBack" => Request::Moves(back_move(by_instructions)),
-        "continue" => Request::Moves(Move::Go),
-        "reverseContinue" => Request::Moves(Move::BackToStop),
-        name => other_named(name),
+    let asked = find(Request::InSession(SessionRequest::Other), name, requests());
+    if by_instructions {
+        find(asked, name, moves_by_instructions())
+    } else {
+        asked
     }
 }
 
@@ -126,18 +217,12 @@ pub fn request_of(message: &Value) -> Request
 pub fn command_of(message: &Value) -> &str
     ensures { result.now ≡ command_of (view message.now) }
 {
-    match text_at(message, "/command") {
-        Some(name) => name,
-        None => "",
-    }
+    text_at(message, "/command").unwrap_or("")
 }
 
 /// Returns the number of a message: 0 if it has none.
 pub fn number_of(message: &Value) -> u64
     ensures { result ≡ number_of (view message.now) }
 {
-    match number_at(message, "/seq") {
-        Some(number) => number,
-        None => 0,
-    }
+    number_at(message, "/seq").unwrap_or(0)
 }

@@ -1,25 +1,28 @@
 //! The variables of a scope.
 
-ghost use Rattle.std.specs.Prelude.{◌≡◌, ◌++◌, ◌∷◌, [], IfOk, OnOk, codes, false, map as each};
-ghost use Rattle.model.specs.Effect.{status};
+ghost use Rattle.std.specs.Prelude.{◌≡◌, ◌++◌, ◌∷◌, [], IfOk, OnOk, codes, map as each};
 ghost use Rattle.serde_json.specs.View.{view};
 ghost use Rattle.dap_messages.specs.Texts.{address_text};
 ghost use Rattle.dap_messages.specs.Variables.{byte_variable, flag_variable, flags_shown};
 ghost use Rattle.dap_messages.specs.Variables.{number_variable, registers_shown, variable};
 ghost use Rattle.dap_messages.specs.Variables.{variables_body};
 
+use crate::bodies::{list_body, put_count, put_text};
 use crate::texts::{address_text, byte_text, number_text};
 use model::{Flags, Regs};
-use serde_json::{Value, json};
+use serde_json::{Map, Value};
 use std::alloc::{AllocError, Global};
 
 /// Returns a variable of a name, with its value.
 pub fn variable(alloc: Global, name: &str, value: &str) -> Result<Value, AllocError>
     ensures { IfOk result (λ v. view v ≡ variable name.now value.now) }
 {
-    json!(in alloc; {
-        "evaluateName": name, "name": name, "value": value, "variablesReference": 0
-    })
+    let mut map = Map::new(alloc);
+    put_text(alloc, &mut map, "evaluateName", name)?;
+    put_text(alloc, &mut map, "name", name)?;
+    put_text(alloc, &mut map, "value", value)?;
+    put_count(alloc, &mut map, "variablesReference", 0)?;
+    Ok(Value::Object(map))
 }
 
 /// Returns a byte as a variable.
@@ -30,25 +33,6 @@ pub fn byte_variable(alloc: Global, name: &str, byte: u8) -> Result<Value, Alloc
     variable(alloc, name, value.as_str())
 }
 
-/// Returns an address as a variable.
-fn address_variable(alloc: Global, name: &str, address: u16) -> Result<Value, AllocError>
-    ensures { IfOk result (λ v. view v ≡ variable name.now (address_text address)) }
-{
-    let value = address_text(alloc, address)?;
-    variable(alloc, name, value.as_str())
-}
-
-/// Returns a flag as a variable.
-fn flag_variable(alloc: Global, name: &str, is_set: bool) -> Result<Value, AllocError>
-    ensures { IfOk result (λ v. view v ≡ flag_variable name.now is_set) }
-{
-    if is_set {
-        variable(alloc, name, "1")
-    } else {
-        variable(alloc, name, "0")
-    }
-}
-
 /// Returns a number in decimal as a variable.
 pub fn number_variable(alloc: Global, name: &str, number: u64) -> Result<Value, AllocError>
     ensures { IfOk result (λ v. view v ≡ number_variable name.now number) }
@@ -57,14 +41,28 @@ pub fn number_variable(alloc: Global, name: &str, number: u64) -> Result<Value, 
     variable(alloc, name, value.as_str())
 }
 
+/// Appends a variable of a name, with its value.
+fn push_variable(
+    alloc: Global,
+    list: &mut Vec<Value>,
+    name: &str,
+    value: &str,
+) -> Result<(), AllocError>
+    ensures { OnOk result (each view list.new.items
+        ≡ each view list.old.items ++ variable name.now value.now ∷ []) }
+{
+    let value = variable(alloc, name, value)?;
+    list.push(value)?;
+    Ok(())
+}
+
 /// Appends a byte.
 fn push_byte(alloc: Global, list: &mut Vec<Value>, name: &str, byte: u8) -> Result<(), AllocError>
     ensures { OnOk result (each view list.new.items
         ≡ each view list.old.items ++ byte_variable name.now byte ∷ []) }
 {
-    let value = byte_variable(alloc, name, byte)?;
-    list.push(value)?;
-    Ok(())
+    let value = byte_text(alloc, byte)?;
+    push_variable(alloc, list, name, value.as_str())
 }
 
 /// Appends the program counter.
@@ -72,17 +70,8 @@ fn push_counter(alloc: Global, list: &mut Vec<Value>, pc: u16) -> Result<(), All
     ensures { OnOk result (each view list.new.items
         ≡ each view list.old.items ++ variable (codes "PC") (address_text pc) ∷ []) }
 {
-    let value = address_variable(alloc, "PC", pc)?;
-    list.push(value)?;
-    Ok(())
-}
-
-/// Appends the status register, with B clear.
-fn push_status(alloc: Global, list: &mut Vec<Value>, flags: Flags) -> Result<(), AllocError>
-    ensures { OnOk result (each view list.new.items
-        ≡ each view list.old.items ++ byte_variable (codes "P") (status false flags) ∷ []) }
-{
-    push_byte(alloc, list, "P", flags.to_byte(false))
+    let value = address_text(alloc, pc)?;
+    push_variable(alloc, list, "PC", value.as_str())
 }
 
 /// Appends the registers. The status register is shown with B clear.
@@ -95,7 +84,7 @@ pub fn push_registers(alloc: Global, list: &mut Vec<Value>, regs: Regs) -> Resul
     push_byte(alloc, list, "X", regs.x)?;
     push_byte(alloc, list, "Y", regs.y)?;
     push_byte(alloc, list, "S", regs.s)?;
-    push_status(alloc, list, regs.flags)?;
+    push_byte(alloc, list, "P", regs.flags.to_byte(false))?;
     Ok(())
 }
 
@@ -109,9 +98,11 @@ fn push_flag(
     ensures { OnOk result (each view list.new.items
         ≡ each view list.old.items ++ flag_variable name.now is_set ∷ []) }
 {
-    let value = flag_variable(alloc, name, is_set)?;
-    list.push(value)?;
-    Ok(())
+    if is_set {
+        push_variable(alloc, list, name, "1")
+    } else {
+        push_variable(alloc, list, name, "0")
+    }
 }
 
 /// Appends the flags.
@@ -132,5 +123,5 @@ pub fn push_flags(alloc: Global, list: &mut Vec<Value>, flags: Flags) -> Result<
 pub fn variables_body(alloc: Global, list: Vec<Value>) -> Result<Value, AllocError>
     ensures { IfOk result (λ v. view v ≡ variables_body (each view list.items)) }
 {
-    json!(in alloc; {"variables": Value::Array(list)})
+    list_body(alloc, "variables", list)
 }

@@ -6,8 +6,13 @@ use Rattle.dap_breaks.specs.Targets.{AreTargets}
 use Rattle.dap_breaks.specs.Watches.{KeepsBreaks, SetsWatches, TellsWatches, data_shown}
 use Rattle.dap_messages.specs.Bodies.{nothing, scopes, threads}
 use Rattle.dap_messages.specs.Messages.{Said, done, event}
-use Rattle.dap_messages.specs.declared.request.Request.{Request}
-use Rattle.dap_messages.specs.declared.request.Request.TheVariants as to
+use Rattle.dap_messages.specs.declared.request.Breakpoints.{Breakpoints}
+use Rattle.dap_messages.specs.declared.request.Breakpoints.TheVariants as kind
+use Rattle.dap_messages.specs.declared.request.Change.TheVariants as change
+use Rattle.dap_messages.specs.declared.request.Query.{Query}
+use Rattle.dap_messages.specs.declared.request.Query.TheVariants as query
+use Rattle.dap_messages.specs.declared.request.SessionRequest.{SessionRequest}
+use Rattle.dap_messages.specs.declared.request.SessionRequest.TheVariants as to
 use Rattle.dap_launch.specs.Begun.{IsBegun}
 use Rattle.dap_session.specs.Changes.{Goes, HasChanged, TellsValue, Writes}
 use Rattle.dap_session.specs.Console.{Evaluates, is_console}
@@ -24,6 +29,10 @@ use Rattle.dap_views.specs.Scopes.{variables_shown}
 use Rattle.mon_session.specs.declared.desk.Desk.{Desk}
 use Rattle.mon_steps.specs.RunLines.{KeepsWatches, stand_of}
 use Rattle.serde_json.specs.Data.{Data}
+
+-- A request is done, and nothing more is said.
+abbrev pub all_done : List Said
+all_done = done nothing ∷ []
 
 -- A request is done: that is said first, and events behind it.
 abbrev pub IsDone : List Said → Type 0
@@ -48,71 +57,70 @@ Restarts old new = (begun : Seat) × BeginsAgain old begun × (stand_of new.desk
 -- ---- what is shown
 
 -- The value that is answered to a request that changes nothing.
-abbrev pub IsShown : Request → Data → Counting → Seat → Data → Type 0
-IsShown to.Threads request counting seat v = v ≡ threads
-IsShown to.StackTrace request counting seat v = AreFrames (wants_first request)
+abbrev pub IsShown : Query → Data → Counting → Seat → Data → Type 0
+IsShown query.Threads request counting seat v = v ≡ threads
+IsShown query.StackTrace request counting seat v = AreFrames (wants_first request)
     seat.desk.places (string_bytes seat.options.file) counting seat.desk.session.current.regs.pc v
-IsShown to.Scopes request counting seat v = v ≡ scopes
-IsShown to.Variables request counting seat v
-    = v ≡ variables_shown seat.desk.session seat.assembly request
-IsShown to.ReadMemory request counting seat v
+IsShown query.Scopes request counting seat v = v ≡ scopes
+IsShown query.Variables request counting seat v
+    = v ≡ variables_shown seat.desk.session seat.desk.places.names request
+IsShown query.ReadMemory request counting seat v
     = v ≡ memory_shown seat.desk.session.current.bus.memory request
-IsShown to.Disassemble request counting seat v
+IsShown query.Disassemble request counting seat v
     = v ≡ disassembled seat.desk (string_bytes seat.options.file) counting request
-IsShown to.DataBreakpointInfo request counting seat v = v ≡ data_shown seat.desk request
-IsShown to.Completions request counting seat v
-    = v ≡ completions counting seat.assembly request
-IsShown to.ExceptionInfo request counting seat v = v ≡ exception_body (string_bytes seat.told.words)
-IsShown to.SetExceptionBreakpoints request counting seat v = v ≡ breakpoints_body []
-IsShown to.Pause request counting seat v = v ≡ nothing
-IsShown asked request counting seat v = ⊥
+IsShown query.GotoTargets request counting seat v = AreTargets counting seat.assembly request v
+IsShown query.DataBreakpointInfo request counting seat v = v ≡ data_shown seat.desk request
+IsShown query.Completions request counting seat v
+    = v ≡ completions counting seat.desk.places.names request
+IsShown query.ExceptionInfo request counting seat v
+    = v ≡ exception_body (string_bytes seat.told.words)
+IsShown query.SetExceptionBreakpoints request counting seat v = v ≡ breakpoints_body []
+IsShown query.Pause request counting seat v = v ≡ nothing
 
-abbrev pub Shows : Request → Data → Counting → Seat → List Said → Type 0
-Shows asked request counting seat said
-    = (v : Data) × IsShown asked request counting seat v × (said ≡ done v ∷ [])
+abbrev pub Shows : Query → Data → Counting → Seat → List Said → Type 0
+Shows query request counting seat said
+    = (v : Data) × IsShown query request counting seat v × (said ≡ done v ∷ [])
 
--- The addresses at which a line can be gone to.
-abbrev pub ShowsTargets : Data → Counting → Seat → List Said → Type 0
-ShowsTargets request counting seat said
-    = (v : Data) × AreTargets counting seat.assembly request v × (said ≡ done v ∷ [])
+-- ---- breakpoints of a kind
 
--- Whether each byte that was asked for is watched.
-abbrev pub ShowsWatches : Data → Seat → List Said → Type 0
-ShowsWatches request seat said = (v : Data)
-    × TellsWatches request seat.desk.stops.watches.items v × (said ≡ done v ∷ [])
+-- They are replaced by those of a list. Of watches this is told: whether each byte is watched.
+abbrev pub SetsListed : Breakpoints → Data → Seat → Seat → Data → Type 0
+SetsListed kind.Source request old new v = SetsSourceBreaks old.listed.lines.items
+    new.listed.lines.items (place_of old.desk) (place_of new.desk) × KeepsEvents old.desk new.desk
+SetsListed kind.Instruction request old new v = SetsBreaks old.listed.addresses.items
+    new.listed.addresses.items (place_of old.desk) (place_of new.desk)
+    × KeepsEvents old.desk new.desk
+SetsListed kind.Data request old new v = SetsWatches request old.desk new.desk
+    × KeepsBreaks old.desk new.desk × TellsWatches request new.desk.stops.watches.items v
+
+abbrev pub Sets : Breakpoints → Data → Seat → Seat → List Said → Type 0
+Sets kind request old new said
+    = (v : Data) × SetsListed kind request old new v × (said ≡ done v ∷ [])
+
+-- ---- all requests of a session
 
 -- The program is said to have ended.
 abbrev pub Terminates : List Said → Type 0
 Terminates said = said ≡ done nothing ∷ event (codes "terminated") nothing ∷ []
 
--- ---- all requests of a session. Most change nothing
-
-abbrev pub AreAnswers : Request → Data → Counting → Seat → Seat → List Said → Type 0
+abbrev pub AreAnswers : SessionRequest → Data → Counting → Seat → Seat → List Said → Type 0
 AreAnswers (to.Moves way) request counting old new said
     = (stand_of new.desk ≡ moved old.options.steps way old.desk)
     × KeepsWatches old.desk new.desk × IsDone said
 AreAnswers to.ConfigurationDone request counting old new said
     = (stand_of new.desk ≡ begun_stand old) × KeepsWatches old.desk new.desk × IsDone said
-AreAnswers to.SetBreakpoints request counting old new said = SetsSourceBreaks
-    old.listed.lines.items new.listed.lines.items (place_of old.desk) (place_of new.desk)
-    × KeepsEvents old.desk new.desk × IsDone said
-AreAnswers to.SetInstructionBreakpoints request counting old new said = SetsBreaks
-    old.listed.addresses.items new.listed.addresses.items (place_of old.desk)
-    (place_of new.desk) × KeepsEvents old.desk new.desk × IsDone said
-AreAnswers to.Evaluate request counting old new said
+AreAnswers (to.Sets kind) request counting old new said = Sets kind request old new said
+AreAnswers (to.Changes change.Evaluate) request counting old new said
     = Evaluates (is_console request) request old.desk new.desk × IsDone said
-AreAnswers to.SetVariable request counting old new said
+AreAnswers (to.Changes change.SetVariable) request counting old new said
     = HasChanged old.desk new.desk
-    × TellsValue request new.desk.session new.assembly said
-AreAnswers to.SetDataBreakpoints request counting old new said
-    = SetsWatches request old.desk new.desk × KeepsBreaks old.desk new.desk
-    × ShowsWatches request new said
-AreAnswers to.Goto request counting old new said
+    × TellsValue request new.desk said
+AreAnswers (to.Changes change.Goto) request counting old new said
     = Goes request old.desk new.desk × IsDone said
-AreAnswers to.WriteMemory request counting old new said = Writes request old.desk new.desk said
-AreAnswers to.GotoTargets request counting old new said
-    = (new ≡ old) × ShowsTargets request counting old said
+AreAnswers (to.Changes change.WriteMemory) request counting old new said
+    = Writes request old.desk new.desk said
+AreAnswers (to.Shows query) request counting old new said
+    = (new ≡ old) × Shows query request counting old said
 AreAnswers to.Restart request counting old new said = Restarts old new × IsDone said
 AreAnswers to.Terminate request counting old new said = (new ≡ old) × Terminates said
-AreAnswers asked request counting old new said
-    = (new ≡ old) × Shows asked request counting old said
+AreAnswers to.Other request counting old new said = ⊥

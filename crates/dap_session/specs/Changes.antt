@@ -3,7 +3,6 @@
 use Rattle.std.specs.Prelude.{ℕ, suc, ◌+◌, ◌≡◌, ◌==◌, ◌&&◌, ⊤, nat_le, nat_lt, Bool, if◌then◌else◌, List, [], ◌∷◌, codes, slice_index, Option, Some, None, option_and_then, unwrap_or, Ok, false}
 use Rattle.std.specs.Option.{option_map_or}
 use Rattle.std.specs.Str.{bytes_eq}
-use Rattle.assembler.specs.Assembly.{AssemblyView}
 use Rattle.base64.specs.Engines.{standard}
 use Rattle.base64.specs.GeneralPurpose.{decode_of}
 use Rattle.dap_breaks.specs.Watches.{items_at}
@@ -19,7 +18,6 @@ use Rattle.mon_settings.specs.ByteLines.{bytes_put}
 use Rattle.model.specs.declared.event.Event.{Event}
 use Rattle.model.specs.declared.event.Event.TheVariants.{Patch, Set}
 use Rattle.model.specs.declared.event.Setting.TheVariants.{Pc}
-use Rattle.model.specs.Session.{Session}
 use Rattle.serde_json.specs.Data.{Data}
 use Rattle.serde_json.specs.View.{items_of}
 
@@ -54,9 +52,10 @@ value_shown request listed = unwrap_or
     (unwrap_or (text_at (codes "/arguments/value") request) [])
 
 -- It is that of the scope that the request names, and all that is shown may have changed.
-abbrev pub TellsValue : Data → Session → Option AssemblyView → List Said → Type 0
-TellsValue request session assembly said = (listed : List Data)
-    × (items_of listed ≡ items_at (codes "/variables") (variables_shown session assembly request))
+abbrev pub TellsValue : Data → Desk → List Said → Type 0
+TellsValue request desk said = (listed : List Data)
+    × (items_of listed
+    ≡ items_at (codes "/variables") (variables_shown desk.session desk.places.names request))
     × (said ≡ done (value_set_body (value_shown request listed)) ∷ unmoved_said ∷ [])
 
 -- ---- another instruction

@@ -6,7 +6,8 @@ use Rattle.dap_messages.specs.Fields.{text_at}
 use Rattle.dap_messages.specs.Messages.{Said, done, event, refused}
 use Rattle.dap_messages.specs.declared.request.Request.{Request}
 use Rattle.dap_messages.specs.declared.request.Request.TheVariants as to
-use Rattle.dap_session.specs.Answered.{AreAnswers}
+use Rattle.dap_messages.specs.declared.request.SessionRequest.{SessionRequest}
+use Rattle.dap_session.specs.Answered.{AreAnswers, all_done}
 use Rattle.dap_launch.specs.Begun.{IsBegun}
 use Rattle.dap_session.specs.Console.{ShowsIfRefused, over}
 use Rattle.dap_launch.specs.Options.{AreOptions}
@@ -15,8 +16,6 @@ use Rattle.dap_launch.specs.declared.fault.Fault.TheVariants as fault
 use Rattle.dap_launch.specs.declared.options.Options.{Options}
 use Rattle.dap_launch.specs.declared.seat.Seat.{Seat}
 use Rattle.dap_session.specs.declared.serving.Adapter.{Adapter}
-use Rattle.dap_session.specs.declared.serving.Need.{Need}
-use Rattle.dap_session.specs.declared.serving.Need.TheVariants.{Unserved, End, Beginning, InSession}
 use Rattle.dap_messages.specs.Counting.{counting_of}
 use Rattle.dap_messages.specs.declared.counting.Counting.{Counting}
 use Rattle.mon_session.specs.Course.{ShowsOnly}
@@ -24,7 +23,7 @@ use Rattle.serde_json.specs.Data.{Data}
 
 -- ---- a client that has said how it counts: a launch comes once, and before what needs a session
 
-abbrev pub ObeysLaunched : Request → Data → Counting → Option Seat → Option Seat → List Said
+abbrev pub ObeysLaunched : SessionRequest → Data → Counting → Option Seat → Option Seat → List Said
     → Type 0
 ObeysLaunched asked request counting (Some old) (Some new) said
     = AreAnswers asked request counting old new said
@@ -43,24 +42,12 @@ abbrev pub Launches : Data → Option Seat → Option Seat → List Said → Typ
 Launches request None (Some new) said = Begins request new said
 Launches request old new said = ⊥
 
-abbrev pub ended : List Said
-ended = done nothing ∷ []
-
--- What a request needs: most need a session.
-abbrev pub need_of : Request → Need
-need_of to.Initialize = Unserved
-need_of to.NoRequest = Unserved
-need_of to.Disconnect = End
-need_of to.Launch = Beginning
-need_of asked = InSession
-
-abbrev pub ObeysBegun : Need → Request → Data → Counting → Option Seat → Option Seat
-    → List Said → Type 0
-ObeysBegun Unserved asked request counting old new said = ⊥
-ObeysBegun End asked request counting old new said = (new ≡ old) × (said ≡ ended)
-ObeysBegun Beginning asked request counting old new said = Launches request old new said
-ObeysBegun InSession asked request counting old new said
+abbrev pub ObeysBegun : Request → Data → Counting → Option Seat → Option Seat → List Said → Type 0
+ObeysBegun to.Launch request counting old new said = Launches request old new said
+ObeysBegun to.Disconnect request counting old new said = (new ≡ old) × (said ≡ all_done)
+ObeysBegun (to.InSession asked) request counting old new said
     = ObeysLaunched asked request counting old new said
+ObeysBegun asked request counting old new said = ⊥
 
 -- ---- a client that has not
 
@@ -94,7 +81,7 @@ abbrev pub ObeysBy : Option Counting → Request → Data → Adapter → Adapte
 ObeysBy None asked request old new said
     = ObeysFirst asked request new.counting said × (new.seat ≡ old.seat)
 ObeysBy (Some counting) asked request old new said
-    = ObeysBegun (need_of asked) asked request counting old.seat new.seat said
+    = ObeysBegun asked request counting old.seat new.seat said
     × (new.counting ≡ old.counting)
 
 abbrev pub ObeysAdapter : Request → Data → Adapter → Adapter → List Said → Type 0

@@ -24,6 +24,15 @@ halt_at seat halt = record halt {
       seat.desk.session.current.regs.pc halt.reason;
 }
 
+-- The program, and the breakpoints that are listed, are what they were.
+abbrev pub KeepsProgram : Seat → Seat → Type 0
+KeepsProgram old new = (new.options ≡ old.options) × (new.assembly ≡ old.assembly)
+    × (new.listed ≡ old.listed)
+
+-- So is the machine. More may be told.
+abbrev pub KeepsSession : Seat → Seat → Type 0
+KeepsSession old new = (new.desk ≡ old.desk) × KeepsProgram old new
+
 -- A halt is told behind what was said, and how many bytes are put out is noted.
 abbrev pub IsToldHalt : Seat → Halt → Seat → List Said → List Said → Type 0
 IsToldHalt old halt new before after

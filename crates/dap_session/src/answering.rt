@@ -1,11 +1,9 @@
 //! What is done with a request of a session.
 
-ghost use Rattle.std.specs.Prelude.{◌≡◌, IfErr, IfOk, OnOk, map as each, string_bytes};
-ghost use Rattle.dap_breaks.specs.Breaks.{KeepsEvents, SetsBreaks, SetsSourceBreaks, place_of};
-ghost use Rattle.dap_breaks.specs.Watches.{KeepsBreaks, SetsWatches};
+ghost use Rattle.std.specs.Prelude.{◌≡◌, IfErr, IfOk, OnOk, map as each};
 ghost use Rattle.dap_messages.specs.Messages.{said_of};
 ghost use Rattle.dap_session.specs.Answered.{AreAnswers, BeginsAgain, IsDone, IsShown, KeepsMade, Restarts};
-ghost use Rattle.dap_session.specs.Answered.{Shows, ShowsTargets, ShowsWatches, Terminates};
+ghost use Rattle.dap_session.specs.Answered.{Sets, SetsListed, Shows, Terminates};
 ghost use Rattle.dap_session.specs.Console.{ShowsIfRefused};
 ghost use Rattle.dap_session.specs.Moves.{begun_stand, moved};
 ghost use Rattle.mon_steps.specs.RunLines.{KeepsWatches, stand_of};
@@ -14,14 +12,14 @@ ghost use Rattle.serde_json.specs.View.{view};
 use crate::changing::{go_to, write_memory};
 use crate::console::{evaluate, set_variable};
 use crate::moves::make_move;
-use crate::stands::push_halt;
+use crate::stands::{all_done, push_halt};
 use dap_breaks::{
     Listed, completions, data_shown, goto_targets, set_addresses, set_data, set_lines, set_source,
 };
 use dap_launch::{Fault, Seat, begin, refused, source_of};
 use dap_messages::{
-    Counting, Message, Move, Request, breakpoints_body, continued, exception, nothing, scopes,
-    threads,
+    Breakpoints, Change, Counting, Message, Move, Query, SessionRequest, breakpoints_body,
+    continued, exception, nothing, scopes, threads,
 };
 use dap_views::{
     Halt, Reason, answered, disassembled, frames_shown, memory_shown, stand_by, variables_shown,
@@ -64,117 +62,98 @@ fn configured(alloc: Global, seat: &mut Seat) -> Result<Vec<Message>, AllocError
     ensures answer { IfOk result (λ ms. IsDone (each said_of ms.items)) }
 {
     let halt = begin_run(seat);
-    let body = nothing(alloc)?;
-    let mut messages = answered(alloc, body)?;
+    let mut messages = all_done(alloc)?;
     push_halt(alloc, &mut messages, seat, halt)?;
     Ok(messages)
 }
 
-/// Sets the breakpoints of the source that a request lists.
-fn set_own(
-    alloc: Global,
-    seat: &mut Seat,
-    counting: Counting,
-    request: &Value,
-) -> Result<Value, AllocError>
-    ensures kept { KeepsEvents seat.old.desk seat.new.desk }
-    ensures options { seat.new.options ≡ seat.old.options }
-{
-    let source = source_of(&seat.options, &seat.assembly, counting);
-    set_lines(alloc, &mut seat.desk, &mut seat.listed, &source, request)
-}
-
-/// Sets the breakpoints that a request lists for a source.
-#[tactic(auto, using(crate::proofs::Done::done_one))]
+/// Sets the breakpoints of a kind that a request lists, and returns what is told of them.
 fn set_listed<H: Files + AllocGlobal>(
     rt: &H,
     seat: &mut Seat,
     counting: Counting,
     request: &Value,
-) -> Result<Vec<Message>, AllocError>
-    ensures sets { OnOk result (SetsSourceBreaks seat.old.listed.lines.items
-        seat.new.listed.lines.items (place_of seat.old.desk) (place_of seat.new.desk)) }
-    ensures kept { OnOk result (KeepsEvents seat.old.desk seat.new.desk) }
-    ensures answer { IfOk result (λ ms. IsDone (each said_of ms.items)) }
+    kind: Breakpoints,
+) -> Result<Value, AllocError>
+    ensures { IfOk result
+        (λ v. SetsListed kind (view request.now) seat.old seat.new (view v)) }
 {
-    let source = source_of(&seat.options, &seat.assembly, counting);
-    let body = set_source(rt, &mut seat.desk, &mut seat.listed, &source, request)?;
-    answered(rt.alloc(), body)
+    let alloc = rt.alloc();
+    match kind {
+        Breakpoints::Source => {
+            let source = source_of(&seat.options, &seat.assembly, counting);
+            Ok(set_source(rt, &mut seat.desk, &mut seat.listed, &source, request)?)
+        }
+        Breakpoints::Instruction => {
+            Ok(set_addresses(alloc, &mut seat.desk, &mut seat.listed, counting, request)?)
+        }
+        Breakpoints::Data => Ok(set_data(alloc, &mut seat.desk, &mut seat.listed, request)?),
+    }
 }
 
-/// Sets the breakpoints at addresses that a request lists.
-#[tactic(auto, using(crate::proofs::Done::done_one))]
-fn set_by_address(
+/// Sets the breakpoints of a kind that a request lists.
+fn set<H: Files + AllocGlobal>(
+    rt: &H,
+    seat: &mut Seat,
+    counting: Counting,
+    request: &Value,
+    kind: Breakpoints,
+) -> Result<Vec<Message>, AllocError>
+    ensures { IfOk result
+        (λ ms. Sets kind (view request.now) seat.old seat.new (each said_of ms.items)) }
+{
+    let body = set_listed(rt, seat, counting, request, kind)?;
+    let messages = answered(rt.alloc(), body)?;
+    Ok(messages)
+}
+
+/// Sets the breakpoints of a kind that a request of an earlier session lists.
+fn set_again(
     alloc: Global,
     seat: &mut Seat,
     counting: Counting,
     request: &Value,
-) -> Result<Vec<Message>, AllocError>
-    ensures sets { OnOk result (SetsBreaks seat.old.listed.addresses.items
-        seat.new.listed.addresses.items (place_of seat.old.desk) (place_of seat.new.desk)) }
-    ensures kept { OnOk result (KeepsEvents seat.old.desk seat.new.desk) }
-    ensures answer { IfOk result (λ ms. IsDone (each said_of ms.items)) }
+    kind: Breakpoints,
+) -> Result<(), AllocError>
+    ensures kept { KeepsMade seat.old.desk seat.new.desk }
+    ensures options { seat.new.options ≡ seat.old.options }
 {
-    let body = set_addresses(alloc, &mut seat.desk, &mut seat.listed, counting, request)?;
-    answered(alloc, body)
+    match kind {
+        Breakpoints::Source => {
+            let source = source_of(&seat.options, &seat.assembly, counting);
+            let _ = set_lines(alloc, &mut seat.desk, &mut seat.listed, &source, request)?;
+            Ok(())
+        }
+        Breakpoints::Instruction => {
+            let _ = set_addresses(alloc, &mut seat.desk, &mut seat.listed, counting, request)?;
+            Ok(())
+        }
+        Breakpoints::Data => {
+            let _ = set_data(alloc, &mut seat.desk, &mut seat.listed, request)?;
+            Ok(())
+        }
+    }
 }
 
-/// Watches the bytes that a request lists.
-fn watch(alloc: Global, seat: &mut Seat, request: &Value) -> Result<Vec<Message>, AllocError>
-    ensures sets { OnOk result (SetsWatches (view request.now) seat.old.desk seat.new.desk) }
-    ensures kept { OnOk result (KeepsBreaks seat.old.desk seat.new.desk) }
-    ensures answer { IfOk result
-        (λ ms. ShowsWatches (view request.now) seat.new (each said_of ms.items)) }
-{
-    let body = set_data(alloc, &mut seat.desk, &mut seat.listed, request)?;
-    answered(alloc, body)
-}
-
-/// Sets the breakpoints of the source that a request lists, if there is one.
-fn set_lines_again(
+/// Sets the breakpoints of a kind that a request lists, if there is one.
+fn set_if_listed(
     alloc: Global,
     seat: &mut Seat,
     counting: Counting,
     request: &Option<Value>,
+    kind: Breakpoints,
 ) -> Result<(), AllocError>
-    ensures kept { KeepsEvents seat.old.desk seat.new.desk }
+    ensures kept { KeepsMade seat.old.desk seat.new.desk }
     ensures options { seat.new.options ≡ seat.old.options }
 {
-    if let Some(request) = request {
-        let _ = set_own(alloc, seat, counting, request)?;
+    match request {
+        Some(request) => set_again(alloc, seat, counting, request, kind),
+        None => Ok(()),
     }
-    Ok(())
-}
-
-/// Sets the breakpoints at addresses that a request lists, if there is one.
-fn set_addresses_again(
-    alloc: Global,
-    seat: &mut Seat,
-    counting: Counting,
-    request: &Option<Value>,
-) -> Result<(), AllocError>
-    ensures kept { KeepsEvents seat.old.desk seat.new.desk }
-    ensures options { seat.new.options ≡ seat.old.options }
-{
-    if let Some(request) = request {
-        let _ = set_addresses(alloc, &mut seat.desk, &mut seat.listed, counting, request)?;
-    }
-    Ok(())
-}
-
-/// Watches the bytes that a request lists, if there is one.
-fn watch_again(alloc: Global, seat: &mut Seat, request: &Option<Value>) -> Result<(), AllocError>
-    ensures kept { KeepsBreaks seat.old.desk seat.new.desk }
-    ensures options { seat.new.options ≡ seat.old.options }
-{
-    if let Some(request) = request {
-        let _ = set_data(alloc, &mut seat.desk, &mut seat.listed, request)?;
-    }
-    Ok(())
 }
 
 /// Lists the breakpoints and the watches of a session for one that has begun again.
-fn set_again(
+fn set_all_again(
     alloc: Global,
     seat: &mut Seat,
     counting: Counting,
@@ -183,9 +162,21 @@ fn set_again(
     ensures kept { OnOk result (KeepsMade seat.old.desk seat.new.desk) }
     ensures options { seat.new.options ≡ seat.old.options }
 {
-    set_lines_again(alloc, seat, counting, &old.line_request)?;
-    set_addresses_again(alloc, seat, counting, &old.address_request)?;
-    watch_again(alloc, seat, &old.data_request)?;
+    set_if_listed(
+        alloc,
+        seat,
+        counting,
+        &old.line_request,
+        Breakpoints::Source,
+    )?;
+    set_if_listed(
+        alloc,
+        seat,
+        counting,
+        &old.address_request,
+        Breakpoints::Instruction,
+    )?;
+    set_if_listed(alloc, seat, counting, &old.data_request, Breakpoints::Data)?;
     Ok(())
 }
 
@@ -199,7 +190,7 @@ fn begun_again<H: Files + AllocGlobal>(
 {
     let options = seat.options.again(rt.alloc())?;
     let mut begun = begin(rt, options)?;
-    set_again(rt.alloc(), &mut begun, counting, &seat.listed)?;
+    set_all_again(rt.alloc(), &mut begun, counting, &seat.listed)?;
     Ok(begun)
 }
 
@@ -224,68 +215,52 @@ fn restart<H: Files + AllocGlobal>(
 fn terminate(alloc: Global) -> Result<Vec<Message>, AllocError>
     ensures { IfOk result (λ ms. Terminates (each said_of ms.items)) }
 {
-    let body = nothing(alloc)?;
-    let mut messages = answered(alloc, body)?;
+    let mut messages = all_done(alloc)?;
     let body = nothing(alloc)?;
     messages.push(Message::Event("terminated", body))?;
     Ok(messages)
 }
 
-/// Returns what is shown of a session, if a request asks for something that is.
-fn shown(
-    alloc: Global,
-    seat: &Seat,
-    counting: Counting,
-    request: &Value,
-    asked: Request,
-) -> Result<Value, Fault>
-    ensures { IfOk result (λ v. IsShown asked (view request.now) counting seat.now (view v)) }
-{
-    let source = source_of(&seat.options, &seat.assembly, counting);
-    match asked {
-        Request::Threads => Ok(threads(alloc)?),
-        Request::StackTrace => Ok(frames_shown(alloc, &seat.desk, &source, request)?),
-        Request::Scopes => Ok(scopes(alloc)?),
-        Request::Variables => Ok(variables_shown(alloc, &seat.desk, &source, request)?),
-        Request::ReadMemory => Ok(memory_shown(alloc, &seat.desk, request)?),
-        Request::DataBreakpointInfo => Ok(data_shown(alloc, &seat.desk, request)?),
-        Request::Disassemble => Ok(disassembled(alloc, &seat.desk, &source, request)?),
-        Request::ExceptionInfo => Ok(exception(alloc, seat.told.words.as_str())?),
-        Request::SetExceptionBreakpoints => Ok(breakpoints_body(alloc, Vec::new(alloc))?),
-        Request::Completions => Ok(completions(alloc, &source, request)?),
-        Request::Pause => Ok(nothing(alloc)?),
-        _ => Err(refused(alloc, "this request is not served")),
-    }
-}
-
-/// Answers a request of a session that changes nothing.
-fn show(
-    alloc: Global,
-    seat: &Seat,
-    counting: Counting,
-    request: &Value,
-    asked: Request,
-) -> Result<Vec<Message>, Fault>
-    ensures { IfOk result
-        (λ ms. Shows asked (view request.now) counting seat.now (each said_of ms.items)) }
-{
-    let body = shown(alloc, seat, counting, request, asked)?;
-    let messages = answered(alloc, body)?;
-    Ok(messages)
-}
-
-/// Answers where a line can be gone to.
-fn show_targets<H: Files + AllocGlobal>(
+/// Returns what is shown of a session.
+fn shown<H: Files + AllocGlobal>(
     rt: &H,
     seat: &Seat,
     counting: Counting,
     request: &Value,
+    query: Query,
+) -> Result<Value, AllocError>
+    ensures { IfOk result (λ v. IsShown query (view request.now) counting seat.now (view v)) }
+{
+    let alloc = rt.alloc();
+    let source = source_of(&seat.options, &seat.assembly, counting);
+    match query {
+        Query::Threads => threads(alloc),
+        Query::StackTrace => frames_shown(alloc, &seat.desk, &source, request),
+        Query::Scopes => scopes(alloc),
+        Query::Variables => variables_shown(alloc, &seat.desk, request),
+        Query::ReadMemory => memory_shown(alloc, &seat.desk, request),
+        Query::Disassemble => disassembled(alloc, &seat.desk, &source, request),
+        Query::GotoTargets => goto_targets(rt, &source, request),
+        Query::DataBreakpointInfo => data_shown(alloc, &seat.desk, request),
+        Query::Completions => completions(alloc, &seat.desk, counting, request),
+        Query::ExceptionInfo => exception(alloc, seat.told.words.as_str()),
+        Query::SetExceptionBreakpoints => breakpoints_body(alloc, Vec::new(alloc)),
+        Query::Pause => nothing(alloc),
+    }
+}
+
+/// Answers a request of a session that changes nothing.
+fn show<H: Files + AllocGlobal>(
+    rt: &H,
+    seat: &Seat,
+    counting: Counting,
+    request: &Value,
+    query: Query,
 ) -> Result<Vec<Message>, AllocError>
     ensures { IfOk result
-        (λ ms. ShowsTargets (view request.now) counting seat.now (each said_of ms.items)) }
+        (λ ms. Shows query (view request.now) counting seat.now (each said_of ms.items)) }
 {
-    let source = source_of(&seat.options, &seat.assembly, counting);
-    let body = goto_targets(rt, &source, request)?;
+    let body = shown(rt, seat, counting, request, query)?;
     let messages = answered(rt.alloc(), body)?;
     Ok(messages)
 }
@@ -299,7 +274,7 @@ pub fn answer<H: Files + AllocGlobal>(
     seat: &mut Seat,
     counting: Counting,
     request: &Value,
-    asked: Request,
+    asked: SessionRequest,
 ) -> Result<Vec<Message>, Fault>
     ensures done { IfOk result (λ ms. AreAnswers asked (view request.now) counting seat.old
         seat.new (each said_of ms.items)) }
@@ -307,27 +282,18 @@ pub fn answer<H: Files + AllocGlobal>(
 {
     let alloc = rt.alloc();
     match asked {
-        Request::Moves(way) => Ok(make(alloc, seat, way)?),
-        Request::SetBreakpoints => Ok(set_listed(rt, seat, counting, request)?),
-        Request::SetInstructionBreakpoints => Ok(set_by_address(alloc, seat, counting, request)?),
-        Request::ConfigurationDone => Ok(configured(alloc, seat)?),
-        Request::Evaluate => Ok(evaluate(alloc, seat, request)?),
-        Request::SetVariable => Ok(set_variable(alloc, seat, counting, request)?),
-        Request::SetDataBreakpoints => Ok(watch(alloc, seat, request)?),
-        Request::Goto => Ok(go_to(alloc, seat, request)?),
-        Request::WriteMemory => Ok(write_memory(alloc, seat, request)?),
-        Request::GotoTargets => Ok(show_targets(rt, seat, counting, request)?),
-        Request::Restart => Ok(restart(rt, seat, counting)?),
-        Request::Terminate => Ok(terminate(alloc)?),
-        Request::Threads | Request::StackTrace => show(alloc, seat, counting, request, asked),
-        Request::Scopes | Request::Variables => show(alloc, seat, counting, request, asked),
-        Request::ReadMemory | Request::Disassemble => show(alloc, seat, counting, request, asked),
-        Request::DataBreakpointInfo => show(alloc, seat, counting, request, asked),
-        Request::Completions => show(alloc, seat, counting, request, asked),
-        Request::ExceptionInfo | Request::Pause => show(alloc, seat, counting, request, asked),
-        Request::SetExceptionBreakpoints => show(alloc, seat, counting, request, asked),
-        Request::Initialize | Request::Launch => show(alloc, seat, counting, request, asked),
-        Request::Disconnect | Request::Other => show(alloc, seat, counting, request, asked),
-        Request::NoRequest => show(alloc, seat, counting, request, asked),
+        SessionRequest::Moves(way) => Ok(make(alloc, seat, way)?),
+        SessionRequest::Sets(kind) => Ok(set(rt, seat, counting, request, kind)?),
+        SessionRequest::Changes(Change::Evaluate) => Ok(evaluate(alloc, seat, request)?),
+        SessionRequest::Changes(Change::SetVariable) => {
+            Ok(set_variable(alloc, &mut seat.desk, request)?)
+        }
+        SessionRequest::Changes(Change::Goto) => Ok(go_to(alloc, seat, request)?),
+        SessionRequest::Changes(Change::WriteMemory) => Ok(write_memory(alloc, seat, request)?),
+        SessionRequest::Shows(query) => Ok(show(rt, seat, counting, request, query)?),
+        SessionRequest::ConfigurationDone => Ok(configured(alloc, seat)?),
+        SessionRequest::Restart => Ok(restart(rt, seat, counting)?),
+        SessionRequest::Terminate => Ok(terminate(alloc)?),
+        SessionRequest::Other => Err(refused(alloc, "this request is not served")),
     }
 }

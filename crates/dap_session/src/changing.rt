@@ -13,11 +13,11 @@ ghost use Rattle.mon_settings.specs.ByteLines.{bytes_put};
 ghost use Rattle.serde_json.specs.View.{view};
 
 use crate::console::happen;
-use crate::stands::push_halt;
+use crate::stands::{all_done, push_halt};
 use base64::DecodeAllocError;
 use base64::engine::general_purpose::STANDARD;
 use dap_launch::{Fault, Seat, refused};
-use dap_messages::{Message, nothing, number_at, place_at, text_at, written_body};
+use dap_messages::{Message, number_at, place_at, text_at, written_body};
 use dap_views::{Reason, answered, stand_by, tell_unmoved};
 use model::Setting;
 use mon_runs::{Event, Session};
@@ -42,8 +42,7 @@ fn gone(alloc: Global, seat: &mut Seat) -> Result<Vec<Message>, AllocError>
     ensures desk { seat.new.desk ≡ seat.old.desk }
     ensures answer { IfOk result (λ ms. IsDone (each said_of ms.items)) }
 {
-    let body = nothing(alloc)?;
-    let mut messages = answered(alloc, body)?;
+    let mut messages = all_done(alloc)?;
     let halt = stand_by(Reason::Goto, "gone to another line");
     push_halt(alloc, &mut messages, seat, halt)?;
     Ok(messages)
@@ -84,10 +83,7 @@ pub fn go_to(alloc: Global, seat: &mut Seat, request: &Value) -> Result<Vec<Mess
 fn data_of(request: &Value) -> &str
     ensures { result.now ≡ data_of (view request.now) }
 {
-    match text_at(request, "/arguments/data") {
-        Some(text) => text,
-        None => "",
-    }
+    text_at(request, "/arguments/data").unwrap_or("")
 }
 
 /// Returns the bytes that a request writes.

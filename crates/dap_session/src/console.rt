@@ -8,12 +8,13 @@ ghost use Rattle.dap_session.specs.Answered.{IsDone};
 ghost use Rattle.dap_session.specs.Changes.{HasChanged, TellsValue, is_named, value_of, value_shown};
 ghost use Rattle.dap_session.specs.Console.{Evaluates, Looks, ServesConsole, ShowsIfRefused};
 ghost use Rattle.dap_session.specs.Console.{expression_of, is_console, over};
+ghost use Rattle.dap_session.specs.Stands.{KeepsProgram, KeepsSession};
 ghost use Rattle.mon_session.specs.Course.{KeepsStops, course_of, happened};
 ghost use Rattle.serde_json.specs.View.{items_view, view};
 
 use crate::stands::push_halt;
-use dap_launch::{Fault, Seat, refused, refused_by, source_of};
-use dap_messages::{Counting, Message, evaluated, nothing, number_at, text_at, value_set};
+use dap_launch::{Fault, Seat, refused, refused_by};
+use dap_messages::{Message, evaluated, nothing, number_at, text_at, value_set};
 use dap_views::{Reason, answered, look_at, stand_by, tell_unmoved, variables_shown};
 use mon_dispatch::serve;
 use mon_lines::{Command, Flag, Slip, read_line};
@@ -46,10 +47,7 @@ fn push_moved(
 ) -> Result<(), AllocError>
     ensures answer { OnOk result
         (IsDone (each said_of messages.old.items) → IsDone (each said_of messages.new.items)) }
-    ensures desk { seat.new.desk ≡ seat.old.desk }
-    ensures options { seat.new.options ≡ seat.old.options }
-    ensures assembly { seat.new.assembly ≡ seat.old.assembly }
-    ensures listed { seat.new.listed ≡ seat.old.listed }
+    ensures kept { KeepsSession seat.old seat.new }
 {
     if is_moved {
         push_halt(
@@ -91,9 +89,7 @@ fn console(alloc: Global, seat: &mut Seat, line: &str) -> Result<Vec<Message>, A
     ensures desk { IfOk result (λ _. (over : Bool) × (said : List ℕ)
         × ServesConsole line.now over seat.old.desk seat.new.desk said) }
     ensures answer { IfOk result (λ ms. IsDone (each said_of ms.items)) }
-    ensures options { seat.new.options ≡ seat.old.options }
-    ensures assembly { seat.new.assembly ≡ seat.old.assembly }
-    ensures listed { seat.new.listed ≡ seat.old.listed }
+    ensures kept { KeepsProgram seat.old seat.new }
 {
     let regs = seat.desk.session.regs();
     let cycles = seat.desk.session.cycles();
@@ -134,10 +130,7 @@ fn is_console(request: &Value) -> bool
 fn expression_of(request: &Value) -> &str
     ensures { result.now ≡ expression_of (view request.now) }
 {
-    match text_at(request, "/arguments/expression") {
-        Some(text) => text,
-        None => "",
-    }
+    text_at(request, "/arguments/expression").unwrap_or("")
 }
 
 /// Serves a line of the console, or shows a register or the byte at a place.
@@ -305,17 +298,10 @@ fn value_shown<'a>(request: &'a Value, variables: &'a [Value]) -> &'a str
 
 /// Says which value a variable has that a request has set, and that what the client shows may have
 /// changed.
-fn tell_value(
-    alloc: Global,
-    seat: &Seat,
-    counting: Counting,
-    request: &Value,
-) -> Result<Vec<Message>, AllocError>
-    ensures { IfOk result (λ ms. TellsValue (view request.now) seat.now.desk.session
-        seat.now.assembly (each said_of ms.items)) }
+fn tell_value(alloc: Global, desk: &Desk, request: &Value) -> Result<Vec<Message>, AllocError>
+    ensures { IfOk result (λ ms. TellsValue (view request.now) desk.now (each said_of ms.items)) }
 {
-    let source = source_of(&seat.options, &seat.assembly, counting);
-    let shown = variables_shown(alloc, &seat.desk, &source, request)?;
+    let shown = variables_shown(alloc, desk, request)?;
     let body = value_set(alloc, value_shown(request, variables_in(&shown)))?;
     let mut messages = answered(alloc, body)?;
     tell_unmoved(alloc, &mut messages)?;
@@ -326,19 +312,14 @@ fn tell_value(
 ///
 /// Errors: `Refused` if the value is none that it can have.
 #[tactic(auto, using(crate::proofs::Stays::shows_same))]
-pub fn set_variable(
-    alloc: Global,
-    seat: &mut Seat,
-    counting: Counting,
-    request: &Value,
-) -> Result<Vec<Message>, Fault>
-    ensures done { OnOk result (HasChanged seat.old.desk seat.new.desk) }
-    ensures answer { IfOk result (λ ms. TellsValue (view request.now) seat.new.desk.session
-        seat.new.assembly (each said_of ms.items)) }
-    ensures refused { IfErr result (λ f. ShowsIfRefused f seat.old.desk seat.new.desk) }
+pub fn set_variable(alloc: Global, desk: &mut Desk, request: &Value) -> Result<Vec<Message>, Fault>
+    ensures done { OnOk result (HasChanged desk.old desk.new) }
+    ensures answer { IfOk result
+        (λ ms. TellsValue (view request.now) desk.new (each said_of ms.items)) }
+    ensures refused { IfErr result (λ f. ShowsIfRefused f desk.old desk.new) }
 {
     let line = setting_line(alloc, request)?;
-    change(alloc, &mut seat.desk, line.as_bytes())?;
-    let messages = tell_value(alloc, seat, counting, request)?;
+    change(alloc, desk, line.as_bytes())?;
+    let messages = tell_value(alloc, desk, request)?;
     Ok(messages)
 }

@@ -6,13 +6,14 @@ ghost use Rattle.dap_messages.specs.Requests.{request_of};
 ghost use Rattle.dap_session.specs.Served.{Begins, CountsIfRefused, Initializes, IsRefused};
 ghost use Rattle.dap_session.specs.Served.{ObeysAdapter, ObeysBegun, ObeysFirst, ObeysLaunched};
 ghost use Rattle.dap_session.specs.Served.{Launches, RestsIfRefused, Serves, StaysIfRefused, end_said};
-ghost use Rattle.dap_session.specs.Served.{ended, ends, launched, need_of};
+ghost use Rattle.dap_session.specs.Served.{ends, launched};
 ghost use Rattle.serde_json.specs.View.{view};
 
 use crate::answering::answer;
 use crate::console::push_terminated;
+use crate::stands::all_done;
 use dap_launch::{Fault, Seat, begin, options_of, refused};
-use dap_messages::{Counting, Message, Request, capabilities, nothing, request_of};
+use dap_messages::{Counting, Message, Request, SessionRequest, capabilities, nothing, request_of};
 use dap_views::answered;
 use serde_json::Value;
 use std::alloc::{AllocError, Global};
@@ -57,8 +58,7 @@ fn initialize(
 fn launched(alloc: Global) -> Result<Vec<Message>, AllocError>
     ensures { IfOk result (λ ms. each said_of ms.items ≡ launched) }
 {
-    let body = nothing(alloc)?;
-    let mut messages = answered(alloc, body)?;
+    let mut messages = all_done(alloc)?;
     let body = nothing(alloc)?;
     messages.push(Message::Event("initialized", body))?;
     Ok(messages)
@@ -106,7 +106,7 @@ fn serve_launched<H: Files + AllocGlobal>(
     seat: &mut Option<Seat>,
     counting: Counting,
     request: &Value,
-    asked: Request,
+    asked: SessionRequest,
 ) -> Result<Vec<Message>, Fault>
     ensures done { IfOk result (λ ms. ObeysLaunched asked (view request.now) counting seat.old
         seat.new (each said_of ms.items)) }
@@ -115,47 +115,6 @@ fn serve_launched<H: Files + AllocGlobal>(
     match seat {
         Some(seat) => answer(rt, seat, counting, request, asked),
         None => Err(refused(rt.alloc(), "no program was launched")),
-    }
-}
-
-/// Returns the answer to a request that ends the session.
-fn ended(alloc: Global) -> Result<Vec<Message>, AllocError>
-    ensures { IfOk result (λ ms. each said_of ms.items ≡ ended) }
-{
-    let body = nothing(alloc)?;
-    answered(alloc, body)
-}
-
-/// What a request needs.
-#[derive(Clone, Copy, Debug, PartialEq, Eq)]
-enum Need {
-    /// It is not served here.
-    Unserved,
-    /// It ends the session.
-    End,
-    /// It begins a session.
-    Beginning,
-    /// It is served in a session.
-    InSession,
-}
-
-/// Returns what a request needs of a client that has said how it counts.
-fn need_of(asked: Request) -> Need
-    ensures { result ≡ need_of asked }
-{
-    match asked {
-        Request::Initialize | Request::NoRequest => Need::Unserved,
-        Request::Disconnect => Need::End,
-        Request::Launch => Need::Beginning,
-        Request::Moves(_) | Request::SetBreakpoints => Need::InSession,
-        Request::SetInstructionBreakpoints | Request::SetExceptionBreakpoints => Need::InSession,
-        Request::ConfigurationDone | Request::Threads | Request::StackTrace => Need::InSession,
-        Request::Scopes | Request::Variables | Request::SetVariable => Need::InSession,
-        Request::Evaluate | Request::ReadMemory | Request::ExceptionInfo => Need::InSession,
-        Request::Disassemble | Request::WriteMemory | Request::GotoTargets => Need::InSession,
-        Request::Goto | Request::DataBreakpointInfo | Request::Completions => Need::InSession,
-        Request::SetDataBreakpoints => Need::InSession,
-        Request::Pause | Request::Restart | Request::Terminate | Request::Other => Need::InSession,
     }
 }
 
@@ -168,15 +127,17 @@ fn serve_begun<H: Files + AllocGlobal>(
     request: &Value,
     asked: Request,
 ) -> Result<Vec<Message>, Fault>
-    ensures done { IfOk result (λ ms. ObeysBegun (need_of asked) asked (view request.now) counting
-        seat.old seat.new (each said_of ms.items)) }
+    ensures done { IfOk result (λ ms. ObeysBegun asked (view request.now) counting seat.old
+        seat.new (each said_of ms.items)) }
     ensures refused { IfErr result (λ f. StaysIfRefused f seat.old seat.new) }
 {
-    match need_of(asked) {
-        Need::Unserved => Err(refused(rt.alloc(), "this cannot be served here")),
-        Need::End => Ok(ended(rt.alloc())?),
-        Need::Beginning => launch(rt, seat, request),
-        Need::InSession => serve_launched(rt, seat, counting, request, asked),
+    match asked {
+        Request::Initialize | Request::NoRequest => {
+            Err(refused(rt.alloc(), "this cannot be served here"))
+        }
+        Request::Launch => launch(rt, seat, request),
+        Request::Disconnect => Ok(all_done(rt.alloc())?),
+        Request::InSession(asked) => serve_launched(rt, seat, counting, request, asked),
     }
 }
 

@@ -1,15 +1,23 @@
 //! That the machine stands.
 
-ghost use Rattle.std.specs.Prelude.{◌≡◌, OnOk, map as each};
+ghost use Rattle.std.specs.Prelude.{◌≡◌, IfOk, OnOk, map as each};
 ghost use Rattle.dap_messages.specs.Messages.{said_of};
-ghost use Rattle.dap_session.specs.Answered.{IsDone};
-ghost use Rattle.dap_session.specs.Stands.{IsToldHalt, is_at, reason_at};
+ghost use Rattle.dap_session.specs.Answered.{IsDone, all_done};
+ghost use Rattle.dap_session.specs.Stands.{IsToldHalt, KeepsSession, is_at, reason_at};
 
 use dap_breaks::Listed;
 use dap_launch::Seat;
-use dap_messages::Message;
-use dap_views::{Halt, Reason, tell_halt};
+use dap_messages::{Message, nothing};
+use dap_views::{Halt, Reason, answered, tell_halt};
 use std::alloc::{AllocError, Global};
+
+/// Returns that a request is done.
+pub fn all_done(alloc: Global) -> Result<Vec<Message>, AllocError>
+    ensures { IfOk result (λ ms. each said_of ms.items ≡ all_done) }
+{
+    let body = nothing(alloc)?;
+    answered(alloc, body)
+}
 
 /// Returns whether an address is one of some.
 fn is_at(addresses: &[u16], address: u16) -> bool
@@ -53,10 +61,7 @@ pub fn push_halt(
         (each said_of messages.old.items) (each said_of messages.new.items)) }
     ensures answer { OnOk result
         (IsDone (each said_of messages.old.items) → IsDone (each said_of messages.new.items)) }
-    ensures desk { seat.new.desk ≡ seat.old.desk }
-    ensures options { seat.new.options ≡ seat.old.options }
-    ensures assembly { seat.new.assembly ≡ seat.old.assembly }
-    ensures listed { seat.new.listed ≡ seat.old.listed }
+    ensures kept { KeepsSession seat.old seat.new }
 {
     let halt = Halt {
         reason: reason_at(&seat.listed, seat.desk.session.regs().pc, halt.reason),

@@ -1,9 +1,7 @@
 -- The variables of each scope. Source: Debug Adapter Protocol 1.65, "Variables Request"; which
 -- scopes there are, mos65.
-use Rattle.std.specs.Prelude.{ℕ, ℤ, zero, suc, pos, negsuc, ◌+◌, ◌-◌, ◌==◌, nat_le, if◌then◌else◌, List, [], ◌∷◌, codes, length, slice_index, Option, Some, None, option_and_then}
-use Rattle.std.specs.List.{flat_map}
+use Rattle.std.specs.Prelude.{ℕ, zero, suc, ◌+◌, ◌-◌, ◌==◌, if◌then◌else◌, List, [], ◌∷◌, codes, length, map as each, slice_index, Option, Some, None, option_and_then}
 use Rattle.std.specs.Str.Lossy.{utf8_lossy}
-use Rattle.assembler.specs.Assembly.{AssemblyView}
 use Rattle.dap_messages.specs.Fields.{number_at}
 use Rattle.dap_messages.specs.Texts.{address_text}
 use Rattle.dap_messages.specs.Variables.{byte_variable, flags_shown, number_variable, registers_shown, variables_body}
@@ -12,6 +10,7 @@ use Rattle.dap_views.specs.declared.variables.Scope.TheVariants.{Registers, Flag
 use Rattle.model.specs.Session.{Session}
 use Rattle.model.specs.State.{State}
 use Rattle.serde_json.specs.Data.{Data}
+use Rattle.source_map.specs.Names.{Named}
 
 -- ---- numbers of scopes
 
@@ -41,19 +40,10 @@ stack_shown s = cells s.bus.memory (257 + s.regs.s) (512 - (257 + s.regs.s))
 
 -- ---- names
 
--- The byte at the number of a name, if the number is an address.
-abbrev pub named_cell : List ℕ → List ℕ → ℤ → List Data
-named_cell memory name (pos n) = if nat_le n 65535
-    then byte_variable (utf8_lossy name) (slice_index memory n) ∷ [] else []
-named_cell memory name (negsuc n) = []
-
--- Those of all names of a source, in the order of their definition.
-abbrev pub symbols_shown : List ℕ → List (List ℕ × ℤ) → List Data
-symbols_shown memory names = flat_map (λ d. named_cell memory d.0 d.1) names
-
-abbrev pub symbols_of : List ℕ → Option AssemblyView → List Data
-symbols_of memory (Some assembly) = symbols_shown memory assembly.names
-symbols_of memory None = []
+-- The bytes at all names of the program, each under its name, in the order of their definition.
+abbrev pub symbols_shown : List ℕ → List Named → List Data
+symbols_shown memory names = each
+    (λ name. byte_variable (utf8_lossy name.text) (slice_index memory name.address)) names
 
 -- ---- scopes
 
@@ -62,19 +52,19 @@ machine_shown session = number_variable (codes "cycles") session.current.cycles
     ∷ number_variable (codes "events held") (length session.earlier)
     ∷ number_variable (codes "bytes put out") (length session.current.bus.out) ∷ []
 
-abbrev pub scope_shown : Session → Option AssemblyView → Scope → List Data
-scope_shown session assembly Registers = registers_shown session.current.regs
-scope_shown session assembly Flags = flags_shown session.current.regs.flags
-scope_shown session assembly Symbols = symbols_of session.current.bus.memory assembly
-scope_shown session assembly Stack = stack_shown session.current
-scope_shown session assembly ZeroPage = cells session.current.bus.memory 0 256
-scope_shown session assembly Machine = machine_shown session
+abbrev pub scope_shown : Session → List Named → Scope → List Data
+scope_shown session names Registers = registers_shown session.current.regs
+scope_shown session names Flags = flags_shown session.current.regs.flags
+scope_shown session names Symbols = symbols_shown session.current.bus.memory names
+scope_shown session names Stack = stack_shown session.current
+scope_shown session names ZeroPage = cells session.current.bus.memory 0 256
+scope_shown session names Machine = machine_shown session
 
 -- A number of no scope has no variables.
-abbrev pub listed : Session → Option AssemblyView → Option Scope → List Data
-listed session assembly (Some scope) = scope_shown session assembly scope
-listed session assembly None = []
+abbrev pub listed : Session → List Named → Option Scope → List Data
+listed session names (Some scope) = scope_shown session names scope
+listed session names None = []
 
-abbrev pub variables_shown : Session → Option AssemblyView → Data → Data
-variables_shown session assembly request
-    = variables_body (listed session assembly (scope_at request))
+abbrev pub variables_shown : Session → List Named → Data → Data
+variables_shown session names request
+    = variables_body (listed session names (scope_at request))

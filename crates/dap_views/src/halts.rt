@@ -1,6 +1,6 @@
 //! Why the machine stands.
 
-ghost use Rattle.std.specs.Prelude.{◌≡◌, None, Some, nat_eq, slice_get};
+ghost use Rattle.std.specs.Prelude.{◌≡◌, None, nat_eq, slice_get};
 ghost use Rattle.std.specs.List.{list_any};
 ghost use Rattle.dap_views.specs.Halts.{back_reason, fault_of, reason_of, run_reason};
 ghost use Rattle.dap_views.specs.Halts.{stop_reason, stopped_fault, stopped_reason, word_of};
@@ -12,7 +12,7 @@ use mon_session::Desk;
 use mon_steps::wording::{NO_HANDLER, NO_STOP, RETURNED, STUCK, WAITS};
 
 /// A reason of the protocol why the machine stands.
-#[derive(Clone, Copy, Debug, PartialEq, Eq)]
+#[derive(Clone, Copy)]
 pub enum Reason {
     /// The machine is before the first instruction, or at the oldest state that is held.
     Entry,
@@ -71,18 +71,6 @@ pub fn stand_by(reason: Reason, words: &'static str) -> Halt
     }
 }
 
-/// Returns that a step is refused.
-fn refused(fault: EventFault) -> Halt
-    ensures reason { result.reason ≡ Reason.Exception }
-    ensures fault { result.fault ≡ Some fault }
-{
-    Halt {
-        reason: Reason::Exception,
-        words: "a step is refused",
-        fault: Some(fault),
-    }
-}
-
 /// Returns why a run of the session has ended.
 fn stopped(why: Why) -> Halt
     ensures reason { result.reason ≡ stopped_reason why }
@@ -92,7 +80,11 @@ fn stopped(why: Why) -> Halt
         Why::Break(_) => stand_by(Reason::Breakpoint, "a break"),
         Why::Watch(_) => stand_by(Reason::DataBreakpoint, "a watched byte has changed"),
         Why::Limit => stand_by(Reason::Step, "step"),
-        Why::Refused(fault) => refused(fault),
+        Why::Refused(fault) => Halt {
+            reason: Reason::Exception,
+            words: "a step is refused",
+            fault: Some(fault),
+        },
     }
 }
 

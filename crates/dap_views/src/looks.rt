@@ -1,16 +1,14 @@
 //! A register, or the byte at a place.
 
-ghost use Rattle.std.specs.Prelude.{◌≡◌, ◌++◌, IfOk, codes, option_map, string_bytes};
-ghost use Rattle.dap_views.specs.Looks.{byte_at, first_in, look_at, place_named, place_on, place_shown};
+ghost use Rattle.std.specs.Prelude.{◌≡◌, IfOk, option_map, string_bytes};
+ghost use Rattle.dap_views.specs.Looks.{look_at, place_named, place_on, place_shown};
 ghost use Rattle.dap_views.specs.Looks.{register_byte, register_shown};
-ghost use Rattle.mon_lines.specs.Lines.{command_view};
 ghost use Rattle.serde_json.specs.View.{view};
 
 use dap_messages::{address_text, byte_text, evaluated, looked_at};
 use formatting::push_text;
 use model::Regs;
 use mon_lines::{Command, read_line};
-use mon_runs::Session;
 use mon_session::Desk;
 use serde_json::Value;
 use source_map::Places;
@@ -48,26 +46,6 @@ fn register_shown(alloc: Global, regs: Regs, name: &str) -> Result<Option<String
     }
 }
 
-/// Returns the line of `mon` that shows what stands at a place.
-fn mem_line(alloc: Global, text: &str) -> Result<Vec<u8>, AllocError>
-    ensures { IfOk result (λ line. line.items ≡ codes "mem " ++ text.now) }
-{
-    let mut line = Vec::new(alloc);
-    push_text(&mut line, "mem ")?;
-    push_text(&mut line, text)?;
-    Ok(line)
-}
-
-/// Returns the first address that a line of `mon` shows, if it shows some.
-fn first_in(command: &Command<'_>) -> Option<u16>
-    ensures { result ≡ first_in (command_view command.now) }
-{
-    match command {
-        Command::Mem(stretch) => Some(stretch.first),
-        _ => None,
-    }
-}
-
 /// Returns the first address that a line shows, if it has at most 255 bytes, and shows some.
 fn place_on(line: &[u8], places: &Places, pc: u16) -> Option<u16>
     ensures { result ≡ place_on places.now.names pc line.now }
@@ -76,27 +54,8 @@ fn place_on(line: &[u8], places: &Places, pc: u16) -> Option<u16>
         return None;
     }
     match read_line(line, places, pc) {
-        Ok(command) => first_in(&command),
-        Err(_) => None,
-    }
-}
-
-/// Returns the byte at an address, if there is an address.
-fn byte_at(
-    alloc: Global,
-    session: &Session,
-    address: Option<u16>,
-) -> Result<Option<Value>, AllocError>
-    ensures { IfOk result (λ found. option_map view found
-        ≡ byte_at session.now.current.bus.memory address) }
-{
-    match address {
-        Some(address) => {
-            let text = byte_text(alloc, session.peek(address))?;
-            let value = looked_at(alloc, address, text.as_str())?;
-            Ok(Some(value))
-        }
-        None => Ok(None),
+        Ok(Command::Mem(stretch)) => Some(stretch.first),
+        _ => None,
     }
 }
 
@@ -107,7 +66,9 @@ pub fn place_named(alloc: Global, desk: &Desk, text: &str) -> Result<Option<u16>
     ensures { IfOk result (λ found. found
         ≡ place_named desk.now.places.names desk.now.session.current.regs.pc text.now) }
 {
-    let line = mem_line(alloc, text)?;
+    let mut line = Vec::new(alloc);
+    push_text(&mut line, "mem ")?;
+    push_text(&mut line, text)?;
     Ok(place_on(line.as_slice(), &desk.places, desk.session.regs().pc))
 }
 
@@ -116,8 +77,14 @@ fn place_shown(alloc: Global, desk: &Desk, text: &str) -> Result<Option<Value>, 
     ensures { IfOk result (λ found. option_map view found
         ≡ place_shown desk.now.session.current desk.now.places.names text.now) }
 {
-    let address = place_named(alloc, desk, text)?;
-    byte_at(alloc, &desk.session, address)
+    match place_named(alloc, desk, text)? {
+        Some(address) => {
+            let text = byte_text(alloc, desk.session.peek(address))?;
+            let value = looked_at(alloc, address, text.as_str())?;
+            Ok(Some(value))
+        }
+        None => Ok(None),
+    }
 }
 
 /// Returns the register that a text names, or the byte at the place that it names: `None` if it

@@ -1,8 +1,7 @@
 //! Bytes of memory.
 
 ghost use Rattle.std.specs.Prelude.{◌≡◌, ◌+◌, ◌≤◌, IfOk};
-ghost use Rattle.dap_views.specs.Memory.{bytes_shown, count_at, memory_at, memory_shown, most};
-ghost use Rattle.dap_messages.specs.References.{place_at};
+ghost use Rattle.dap_views.specs.Memory.{count_at, memory_at, memory_shown};
 ghost use Rattle.mon_texts.specs.Memory.{bytes_from};
 ghost use Rattle.serde_json.specs.View.{view};
 
@@ -43,26 +42,6 @@ pub fn count_at(request: &Value, path: &str) -> u32
     }
 }
 
-/// Returns how many of so many bytes there are from an address on.
-fn most(first: u16, count: u32) -> u32
-    ensures value { result ≡ most first count }
-    ensures within { first + result ≤ 65536 }
-    ensures least { result ≤ count }
-{
-    count.min(65536 - u32::from(first))
-}
-
-/// Returns so many bytes from an address on, as far as the memory goes.
-fn bytes_at(alloc: Global, session: &Session, first: u16, count: u32) -> Result<Value, AllocError>
-    ensures { IfOk result
-        (λ v. view v ≡ bytes_shown session.now.current.bus.memory first count) }
-{
-    let most = most(first, count);
-    let bytes = bytes_from(alloc, session, first, most)?;
-    let text = STANDARD.encode(alloc, bytes.as_slice())?;
-    memory_body(alloc, first, text.as_str(), u64::from(count - most))
-}
-
 /// Returns so many bytes from an address on, as far as the memory goes: none where there is no
 /// address.
 fn memory_at(
@@ -75,7 +54,12 @@ fn memory_at(
         (λ v. view v ≡ memory_at session.now.current.bus.memory count first) }
 {
     match first {
-        Some(first) => bytes_at(alloc, session, first, count),
+        Some(first) => {
+            let most = count.min(65536 - u32::from(first));
+            let bytes = bytes_from(alloc, session, first, most)?;
+            let text = STANDARD.encode(alloc, bytes.as_slice())?;
+            memory_body(alloc, first, text.as_str(), u64::from(count - most))
+        }
         None => memory_body(alloc, 0, "", u64::from(count)),
     }
 }

@@ -1,12 +1,10 @@
 //! The rows of a disassembly.
 
-ghost use Rattle.std.specs.Prelude.{◌≡◌, ◌≤◌, ◌++◌, ◌∷◌, ◌-◌, [], IfOk, OnOk, codes, map as each, string_bytes};
-ghost use Rattle.std.specs.Str.Lossy.{utf8_lossy};
-ghost use Rattle.std.specs.List.{flat_map};
-ghost use Rattle.dap_views.specs.Rows.{ahead, begin, behind, disassembled, found, first, further};
-ghost use Rattle.dap_views.specs.Rows.{is_instruction, joined, next_row, row_at, row_bytes, row_len};
-ghost use Rattle.dap_views.specs.Rows.{row_on, row_shown, row_text, rows, rows_around, rows_at};
-ghost use Rattle.dap_views.specs.Rows.{rows_on, rows_to, up_to};
+ghost use Rattle.std.specs.Prelude.{◌≡◌, ◌≤◌, ◌++◌, ◌-◌, IfOk, OnOk, map as each};
+ghost use Rattle.dap_views.specs.Rows.{ahead, behind, disassembled, first, found, is_instruction};
+ghost use Rattle.dap_views.specs.Rows.{joined, next_row, row_at, row_bytes, row_len};
+ghost use Rattle.dap_views.specs.Rows.{row_shown, row_text, rows, rows_around, rows_at};
+ghost use Rattle.dap_views.specs.Rows.{rows_on, rows_to};
 ghost use Rattle.mon_instructions.specs.Instructions.{bytes_at};
 ghost use Rattle.serde_json.specs.View.{view};
 
@@ -26,24 +24,17 @@ use std::alloc::{AllocError, Global};
 /// Behind the memory.
 const BEHIND: u32 = 65536;
 
-/// Returns how many bytes a row has, which has one if it would run past an end.
-fn up_to(until: u32, address: u16, len: u8) -> u8
-    ensures { result ≡ up_to until address len }
-{
-    if u32::from(address) < until && until < u32::from(address) + u32::from(len) {
-        1
-    } else {
-        len
-    }
-}
-
-/// Returns how many bytes the row at an address has.
+/// Returns how many bytes the row at an address has, which has one if it would run past an end.
 fn row_len(alloc: Global, desk: &Desk, until: u32, address: u16) -> Result<u8, AllocError>
     ensures { IfOk result (λ len. len ≡ row_len desk.now until address) }
 {
     let mut text = Vec::new(alloc);
     let len = push_listed(&mut text, &desk.session, &desk.places, address)?;
-    Ok(up_to(until, address, len))
+    if u32::from(address) < until && until < u32::from(address) + u32::from(len) {
+        Ok(1)
+    } else {
+        Ok(len)
+    }
 }
 
 /// Returns where the row behind one begins.
@@ -91,23 +82,15 @@ fn rows_to(alloc: Global, desk: &Desk, until: u32, from: u32) -> Result<u32, All
     Ok(count)
 }
 
-/// Appends a byte in hex, with words in front of it.
-fn push_further(text: &mut Vec<u8>, between: &str, byte: u8) -> Result<(), AllocError>
-    ensures { OnOk result (text.new.items ≡ text.old.items ++ further between.now byte) }
+/// Returns the byte at an address and the two behind it.
+fn bytes_at(session: &Session, address: u16) -> [u8; 3]
+    ensures { result ≡ bytes_at session.now.current address }
 {
-    push_text(text, between)?;
-    push_byte(text, byte)
-}
-
-/// Appends bytes in hex, each with words in front of it.
-fn push_others(text: &mut Vec<u8>, between: &str, bytes: &[u8]) -> Result<(), AllocError>
-    ensures { OnOk result
-        (text.new.items ≡ text.old.items ++ flat_map (further between.now) bytes.now) }
-{
-    for byte in bytes {
-        push_further(text, between, *byte)?;
-    }
-    Ok(())
+    [
+        session.peek(address),
+        session.peek(address.wrapping_add(1)),
+        session.peek(address.wrapping_add(2)),
+    ]
 }
 
 /// Appends bytes in hex, with words in front of the first and between them.
@@ -125,20 +108,13 @@ fn push_joined(
         [first, others @ ..] => {
             push_text(text, front)?;
             push_byte(text, *first)?;
-            push_others(text, between, others)
+            for byte in others {
+                push_text(text, between)?;
+                push_byte(text, *byte)?;
+            }
+            Ok(())
         }
     }
-}
-
-/// Returns the byte at an address and the two behind it.
-fn bytes_at(session: &Session, address: u16) -> [u8; 3]
-    ensures { result ≡ bytes_at session.now.current address }
-{
-    [
-        session.peek(address),
-        session.peek(address.wrapping_add(1)),
-        session.peek(address.wrapping_add(2)),
-    ]
 }
 
 /// Appends the bytes of a row, with words in front of the first and between them.
@@ -177,48 +153,7 @@ fn push_row_text(text: &mut Vec<u8>, desk: &Desk, address: u16, len: u8) -> Resu
     }
 }
 
-/// Returns the bytes of a row, with blanks between them.
-fn bytes_shown(alloc: Global, desk: &Desk, address: u16, len: u8) -> Result<String, AllocError>
-    ensures { IfOk result (λ text. string_bytes text
-        ≡ utf8_lossy (joined [] (codes " ") (row_bytes desk.now address len))) }
-{
-    let mut text = Vec::new(alloc);
-    push_row_bytes(&mut text, "", " ", desk, address, len)?;
-    String::from_utf8_lossy(alloc, text.as_slice())
-}
-
-/// Returns the text of a row.
-fn text_shown(alloc: Global, desk: &Desk, address: u16, len: u8) -> Result<String, AllocError>
-    ensures { IfOk result
-        (λ text. string_bytes text ≡ utf8_lossy (row_text desk.now address len)) }
-{
-    let mut text = Vec::new(alloc);
-    push_row_text(&mut text, desk, address, len)?;
-    String::from_utf8_lossy(alloc, text.as_slice())
-}
-
-/// Returns a row of bytes and a text, which may begin a line of the source.
-fn row_on(
-    alloc: Global,
-    source: &Source<'_>,
-    address: u16,
-    bytes: &str,
-    text: &str,
-    line: Option<u32>,
-) -> Result<Value, AllocError>
-    ensures { IfOk result (λ v. view v ≡ row_on source.now.path.now source.now.counting address
-        bytes.now text.now line) }
-{
-    match line {
-        Some(line) => {
-            let line = source.counting.shown_line(line);
-            instruction_at_line(alloc, address, bytes, text, line, source.path)
-        }
-        None => instruction_row(alloc, address, bytes, text),
-    }
-}
-
-/// Returns the row of some bytes at an address.
+/// Returns the row of some bytes at an address, which may begin a line of the source.
 fn row_shown(
     alloc: Global,
     desk: &Desk,
@@ -229,10 +164,26 @@ fn row_shown(
     ensures { IfOk result (λ v. view v ≡ row_shown desk.now source.now.path.now
         source.now.counting address len) }
 {
-    let bytes = bytes_shown(alloc, desk, address, len)?;
-    let text = text_shown(alloc, desk, address, len)?;
-    let line = desk.places.line_at(address);
-    row_on(alloc, source, address, bytes.as_str(), text.as_str(), line)
+    let mut bytes = Vec::new(alloc);
+    push_row_bytes(&mut bytes, "", " ", desk, address, len)?;
+    let bytes = String::from_utf8_lossy(alloc, bytes.as_slice())?;
+    let mut text = Vec::new(alloc);
+    push_row_text(&mut text, desk, address, len)?;
+    let text = String::from_utf8_lossy(alloc, text.as_slice())?;
+    match desk.places.line_at(address) {
+        Some(line) => {
+            let line = source.counting.shown_line(line);
+            instruction_at_line(
+                alloc,
+                address,
+                bytes.as_str(),
+                text.as_str(),
+                line,
+                source.path,
+            )
+        }
+        None => instruction_row(alloc, address, bytes.as_str(), text.as_str()),
+    }
 }
 
 /// Returns the row at an address. Where no memory is, it says so.
@@ -326,66 +277,44 @@ fn first_row(
     Ok((first, back.saturating_sub(found)))
 }
 
-/// Returns so many rows, of which the first is some rows before an address or behind it.
-fn rows_around(
+/// Appends so many rows, of which the first is some rows before an address or behind it.
+fn push_around(
     alloc: Global,
+    list: &mut Vec<Value>,
     desk: &Desk,
     source: &Source<'_>,
     until: u16,
     offset: i64,
     count: u32,
-) -> Result<Vec<Value>, AllocError>
-    ensures { IfOk result (λ list. each view list.items ≡ rows_around desk.now
-        source.now.path.now source.now.counting until (behind offset) (ahead offset) count) }
+) -> Result<(), AllocError>
+    ensures { OnOk result (each view list.new.items ≡ each view list.old.items
+        ++ rows_around desk.now source.now.path.now source.now.counting until (behind offset)
+        (ahead offset) count) }
 {
     let until = u32::from(until);
     let (first, lacking) = first_row(alloc, desk, until, behind(offset), ahead(offset))?;
-    let mut list = Vec::new(alloc);
-    push_rows(
-        alloc,
-        &mut list,
-        desk,
-        source,
-        until,
-        lacking.min(count),
-        BEHIND,
-    )?;
+    push_rows(alloc, list, desk, source, until, lacking.min(count), BEHIND)?;
     let left = count.saturating_sub(lacking);
-    push_rows(alloc, &mut list, desk, source, until, left, first)?;
-    Ok(list)
+    push_rows(alloc, list, desk, source, until, left, first)
 }
 
-/// Returns so many rows where no memory is.
-fn rows_nowhere(
-    alloc: Global,
-    desk: &Desk,
-    source: &Source<'_>,
-    count: u32,
-) -> Result<Vec<Value>, AllocError>
-    ensures { IfOk result (λ list. each view list.items ≡ rows desk.now source.now.path.now
-        source.now.counting 0 count 65536) }
-{
-    let mut list = Vec::new(alloc);
-    push_rows(alloc, &mut list, desk, source, 0, count, BEHIND)?;
-    Ok(list)
-}
-
-/// Returns so many rows, of which the first is some rows before an address or behind it, if there
+/// Appends so many rows, of which the first is some rows before an address or behind it, if there
 /// is an address.
-fn rows_at(
+fn push_rows_at(
     alloc: Global,
+    list: &mut Vec<Value>,
     desk: &Desk,
     source: &Source<'_>,
     offset: i64,
     count: u32,
     until: Option<u16>,
-) -> Result<Vec<Value>, AllocError>
-    ensures { IfOk result (λ list. each view list.items ≡ rows_at desk.now source.now.path.now
-        source.now.counting offset count until) }
+) -> Result<(), AllocError>
+    ensures { OnOk result (each view list.new.items ≡ each view list.old.items
+        ++ rows_at desk.now source.now.path.now source.now.counting offset count until) }
 {
     match until {
-        Some(until) => rows_around(alloc, desk, source, until, offset, count),
-        None => rows_nowhere(alloc, desk, source, count),
+        Some(until) => push_around(alloc, list, desk, source, until, offset, count),
+        None => push_rows(alloc, list, desk, source, 0, count, BEHIND),
     }
 }
 
@@ -404,6 +333,7 @@ pub fn disassembled(
     let until = place_at(request, "/arguments/memoryReference", "/arguments/offset");
     let offset = offset_at(request, "/arguments/instructionOffset");
     let count = count_at(request, "/arguments/instructionCount");
-    let list = rows_at(alloc, desk, source, offset, count, until)?;
+    let mut list = Vec::new(alloc);
+    push_rows_at(alloc, &mut list, desk, source, offset, count, until)?;
     instructions_body(alloc, list)
 }

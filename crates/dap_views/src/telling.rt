@@ -3,7 +3,7 @@
 ghost use Rattle.std.specs.Prelude.{◌≡◌, ◌++◌, ◌∷◌, ◌-◌, ◌<◌, ◌≤◌, [], IfOk, OnOk, codes, drop, length};
 ghost use Rattle.std.specs.Prelude.{map as each, string_bytes};
 ghost use Rattle.dap_messages.specs.Messages.{done, said_of};
-ghost use Rattle.dap_views.specs.Told.{characters, console_said, fault_shown, halt_shown, less_text};
+ghost use Rattle.dap_views.specs.Told.{characters, console_said, halt_shown, less_text};
 ghost use Rattle.dap_views.specs.Told.{line_of, output_said, remark_said, stopped_said};
 ghost use Rattle.dap_views.specs.Told.{told_of, unmoved_said};
 ghost use Rattle.serde_json.specs.View.{view};
@@ -12,7 +12,6 @@ use crate::halts::{Halt, Reason};
 use crate::wording::{LESS_BEFORE, LESS_BEHIND};
 use dap_messages::{Message, invalidated, output_body, stopped_body};
 use formatting::{push_count, push_text};
-use model::EventFault;
 use mon_runs::Session;
 use mon_session::{Desk, push_fault};
 use serde_json::Value;
@@ -136,23 +135,17 @@ fn push_remark(alloc: Global, messages: &mut Vec<Message>, halt: Halt) -> Result
     }
 }
 
-/// Returns why a step is refused, in words.
-fn fault_shown(alloc: Global, places: &Places, fault: EventFault) -> Result<String, AllocError>
-    ensures { IfOk result
-        (λ words. string_bytes words ≡ fault_shown places.now.names fault) }
-{
-    let mut text = Vec::new(alloc);
-    push_fault(&mut text, places, fault)?;
-    String::from_utf8_lossy(alloc, text.as_slice())
-}
-
-/// Returns why the machine stands, in words.
+/// Returns why the machine stands, in words: if a step is refused, why it is.
 fn halt_shown(alloc: Global, places: &Places, halt: Halt) -> Result<String, AllocError>
     ensures { IfOk result (λ words. string_bytes words
         ≡ halt_shown places.now.names halt.words.now halt.fault) }
 {
     match halt.fault {
-        Some(fault) => fault_shown(alloc, places, fault),
+        Some(fault) => {
+            let mut text = Vec::new(alloc);
+            push_fault(&mut text, places, fault)?;
+            String::from_utf8_lossy(alloc, text.as_slice())
+        }
         None => String::from_str(alloc, halt.words),
     }
 }

@@ -3,4 +3,4 @@ use Rattle.arguments.specs.Values.{form_asked}
 use Rattle.dap_launch.proofs.launching.form_at.Goals as goal
 
 pub returns : goal.returns
-returns c = c.form_asked.ensures ∙ (λ i. form_asked (c.is_set.ensures i) (c.text_at.ensures i) (c.is_set-2.ensures i))
+returns c = c.form_asked.ensures ∙ (λ i. form_asked (c.flag_or.ensures i) (c.text_at.ensures i) (c.flag_or-2.ensures i))

@@ -11,6 +11,6 @@ returns-clause-desk c =
     let old = c.args.seat.now.desk in (
       over,
       said,
-      subst (λ (d : Desk). ServesConsole c.args.line.now over old d said) (sym c.in_ok-push_moved.ensures.desk)
+      subst (λ (d : Desk). ServesConsole c.args.line.now over old d said) (sym c.in_ok-push_moved.ensures.kept.0)
           (subst (λ (l : List ℕ). ServesConsole l over old c.serve_line.new.desk said) c.as_bytes.ensures.value c.in_ok-said.ensures),
     )
