@@ -83,13 +83,12 @@ class Program:
         self.spec = machine.MapSpec(*row)
         made = None if is_tape else asm.assemble(text, self.spec)
         self.image = tape.read_tape(text) if is_tape else made.image
-        self.lines, self.own = [], {}
+        self.lines, self.names = [], {}
         self.count = text.count(b"\n") + 1
         if made:
             rows = zip(made.layouts, made.data)
             self.lines = [(n, it.address, len(data)) for n, (it, data) in enumerate(rows, 1) if data]
-            self.own = self.addresses_of(made)
-        self.names = dict(self.own)
+            self.names = self.addresses_of(made)
         if symbols:
             self.names.update(self.addresses_of(asm.assemble(symbols, self.spec)))
 
@@ -330,7 +329,7 @@ class Model:
         """The variables of a scope by its number."""
         s = self.now
         if scope == 3:
-            return {name: f"${machine.peek(s, a):02X}" for name, a in self.program.own.items()}
+            return {name: f"${machine.peek(s, a):02X}" for name, a in self.program.names.items()}
         return {1: self.registers, 2: self.flags, 4: lambda: self.cells(0x101 + s.s, 0x200),
                 5: lambda: self.cells(0, 256),
                 6: lambda: {"cycles": str(s.cycles), "events held": str(self.held()),

@@ -219,6 +219,16 @@ class Session:
         told = self.adapter.ask("evaluate", expression=text, context=self.dice.choice(["hover", "watch"]))
         self.want(told["result"] == self.model.looked_at(text), f"{self.where}: {text} shows {told}")
 
+    def offer(self):
+        """What is offered behind the word of a line: the names that begin with what is typed."""
+        names = list(self.program.names)
+        typed = self.dice.choice([*names, "zz"])[:self.dice.randrange(3)]
+        typed = self.dice.choice([typed, typed.upper()])
+        told = self.adapter.ask("completions", text=f"put {typed} 1", column=5 + len(typed))["targets"]
+        meant = [{"label": it, "text": it, "start": 5, "length": len(typed)}
+                 for it in names if it.upper().startswith(typed.upper())]
+        self.want(told == meant, f"{self.where}: {typed!r} offers {told}, and in the model {meant}")
+
     # Stops --------------------------------------------------------------------------------------
 
     def tests(self):
@@ -294,7 +304,7 @@ class Session:
         self.mon.line(f"put ${first:04X} " + " ".join(str(it) for it in data))
 
     def set_variable(self):
-        dice, names = self.dice, [it for it in self.program.own if len(it) > 1]
+        dice, names = self.dice, [it for it in self.program.names if len(it) > 1]
         scope = dice.choice([1, 2, 5] + [3] * bool(names))
         name = dice.choice({1: ["PC", *"AXYSP"], 2: list("NVDIZC"), 3: names,
                             5: [f"${it:04X}" for it in range(256)]}[scope])
@@ -307,7 +317,7 @@ class Session:
         elif scope == 2:
             good = self.model.set_flag(name, value)
         else:
-            address = int(name[1:], 16) if scope == 5 else self.program.own[name]
+            address = int(name[1:], 16) if scope == 5 else self.program.names[name]
             good = self.model.event(machine.patch, address, bytes((value,)))
         told = self.adapter.ask("setVariable", good=good, variablesReference=scope, name=name, value=text)
         if good:
@@ -402,7 +412,7 @@ class Session:
         self.adapter.ask("configurationDone")
         self.enter(reason)
         kinds = [self.break_lines, self.break_addresses, self.watch, self.write, self.set_variable, self.goto,
-                 self.console, self.console, self.look, self.rows, *[self.there_and_back] * 3, *[self.move] * 12]
+                 self.console, self.console, self.look, self.offer, self.rows, *[self.there_and_back] * 3, *[self.move] * 12]
         for index in range(moves):
             before = self.model.now
             ends = self.reason in ("exception", "pause")
