@@ -1,5 +1,4 @@
 pub mod Filtered
-pub mod Listed
 pub mod Nothing
 pub mod Refused
 pub mod Small

@@ -6,7 +6,7 @@ use Rattle.lsp.specs.Sessions.{Answers}
 use Rattle.lsp.specs.State.{State}
 use Rattle.lsp.specs.declared.phase.Phase.{Phase}
 use Rattle.lsp.specs.declared.phase.Phase.TheVariants.{Fresh, Running, ShutDown}
-use Rattle.lsp_requests.specs.Requests.{request_of}
+use Rattle.lsp_messages.specs.Requests.{request_of}
 use Rattle.model.specs.State.{Map}
 use Rattle.serde_json.specs.Data.{Data}
 

@@ -11,18 +11,18 @@ use Rattle.lsp_answers.specs.Names.{definition_at, references_at}
 use Rattle.lsp_answers.specs.Renames.{IsKeptAt, IsRenameAt}
 use Rattle.lsp_answers.specs.Texts.{TextView, name_at, text_of}
 use Rattle.lsp_hints.specs.Fixes.{AreFixes}
-use Rattle.lsp_requests.specs.Requests.{RequestView, initialize, shutdown, asks, renames, invalid, unknown}
-use Rattle.lsp_requests.specs.declared.asked.At.{At}
-use Rattle.lsp_requests.specs.declared.asked.At.TheVariants as positions
-use Rattle.lsp_requests.specs.declared.asked.Question.{Question}
-use Rattle.lsp_requests.specs.declared.asked.Question.TheVariants as questions
-use Rattle.lsp_requests.specs.declared.asked.Whole.{Whole}
-use Rattle.lsp_requests.specs.declared.asked.Whole.TheVariants as documents
-use Rattle.lsp_requests.specs.declared.asked.Within.{Within}
-use Rattle.lsp_requests.specs.declared.asked.Within.TheVariants as ranges
-use Rattle.lsp_values.specs.Replies.{failure_data, result_data}
-use Rattle.lsp_values.specs.declared.replies.Failure.{Failure}
-use Rattle.lsp_values.specs.declared.replies.Failure.TheVariants as failures
+use Rattle.lsp_messages.specs.Requests.{RequestView, initialize, shutdown, asks, renames, invalid, unknown}
+use Rattle.lsp_messages.specs.declared.asked.At.{At}
+use Rattle.lsp_messages.specs.declared.asked.At.TheVariants as positions
+use Rattle.lsp_messages.specs.declared.asked.Question.{Question}
+use Rattle.lsp_messages.specs.declared.asked.Question.TheVariants as questions
+use Rattle.lsp_messages.specs.declared.asked.Whole.{Whole}
+use Rattle.lsp_messages.specs.declared.asked.Whole.TheVariants as documents
+use Rattle.lsp_messages.specs.declared.asked.Within.{Within}
+use Rattle.lsp_messages.specs.declared.asked.Within.TheVariants as ranges
+use Rattle.lsp_messages.specs.Replies.{failure_data, result_data}
+use Rattle.lsp_messages.specs.declared.replies.Failure.{Failure}
+use Rattle.lsp_messages.specs.declared.replies.Failure.TheVariants as failures
 use Rattle.model.specs.State.{Map}
 use Rattle.serde_json.specs.Data.{Data, null}
 

@@ -9,11 +9,12 @@ use Rattle.lsp.specs.declared.phase.Phase.{Phase}
 use Rattle.lsp.specs.declared.phase.Phase.TheVariants.{Fresh, Running, ShutDown}
 use Rattle.lsp_answers.specs.Marks.{AreMarks}
 use Rattle.lsp_answers.specs.Texts.{text_of}
-use Rattle.lsp_requests.specs.Requests.{RequestView, shutdown, exit, opens, closes, request_of}
-use Rattle.lsp_values.specs.Replies.{notice_data}
-use Rattle.lsp_values.specs.Values.{list_of, marks_data}
-use Rattle.lsp_values.specs.declared.replies.Failure.{Failure}
-use Rattle.lsp_values.specs.declared.replies.Failure.TheVariants.{NotJson, NoRequest}
+use Rattle.lsp_messages.specs.Requests.{RequestView, shutdown, exit, opens, closes, request_of}
+use Rattle.lsp_messages.specs.Replies.{notice_data}
+use Rattle.json_values.specs.Values.{list_of}
+use Rattle.lsp_messages.specs.Values.{marks_data}
+use Rattle.lsp_messages.specs.declared.replies.Failure.{Failure}
+use Rattle.lsp_messages.specs.declared.replies.Failure.TheVariants.{NotJson, NoRequest}
 use Rattle.model.specs.State.{Map}
 use Rattle.serde_json.specs.Data.{Data, null}
 use Rattle.serde_json.specs.Find.{get}

@@ -3,8 +3,8 @@
 ghost use Rattle.std.specs.Prelude.{IfOk};
 ghost use Rattle.lsp.specs.Answers.{IsFailure, IsFresh, IsReplyIn, IsRunning};
 ghost use Rattle.lsp.specs.State.{documents_view};
-ghost use Rattle.lsp_requests.specs.Requests.{asks, renames};
-ghost use Rattle.lsp_requests.specs.Views.{request_view};
+ghost use Rattle.lsp_messages.specs.Requests.{asks, renames};
+ghost use Rattle.lsp_messages.specs.Views.{request_view};
 ghost use Rattle.serde_json.specs.View.{view};
 
 use crate::capabilities::capabilities;
@@ -14,8 +14,7 @@ use crate::questions::answer_to;
 use crate::texts::text_on;
 use bus::MapSpec;
 use lsp_answers::rename;
-use lsp_requests::{Question, Request};
-use lsp_values::{Failure, failure_reply, result_reply};
+use lsp_messages::{Failure, Question, Request, failure_reply, result_reply};
 use serde_json::Value;
 use std::alloc::{AllocError, Global};
 

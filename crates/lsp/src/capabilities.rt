@@ -2,11 +2,12 @@
 
 ghost use Rattle.std.specs.Prelude.{◌≡◌, IfOk, map as each};
 ghost use Rattle.lsp.specs.Capabilities.{capabilities, colours, fixes, served, signatures, sync};
-ghost use Rattle.lsp_values.specs.Values.{list_of, word};
+ghost use Rattle.json_values.specs.Values.{list_of, word};
 ghost use Rattle.serde_json.specs.View.{view};
 
-use lsp_values::Object;
-use serde_json::{Value, json};
+use json_values::Object;
+use lsp_messages::ValueList;
+use serde_json::Value;
 use std::alloc::{AllocError, Global};
 
 /// The types of colours, by their numbers from 0.
@@ -18,12 +19,11 @@ const TYPES: [&str; 6] = [
 fn words(alloc: Global, texts: &[&str]) -> Result<Value, AllocError>
     ensures { IfOk result (λ v. view v ≡ list_of (each word (each (λ s. s.now) texts.now))) }
 {
-    let mut list = Vec::new(alloc);
+    let mut list = ValueList::new(alloc);
     for text in texts {
-        let value = json!(in alloc; *text)?;
-        list.push(value)?;
+        list = list.with(Value::try_from_str(alloc, *text));
     }
-    Ok(Value::Array(list))
+    list.build()
 }
 
 /// Returns what the server can do about colours: those of a whole text, by the legend.

@@ -3,9 +3,9 @@
 ghost use Rattle.std.specs.Prelude.{◌≡◌, ◌≤◌};
 ghost use Rattle.lsp.specs.Answers.{is_initialize};
 ghost use Rattle.lsp.specs.Messages.{is_exit, is_shutdown, phase_after, status_in};
-ghost use Rattle.lsp_requests.specs.Views.{request_view};
+ghost use Rattle.lsp_messages.specs.Views.{request_view};
 
-use lsp_requests::Request;
+use lsp_messages::Request;
 
 /// How far a client has come.
 #[derive(Clone, Copy)]

@@ -9,8 +9,8 @@ use crate::texts::line_in;
 use bus::MapSpec;
 use lsp_answers::{Text, completion, definition, hover, references, symbols};
 use lsp_hints::{fixes_in, hints_in, signatures_at};
+use lsp_messages::{At, Question, Whole, Within};
 use lsp_outline::{folded, painted};
-use lsp_requests::{At, Question, Whole, Within};
 use serde_json::Value;
 use std::alloc::{AllocError, Global};
 

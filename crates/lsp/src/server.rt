@@ -7,8 +7,9 @@ ghost use Rattle.lsp.specs.Messages.{state_after};
 ghost use Rattle.lsp.specs.State.{documents_view, server_view, start};
 ghost use Rattle.lsp_answers.specs.Marks.{AreMarks};
 ghost use Rattle.lsp_answers.specs.Texts.{text_of};
-ghost use Rattle.lsp_requests.specs.Views.{request_view};
-ghost use Rattle.lsp_values.specs.Values.{list_of, marks_data};
+ghost use Rattle.lsp_messages.specs.Views.{request_view};
+ghost use Rattle.json_values.specs.Values.{list_of};
+ghost use Rattle.lsp_messages.specs.Values.{marks_data};
 ghost use Rattle.serde_json.specs.Data.{Data};
 ghost use Rattle.serde_json.specs.Find.{get};
 ghost use Rattle.serde_json.specs.View.{view};
@@ -18,9 +19,8 @@ use crate::documents::Documents;
 use crate::phase::{Phase, is_exit};
 use bus::MapSpec;
 use lsp_answers::{Text, published};
-use lsp_requests::{Request, read_request};
-use lsp_values::{Failure, notice};
-use serde_json::{Value, json};
+use lsp_messages::{Failure, Request, ValueList, marks, notice, read_request};
+use serde_json::Value;
 use std::alloc::{AllocError, Global};
 
 /// A server: how far its client has come, and the documents that are open.
@@ -76,8 +76,8 @@ fn no_marks_told(alloc: Global, uri: &str) -> Result<Vec<Value>, AllocError>
     ensures { IfOk result
         (λ vs. each view vs.items ≡ published (marks_data uri.now (list_of [])) ∷ []) }
 {
-    let marks = json!(in alloc; {"diagnostics": [], "uri": uri})?;
-    told_marks(alloc, marks)
+    let none = marks(alloc, uri, ValueList::new(alloc).build())?;
+    told_marks(alloc, none)
 }
 
 /// Does what a notice about a document asks for, and returns what is told then. The only error is

@@ -21,7 +21,7 @@ use crate::server::{Server, asks_for_end, refused, serve};
 use crate::words::{LspWords, read_words};
 use arguments::{Refusal, map_of, put_all, refuse, refused_words};
 use bus::MapSpec;
-use lsp_values::Failure;
+use lsp_messages::Failure;
 use message_stream::{Incoming, StreamFault, write_message};
 use serde_json::Value;
 use std::alloc::{AllocError, Global};

@@ -5,9 +5,11 @@ use Rattle.std.specs.List.{filter}
 use Rattle.std.specs.Str.Lossy.{utf8_lossy}
 use Rattle.lsp_answers.specs.Texts.{TextView, use_range}
 use Rattle.lsp_answers.specs.Written.{directive_items}
-use Rattle.lsp_values.specs.Values.{item_data, list_of, symbol_data}
+use Rattle.json_values.specs.Values.{list_of}
+use Rattle.lsp_messages.specs.Values.{item_data, symbol_data}
 use Rattle.model.specs.Mnemonics.{mnemonic_text, mnemonics}
 use Rattle.model.specs.declared.instruction.Mnemonic.{Mnemonic}
+use Rattle.model.specs.declared.instruction.Profile.{Profile}
 use Rattle.name_uses.specs.Uses.{Use}
 use Rattle.serde_json.specs.Data.{Data}
 
@@ -32,8 +34,11 @@ name_item u = item_data (utf8_lossy u.text) 6 (codes "name")
 abbrev pub mnemonic_item : Mnemonic → Data
 mnemonic_item m = item_data (utf8_lossy (mnemonic_text m)) 14 (codes "instruction")
 
--- What may be written: the names that the source defines, the mnemonics of its profile, and the
--- directives.
+-- What may be written: the names of these uses, the mnemonics of the profile, and the directives.
+abbrev pub completed : Profile → List Use → Data
+completed profile uses = list_of (map name_item uses
+    ++ map mnemonic_item (mnemonics profile) ++ directive_items)
+
+-- In a text these are the names that the source defines.
 abbrev pub completion_of : TextView → Data
-completion_of t = list_of (map name_item (defined t.uses)
-    ++ map mnemonic_item (mnemonics t.profile) ++ directive_items)
+completion_of t = completed t.profile (defined t.uses)

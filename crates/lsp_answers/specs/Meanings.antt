@@ -4,8 +4,8 @@ use Rattle.std.specs.Prelude.{◌≡◌, ℕ, ◌-◌, ◌&&◌, nat_le, nat_lt,
 use Rattle.std.specs.List.{find}
 use Rattle.std.specs.Str.Lossy.{utf8_lossy}
 use Rattle.lsp_answers.specs.Texts.{TextView, line_at, name_at, number_in, range_in, use_range}
-use Rattle.lsp_values.specs.Columns.{column_of}
-use Rattle.lsp_values.specs.Values.{hover_data}
+use Rattle.lsp_messages.specs.Columns.{column_of}
+use Rattle.lsp_messages.specs.Values.{hover_data}
 use Rattle.model.specs.AllFaults.{Found, found_lines, smallest}
 use Rattle.model.specs.Layout.{Content, no_bytes, byte_list, word_list, word_list_high_first, code}
 use Rattle.model.specs.Mnemonics.{mnemonic_named, mnemonic_text}

@@ -2,7 +2,8 @@
 -- References Request"; which uses a name has, mos65.
 use Rattle.std.specs.Prelude.{ℕ, Bool, if◌then◌else◌, List, map, Option, Some, None}
 use Rattle.lsp_answers.specs.Texts.{TextView, name_at, use_range}
-use Rattle.lsp_values.specs.Values.{list_of, location_data}
+use Rattle.json_values.specs.Values.{list_of}
+use Rattle.lsp_messages.specs.Values.{location_data}
 use Rattle.name_uses.specs.Picked.{picked}
 use Rattle.name_uses.specs.Uses.{Use}
 use Rattle.name_uses.specs.declared.picks.Part.{Part}

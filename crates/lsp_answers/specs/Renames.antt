@@ -2,7 +2,8 @@
 -- mos65.
 use Rattle.std.specs.Prelude.{◌≡◌, ◌<◌, ◌⊎◌, ⊤, ℕ, true, List, [], length, map, Option, Some, None}
 use Rattle.lsp_answers.specs.Texts.{TextView, use_range}
-use Rattle.lsp_values.specs.Values.{changes_data, edit_data, list_of}
+use Rattle.json_values.specs.Values.{list_of}
+use Rattle.lsp_messages.specs.Values.{changes_data, edit_data}
 use Rattle.model.specs.Source.{Denotes}
 use Rattle.model.specs.State.{Map}
 use Rattle.name_uses.specs.Uses.{Use, is_name}

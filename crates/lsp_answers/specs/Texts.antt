@@ -3,8 +3,8 @@
 use Rattle.std.specs.Prelude.{ℕ, ◌+◌, ◌-◌, ◌&&◌, nat_lt, min, if◌then◌else◌, List, [], length, Option, Some, None, option_and_then}
 use Rattle.std.specs.List.{find}
 use Rattle.lsp_answers.specs.declared.source_text.Text.{Text}
-use Rattle.lsp_values.specs.Columns.{column_of, most, units_before}
-use Rattle.lsp_values.specs.Values.{range_data}
+use Rattle.lsp_messages.specs.Columns.{column_of, most, units_before}
+use Rattle.lsp_messages.specs.Values.{range_data}
 use Rattle.model.specs.TextLines.{lines_of}
 use Rattle.model.specs.declared.instruction.Profile.{Profile}
 use Rattle.name_uses.specs.Places.{covers}

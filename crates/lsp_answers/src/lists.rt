@@ -1,42 +1,37 @@
 //! The names of a source, and what may be written.
 
-ghost use Rattle.std.specs.Prelude.{◌≡◌, ◌++◌, ◌∷◌, [], IfOk, OnOk, map, string_bytes};
-ghost use Rattle.std.specs.Str.Lossy.{utf8_lossy};
-ghost use Rattle.lsp_answers.specs.Lists.{completion_of, defined, is_defined, mnemonic_item};
-ghost use Rattle.lsp_answers.specs.Lists.{name_item, symbol_of, symbols_of};
+ghost use Rattle.std.specs.Prelude.{◌≡◌, ◌++◌, IfOk, List, map};
+ghost use Rattle.json_values.specs.Values.{list_of};
+ghost use Rattle.lsp_answers.specs.Lists.{completed, completion_of, defined, is_defined};
+ghost use Rattle.lsp_answers.specs.Lists.{mnemonic_item, name_item, symbol_of, symbols_of};
 ghost use Rattle.lsp_answers.specs.Texts.{text_view};
 ghost use Rattle.lsp_answers.specs.Written.{directive_items};
-ghost use Rattle.lsp_values.specs.Values.{item_data, list_of};
+ghost use Rattle.lsp_messages.specs.ValueLists.{HasValues};
+ghost use Rattle.lsp_messages.specs.Values.{item_data};
 ghost use Rattle.name_uses.specs.Views.{use_view, use_views};
+ghost use Rattle.serde_json.specs.Data.{Data};
 ghost use Rattle.serde_json.specs.View.{view};
 
 use crate::source_text::Text;
 use crate::written::{
     BYTE_EFFECT, DBYTE_EFFECT, END_EFFECT, RES_EFFECT, WORD_EFFECT, mnemonics_in,
 };
-use lsp_values::{item, symbol};
-use model::Mnemonic;
+use lsp_messages::{ValueList, item, symbol};
+use model::{Mnemonic, Profile};
 use name_uses::NameUse;
 use optable::letters_of;
 use serde_json::Value;
 use std::alloc::{AllocError, Global};
-
-/// Returns a name as text. It is ASCII.
-fn name_text(alloc: Global, name: &[u8]) -> Result<String, AllocError>
-    ensures { IfOk result (λ text. string_bytes text ≡ utf8_lossy name.now) }
-{
-    String::from_utf8_lossy(alloc, name)
-}
 
 /// Returns the value of a name that a line defines.
 fn symbol_of(alloc: Global, text: &Text<'_>, one: &NameUse<'_>) -> Result<Value, AllocError>
     ensures { IfOk result
         (λ v. view v ≡ symbol_of (text_view text.now) (use_view one.now)) }
 {
-    let name = name_text(alloc, one.text)?;
-    let range = text.range_of(alloc, one)?;
-    let selected = text.range_of(alloc, one)?;
-    symbol(alloc, name.as_str(), range, selected)
+    let name = String::from_utf8_lossy(alloc, one.text);
+    let range = text.range_of(alloc, one);
+    let selected = text.range_of(alloc, one);
+    symbol(alloc, name, range, selected)
 }
 
 /// Returns whether a line defines a name where it stands.
@@ -64,12 +59,11 @@ fn symbols_among(alloc: Global, text: &Text<'_>, uses: &[NameUse<'_>]) -> Result
     ensures { IfOk result
         (λ v. view v ≡ list_of (map (symbol_of (text_view text.now)) (use_views uses.now))) }
 {
-    let mut found = Vec::new(alloc);
+    let mut found = ValueList::new(alloc);
     for one in uses {
-        let value = symbol_of(alloc, text, one)?;
-        found.push(value)?;
+        found = found.with(symbol_of(alloc, text, one));
     }
-    Ok(Value::Array(found))
+    found.build()
 }
 
 /// Returns the names that a source defines, in their order, each with where that is. The only error
@@ -85,72 +79,68 @@ pub fn symbols(alloc: Global, text: &Text<'_>) -> Result<Value, AllocError>
 fn name_item(alloc: Global, one: &NameUse<'_>) -> Result<Value, AllocError>
     ensures { IfOk result (λ v. view v ≡ name_item (use_view one.now)) }
 {
-    let name = name_text(alloc, one.text)?;
-    item(alloc, name.as_str(), 6, "name")
+    item(alloc, String::from_utf8_lossy(alloc, one.text), 6, "name")
 }
 
-/// Appends some names.
-fn push_names(alloc: Global, items: &mut Vec<Value>, uses: &[NameUse<'_>]) -> Result<(), AllocError>
-    ensures { OnOk result (map view items.new.items
-        ≡ map view items.old.items ++ map name_item (use_views uses.now)) }
+/// Puts some names behind what may be written.
+fn with_names(alloc: Global, items: ValueList, uses: &[NameUse<'_>]) -> ValueList
+    ensures { (ds : List Data) → HasValues ds items
+        → HasValues (ds ++ map name_item (use_views uses.now)) result }
 {
+    let mut items = items;
     for one in uses {
-        let value = name_item(alloc, one)?;
-        items.push(value)?;
+        items = items.with(name_item(alloc, one));
     }
-    Ok(())
+    items
 }
 
 /// Returns what may be written for a mnemonic.
 fn mnemonic_item(alloc: Global, mnemonic: Mnemonic) -> Result<Value, AllocError>
     ensures { IfOk result (λ v. view v ≡ mnemonic_item mnemonic) }
 {
-    let letters = name_text(alloc, &letters_of(mnemonic))?;
-    item(alloc, letters.as_str(), 14, "instruction")
+    let letters = String::from_utf8_lossy(alloc, &letters_of(mnemonic));
+    item(alloc, letters, 14, "instruction")
 }
 
-/// Appends some mnemonics.
-fn push_mnemonics(
-    alloc: Global,
-    items: &mut Vec<Value>,
-    mnemonics: &[Mnemonic],
-) -> Result<(), AllocError>
-    ensures { OnOk result (map view items.new.items
-        ≡ map view items.old.items ++ map mnemonic_item mnemonics.now) }
+/// Puts some mnemonics behind what may be written.
+fn with_mnemonics(alloc: Global, items: ValueList, mnemonics: &[Mnemonic]) -> ValueList
+    ensures { (ds : List Data) → HasValues ds items
+        → HasValues (ds ++ map mnemonic_item mnemonics.now) result }
 {
+    let mut items = items;
     for mnemonic in mnemonics {
-        let value = mnemonic_item(alloc, *mnemonic)?;
-        items.push(value)?;
+        items = items.with(mnemonic_item(alloc, *mnemonic));
     }
-    Ok(())
+    items
 }
 
-/// Appends a directive, with what it does.
-fn push_directive(
-    alloc: Global,
-    items: &mut Vec<Value>,
-    name: &str,
-    effect: &str,
-) -> Result<(), AllocError>
-    ensures { OnOk result (map view items.new.items
-        ≡ map view items.old.items ++ item_data name.now 14 effect.now ∷ []) }
+/// Returns what may be written for a directive, with what it does.
+fn directive_item(alloc: Global, name: &str, effect: &str) -> Result<Value, AllocError>
+    ensures { IfOk result (λ v. view v ≡ item_data name.now 14 effect.now) }
 {
-    let value = item(alloc, name, 14, effect)?;
-    items.push(value)?;
-    Ok(())
+    item(alloc, String::from_str(alloc, name), 14, effect)
 }
 
-/// Appends the directives.
-fn push_directives(alloc: Global, items: &mut Vec<Value>) -> Result<(), AllocError>
-    ensures { OnOk result
-        (map view items.new.items ≡ map view items.old.items ++ directive_items) }
+/// Puts the directives behind what may be written.
+fn with_directives(alloc: Global, items: ValueList) -> ValueList
+    ensures { (ds : List Data) → HasValues ds items → HasValues (ds ++ directive_items) result }
 {
-    push_directive(alloc, items, ".BYTE", BYTE_EFFECT)?;
-    push_directive(alloc, items, ".WORD", WORD_EFFECT)?;
-    push_directive(alloc, items, ".DBYTE", DBYTE_EFFECT)?;
-    push_directive(alloc, items, ".RES", RES_EFFECT)?;
-    push_directive(alloc, items, ".END", END_EFFECT)?;
-    Ok(())
+    items
+        .with(directive_item(alloc, ".BYTE", BYTE_EFFECT))
+        .with(directive_item(alloc, ".WORD", WORD_EFFECT))
+        .with(directive_item(alloc, ".DBYTE", DBYTE_EFFECT))
+        .with(directive_item(alloc, ".RES", RES_EFFECT))
+        .with(directive_item(alloc, ".END", END_EFFECT))
+}
+
+/// Returns what may be written: the names of some uses, the mnemonics of a profile, and the
+/// directives.
+fn completed(alloc: Global, profile: Profile, uses: &[NameUse<'_>]) -> Result<Value, AllocError>
+    ensures { IfOk result (λ v. view v ≡ completed profile (use_views uses.now)) }
+{
+    let names = with_names(alloc, ValueList::new(alloc), uses);
+    let words = with_mnemonics(alloc, names, mnemonics_in(profile));
+    with_directives(alloc, words).build()
 }
 
 /// Returns what may be written in a source: its names, the mnemonics and the directives. The only
@@ -159,9 +149,5 @@ pub fn completion(alloc: Global, text: &Text<'_>) -> Result<Value, AllocError>
     ensures { IfOk result (λ v. view v ≡ completion_of (text_view text.now)) }
 {
     let uses = defined(alloc, &text.uses)?;
-    let mut items = Vec::new(alloc);
-    push_names(alloc, &mut items, &uses)?;
-    push_mnemonics(alloc, &mut items, mnemonics_in(text.profile))?;
-    push_directives(alloc, &mut items)?;
-    Ok(Value::Array(items))
+    completed(alloc, text.profile, &uses)
 }

@@ -3,12 +3,12 @@
 ghost use Rattle.std.specs.Prelude.{◌≡◌, ℕ, IfOk, List, map};
 ghost use Rattle.lsp_answers.specs.Marks.{AreMarks, mark_of, severity_of};
 ghost use Rattle.lsp_answers.specs.Texts.{text_view};
-ghost use Rattle.lsp_values.specs.Values.{list_of};
+ghost use Rattle.json_values.specs.Values.{list_of};
 ghost use Rattle.serde_json.specs.View.{view};
 
 use crate::source_text::Text;
 use bus::MapSpec;
-use lsp_values::{mark, marks};
+use lsp_messages::{ValueList, mark, marks};
 use serde_json::Value;
 use source_diagnostics::{Diagnostic, diagnostics};
 use std::alloc::{AllocError, Global};
@@ -25,15 +25,9 @@ fn mark_of(alloc: Global, text: &Text<'_>, one: &Diagnostic) -> Result<Value, Al
     ensures { IfOk result (λ v. view v ≡ mark_of (text_view text.now) one.now) }
 {
     let number = one.line.max(1);
-    let range = text.range(alloc, number, one.note.start, one.note.width)?;
-    let words = String::from_utf8_lossy(alloc, &one.note.words)?;
-    mark(
-        alloc,
-        severity_of(one),
-        one.kind.name(),
-        words.as_str(),
-        range,
-    )
+    let range = text.range(alloc, number, one.note.start, one.note.width);
+    let words = String::from_utf8_lossy(alloc, &one.note.words);
+    mark(alloc, severity_of(one), one.kind.name(), words, range)
 }
 
 /// Returns the marks of some faults or warnings.
@@ -41,12 +35,11 @@ fn marks_of(alloc: Global, text: &Text<'_>, found: &[Diagnostic]) -> Result<Valu
     ensures { IfOk result
         (λ v. view v ≡ list_of (map (mark_of (text_view text.now)) found.now)) }
 {
-    let mut values = Vec::new(alloc);
+    let mut values = ValueList::new(alloc);
     for one in found {
-        let value = mark_of(alloc, text, one)?;
-        values.push(value)?;
+        values = values.with(mark_of(alloc, text, one));
     }
-    Ok(Value::Array(values))
+    values.build()
 }
 
 /// Returns the marks of a document: of each fault of its source on a map, or of each warning where
@@ -60,7 +53,5 @@ pub fn published(
     ensures { IfOk result (λ v. AreMarks map.now uri.now (text_view text.now) (view v)) }
 {
     let found = diagnostics(alloc, text.source, map)?;
-    let values = marks_of(alloc, text, &found)?;
-    let params = marks(alloc, uri, values)?;
-    Ok(params)
+    marks(alloc, uri, marks_of(alloc, text, &found))
 }

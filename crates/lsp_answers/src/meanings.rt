@@ -1,8 +1,9 @@
 //! What is meant at a place.
 
-ghost use Rattle.std.specs.Prelude.{◌≡◌, ◌≤◌, ◌++◌, ◌-◌, ℕ, IfOk, List, length, option_and_then, slice_get};
+ghost use Rattle.std.specs.Prelude.{◌≡◌, ◌≤◌, ◌++◌, ◌-◌, ℕ, IfOk, List, length, option_and_then, slice_get, string_bytes};
 ghost use Rattle.std.specs.List.{find};
 ghost use Rattle.std.specs.Option.{option_map};
+ghost use Rattle.std.specs.Str.Lossy.{utf8_lossy};
 ghost use Rattle.line_parts.specs.Lexemes.{lexeme_of, lexemes};
 ghost use Rattle.lsp_answers.specs.Meanings.{IsMeaning, IsOfLine, IsOfName, IsOfPlace, IsOfRow};
 ghost use Rattle.lsp_answers.specs.Meanings.{IsSaid};
@@ -19,7 +20,7 @@ use crate::source_text::Text;
 use crate::wording::{instruction_tail, name_tail};
 use lexer::tokens;
 use line_parts::{Statement, Token};
-use lsp_values::{column_of, hover as said_of};
+use lsp_messages::{column_of, hover as said_of};
 use model::{LineFault, Profile, Row};
 use name_uses::NameUse;
 use optable::{decode_in, letters_of, mnemonic_in};
@@ -63,16 +64,21 @@ fn lay_out_text<'a>(alloc: Global, text: &Text<'a>) -> Result<Laid<'a>, AllocErr
     Ok(Laid { found, symbols })
 }
 
+/// Returns words and others behind them, as text.
+fn joined(alloc: Global, front: &[u8], rest: &[u8]) -> Result<String, AllocError>
+    ensures { IfOk result (λ text. string_bytes text ≡ utf8_lossy (front.now ++ rest.now)) }
+{
+    let mut words = Vec::from_slice(alloc, front)?;
+    words.extend_from_slice(rest)?;
+    String::from_utf8_lossy(alloc, &words)
+}
+
 /// Returns what is said at a place, in these words and behind them others, with the range that it
 /// is said of.
 fn said(alloc: Global, front: &[u8], rest: &[u8], range: Value) -> Result<Value, AllocError>
     ensures { IfOk result (λ v. IsSaid front.now (view range) (view v)) }
 {
-    let mut words = Vec::from_slice(alloc, front)?;
-    words.extend_from_slice(rest)?;
-    let text = String::from_utf8_lossy(alloc, &words)?;
-    let value = said_of(alloc, text.as_str(), range)?;
-    Ok(value)
+    said_of(alloc, joined(alloc, front, rest), Ok(range))
 }
 
 /// Returns what is said of a name.

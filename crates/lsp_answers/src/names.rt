@@ -7,7 +7,7 @@ ghost use Rattle.name_uses.specs.Views.{use_views};
 ghost use Rattle.serde_json.specs.View.{view};
 
 use crate::source_text::Text;
-use lsp_values::location;
+use lsp_messages::{ValueList, location};
 use name_uses::{NameUse, Part, picked};
 use serde_json::Value;
 use std::alloc::{AllocError, Global};
@@ -22,13 +22,11 @@ fn locations(
     ensures { IfOk result
         (λ v. view v ≡ locations_of uri.now (text_view text.now) (use_views uses.now)) }
 {
-    let mut found = Vec::new(alloc);
+    let mut found = ValueList::new(alloc);
     for one in uses {
-        let range = text.range_of(alloc, one)?;
-        let value = location(alloc, uri, range)?;
-        found.push(value)?;
+        found = found.with(location(alloc, uri, text.range_of(alloc, one)));
     }
-    Ok(Value::Array(found))
+    found.build()
 }
 
 /// Returns where those uses of the name at a place stand that are meant; `null` where no name is.

@@ -3,12 +3,13 @@
 ghost use Rattle.std.specs.Prelude.{◌≡◌, IfErr, IfOk};
 ghost use Rattle.lsp_answers.specs.Renames.{IsKept, IsKeptAt, IsRename, IsRenameAt, IsTold, edits_of};
 ghost use Rattle.lsp_answers.specs.Texts.{name_at, text_view};
+ghost use Rattle.lsp_messages.specs.Values.{changes_data};
 ghost use Rattle.name_uses.specs.Views.{use_views};
 ghost use Rattle.serde_json.specs.View.{view};
 
 use crate::source_text::Text;
 use bus::MapSpec;
-use lsp_values::{changes, edit};
+use lsp_messages::{ValueList, changes, edit};
 use name_uses::NameUse;
 use serde_json::Value;
 use source_renaming::{RenameFault, rename as renamed};
@@ -17,23 +18,22 @@ use std::alloc::{AllocError, Global};
 /// The most bytes that a source has (mos65).
 const SOURCE_SIZE: usize = 1_048_576;
 
-/// Returns the changes that put a word in place of some uses.
-fn edits(
+/// Returns the changes of a document that put a word in place of some uses.
+fn changed(
     alloc: Global,
+    uri: &str,
     text: &Text<'_>,
     uses: &[NameUse<'_>],
     word: &str,
 ) -> Result<Value, AllocError>
-    ensures { IfOk result
-        (λ v. view v ≡ edits_of (text_view text.now) word.now (use_views uses.now)) }
+    ensures { IfOk result (λ v. view v
+        ≡ changes_data uri.now (edits_of (text_view text.now) word.now (use_views uses.now))) }
 {
-    let mut found = Vec::new(alloc);
+    let mut found = ValueList::new(alloc);
     for one in uses {
-        let range = text.range_of(alloc, one)?;
-        let value = edit(alloc, word, range)?;
-        found.push(value)?;
+        found = found.with(edit(alloc, word, text.range_of(alloc, one)));
     }
-    Ok(Value::Array(found))
+    changes(alloc, uri, found.build())
 }
 
 /// Returns why a name is not changed, in words. The only error is that memory ran out.
@@ -70,8 +70,7 @@ fn rename_of(
     }
     match renamed(alloc, map, text.source, old, name.as_bytes()) {
         Ok(renaming) => {
-            let edits = edits(alloc, text, &renaming.uses, name)?;
-            let changes = changes(alloc, uri, edits)?;
+            let changes = changed(alloc, uri, text, &renaming.uses, name)?;
             Ok(Ok(changes))
         }
         Err(fault) => {

@@ -7,7 +7,7 @@ ghost use Rattle.lsp_answers.specs.Texts.{text_view, use_range};
 ghost use Rattle.name_uses.specs.Views.{use_view};
 ghost use Rattle.serde_json.specs.View.{view};
 
-use lsp_values::{character_of, column_of, range};
+use lsp_messages::{character_of, column_of, range};
 use model::Profile;
 use name_uses::{NameUse, name_at, name_uses};
 use serde_json::Value;

@@ -30,6 +30,22 @@ fn push_lines(words: &mut Vec<u8>, definitions: &[NameUse<'_>]) -> Result<(), Al
     Ok(())
 }
 
+/// Appends what is said of a name, behind the name.
+fn push_name(
+    alloc: Global,
+    words: &mut Vec<u8>,
+    text: &Text<'_>,
+    laid: &Laid<'_>,
+    one: &NameUse<'_>,
+) -> Result<(), AllocError> {
+    match laid.symbols.value_of(one.text) {
+        Some(number) => push_number(words, number)?,
+        None => push_text(words, " has no number")?,
+    }
+    let definitions = picked(alloc, &text.uses, one.text, Part::Definitions)?;
+    push_lines(words, &definitions)
+}
+
 /// Returns what is said of a name, behind the name.
 pub fn name_tail(
     alloc: Global,
@@ -38,12 +54,7 @@ pub fn name_tail(
     one: &NameUse<'_>,
 ) -> Result<Vec<u8>, AllocError> {
     let mut words = Vec::new(alloc);
-    match laid.symbols.value_of(one.text) {
-        Some(number) => push_number(&mut words, number)?,
-        None => push_text(&mut words, " has no number")?,
-    }
-    let definitions = picked(alloc, &text.uses, one.text, Part::Definitions)?;
-    push_lines(&mut words, &definitions)?;
+    push_name(alloc, &mut words, text, laid, one)?;
     Ok(words)
 }
 
@@ -107,21 +118,26 @@ fn push_amount(words: &mut Vec<u8>, count: u8, one: &str, many: &str) -> Result<
     push_text(words, if count == 1 { one } else { many })
 }
 
+/// Appends what is said of an instruction, behind its mnemonic.
+fn push_instruction(words: &mut Vec<u8>, placed: &Placed) -> Result<(), AllocError> {
+    let row = placed.row;
+    push_text(words, ", ")?;
+    push_text(words, form_of(row.mode))?;
+    push_text(words, "\n$")?;
+    push_address(words, (placed.address % 65536) as u16)?;
+    push_text(words, ": opcode $")?;
+    push_byte(words, placed.opcode)?;
+    push_text(words, ", ")?;
+    push_amount(words, row.len, " byte, ", " bytes, ")?;
+    push_amount(words, row.cycles, " cycle", " cycles")?;
+    push_text(words, extra(row.mode, row.penalty))?;
+    push_text(words, "\nflags: ")?;
+    push_text(words, flags_of(row.mnemonic))
+}
+
 /// Returns what is said of an instruction, behind its mnemonic.
 pub fn instruction_tail(alloc: Global, placed: &Placed) -> Result<Vec<u8>, AllocError> {
-    let row = placed.row;
     let mut words = Vec::new(alloc);
-    push_text(&mut words, ", ")?;
-    push_text(&mut words, form_of(row.mode))?;
-    push_text(&mut words, "\n$")?;
-    push_address(&mut words, (placed.address % 65536) as u16)?;
-    push_text(&mut words, ": opcode $")?;
-    push_byte(&mut words, placed.opcode)?;
-    push_text(&mut words, ", ")?;
-    push_amount(&mut words, row.len, " byte, ", " bytes, ")?;
-    push_amount(&mut words, row.cycles, " cycle", " cycles")?;
-    push_text(&mut words, extra(row.mode, row.penalty))?;
-    push_text(&mut words, "\nflags: ")?;
-    push_text(&mut words, flags_of(row.mnemonic))?;
+    push_instruction(&mut words, placed)?;
     Ok(words)
 }

@@ -5,7 +5,8 @@ use Rattle.std.specs.List.{flat_map}
 use Rattle.std.specs.Str.Lossy.{utf8_lossy}
 use Rattle.lsp_answers.specs.Texts.{TextView, range_in}
 use Rattle.lsp_hints.specs.RightWords.{right_word}
-use Rattle.lsp_values.specs.Values.{changes_data, edit_data, list_of, object_of, word}
+use Rattle.json_values.specs.Values.{list_of, object_of, word}
+use Rattle.lsp_messages.specs.Values.{changes_data, edit_data}
 use Rattle.model.specs.AllFaults.{faults_of}
 use Rattle.model.specs.State.{Map}
 use Rattle.serde_json.specs.Data.{Data}
@@ -20,10 +21,13 @@ abbrev pub title_of : List ℕ → List ℕ
 title_of right = codes "write " ++ right
 
 -- A word in place of the bytes that are meant, which are those that are marked.
+abbrev pub edit_of : TextView → Diagnostic → List ℕ → Data
+edit_of t d right
+    = edit_data (utf8_lossy right) (range_in t (max d.line 1) d.note.start d.note.width)
+
 abbrev pub fix_of : List ℕ → TextView → Diagnostic → List ℕ → Data
-fix_of uri t d right = action_data (utf8_lossy (title_of right)) (changes_data uri
-    (list_of (edit_data (utf8_lossy right) (range_in t (max d.line 1) d.note.start d.note.width)
-    ∷ [])))
+fix_of uri t d right = action_data (utf8_lossy (title_of right))
+    (changes_data uri (list_of (edit_of t d right ∷ [])))
 
 abbrev pub fixes_by : List ℕ → TextView → Diagnostic → Option (List ℕ) → List Data
 fixes_by uri t d None = []

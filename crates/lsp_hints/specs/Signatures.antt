@@ -8,8 +8,8 @@ use Rattle.lsp_hints.specs.declared.operation.Operation.{Operation}
 use Rattle.lsp_hints.specs.declared.operation.Operation.TheVariants.{Instruction, Bytes, Words, WordsHighFirst, Reserve, Finish, Origin, Definition}
 use Rattle.lsp_hints.specs.declared.signatures.TheConstants.{MODES}
 use Rattle.lsp_hints.specs.declared.wording.TheConstants.{BYTE_FORM, DBYTE_FORM, DEFINITION_FORM, END_FORM, FORM_ABS, FORM_ABSX, FORM_ABSY, FORM_ACC, FORM_IMM, FORM_IND, FORM_INDX, FORM_INDY, FORM_INDZ, FORM_REL, FORM_ZP, FORM_ZPX, FORM_ZPY, ORIGIN_FORM, RES_FORM, WORD_FORM}
-use Rattle.lsp_values.specs.Columns.{column_of}
-use Rattle.lsp_values.specs.Values.{count, list_of, object_of, word}
+use Rattle.lsp_messages.specs.Columns.{column_of}
+use Rattle.json_values.specs.Values.{count, list_of, object_of, word}
 use Rattle.model.specs.Mnemonics.{mnemonic_text}
 use Rattle.model.specs.OpcodeTable.{opcode_of}
 use Rattle.model.specs.declared.instruction.Mnemonic.{Mnemonic}

@@ -1,18 +1,19 @@
 //! The changes for faults.
 
-ghost use Rattle.std.specs.Prelude.{◌≡◌, ◌++◌, ◌∷◌, [], IfOk, OnOk, map, string_bytes};
+ghost use Rattle.std.specs.Prelude.{◌≡◌, ◌++◌, IfOk, OnOk, map, string_bytes};
 ghost use Rattle.std.specs.List.{flat_map};
 ghost use Rattle.std.specs.Str.Lossy.{utf8_lossy};
 ghost use Rattle.lsp_answers.specs.Texts.{text_view};
-ghost use Rattle.lsp_hints.specs.Fixes.{AreFixes, action_data, fix_of, fixes_between, fixes_of, is_between};
+ghost use Rattle.lsp_hints.specs.Fixes.{AreFixes, edit_of, fix_of, fixes_between, fixes_of, is_between};
 ghost use Rattle.lsp_hints.specs.Fixes.{title_of};
-ghost use Rattle.lsp_values.specs.Values.{list_of};
+ghost use Rattle.json_values.specs.Values.{list_of};
 ghost use Rattle.serde_json.specs.View.{view};
 
 use crate::right_words::right_word;
 use bus::MapSpec;
+use json_values::Object;
 use lsp_answers::Text;
-use lsp_values::{Object, changes, edit};
+use lsp_messages::{ValueList, changes, edit};
 use serde_json::Value;
 use source_diagnostics::{Diagnostic, diagnostics};
 use std::alloc::{AllocError, Global};
@@ -27,27 +28,21 @@ fn title_of(alloc: Global, word: &[u8]) -> Result<String, AllocError>
     String::from_utf8_lossy(alloc, &words)
 }
 
-/// Returns the value of a change with its title.
-fn action(alloc: Global, title: &str, edit: Value) -> Result<Value, AllocError>
-    ensures { IfOk result (λ v. view v ≡ action_data title.now (view edit)) }
-{
-    Object::new(alloc)
-        .member("edit", Ok(edit))
-        .word("kind", "quickfix")
-        .word("title", title)
-        .build()
-}
-
-/// Returns a list of one change.
-fn one_edit(alloc: Global, edit: Value) -> Result<Value, AllocError>
-    ensures { IfOk result (λ v. view v ≡ list_of (view edit ∷ [])) }
-{
-    let mut edits = Vec::new(alloc);
-    edits.push(edit)?;
-    Ok(Value::Array(edits))
-}
-
 /// Returns the change that puts a word in place of the bytes that a fault or a warning means.
+fn edit_of(
+    alloc: Global,
+    text: &Text<'_>,
+    one: &Diagnostic,
+    word: &[u8],
+) -> Result<Value, AllocError>
+    ensures { IfOk result (λ v. view v ≡ edit_of (text_view text.now) one.now word.now) }
+{
+    let written = String::from_utf8_lossy(alloc, word)?;
+    let range = text.range(alloc, one.line.max(1), one.note.start, one.note.width);
+    edit(alloc, written.as_str(), range)
+}
+
+/// Returns the same as the change of a document, with its title.
 fn fix_of(
     alloc: Global,
     uri: &str,
@@ -58,13 +53,14 @@ fn fix_of(
     ensures { IfOk result
         (λ v. view v ≡ fix_of uri.now (text_view text.now) one.now word.now) }
 {
-    let title = title_of(alloc, word)?;
-    let written = String::from_utf8_lossy(alloc, word)?;
-    let range = text.range(alloc, one.line.max(1), one.note.start, one.note.width)?;
-    let edit = edit(alloc, written.as_str(), range)?;
-    let edits = one_edit(alloc, edit)?;
-    let changes = changes(alloc, uri, edits)?;
-    action(alloc, title.as_str(), changes)
+    let edits = ValueList::new(alloc)
+        .with(edit_of(alloc, text, one, word))
+        .build();
+    Object::new(alloc)
+        .member("edit", changes(alloc, uri, edits))
+        .word("kind", "quickfix")
+        .text("title", title_of(alloc, word))
+        .build()
 }
 
 /// Returns whether the line of a fault or a warning is between two lines, counted from 0.

@@ -4,7 +4,7 @@ ghost use Rattle.std.specs.Prelude.{◌≡◌, ◌++◌, ◌∷◌, [], IfOk, On
 ghost use Rattle.std.specs.List.{flat_map};
 ghost use Rattle.lsp_hints.specs.Signatures.{all_modes, form_label, form_of, forms_of, help_of};
 ghost use Rattle.lsp_hints.specs.Signatures.{operand_form, signature_data, signatures_of};
-ghost use Rattle.lsp_values.specs.Columns.{column_of};
+ghost use Rattle.lsp_messages.specs.Columns.{column_of};
 ghost use Rattle.serde_json.specs.View.{view};
 
 use crate::operation::{Operation, operation_at};
@@ -15,7 +15,7 @@ use crate::wording::{
     ORIGIN_FORM, RES_FORM, WORD_FORM,
 };
 use formatting::push_text;
-use lsp_values::column_of;
+use lsp_messages::column_of;
 use model::{Mnemonic, Mode, Profile};
 use optable::{encode_in, letters_of};
 use serde_json::Value;

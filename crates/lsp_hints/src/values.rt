@@ -5,7 +5,8 @@ ghost use Rattle.lsp_hints.specs.Hints.{hint_data};
 ghost use Rattle.lsp_hints.specs.Signatures.{help_data, signature_data};
 ghost use Rattle.serde_json.specs.View.{view};
 
-use lsp_values::{Object, position};
+use json_values::Object;
+use lsp_messages::position;
 use serde_json::Value;
 use std::alloc::{AllocError, Global};
 

@@ -4,6 +4,7 @@ use Rattle.std.proofs.lemmas.List.{drop_all}
 use Rattle.std.specs.Borrow.{Bor}
 use Rattle.lsp_outline.specs.Folds.{comment_folds, folds_to, is_comment, is_label_line, label_folds, or_here}
 use Rattle.lsp_outline.specs.declared.folds.Fold.{Fold}
+use Rattle.lsp_outline.specs.declared.folds.FoldKind.TheVariants as kinds
 use Rattle.model.specs.declared.instruction.Profile.{Profile}
 use Rattle.source_notes.specs.Lines.{texts_of}
 
@@ -16,7 +17,7 @@ abbrev pub labels_left : Profile → Option ℕ → List (Bor (List ℕ)) → �
 labels_left profile from lines i = label_folds profile i from (texts_of (drop i lines))
 
 pub label_here : (profile : Profile) (from : Option ℕ) (i : ℕ) (lines : List (Bor (List ℕ))) (d : Bor (List ℕ)) → i < length lines → is_label_line profile (get_or lines i d).now ≡ true
-    → labels_left profile from lines i ≡ folds_to from i ++ labels_left profile (Some i) lines (i + 1)
+    → labels_left profile from lines i ≡ folds_to kinds.Label from i ++ labels_left profile (Some i) lines (i + 1)
 unfolding label_folds
 label_here profile from i lines d within here = ap (λ (ls : List (Bor (List ℕ))). label_folds profile i from (texts_of ls)) (cut lines i d within) ∙ rw here refl
 
@@ -25,7 +26,7 @@ pub no_label : (profile : Profile) (from : Option ℕ) (i : ℕ) (lines : List (
 unfolding label_folds
 no_label profile from i lines d within none = ap (λ (ls : List (Bor (List ℕ))). label_folds profile i from (texts_of ls)) (cut lines i d within) ∙ rw none refl
 
-pub labels_end : (profile : Profile) (from : Option ℕ) (i : ℕ) (lines : List (Bor (List ℕ))) → length lines ≡ i → labels_left profile from lines i ≡ folds_to from (length lines)
+pub labels_end : (profile : Profile) (from : Option ℕ) (i : ℕ) (lines : List (Bor (List ℕ))) → length lines ≡ i → labels_left profile from lines i ≡ folds_to kinds.Label from (length lines)
 unfolding label_folds
 labels_end profile from i lines at = rw (← at, drop_all (length lines) lines (omega arith)) refl
 
@@ -40,10 +41,10 @@ unfolding comment_folds
 comment_here from i lines d within here = ap (λ (ls : List (Bor (List ℕ))). comment_folds i from (texts_of ls)) (cut lines i d within) ∙ rw here refl
 
 pub no_comment : (from : Option ℕ) (i : ℕ) (lines : List (Bor (List ℕ))) (d : Bor (List ℕ)) → i < length lines → is_comment (get_or lines i d).now ≡ false
-    → comments_left from lines i ≡ folds_to from i ++ comments_left None lines (i + 1)
+    → comments_left from lines i ≡ folds_to kinds.Comment from i ++ comments_left None lines (i + 1)
 unfolding comment_folds
 no_comment from i lines d within none = ap (λ (ls : List (Bor (List ℕ))). comment_folds i from (texts_of ls)) (cut lines i d within) ∙ rw none refl
 
-pub comments_end : (from : Option ℕ) (i : ℕ) (lines : List (Bor (List ℕ))) → length lines ≡ i → comments_left from lines i ≡ folds_to from (length lines)
+pub comments_end : (from : Option ℕ) (i : ℕ) (lines : List (Bor (List ℕ))) → length lines ≡ i → comments_left from lines i ≡ folds_to kinds.Comment from (length lines)
 unfolding comment_folds
 comments_end from i lines at = rw (← at, drop_all (length lines) lines (omega arith)) refl

@@ -5,7 +5,7 @@ use Rattle.lsp_outline.specs.Colours.{colour_of, modifiers_of, type_of}
 use Rattle.lsp_outline.specs.declared.colour.Colour.{Colour}
 use Rattle.lsp_outline.specs.declared.colour.Colour.TheVariants.{Comment}
 use Rattle.lsp_outline.specs.declared.paint.Paint.{Paint}
-use Rattle.lsp_values.specs.Values.{count, list_of, object_of}
+use Rattle.json_values.specs.Values.{count, list_of, object_of}
 use Rattle.model.specs.Token.{Lexeme, is_blank, tokens_of}
 use Rattle.model.specs.declared.instruction.Profile.{Profile}
 use Rattle.serde_json.specs.Data.{Data}

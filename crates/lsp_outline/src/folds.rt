@@ -1,33 +1,52 @@
 //! What can be folded.
 
-ghost use Rattle.std.specs.Prelude.{◌≡◌, ◌++◌, IfOk, OnOk, map};
-ghost use Rattle.lsp_outline.specs.Folds.{comment_data, comment_folds, fold_data, folded};
-ghost use Rattle.lsp_outline.specs.Folds.{folds_to, label_folds, or_here};
+ghost use Rattle.std.specs.Prelude.{◌≡◌, ◌++◌, IfOk, None, OnOk, map};
+ghost use Rattle.json_values.specs.Values.{list_of};
+ghost use Rattle.lsp_outline.specs.Folds.{all_folds, comment_folds, fold_data, folded, folds_to};
+ghost use Rattle.lsp_outline.specs.Folds.{label_folds, or_here};
 ghost use Rattle.serde_json.specs.View.{view};
 ghost use Rattle.source_notes.specs.Lines.{texts_of};
 
 use crate::labels::{is_comment, is_label_line};
-use crate::values::{comment_fold, fold};
+use crate::values::{comment_fold, label_fold};
+use line_parts::Token;
+use lsp_messages::ValueList;
 use model::Profile;
 use serde_json::Value;
 use std::alloc::{AllocError, Global};
+
+/// What is folded.
+#[derive(Clone, Copy)]
+pub enum FoldKind {
+    /// The lines from a label on.
+    Label,
+    /// Comments.
+    Comment,
+}
 
 /// Lines that are folded into the first of them: the numbers of the first and the last one, counted
 /// from 0.
 #[derive(Clone, Copy)]
 pub struct Fold {
+    pub kind: FoldKind,
     pub first: usize,
     pub last: usize,
 }
 
 /// Appends the fold of the lines from the first one, if there is one, to the line before an end, if
 /// these are two lines or more.
-fn push_fold(folds: &mut Vec<Fold>, from: Option<usize>, end: usize) -> Result<(), AllocError>
-    ensures { OnOk result (folds.new.items ≡ folds.old.items ++ folds_to from end) }
+fn push_fold(
+    folds: &mut Vec<Fold>,
+    kind: FoldKind,
+    from: Option<usize>,
+    end: usize,
+) -> Result<(), AllocError>
+    ensures { OnOk result (folds.new.items ≡ folds.old.items ++ folds_to kind from end) }
 {
     match from {
         Some(first) if end.saturating_sub(first) > 1 => {
             folds.push(Fold {
+                kind,
                 first,
                 last: end - 1,
             })?;
@@ -37,23 +56,26 @@ fn push_fold(folds: &mut Vec<Fold>, from: Option<usize>, end: usize) -> Result<(
     }
 }
 
-/// Returns the folds of labels: from each label's line to the line before the next one.
-fn label_folds(alloc: Global, profile: Profile, lines: &[&[u8]]) -> Result<Vec<Fold>, AllocError>
-    ensures { IfOk result
-        (λ folds. folds.items ≡ label_folds profile 0 None (texts_of lines.now)) }
+/// Appends the folds of labels: from each label's line to the line before the next one.
+fn push_labels<'a>(
+    folds: &mut Vec<Fold>,
+    room: &mut Vec<Token<'a>>,
+    profile: Profile,
+    lines: &[&'a [u8]],
+) -> Result<(), AllocError>
+    ensures { OnOk result (folds.new.items
+        ≡ folds.old.items ++ label_folds profile 0 None (texts_of lines.now)) }
 {
-    let mut folds = Vec::new(alloc);
-    let mut room = Vec::new(alloc);
     let mut from = None;
     for (index, line) in lines.iter().enumerate() {
-        let is_label = is_label_line(&mut room, profile, line)?;
+        let is_label = is_label_line(room, profile, line)?;
         if is_label {
-            push_fold(&mut folds, from, index)?;
+            push_fold(folds, FoldKind::Label, from, index)?;
             from = Some(index);
         }
     }
-    push_fold(&mut folds, from, lines.len())?;
-    Ok(folds)
+    push_fold(folds, FoldKind::Label, from, lines.len())?;
+    Ok(())
 }
 
 /// Returns the first line of a run, which is this one where none is given.
@@ -66,47 +88,54 @@ fn or_here(from: Option<usize>, index: usize) -> usize
     }
 }
 
-/// Returns the folds of comments: of each run of lines with a comment alone.
-fn comment_folds(alloc: Global, lines: &[&[u8]]) -> Result<Vec<Fold>, AllocError>
-    ensures { IfOk result
-        (λ folds. folds.items ≡ comment_folds 0 None (texts_of lines.now)) }
+/// Appends the folds of comments: of each run of lines with a comment alone.
+fn push_comments(folds: &mut Vec<Fold>, lines: &[&[u8]]) -> Result<(), AllocError>
+    ensures { OnOk result (folds.new.items
+        ≡ folds.old.items ++ comment_folds 0 None (texts_of lines.now)) }
 {
-    let mut folds = Vec::new(alloc);
     let mut from = None;
     for (index, line) in lines.iter().enumerate() {
         if is_comment(line) {
             from = Some(or_here(from, index));
         } else {
-            push_fold(&mut folds, from, index)?;
+            push_fold(folds, FoldKind::Comment, from, index)?;
             from = None;
         }
     }
-    push_fold(&mut folds, from, lines.len())?;
+    push_fold(folds, FoldKind::Comment, from, lines.len())?;
+    Ok(())
+}
+
+/// Returns the folds of labels, and behind them those of comments.
+fn all_folds(alloc: Global, profile: Profile, lines: &[&[u8]]) -> Result<Vec<Fold>, AllocError>
+    ensures { IfOk result (λ folds. folds.items ≡ all_folds profile (texts_of lines.now)) }
+{
+    let mut folds = Vec::new(alloc);
+    let mut room = Vec::new(alloc);
+    push_labels(&mut folds, &mut room, profile, lines)?;
+    push_comments(&mut folds, lines)?;
     Ok(folds)
 }
 
-/// Appends the values of folds of labels.
-fn push_labels(alloc: Global, values: &mut Vec<Value>, folds: &[Fold]) -> Result<(), AllocError>
-    ensures { OnOk result (map view values.new.items
-        ≡ map view values.old.items ++ map fold_data folds.now) }
+/// Returns the value of a fold.
+fn fold_data(alloc: Global, one: &Fold) -> Result<Value, AllocError>
+    ensures { IfOk result (λ v. view v ≡ fold_data one.now) }
 {
-    for one in folds {
-        let value = fold(alloc, one)?;
-        values.push(value)?;
+    match one.kind {
+        FoldKind::Label => label_fold(alloc, one),
+        FoldKind::Comment => comment_fold(alloc, one),
     }
-    Ok(())
 }
 
-/// Appends the values of folds of comments.
-fn push_comments(alloc: Global, values: &mut Vec<Value>, folds: &[Fold]) -> Result<(), AllocError>
-    ensures { OnOk result (map view values.new.items
-        ≡ map view values.old.items ++ map comment_data folds.now) }
+/// Returns the values of folds.
+fn values_of(alloc: Global, folds: &[Fold]) -> Result<Value, AllocError>
+    ensures { IfOk result (λ v. view v ≡ list_of (map fold_data folds.now)) }
 {
+    let mut values = ValueList::new(alloc);
     for one in folds {
-        let value = comment_fold(alloc, one)?;
-        values.push(value)?;
+        values = values.with(fold_data(alloc, one));
     }
-    Ok(())
+    values.build()
 }
 
 /// Returns what can be folded of the lines of a source: those from each label to the next, and the
@@ -114,10 +143,6 @@ fn push_comments(alloc: Global, values: &mut Vec<Value>, folds: &[Fold]) -> Resu
 pub fn folded(alloc: Global, profile: Profile, lines: &[&[u8]]) -> Result<Value, AllocError>
     ensures { IfOk result (λ v. view v ≡ folded profile (texts_of lines.now)) }
 {
-    let labels = label_folds(alloc, profile, lines)?;
-    let comments = comment_folds(alloc, lines)?;
-    let mut values = Vec::new(alloc);
-    push_labels(alloc, &mut values, &labels)?;
-    push_comments(alloc, &mut values, &comments)?;
-    Ok(Value::Array(values))
+    let folds = all_folds(alloc, profile, lines)?;
+    values_of(alloc, &folds)
 }

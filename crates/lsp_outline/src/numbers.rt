@@ -1,25 +1,18 @@
 //! The colours as the protocol counts them.
 
-ghost use Rattle.std.specs.Prelude.{◌≡◌, ◌++◌, ◌∷◌, [], IfOk, OnOk, map};
+ghost use Rattle.std.specs.Prelude.{◌≡◌, ◌++◌, IfOk, List};
+ghost use Rattle.lsp_messages.specs.ValueLists.{HasValues};
 ghost use Rattle.lsp_outline.specs.Painted.{counted, further, paint_counts, painted};
-ghost use Rattle.lsp_values.specs.Values.{count};
+ghost use Rattle.serde_json.specs.Data.{Data};
 ghost use Rattle.serde_json.specs.View.{view};
 ghost use Rattle.source_notes.specs.Lines.{texts_of};
 
 use crate::paint::{Paint, paints_of};
-use crate::values::data;
+use json_values::Object;
+use lsp_messages::ValueList;
 use model::Profile;
 use serde_json::Value;
 use std::alloc::{AllocError, Global};
-
-/// Appends a number.
-fn push_count(counts: &mut Vec<Value>, number: usize) -> Result<(), AllocError>
-    ensures { OnOk result (map view counts.new.items
-        ≡ map view counts.old.items ++ count number ∷ []) }
-{
-    counts.push(Value::from(number))?;
-    Ok(())
-}
 
 /// Returns how far behind a start in a line another part of a text starts, which is in its own line
 /// the start itself.
@@ -33,37 +26,32 @@ fn further(line: usize, start: usize, paint: &Paint) -> usize
     }
 }
 
-/// Appends the five numbers of a part of a text that comes after a start in a line.
-fn push_paint(
-    counts: &mut Vec<Value>,
-    line: usize,
-    start: usize,
-    paint: &Paint,
-) -> Result<(), AllocError>
-    ensures { OnOk result (map view counts.new.items
-        ≡ map view counts.old.items ++ paint_counts line start paint.now) }
+/// Puts the five numbers of a part of a text that comes after a start in a line behind others.
+fn with_paint(counts: ValueList, line: usize, start: usize, paint: &Paint) -> ValueList
+    ensures { (ds : List Data) → HasValues ds counts
+        → HasValues (ds ++ paint_counts line start paint.now) result }
 {
-    push_count(counts, paint.line.saturating_sub(line))?;
-    push_count(counts, further(line, start, paint))?;
-    push_count(counts, paint.width)?;
-    push_count(counts, paint.colour.type_number())?;
-    push_count(counts, paint.colour.modifiers())?;
-    Ok(())
+    counts
+        .with(Ok(Value::from(paint.line.saturating_sub(line))))
+        .with(Ok(Value::from(further(line, start, paint))))
+        .with(Ok(Value::from(paint.width)))
+        .with(Ok(Value::from(paint.colour.type_number())))
+        .with(Ok(Value::from(paint.colour.modifiers())))
 }
 
 /// Returns the numbers of some parts of a text.
-fn counted(alloc: Global, paints: &[Paint]) -> Result<Vec<Value>, AllocError>
-    ensures { IfOk result (λ counts. map view counts.items ≡ counted 0 0 paints.now) }
+fn counted(alloc: Global, paints: &[Paint]) -> ValueList
+    ensures { HasValues (counted 0 0 paints.now) result }
 {
-    let mut counts = Vec::new(alloc);
+    let mut counts = ValueList::new(alloc);
     let mut line = 0;
     let mut start = 0;
     for paint in paints {
-        push_paint(&mut counts, line, start, paint)?;
+        counts = with_paint(counts, line, start, paint);
         line = paint.line;
         start = paint.start;
     }
-    Ok(counts)
+    counts
 }
 
 /// Returns the colours of the lines of a source: of each token but symbols, and of each comment, in
@@ -73,6 +61,6 @@ pub fn painted(alloc: Global, profile: Profile, lines: &[&[u8]]) -> Result<Value
     ensures { IfOk result (λ v. view v ≡ painted profile (texts_of lines.now)) }
 {
     let paints = paints_of(alloc, profile, lines)?;
-    let counts = counted(alloc, &paints)?;
-    data(alloc, Value::Array(counts))
+    let data = counted(alloc, &paints).build();
+    Object::new(alloc).member("data", data).build()
 }

@@ -1,25 +1,17 @@
-//! The values of answers.
+//! The values of folds.
 
 ghost use Rattle.std.specs.Prelude.{◌≡◌, IfOk};
-ghost use Rattle.lsp_outline.specs.Folds.{comment_data, fold_data};
-ghost use Rattle.lsp_outline.specs.Painted.{data_of};
+ghost use Rattle.lsp_outline.specs.Folds.{comment_data, label_data};
 ghost use Rattle.serde_json.specs.View.{view};
 
 use crate::folds::Fold;
-use lsp_values::Object;
+use json_values::Object;
 use serde_json::Value;
 use std::alloc::{AllocError, Global};
 
-/// Returns the value of some colours.
-pub fn data(alloc: Global, counts: Value) -> Result<Value, AllocError>
-    ensures { IfOk result (λ v. view v ≡ data_of (view counts)) }
-{
-    Object::new(alloc).member("data", Ok(counts)).build()
-}
-
-/// Returns the value of a fold.
-pub fn fold(alloc: Global, one: &Fold) -> Result<Value, AllocError>
-    ensures { IfOk result (λ v. view v ≡ fold_data one.now) }
+/// Returns the value of a fold of a label.
+pub fn label_fold(alloc: Global, one: &Fold) -> Result<Value, AllocError>
+    ensures { IfOk result (λ v. view v ≡ label_data one.now) }
 {
     Object::new(alloc)
         .count("endLine", one.last as u64)

@@ -1,17 +1,19 @@
-use Rattle.std.proofs.Common.{◌∙◌, [], ap, List, map, sym, ℕ}
-use Rattle.std.proofs.lemmas.List.{drop_all}
+use Rattle.std.proofs.Common.{List, arith, subst, sym, ℕ}
+use Rattle.std.proofs.lemmas.Simd.{map-map}
 use Rattle.std.specs.Borrow.{Bor}
-use Rattle.lsp.proofs.Listed.{with_words, words_behind}
-use Rattle.lsp_values.specs.Values.{list_of}
-use Rattle.serde_json.proofs.Views.{view-Array}
+use Rattle.json_values.specs.Values.{word}
+use Rattle.lsp_messages.proofs.Lists.{all_values, next_value}
+use Rattle.lsp_messages.specs.ValueLists.{HasValues}
 use Rattle.serde_json.specs.Data.{Data}
-use Rattle.serde_json.specs.View.{view}
 use Rattle.lsp.proofs.capabilities.words.Goals as goal
+
+pub loop-text-init : goal.loop-text-init
+loop-text-init c = c.new-list.ensures
+
+pub loop-text-preserved : goal.loop-text-preserved
+loop-text-preserved c = next_value (λ (s : Bor (List ℕ)). word s.now) c.args.texts.now c.loop-text.text-index _ _ (omega (arith, c.loop-text-test.true)) (c.with-list.ensures _ _ c.loop-text.invariant c.try_from_str.ensures)
 
 pub returns : goal.returns
 returns c =
-    let texts = c.args.texts.now in
-    let held = map view c.loop-text.list.items in
-    view-Array c.loop-text.list ∙ ap (λ (ds : List Data). list_of ds)
-    (sym (ap (λ (ts : List (Bor (List ℕ))). with_words (map (λ s. s.now) ts) held) (drop_all c.loop-text.text-index texts c.loop-text-test.false))
-    ∙ c.loop-text.invariant ∙ words_behind (map (λ s. s.now) texts) [])
+    let all = all_values (λ (s : Bor (List ℕ)). word s.now) c.args.texts.now c.loop-text.text-index c.loop-text.list (omega (arith, c.loop-text-test.false)) c.loop-text.invariant in
+    c.build.ensures _ (subst (λ (ds : List Data). HasValues ds c.loop-text.list) (sym (map-map word (λ (s : Bor (List ℕ)). s.now) c.args.texts.now)) all)

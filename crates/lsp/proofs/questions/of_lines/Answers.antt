@@ -4,7 +4,7 @@ use Rattle.std.specs.Borrow.{Bor}
 use Rattle.lsp.specs.Answers.{IsOfLines}
 use Rattle.lsp_answers.specs.Texts.{text_view}
 use Rattle.lsp_hints.specs.Hints.{hints_of}
-use Rattle.lsp_requests.specs.declared.asked.Within.{Within}
+use Rattle.lsp_messages.specs.declared.asked.Within.{Within}
 use Rattle.serde_json.specs.View.{view}
 use Rattle.lsp.proofs.questions.of_lines.Goals as goal
 

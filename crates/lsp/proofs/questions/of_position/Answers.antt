@@ -3,7 +3,7 @@ use Rattle.std.proofs.lemmas.Result.{IfOk-weaker}
 use Rattle.lsp.specs.Answers.{IsOfPosition}
 use Rattle.lsp_answers.specs.Texts.{text_view}
 use Rattle.lsp_hints.specs.Signatures.{signatures_of}
-use Rattle.lsp_requests.specs.declared.asked.At.{At}
+use Rattle.lsp_messages.specs.declared.asked.At.{At}
 use Rattle.serde_json.specs.View.{view}
 use Rattle.lsp.proofs.questions.of_position.Goals as goal
 

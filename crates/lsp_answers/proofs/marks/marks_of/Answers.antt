@@ -1,12 +1,20 @@
-use Rattle.std.proofs.Common.{◌∙◌, ap, arith}
+use Rattle.std.proofs.Common.{[], ◌∷◌, ◌++◌, arith, map, subst, take}
 use Rattle.lsp_answers.specs.Marks.{mark_of}
 use Rattle.lsp_answers.specs.Texts.{text_view}
-use Rattle.lsp_values.proofs.Lists.{listed, listed_more}
+use Rattle.lsp_messages.proofs.Lists.{all_values, next_value}
+use Rattle.lsp_messages.specs.ValueLists.{HasValues}
+use Rattle.source_diagnostics.specs.declared.kinds.Diagnostic.{Diagnostic}
 use Rattle.lsp_answers.proofs.marks.marks_of.Goals as goal
 
+pub loop-one-init : goal.loop-one-init
+loop-one-init c = c.new-values.ensures
+
 pub loop-one-preserved : goal.loop-one-preserved
-loop-one-preserved c = listed_more (mark_of (text_view c.args.text.now)) c.args.found.now c.loop-one.one-index c.one-item.result c.loop-one.values.items _ _
-    (omega (arith, c.loop-one-test.true)) (c.in_ok-value.ensures ∙ ap (mark_of (text_view c.args.text.now)) c.one-item.is) c.in_ok-push.ensures.items c.loop-one.invariant
+loop-one-preserved c =
+    let g = mark_of (text_view c.args.text.now) in
+    let i = c.loop-one.one-index in
+    next_value g c.args.found.now i c.one-item.result _ (omega (arith, c.loop-one-test.true))
+    (subst (λ (d : Diagnostic). HasValues (map g (take i c.args.found.now) ++ g d ∷ []) c.with-values.result) c.one-item.is (c.with-values.ensures _ _ c.loop-one.invariant c.mark_of.ensures))
 
 pub returns : goal.returns
-returns c = listed (mark_of (text_view c.args.text.now)) c.args.found.now c.loop-one.one-index c.loop-one.values (omega (arith, c.loop-one-test.false)) c.loop-one.invariant
+returns c = c.build.ensures _ (all_values (mark_of (text_view c.args.text.now)) c.args.found.now c.loop-one.one-index _ (omega (arith, c.loop-one-test.false)) c.loop-one.invariant)

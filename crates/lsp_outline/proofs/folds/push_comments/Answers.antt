@@ -1,15 +1,20 @@
-use Rattle.std.proofs.Common.{◌++◌, List, ap, arith, map}
-use Rattle.lsp_outline.specs.Folds.{comment_data}
-use Rattle.lsp_values.proofs.Lists.{left_all, left_done, left_more}
-use Rattle.serde_json.specs.Data.{Data}
-use Rattle.serde_json.specs.View.{view}
+use Rattle.std.proofs.Common.{arith, sym, ◌∙◌}
+use Rattle.lsp_outline.proofs.FoldSteps.{comment_here, comments_end, no_comment}
+use Rattle.lsp_outline.proofs.Gathered.{gathered, gathered_last, passed}
+use Rattle.lsp_outline.proofs.folds.push_comments.Goals.{then-is_comment, else-is_comment+in_ok-push_fold}
 use Rattle.lsp_outline.proofs.folds.push_comments.Goals as goal
 
-pub loop-one-init : goal.loop-one-init
-loop-one-init c = ap (λ (ds : List Data). map view c.args.values.now.items ++ ds) (left_all comment_data c.args.folds.now)
-
-pub loop-one-preserved : goal.loop-one-preserved
-loop-one-preserved c = left_more comment_data c.args.folds.now c.loop-one.one-index _ c.loop-one.values.items _ _ _ (omega (arith, c.loop-one-test.true)) c.in_ok-value.ensures c.in_ok-push.ensures.items c.loop-one.invariant
+pub loop-index-preserved : goal.loop-index-preserved
+loop-index-preserved c =
+    elim c.if-is_comment.branch [
+      | then-is_comment w ↦
+          rw (w.folds-is, w.from-is, w.or_here.ensures) (passed c.loop-index.folds.items _ _ _
+          (comment_here c.loop-index.from c.loop-index.index c.args.lines.now _ (omega (arith, c.loop-index-test.true)) (sym c.is_comment.ensures ∙ w.if-is_comment.true)) c.loop-index.invariant)
+      | else-is_comment+in_ok-push_fold w ↦
+          rw (w.folds-is, w.from-is) (gathered c.loop-index.folds.items _ _ _ _ _ w.in_ok-push_fold.ensures
+          (no_comment c.loop-index.from c.loop-index.index c.args.lines.now _ (omega (arith, c.loop-index-test.true)) (sym c.is_comment.ensures ∙ w.if-is_comment.false)) c.loop-index.invariant)
+    ]
 
 pub returns : goal.returns
-returns c = left_done comment_data c.args.folds.now c.loop-one.one-index _ _ (omega (arith, c.loop-one-test.false)) c.loop-one.invariant
+returns c = gathered_last c.loop-index.folds.items _ _ _ _ c.in_ok-push_fold-2.ensures
+    (comments_end c.loop-index.from c.loop-index.index c.args.lines.now (omega (arith, c.loop-index-test.false, c.loop-index.auto.index-end))) c.loop-index.invariant

@@ -1,8 +1,8 @@
-use Rattle.std.proofs.Common.{◌≡◌, ◌++◌, map}
-use Rattle.lsp_outline.specs.Folds.{comment_data}
-use Rattle.lsp_values.proofs.Lists.{left}
-use Rattle.serde_json.specs.View.{view}
+use Rattle.std.proofs.Common.{◌≡◌, ◌++◌, None}
+use Rattle.lsp_outline.proofs.FoldSteps.{comments_left}
+use Rattle.lsp_outline.specs.Folds.{comment_folds}
+use Rattle.source_notes.specs.Lines.{texts_of}
 use Rattle.lsp_outline.proofs.folds.push_comments.Given as goal
 
-abbrev pub invariant-loop-one : goal.invariant-loop-one
-invariant-loop-one l = map view l.values.items ++ left comment_data l.folds l.one-index ≡ map view l.fn.values.items ++ map comment_data l.folds
+abbrev pub invariant-loop-index : goal.invariant-loop-index
+invariant-loop-index l = l.folds.items ++ comments_left l.from l.lines l.index ≡ l.fn.folds.items ++ comment_folds 0 None (texts_of l.lines)

@@ -1,15 +1,20 @@
-use Rattle.std.proofs.Common.{◌++◌, List, ap, arith, map}
-use Rattle.lsp_outline.specs.Folds.{fold_data}
-use Rattle.lsp_values.proofs.Lists.{left_all, left_done, left_more}
-use Rattle.serde_json.specs.Data.{Data}
-use Rattle.serde_json.specs.View.{view}
+use Rattle.std.proofs.Common.{arith, sym, ◌∙◌}
+use Rattle.lsp_outline.proofs.FoldSteps.{label_here, labels_end, no_label}
+use Rattle.lsp_outline.proofs.Gathered.{gathered, gathered_last, passed}
+use Rattle.lsp_outline.proofs.folds.push_labels.Goals.{then-is_label+in_ok-push_fold, else-is_label}
 use Rattle.lsp_outline.proofs.folds.push_labels.Goals as goal
 
-pub loop-one-init : goal.loop-one-init
-loop-one-init c = ap (λ (ds : List Data). map view c.args.values.now.items ++ ds) (left_all fold_data c.args.folds.now)
-
-pub loop-one-preserved : goal.loop-one-preserved
-loop-one-preserved c = left_more fold_data c.args.folds.now c.loop-one.one-index _ c.loop-one.values.items _ _ _ (omega (arith, c.loop-one-test.true)) c.in_ok-value.ensures c.in_ok-push.ensures.items c.loop-one.invariant
+pub loop-index-preserved : goal.loop-index-preserved
+loop-index-preserved c =
+    elim c.if-is_label.branch [
+      | then-is_label+in_ok-push_fold w ↦
+          rw (w.folds-is, w.from-is) (gathered c.loop-index.folds.items _ _ _ _ _ w.in_ok-push_fold.ensures
+          (label_here c.args.profile c.loop-index.from c.loop-index.index c.args.lines.now _ (omega (arith, c.loop-index-test.true)) (sym c.in_ok-is_label.ensures ∙ w.if-is_label.true)) c.loop-index.invariant)
+      | else-is_label w ↦
+          rw (w.folds-is, w.from-is) (passed c.loop-index.folds.items _ _ _
+          (no_label c.args.profile c.loop-index.from c.loop-index.index c.args.lines.now _ (omega (arith, c.loop-index-test.true)) (sym c.in_ok-is_label.ensures ∙ w.if-is_label.false)) c.loop-index.invariant)
+    ]
 
 pub returns : goal.returns
-returns c = left_done fold_data c.args.folds.now c.loop-one.one-index _ _ (omega (arith, c.loop-one-test.false)) c.loop-one.invariant
+returns c = gathered_last c.loop-index.folds.items _ _ _ _ c.in_ok-push_fold-2.ensures
+    (labels_end c.args.profile c.loop-index.from c.loop-index.index c.args.lines.now (omega (arith, c.loop-index-test.false, c.loop-index.auto.index-end))) c.loop-index.invariant

@@ -1,8 +1,8 @@
-use Rattle.std.proofs.Common.{◌≡◌, ◌++◌, map}
-use Rattle.lsp_outline.specs.Folds.{fold_data}
-use Rattle.lsp_values.proofs.Lists.{left}
-use Rattle.serde_json.specs.View.{view}
+use Rattle.std.proofs.Common.{◌≡◌, ◌++◌, None}
+use Rattle.lsp_outline.proofs.FoldSteps.{labels_left}
+use Rattle.lsp_outline.specs.Folds.{label_folds}
+use Rattle.source_notes.specs.Lines.{texts_of}
 use Rattle.lsp_outline.proofs.folds.push_labels.Given as goal
 
-abbrev pub invariant-loop-one : goal.invariant-loop-one
-invariant-loop-one l = map view l.values.items ++ left fold_data l.folds l.one-index ≡ map view l.fn.values.items ++ map fold_data l.folds
+abbrev pub invariant-loop-index : goal.invariant-loop-index
+invariant-loop-index l = l.folds.items ++ labels_left l.profile l.from l.lines l.index ≡ l.fn.folds.items ++ label_folds l.profile 0 None (texts_of l.lines)

@@ -1,0 +1,3 @@
+pub mod Fields
+pub mod Objects
+pub mod Values

@@ -1,0 +1,12 @@
+//! JSON values of messages, whatever the protocol.
+//!
+//! `fields` finds a text, a number or a flag of a message by its path, `object` builds an object
+//! one member after another. `specs/Fields.antt` says what stands at a path, `specs/Values.antt`
+//! which value an object is.
+#![tactic(auto)]
+
+mod fields;
+mod object;
+
+pub use fields::{flag_or, number_at, text_at, text_or};
+pub use object::Object;

@@ -1,0 +1,9 @@
+use Rattle.std.proofs.Common.{map, take}
+use Rattle.lsp_answers.specs.Texts.{text_view, use_range}
+use Rattle.lsp_messages.specs.Values.{edit_data}
+use Rattle.lsp_messages.specs.ValueLists.{HasValues}
+use Rattle.name_uses.specs.Views.{use_view}
+use Rattle.lsp_answers.proofs.renaming.changed.Given as goal
+
+abbrev pub invariant-loop-one : goal.invariant-loop-one
+invariant-loop-one l = HasValues (map (λ u. edit_data l.word (use_range (text_view l.text) (use_view u))) (take l.one-index l.uses)) l.found

@@ -1,9 +1,0 @@
-use Rattle.std.proofs.Common.{◌≡◌, map, take}
-use Rattle.lsp_answers.specs.Texts.{text_view, use_range}
-use Rattle.lsp_values.specs.Values.{edit_data}
-use Rattle.name_uses.specs.Views.{use_view}
-use Rattle.serde_json.specs.View.{view}
-use Rattle.lsp_answers.proofs.renaming.edits.Given as goal
-
-abbrev pub invariant-loop-one : goal.invariant-loop-one
-invariant-loop-one l = map view l.found.items ≡ map (λ u. edit_data l.word (use_range (text_view l.text) (use_view u))) (take l.one-index l.uses)

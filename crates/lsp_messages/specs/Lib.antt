@@ -1,0 +1,7 @@
+pub mod Columns
+pub mod Fields
+pub mod Replies
+pub mod Requests
+pub mod ValueLists
+pub mod Values
+pub mod Views

@@ -1,0 +1,26 @@
+//! The messages of the Language Server Protocol: what a message asks for, and the values that an
+//! answer is made of.
+//!
+//! `requests` reads a message, by its method and by what `fields` finds in it; `asked` has what it
+//! asks for. `columns` counts columns in units of UTF-16, `places` has ranges and locations,
+//! `pieces` what stands in an answer, `value_list` the lists, `replies` the envelopes.
+//! `specs/Requests.antt` says what each message asks for, `specs/Values.antt` and
+//! `specs/Replies.antt` which value each answer is.
+#![tactic(auto)]
+
+mod asked;
+mod columns;
+mod fields;
+mod pieces;
+mod places;
+mod replies;
+mod requests;
+mod value_list;
+
+pub use asked::{At, Question, Request, Whole, Within};
+pub use columns::{character_of, column_of};
+pub use pieces::{changes, edit, hover, item, mark, marks, symbol};
+pub use places::{location, position, range};
+pub use replies::{Failure, failure_reply, notice, result_reply};
+pub use requests::read_request;
+pub use value_list::ValueList;

@@ -1,4 +1,0 @@
-pub mod Columns
-pub mod Objects
-pub mod Replies
-pub mod Values
