@@ -42,7 +42,9 @@ fn defines_and_ends(line: Line<'_>) -> (bool, bool)
     ensures defines { result.0 ≡ defines_first (line_view line.entry) }
     ensures end { result.1 ≡ ends_line (line_view line.entry) }
 {
-    (defines_first(&line), ends(&line))
+    let found = (defines_first(&line), ends(&line));
+    drop(line);
+    found
 }
 
 /// Appends the names among the tokens of a line of this number. The first one is defined there, or

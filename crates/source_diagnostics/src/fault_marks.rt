@@ -89,7 +89,14 @@ fn source_faults_marked(
     let mut symbols = Symbols::new(alloc);
     let profile = map.profile();
     let laid = lay_out(alloc, profile, Mending::Smallest, &mut symbols, source)?;
-    let names = names_read(alloc, &lines, laid.len())?;
+    let names = match names_read(alloc, &lines, laid.len()) {
+        Ok(names) => names,
+        Err(error) => {
+            drop(laid);
+            drop(symbols);
+            return Err(error);
+        }
+    };
     let context = Context {
         profile,
         port: map.port(),
@@ -97,7 +104,10 @@ fn source_faults_marked(
         symbols: &symbols,
         found: &laid,
     };
-    line_faults(alloc, &lines, &context, faults)
+    let marked = line_faults(alloc, &lines, &context, faults);
+    drop(laid);
+    drop(symbols);
+    marked
 }
 
 /// Returns the diagnostics of faults of a source, in their order. The only error is that a request

@@ -18,6 +18,6 @@ returns c =
     let size : c.len.result ≡ length c.in_ok-laid.laid.items = search rules in
     let count = size ∙ sym (length-map c.in_ok-laid.laid.items found_view) ∙ ap length c.in_ok-laid.ensures.found in
     let read = lines_read smallest (first_context p) p source c.len.result c.deref.result.now lines count in
-    let names = ap (map name_view) c.deref-2.ensures.value ∙ c.in_ok-names.ensures ∙ ap names_of read in
+    let names = ap (map name_view) c.deref-2.ensures.value ∙ c.in-Ok.ensures ∙ ap names_of read in
     let known = known_same p _ _ _ _ names c.in_ok-laid.ensures.names ∙ ap (λ (q : Profile). known_in q source) c.profile-profile.ensures in
-    marked_as (λ found. found.items) c.line_faults.result _ _ _ _ c.args.faults.now (ap texts_of c.deref-4.ensures.value ∙ c.in_ok-lines.ensures) known c.line_faults.ensures
+    marked_as (λ found. found.items) c.line_faults-marked.result _ _ _ _ c.args.faults.now (ap texts_of c.deref-4.ensures.value ∙ c.in_ok-lines.ensures) known c.line_faults-marked.ensures
