@@ -4,7 +4,7 @@ use Rattle.std.specs.List.{list_any}
 use Rattle.std.specs.Str.{bytes_eq}
 use Rattle.clap.specs.Words.{Text}
 use Rattle.dap.specs.Sent.{AreSent}
-use Rattle.dap_messages.specs.Fields.{text_at}
+use Rattle.json_values.specs.Fields.{text_at}
 use Rattle.dap_messages.specs.Messages.{Said, done, event, refused}
 use Rattle.dap_messages.specs.Requests.{request_of}
 use Rattle.dap_messages.specs.declared.request.Move.TheVariants.{Go}

@@ -225,7 +225,9 @@ fn attend<H: Files + AllocGlobal, R: Read, O: Write>(
         × Appends (O.contents output.old) (O.contents output.new) written) }
 {
     let mut adapter = Adapter::new();
-    take_turns(rt, seen, &mut adapter, input, output)
+    let attended = take_turns(rt, seen, &mut adapter, input, output);
+    adapter.end();
+    attended
 }
 
 /// Returns why a session ends before its end is asked for, in words.

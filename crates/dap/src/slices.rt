@@ -11,8 +11,9 @@ ghost use Rattle.dap_session.specs.Served.{Serves};
 ghost use Rattle.serde_json.specs.View.{view};
 
 use crate::sending::send;
-use dap_messages::{Message, Move, Request, SessionRequest, request_of, text_at};
+use dap_messages::{Message, Move, Request, SessionRequest, request_of};
 use dap_session::{Adapter, serve};
+use json_values::text_at;
 use message_stream::{Incoming, StreamFault};
 use mon_steps::wording::NO_STOP;
 use serde_json::Value;

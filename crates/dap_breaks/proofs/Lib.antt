@@ -1,3 +1,2 @@
 mod Matching
-mod Replaced
 mod Watching

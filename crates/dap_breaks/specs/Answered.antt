@@ -1,15 +1,14 @@
 -- What is answered of breakpoints. Source: Debug Adapter Protocol 1.65, "Breakpoint"; mos65.
-use Rattle.std.specs.Prelude.{ℕ, ◌≡◌, nat_eq, false, if◌then◌else◌, List, [], ◌∷◌, codes, map, string_bytes, Option, Some, None}
+use Rattle.std.specs.Prelude.{ℕ, ◌≡◌, nat_eq, if◌then◌else◌, List, map, string_bytes, Option, Some, None}
 use Rattle.std.specs.List.{list_any}
 use Rattle.dap_breaks.specs.Wanted.{told_addresses}
 use Rattle.dap_breaks.specs.declared.listed.TheConstants.{NO_ROOM}
 use Rattle.dap_breaks.specs.declared.wanted.Wanted.{Wanted}
-use Rattle.dap_messages.specs.Messages.{object_of, word}
 use Rattle.dap_messages.specs.Answers.{breakpoint_set, breakpoint_unset, breakpoints_body}
 use Rattle.dap_messages.specs.Counting.{shown_line}
 use Rattle.dap_messages.specs.declared.counting.Counting.{Counting}
 use Rattle.model.specs.Session.{Session}
-use Rattle.serde_json.specs.Data.{Data, boolean}
+use Rattle.serde_json.specs.Data.{Data}
 use Rattle.serde_json.specs.View.{view}
 use Rattle.serde_json.specs.declared.value.Value.{Value}
 
@@ -31,10 +30,3 @@ answer_of session counting wanted = answer_by session (shown_line counting wante
 abbrev pub IsAnswer : Session → Counting → List ℕ → Value → Type 0
 IsAnswer session counting set v = (told : List Wanted) × (told_addresses told ≡ set)
     × (view v ≡ breakpoints_body (map (answer_of session counting) told))
-
--- A breakpoint of another source is not set.
-abbrev pub elsewhere : Data
-elsewhere = object_of ((
-  codes "message",
-  word (codes "this is not the source of the session"),
-) ∷ (codes "verified", boolean false) ∷ [])

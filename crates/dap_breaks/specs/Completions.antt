@@ -5,7 +5,7 @@ use Rattle.std.specs.List.{flat_map, list_all}
 use Rattle.std.specs.Str.Lossy.{utf8_lossy}
 use Rattle.dap_messages.specs.Answers.{completion, targets_body}
 use Rattle.dap_messages.specs.Counting.{first_column}
-use Rattle.dap_messages.specs.Fields.{number_at, text_at}
+use Rattle.json_values.specs.Fields.{number_at, text_at}
 use Rattle.dap_messages.specs.declared.counting.Counting.{Counting}
 use Rattle.model.specs.Token.{is_blank, is_word_byte}
 use Rattle.mon_line_parts.specs.Topics.{TopicWord, begins_with, words}

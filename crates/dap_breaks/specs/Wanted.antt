@@ -7,7 +7,7 @@ use Rattle.std.specs.Option.{option_to_list}
 use Rattle.assembler.specs.Lines.{LineView}
 use Rattle.dap_breaks.specs.declared.wanted.List.{List as WantedList}
 use Rattle.dap_breaks.specs.declared.wanted.Wanted.{Wanted}
-use Rattle.dap_messages.specs.Fields.{text_at}
+use Rattle.json_values.specs.Fields.{text_at}
 use Rattle.model.specs.Text.{hex_address}
 use Rattle.mon_stops.specs.declared.breaks.Break.{Break}
 use Rattle.serde_json.specs.Data.{Data}

@@ -5,7 +5,7 @@ use Rattle.std.specs.Prelude.{ℕ, ◌≡◌, ◌==◌, ◌||◌, ◌&&◌, not,
 use Rattle.std.specs.List.{flat_map}
 use Rattle.dap_breaks.specs.declared.watches.TheConstants.{NO_DATA, NOT_WATCHED}
 use Rattle.dap_messages.specs.Answers.{breakpoints_body, data_at, data_unwatched, data_watched, no_data}
-use Rattle.dap_messages.specs.Fields.{number_at, text_at}
+use Rattle.json_values.specs.Fields.{number_at, text_at}
 use Rattle.dap_messages.specs.References.{place_at}
 use Rattle.dap_views.specs.Looks.{place_named}
 use Rattle.model.specs.Breakpoints.{watch_cleared}

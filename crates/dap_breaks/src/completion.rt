@@ -10,8 +10,8 @@ ghost use Rattle.model.specs.Token.{is_blank, is_word_byte};
 ghost use Rattle.serde_json.specs.View.{view};
 ghost use Rattle.source_map.specs.Names.{named};
 
-use crate::fields::text_or;
-use dap_messages::{Counting, completion, number_at, targets_body};
+use dap_messages::{Counting, completion, targets_body};
+use json_values::{number_at, text_or};
 use mon_line_parts::{Topic, all_words, begins_with};
 use mon_session::Desk;
 use serde_json::Value;

@@ -1,26 +1,27 @@
 //! Requests that list breakpoints: each replaces those of the one before.
 
 ghost use Rattle.std.specs.Prelude.{◌≡◌, [], IfOk, OnOk, codes, map as each, option_map};
-ghost use Rattle.dap_breaks.specs.Answered.{IsAnswer, answer_of, elsewhere};
-ghost use Rattle.dap_breaks.specs.Breaks.{KeepsEvents, SetsBreaks, SetsSourceBreaks, all_cleared};
-ghost use Rattle.dap_breaks.specs.Breaks.{all_set, place_of};
+ghost use Rattle.dap_breaks.specs.Answered.{IsAnswer, answer_of};
+ghost use Rattle.dap_breaks.specs.Breaks.{SetsBreaks, SetsSourceBreaks};
+ghost use Rattle.dap_desk.specs.Breaks.{KeepsEvents, place_of};
 ghost use Rattle.dap_breaks.specs.Targets.{row_in};
 ghost use Rattle.dap_breaks.specs.Wanted.{Matches, addresses};
 ghost use Rattle.dap_messages.specs.Answers.{breakpoints_body};
 ghost use Rattle.dap_breaks.specs.Watches.{items_at};
 ghost use Rattle.serde_json.specs.View.{items_view, view};
 
-use crate::breaks::replace;
 use crate::wanted::{List, Wanted, push_at, push_unset, row_from, unset};
 use arguments::is_one_file;
+use dap_desk::{is_break, replace};
 use dap_messages::{
-    Counting, breakpoint_set, breakpoint_unset, breakpoints_body, place_at, text_at,
+    Counting, Listed, Source, breakpoint_set, breakpoint_unset, breakpoints_body, data_unwatched,
+    place_at,
 };
-use dap_views::{Source, is_break};
+use json_values::text_at;
 use mon_runs::Session;
 use mon_session::Desk;
 use mon_stops::Break;
-use serde_json::{Value, json};
+use serde_json::Value;
 use std::alloc::{AllocError, Global};
 use std::rt::Files;
 
@@ -29,35 +30,6 @@ const NO_BYTES: &str = "no line from here on has bytes";
 
 /// What is said of a breakpoint that the session has no room for.
 pub const NO_ROOM: &str = "256 breakpoints are set";
-
-/// The breakpoints that a client has listed.
-#[derive(Drop)]
-pub struct Listed {
-    /// The addresses of those of the source.
-    pub lines: Vec<u16>,
-    /// The addresses of those at addresses.
-    pub addresses: Vec<u16>,
-    /// The last requests for both, and for bytes that are watched.
-    pub line_request: Option<Value>,
-    pub address_request: Option<Value>,
-    pub data_request: Option<Value>,
-}
-
-impl Listed {
-    /// Makes that of a client that has listed none.
-    pub fn new(alloc: Global) -> Listed
-        ensures lines { result.lines.items ≡ [] }
-        ensures addresses { result.addresses.items ≡ [] }
-    {
-        Listed {
-            lines: Vec::new(alloc),
-            addresses: Vec::new(alloc),
-            line_request: None,
-            address_request: None,
-            data_request: None,
-        }
-    }
-}
 
 /// Returns the breakpoints that a request lists.
 pub fn list_of(request: &Value) -> &[Value]
@@ -211,61 +183,52 @@ fn answers(
     breakpoints_body(alloc, list)
 }
 
-/// Returns what is answered of a breakpoint of another source.
-fn elsewhere(alloc: Global) -> Result<Value, AllocError>
-    ensures { IfOk result (λ v. view v ≡ elsewhere) }
-{
-    json!(in alloc; {
-        "message": "this is not the source of the session", "verified": false
-    })
-}
-
 /// Returns what is answered of breakpoints of another source, none of which is set.
 fn answers_elsewhere(alloc: Global, request: &Value) -> Result<Value, AllocError> {
     let mut list = Vec::new(alloc);
     for _ in list_of(request) {
-        let value = elsewhere(alloc)?;
+        let value = data_unwatched(alloc, "this is not the source of the session")?;
         list.push(value)?;
     }
     breakpoints_body(alloc, list)
 }
 
-/// Replaces the breakpoints of the source by others.
-fn replace_lines(
+/// Replaces the breakpoints at some addresses by others, whose addresses are held then.
+fn replace_held(
     alloc: Global,
     desk: &mut Desk,
-    listed: &mut Listed,
+    held: &mut Vec<u16>,
     stops: Vec<Break>,
 ) -> Result<(), AllocError>
-    ensures place { OnOk result (place_of desk.new ≡ all_set stops.items
-        (all_cleared listed.old.lines.items (place_of desk.old))) }
+    ensures sets { OnOk result
+        (SetsBreaks held.old.items held.new.items (place_of desk.old) (place_of desk.new)) }
     ensures kept { KeepsEvents desk.old desk.new }
-    ensures lines { OnOk result (listed.new.lines.items ≡ addresses stops.items) }
-    ensures addresses { listed.new.addresses ≡ listed.old.addresses }
+    ensures held { OnOk result (held.new.items ≡ addresses stops.items) }
 {
     let found = addresses_of(alloc, stops.as_slice())?;
-    replace(desk, listed.lines.as_slice(), stops)?;
-    listed.lines = found;
+    replace(desk, held.as_slice(), stops)?;
+    *held = found;
     Ok(())
 }
 
-/// Replaces the breakpoints at addresses by others.
-fn replace_addresses(
+/// Sets the breakpoints of a list in place of those at the addresses that are held, and returns
+/// what is answered.
+fn set_list(
     alloc: Global,
     desk: &mut Desk,
-    listed: &mut Listed,
-    stops: Vec<Break>,
-) -> Result<(), AllocError>
-    ensures place { OnOk result (place_of desk.new ≡ all_set stops.items
-        (all_cleared listed.old.addresses.items (place_of desk.old))) }
+    held: &mut Vec<u16>,
+    counting: Counting,
+    list: List,
+) -> Result<Value, AllocError>
+    requires { Matches list }
+    ensures sets { OnOk result
+        (SetsBreaks held.old.items held.new.items (place_of desk.old) (place_of desk.new)) }
     ensures kept { KeepsEvents desk.old desk.new }
-    ensures addresses { OnOk result (listed.new.addresses.items ≡ addresses stops.items) }
-    ensures lines { listed.new.lines ≡ listed.old.lines }
+    ensures answer { IfOk result (IsAnswer desk.new.session counting held.new.items) }
 {
-    let found = addresses_of(alloc, stops.as_slice())?;
-    replace(desk, listed.addresses.as_slice(), stops)?;
-    listed.addresses = found;
-    Ok(())
+    let List { told, stops } = list;
+    replace_held(alloc, desk, held, stops)?;
+    answers(alloc, &desk.session, counting, told.as_slice())
 }
 
 /// Sets the breakpoints of the source that a request lists, in place of those before, and returns
@@ -287,10 +250,9 @@ pub fn set_lines(
     ensures answer { IfOk result (IsAnswer desk.new.session source.now.counting
         listed.new.lines.items) }
 {
-    let List { told, stops } = lines_listed(alloc, desk, source, request)?;
-    replace_lines(alloc, desk, listed, stops)?;
     listed.line_request = Some(request.clone()?);
-    answers(alloc, &desk.session, source.counting, told.as_slice())
+    let list = lines_listed(alloc, desk, source, request)?;
+    set_list(alloc, desk, &mut listed.lines, source.counting, list)
 }
 
 /// Sets the breakpoints at addresses that a request lists, in place of those before, and returns
@@ -312,10 +274,9 @@ pub fn set_addresses(
     ensures answer { IfOk result (IsAnswer desk.new.session counting
         listed.new.addresses.items) }
 {
-    let List { told, stops } = addresses_listed(alloc, desk, request)?;
-    replace_addresses(alloc, desk, listed, stops)?;
     listed.address_request = Some(request.clone()?);
-    answers(alloc, &desk.session, counting, told.as_slice())
+    let list = addresses_listed(alloc, desk, request)?;
+    set_list(alloc, desk, &mut listed.addresses, counting, list)
 }
 
 /// Sets the breakpoints that a request lists for a source, in place of those before, if the source

@@ -7,8 +7,8 @@ ghost use Rattle.serde_json.specs.View.{view};
 
 use crate::listed::row_in;
 use arguments::is_one_file;
-use dap_messages::{Counting, goto_target, targets_body, text_at};
-use dap_views::Source;
+use dap_messages::{Counting, Source, goto_target, targets_body};
+use json_values::text_at;
 use serde_json::Value;
 use std::alloc::{AllocError, Global};
 use std::rt::Files;

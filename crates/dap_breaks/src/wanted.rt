@@ -8,8 +8,8 @@ ghost use Rattle.dap_breaks.specs.Wanted.{has_bytes, hits_text, option_text, row
 ghost use Rattle.serde_json.specs.View.{view};
 
 use assembler::{Assembly, SourceLine};
-use dap_messages::text_at;
 use formatting::{push_address, push_text};
+use json_values::text_at;
 use mon_lines::{Command, Slip, read_line};
 use mon_session::Desk;
 use mon_stops::Break;

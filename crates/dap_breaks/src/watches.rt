@@ -9,12 +9,12 @@ ghost use Rattle.dap_breaks.specs.Watches.{watched_of, watches_in, watches_named
 ghost use Rattle.dap_breaks.specs.Watches.{with_all, with_one};
 ghost use Rattle.serde_json.specs.View.{view};
 
-use crate::fields::text_or;
-use crate::listed::{Listed, list_of};
+use crate::listed::list_of;
 use dap_messages::{
-    breakpoints_body, data_at, data_unwatched, data_watched, no_data, number_at, place_at, text_at,
+    Listed, breakpoints_body, data_at, data_unwatched, data_watched, no_data, place_at,
 };
 use dap_views::place_named;
+use json_values::{number_at, text_at, text_or};
 use mon_lines::{Stretch, WatchKind};
 use mon_runs::Session;
 use mon_session::Desk;

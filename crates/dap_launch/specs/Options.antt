@@ -3,7 +3,7 @@ use Rattle.std.specs.Prelude.{ℕ, ◌≡◌, nat_lt, Bool, true, false, if◌th
 use Rattle.arguments.specs.Asked.{FileAsked}
 use Rattle.arguments.specs.Values.{form_asked, port_asked, profile_asked, rom_asked}
 use Rattle.arguments.specs.declared.file_options.FileForm.{FileForm}
-use Rattle.dap_messages.specs.Fields.{flag_at, number_at, text_at}
+use Rattle.json_values.specs.Fields.{flag_at, number_at, text_at}
 use Rattle.dap_launch.specs.declared.options.Options.{Options}
 use Rattle.serde_json.specs.Data.{Data}
 

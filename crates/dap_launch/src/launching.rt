@@ -3,7 +3,7 @@
 ghost use Rattle.std.specs.Prelude.{◌≡◌, ◌≤◌, ℕ, IfOk, List, Some, codes, option_map, string_bytes};
 ghost use Rattle.std.specs.Prelude.{unwrap_or};
 ghost use Rattle.arguments.specs.Asked.{file_view};
-ghost use Rattle.dap_messages.specs.Fields.{flag_at, text_at};
+ghost use Rattle.json_values.specs.Fields.{flag_at, text_at};
 ghost use Rattle.dap_launch.specs.Options.{AreOptions, IsAgain, file_of, form_at, history_of};
 ghost use Rattle.dap_launch.specs.Options.{steps_of};
 ghost use Rattle.serde_json.specs.View.{view};
@@ -11,7 +11,7 @@ ghost use Rattle.serde_json.specs.View.{view};
 use crate::fault::{Fault, refused};
 use crate::options::Options;
 use arguments::{FileForm, FileWords, form_asked, port_asked, profile_asked, rom_asked};
-use dap_messages::{flag_at, number_at, text_at};
+use json_values::{flag_or, number_at, text_at};
 use serde_json::Value;
 use std::alloc::{AllocError, Global};
 
@@ -26,16 +26,6 @@ fn owned(alloc: Global, text: Option<&str>) -> Result<Option<String>, AllocError
             Ok(Some(own))
         }
         None => Ok(None),
-    }
-}
-
-/// Returns the flag at a path of a message: another if there is none.
-fn flag_or(message: &Value, path: &str, other: bool) -> bool
-    ensures { result ≡ unwrap_or (flag_at path.now (view message.now)) other }
-{
-    match flag_at(message, path) {
-        Some(flag) => flag,
-        None => other,
     }
 }
 

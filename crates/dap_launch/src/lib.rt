@@ -13,4 +13,4 @@ mod seat;
 pub use fault::{Fault, refused, refused_by};
 pub use launching::options_of;
 pub use options::Options;
-pub use seat::{Seat, begin, source_of};
+pub use seat::{Seat, begin, begin_again, put_seat, source_of};

@@ -1,22 +1,22 @@
 //! How a session begins.
 
-ghost use Rattle.std.specs.Prelude.{◌≡◌, IfOk, OnOk, option_map, string_bytes};
+ghost use Rattle.std.specs.Prelude.{◌≡◌, IfOk, OnOk, Some, option_map, string_bytes};
 ghost use Rattle.dap_launch.specs.Begun.{AddsNames, IsBegun, IsSeated, places_in};
-ghost use Rattle.dap_launch.specs.Options.{file_of};
+ghost use Rattle.dap_launch.specs.Options.{IsAgain, file_of};
+ghost use Rattle.dap_launch.specs.declared.options.Options.{Options};
 ghost use Rattle.source_map.specs.Lines.{PlacesView};
 
 use crate::fault::{Fault, refused_by};
 use crate::options::Options;
 use arguments::{LoadFault, Refusal};
 use assembler::Assembly;
-use dap_breaks::Listed;
-use dap_messages::Counting;
-use dap_views::{Source, Told};
+use dap_messages::{Counting, Listed, Source, Told};
 use loading::{Loaded, load_names, load_with_history};
 use mon_runs::Session;
 use mon_session::Desk;
 use source_map::Places;
 use std::alloc::{AllocError, Global};
+use std::mem;
 use std::rt::Files;
 
 /// A session on a program.
@@ -30,6 +30,27 @@ pub struct Seat {
     pub listed: Listed,
     /// What the client was told.
     pub told: Told,
+}
+
+impl Seat {
+    /// Puts a session in place of this one, which ends.
+    pub fn replace(&mut self, begun: Seat)
+        ensures { self.new ≡ begun }
+    {
+        drop(mem::replace(self, begun));
+    }
+
+    /// Ends this session.
+    pub fn end(self) {
+        drop(self);
+    }
+}
+
+/// Puts a session in a place that may have one.
+pub fn put_seat(seat: &mut Option<Seat>, begun: Seat)
+    ensures { seat.new ≡ Some begun }
+{
+    drop(mem::replace(seat, Some(begun)));
 }
 
 /// Returns the source of a session, as its client counts lines.
@@ -104,27 +125,56 @@ fn add_names<H: Files + AllocGlobal>(
     }
 }
 
+/// Returns the places of a program, with the names of a file of names, if one is named.
+fn known_places<H: Files + AllocGlobal>(
+    rt: &H,
+    options: &Options,
+    assembly: &Option<Assembly>,
+) -> Result<Places, Fault>
+    ensures { IfOk result (AddsNames (option_map string_bytes options.now.symbols)
+        (file_of options.now) (places_in (string_bytes options.now.file) assembly.now)) }
+{
+    let mut places = places_of(rt.alloc(), options.file.as_str(), assembly)?;
+    match add_names(rt, options, &options.symbols, &mut places) {
+        Ok(()) => Ok(places),
+        Err(fault) => {
+            drop(places);
+            Err(fault)
+        }
+    }
+}
+
 /// Returns the seat of a session at which no request was served.
 fn seat_on(
     alloc: Global,
     options: Options,
-    session: Session,
-    assembly: Option<Assembly>,
+    loaded: Loaded,
     places: Places,
 ) -> Result<Seat, AllocError>
-    ensures { IfOk result (IsSeated options session assembly places) }
+    ensures { IfOk result (IsSeated options loaded.session loaded.assembly places) }
 {
-    let desk = Desk::new(alloc, session, places, options.history)?;
-    Ok(Seat {
-        options,
-        desk,
+    let Loaded {
+        session,
         assembly,
-        listed: Listed::new(alloc),
-        told: Told {
-            count: 0,
-            words: String::new(alloc),
-        },
-    })
+        written: _,
+    } = loaded;
+    match Desk::new(alloc, session, places, options.history) {
+        Ok(desk) => Ok(Seat {
+            options,
+            desk,
+            assembly,
+            listed: Listed::new(alloc),
+            told: Told {
+                count: 0,
+                words: String::new(alloc),
+            },
+        }),
+        Err(error) => {
+            drop(options);
+            drop(assembly);
+            Err(error)
+        }
+    }
 }
 
 /// Begins a session on what was loaded.
@@ -134,15 +184,17 @@ fn begin_on<H: Files + AllocGlobal>(rt: &H, options: Options, loaded: Loaded) ->
         (places_in (string_bytes options.file) loaded.assembly) known
         × IsSeated options loaded.session loaded.assembly known seat) }
 {
-    let Loaded {
-        session,
-        assembly,
-        written: _,
-    } = loaded;
-    let mut places = places_of(rt.alloc(), options.file.as_str(), &assembly)?;
-    add_names(rt, &options, &options.symbols, &mut places)?;
-    let seat = seat_on(rt.alloc(), options, session, assembly, places)?;
-    Ok(seat)
+    match known_places(rt, &options, &loaded.assembly) {
+        Ok(places) => {
+            let seat = seat_on(rt.alloc(), options, loaded, places)?;
+            Ok(seat)
+        }
+        Err(fault) => {
+            drop(options);
+            drop(loaded);
+            Err(fault)
+        }
+    }
 }
 
 /// Begins a session: loads the file of a launch, and the file of names, if one is named.
@@ -158,4 +210,16 @@ pub fn begin<H: Files + AllocGlobal>(rt: &H, options: Options) -> Result<Seat, F
         }
         Err(fault) => Err(unloaded(rt.alloc(), fault, options.file.as_str())),
     }
+}
+
+/// Begins a session on the file of another, with its options.
+///
+/// Errors: those of `begin`.
+pub fn begin_again<H: Files + AllocGlobal>(rt: &H, seat: &Seat) -> Result<Seat, Fault>
+    ensures { IfOk result (λ begun. (options : Options) × IsAgain seat.now.options options
+        × IsBegun options begun) }
+{
+    let options = seat.options.again(rt.alloc())?;
+    let begun = begin(rt, options)?;
+    Ok(begun)
 }

@@ -5,10 +5,10 @@
 -- "ExceptionInfo Request", "Invalidated Event".
 use Rattle.std.specs.Prelude.{ℕ, true, false, List, [], ◌∷◌, codes}
 use Rattle.dap_messages.specs.Bodies.{only}
-use Rattle.dap_messages.specs.Messages.{count, object_of, word}
+use Rattle.json_values.specs.Values.{count, flag, list_of, object_of, word}
 use Rattle.dap_messages.specs.Texts.{address_text, reference}
-use Rattle.dap_messages.specs.Variables.{list_body, list_of}
-use Rattle.serde_json.specs.Data.{Data, boolean, null}
+use Rattle.dap_messages.specs.Variables.{list_body}
+use Rattle.serde_json.specs.Data.{Data, null}
 
 -- ---- frames
 
@@ -38,11 +38,11 @@ frames_body ds = object_of ((codes "stackFrames", list_of ds)
 abbrev pub breakpoint_set : ℕ → ℕ → Data
 breakpoint_set address line = object_of ((codes "id", count address)
     ∷ (codes "instructionReference", word (reference address)) ∷ (codes "line", count line)
-    ∷ (codes "verified", boolean true) ∷ [])
+    ∷ (codes "verified", flag true) ∷ [])
 
 abbrev pub breakpoint_unset : ℕ → List ℕ → Data
 breakpoint_unset line words = object_of ((codes "line", count line)
-    ∷ (codes "message", word words) ∷ (codes "verified", boolean false) ∷ [])
+    ∷ (codes "message", word words) ∷ (codes "verified", flag false) ∷ [])
 
 abbrev pub breakpoints_body : List Data → Data
 breakpoints_body ds = list_body (codes "breakpoints") ds
@@ -54,12 +54,15 @@ abbrev pub instruction_row : ℕ → List ℕ → List ℕ → Data
 instruction_row address bytes text = object_of ((codes "address", word (reference address))
     ∷ (codes "instruction", word text) ∷ (codes "instructionBytes", word bytes) ∷ [])
 
+abbrev pub at_path : List ℕ → Data
+at_path path = object_of ((codes "path", word path) ∷ [])
+
 -- It may begin a line of a source, which has a path.
 abbrev pub instruction_at_line : ℕ → List ℕ → List ℕ → ℕ → List ℕ → Data
 instruction_at_line address bytes text line path = object_of (
     (codes "address", word (reference address)) ∷ (codes "instruction", word text)
     ∷ (codes "instructionBytes", word bytes) ∷ (codes "line", count line)
-    ∷ (codes "location", object_of ((codes "path", word path) ∷ [])) ∷ []
+    ∷ (codes "location", at_path path) ∷ []
     )
 
 -- A row where no memory is.
@@ -105,11 +108,11 @@ abbrev pub no_data : List ℕ → Data
 no_data words = object_of ((codes "dataId", null) ∷ (codes "description", word words) ∷ [])
 
 abbrev pub data_watched : Data
-data_watched = object_of ((codes "verified", boolean true) ∷ [])
+data_watched = object_of ((codes "verified", flag true) ∷ [])
 
 abbrev pub data_unwatched : List ℕ → Data
 data_unwatched words = object_of ((codes "message", word words)
-    ∷ (codes "verified", boolean false) ∷ [])
+    ∷ (codes "verified", flag false) ∷ [])
 
 -- ---- other answers
 

@@ -1,11 +1,11 @@
 -- The bodies of answers. Source: Debug Adapter Protocol 1.65.
 use Rattle.std.specs.Prelude.{ℕ, true, false, List, [], ◌∷◌, codes, map}
-use Rattle.dap_messages.specs.Messages.{count, object_of, word}
+use Rattle.json_values.specs.Values.{count, flag, object_of, word}
 use Rattle.dap_messages.specs.Variables.{list_body}
-use Rattle.serde_json.specs.Data.{Data, array, boolean, item, no_items, Members, put}
+use Rattle.serde_json.specs.Data.{Data, array, item, no_items, Members, put}
 
 abbrev pub yes : Data
-yes = boolean true
+yes = flag true
 
 -- A list of one.
 abbrev pub only : Data → Data
@@ -47,7 +47,7 @@ threads = object_of ((
 
 -- A scope of a name, by the number that its variables are asked for by.
 abbrev pub scope : List ℕ → ℕ → Data
-scope name n = object_of ((codes "expensive", boolean false) ∷ (codes "name", word name)
+scope name n = object_of ((codes "expensive", flag false) ∷ (codes "name", word name)
     ∷ (codes "variablesReference", count n) ∷ [])
 
 unfoldable pub scopes : Data

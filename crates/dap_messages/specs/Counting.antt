@@ -1,7 +1,7 @@
 -- How a client counts lines and columns. Source: Debug Adapter Protocol 1.65, "Initialize Request":
 -- `linesStartAt1` and `columnsStartAt1` are true where they are missing.
 use Rattle.std.specs.Prelude.{ℕ, ◌+◌, ◌-◌, nat_lt, Bool, true, if◌then◌else◌, List, codes, Option, Some, None, unwrap_or}
-use Rattle.dap_messages.specs.Fields.{flag_at, number_at}
+use Rattle.json_values.specs.Fields.{flag_at, number_at}
 use Rattle.dap_messages.specs.declared.counting.Counting.{Counting}
 use Rattle.serde_json.specs.Data.{Data}
 

@@ -1,7 +1,7 @@
 pub mod Answers
 pub mod Bodies
 pub mod Counting
-pub mod Fields
+pub mod Halts
 pub mod Messages
 pub mod References
 pub mod Requests

@@ -2,7 +2,7 @@
 use Rattle.std.specs.Prelude.{ℕ, Bool, true, false, bytes_eq, if◌then◌else◌, List, [], ◌∷◌, codes, Option, Some, None, unwrap_or}
 use Rattle.std.specs.Borrow.{Bor}
 use Rattle.serde_json.specs.Data.{Data}
-use Rattle.dap_messages.specs.Fields.{number_at, text_at}
+use Rattle.json_values.specs.Fields.{number_at, text_at}
 use Rattle.dap_messages.specs.declared.request.Breakpoints.{Breakpoints}
 use Rattle.dap_messages.specs.declared.request.Breakpoints.TheVariants as breakpoints
 use Rattle.dap_messages.specs.declared.request.Change.{Change}

@@ -1,15 +1,11 @@
 -- The variables of a scope. Source: Debug Adapter Protocol 1.65, "Variable"; what is shown, mos65.
 use Rattle.std.specs.Prelude.{ℕ, Bool, false, if◌then◌else◌, List, [], ◌∷◌, codes, decimal}
-use Rattle.dap_messages.specs.Messages.{count, object_of, word}
+use Rattle.json_values.specs.Values.{count, list_of, object_of, word}
 use Rattle.dap_messages.specs.Texts.{address_text, byte_text}
 use Rattle.model.specs.Effect.{status}
 use Rattle.model.specs.declared.registers.Flags.{Flags}
 use Rattle.model.specs.declared.registers.Regs.{Regs}
-use Rattle.serde_json.specs.Data.{Data, array}
-use Rattle.serde_json.specs.View.{items_of}
-
-abbrev pub list_of : List Data → Data
-list_of ds = array (items_of ds)
+use Rattle.serde_json.specs.Data.{Data}
 
 -- An object with one member, which is a list.
 abbrev pub list_body : List ℕ → List Data → Data

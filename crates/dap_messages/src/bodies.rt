@@ -5,10 +5,10 @@ ghost use Rattle.serde_json.specs.View.{members_view, view};
 ghost use Rattle.dap_messages.specs.Bodies.{capabilities, continued, nothing, output_body, put_true};
 ghost use Rattle.dap_messages.specs.Bodies.{scope, scopes, stopped_body};
 ghost use Rattle.dap_messages.specs.Bodies.{threads};
-ghost use Rattle.dap_messages.specs.Messages.{count, word};
 ghost use Rattle.dap_messages.specs.Variables.{list_body};
 ghost use Rattle.serde_json.specs.Data.{put};
 
+use json_values::Object;
 use serde_json::{Map, Value, json, put};
 use std::alloc::{AllocError, Global};
 
@@ -32,33 +32,6 @@ const ABILITIES: [&str; 17] = [
     "supportsTerminateRequest",
     "supportsWriteMemoryRequest",
 ];
-
-/// Puts a text into an object, as the member of a name.
-pub fn put_text(
-    alloc: Global,
-    map: &mut Map<String, Value>,
-    name: &str,
-    text: &str,
-) -> Result<(), AllocError>
-    ensures { OnOk result (members_view map.new.entries
-        ≡ put name.now (word text.now) (members_view map.old.entries)) }
-{
-    let value = Value::try_from_str(alloc, text)?;
-    put(map, alloc, name, value)
-}
-
-/// Puts a number into an object, as the member of a name.
-pub fn put_count(
-    alloc: Global,
-    map: &mut Map<String, Value>,
-    name: &str,
-    number: u64,
-) -> Result<(), AllocError>
-    ensures { OnOk result (members_view map.new.entries
-        ≡ put name.now (count number) (members_view map.old.entries)) }
-{
-    put(map, alloc, name, Value::from(number))
-}
 
 /// Puts members into an object that have these names, and are all true.
 fn put_true(alloc: Global, map: &mut Map<String, Value>, names: &[&str]) -> Result<(), AllocError>
@@ -105,7 +78,11 @@ pub fn threads(alloc: Global) -> Result<Value, AllocError>
 fn scope(alloc: Global, name: &str, number: u64) -> Result<Value, AllocError>
     ensures { IfOk result (λ v. view v ≡ scope name.now number) }
 {
-    json!(in alloc; {"name": name, "variablesReference": number, "expensive": false})
+    Object::new(alloc)
+        .flag("expensive", false)
+        .word("name", name)
+        .count("variablesReference", number)
+        .build()
 }
 
 /// The scopes, each by the number that its variables are asked for by.
@@ -144,24 +121,27 @@ pub fn scopes(alloc: Global) -> Result<Value, AllocError>
 pub fn stopped_body(alloc: Global, reason: &str, words: &str) -> Result<Value, AllocError>
     ensures { IfOk result (λ v. view v ≡ stopped_body reason.now words.now) }
 {
-    let mut map = Map::new(alloc);
-    put(&mut map, alloc, "allThreadsStopped", Value::Bool(true))?;
-    put_text(alloc, &mut map, "description", words)?;
-    put_text(alloc, &mut map, "reason", reason)?;
-    put_count(alloc, &mut map, "threadId", 1)?;
-    Ok(Value::Object(map))
+    Object::new(alloc)
+        .flag("allThreadsStopped", true)
+        .word("description", words)
+        .word("reason", reason)
+        .count("threadId", 1)
+        .build()
 }
 
 /// Returns what the event says that has a text, of the console of the program or of the adapter.
 pub fn output_body(alloc: Global, category: &str, text: &str) -> Result<Value, AllocError>
     ensures { IfOk result (λ v. view v ≡ output_body category.now text.now) }
 {
-    json!(in alloc; {"category": category, "output": text})
+    Object::new(alloc)
+        .word("category", category)
+        .word("output", text)
+        .build()
 }
 
 /// Returns what is answered to a move.
 pub fn continued(alloc: Global) -> Result<Value, AllocError>
     ensures { IfOk result (λ v. view v ≡ continued) }
 {
-    json!(in alloc; {"allThreadsContinued": true})
+    Object::new(alloc).flag("allThreadsContinued", true).build()
 }

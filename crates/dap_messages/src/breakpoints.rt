@@ -4,29 +4,33 @@ ghost use Rattle.std.specs.Prelude.{◌≡◌, IfOk, map as each};
 ghost use Rattle.serde_json.specs.View.{view};
 ghost use Rattle.dap_messages.specs.Answers.{breakpoint_set, breakpoint_unset, breakpoints_body};
 
-use crate::bodies::{list_body, put_count, put_text};
+use crate::bodies::list_body;
 use crate::texts::reference;
-use serde_json::{Map, Value, json, put};
+use json_values::Object;
+use serde_json::Value;
 use std::alloc::{AllocError, Global};
 
 /// Returns what is told of a breakpoint that is set at an address, with its line.
 pub fn breakpoint_set(alloc: Global, address: u16, line: u64) -> Result<Value, AllocError>
     ensures { IfOk result (λ v. view v ≡ breakpoint_set address line) }
 {
-    let place = reference(alloc, address)?;
-    let mut map = Map::new(alloc);
-    put_count(alloc, &mut map, "id", u64::from(address))?;
-    put_text(alloc, &mut map, "instructionReference", place.as_str())?;
-    put_count(alloc, &mut map, "line", line)?;
-    put(&mut map, alloc, "verified", Value::Bool(true))?;
-    Ok(Value::Object(map))
+    Object::new(alloc)
+        .count("id", address as u64)
+        .text("instructionReference", reference(alloc, address))
+        .count("line", line)
+        .flag("verified", true)
+        .build()
 }
 
 /// Returns what is told of a breakpoint that is not set, with its line, and why.
 pub fn breakpoint_unset(alloc: Global, line: u64, words: &str) -> Result<Value, AllocError>
     ensures { IfOk result (λ v. view v ≡ breakpoint_unset line words.now) }
 {
-    json!(in alloc; {"line": line, "message": words, "verified": false})
+    Object::new(alloc)
+        .count("line", line)
+        .word("message", words)
+        .flag("verified", false)
+        .build()
 }
 
 /// Returns the answer that tells of some breakpoints.

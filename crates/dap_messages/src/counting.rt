@@ -1,10 +1,10 @@
 //! How a client counts lines and columns.
 
 ghost use Rattle.std.specs.Prelude.{◌≡◌};
-ghost use Rattle.dap_messages.specs.Counting.{counting_of, first_column, flag_or_true, line_at, shown_line};
+ghost use Rattle.dap_messages.specs.Counting.{counting_of, first_column, line_at, shown_line};
 ghost use Rattle.serde_json.specs.View.{view};
 
-use crate::fields::{flag_at, number_at};
+use json_values::{flag_or, number_at};
 use serde_json::Value;
 
 /// How a client counts lines and columns.
@@ -16,21 +16,14 @@ pub struct Counting {
     pub columns_start_at_1: bool,
 }
 
-/// Returns the flag at a path of a message: true if there is none.
-fn flag_or_true(message: &Value, path: &str) -> bool
-    ensures { result ≡ flag_or_true path.now (view message.now) }
-{
-    flag_at(message, path).unwrap_or(true)
-}
-
 impl Counting {
     /// Returns how the client of an `initialize` counts.
     pub fn of(request: &Value) -> Counting
         ensures { result ≡ counting_of (view request.now) }
     {
         Counting {
-            lines_start_at_1: flag_or_true(request, "/arguments/linesStartAt1"),
-            columns_start_at_1: flag_or_true(request, "/arguments/columnsStartAt1"),
+            lines_start_at_1: flag_or(request, "/arguments/linesStartAt1", true),
+            columns_start_at_1: flag_or(request, "/arguments/columnsStartAt1", true),
         }
     }
 

@@ -1,14 +1,22 @@
 //! The rows of a disassembly.
 
 ghost use Rattle.std.specs.Prelude.{◌≡◌, IfOk, map as each};
-ghost use Rattle.dap_messages.specs.Answers.{instruction_at_line, instruction_row};
+ghost use Rattle.dap_messages.specs.Answers.{at_path, instruction_at_line, instruction_row};
 ghost use Rattle.dap_messages.specs.Answers.{instructions_body, no_instruction};
 ghost use Rattle.serde_json.specs.View.{view};
 
-use crate::bodies::{list_body, put_count, put_text};
+use crate::bodies::list_body;
 use crate::texts::reference;
-use serde_json::{Map, Value, json, put};
+use json_values::Object;
+use serde_json::Value;
 use std::alloc::{AllocError, Global};
+
+/// Returns a source, which has a path.
+fn at_path(alloc: Global, path: &str) -> Result<Value, AllocError>
+    ensures { IfOk result (λ v. view v ≡ at_path path.now) }
+{
+    Object::new(alloc).word("path", path).build()
+}
 
 /// Returns the row of an instruction that begins a line of a source, which has a path.
 pub fn instruction_at_line(
@@ -22,15 +30,13 @@ pub fn instruction_at_line(
     ensures { IfOk result
         (λ v. view v ≡ instruction_at_line address bytes.now text.now line path.now) }
 {
-    let place = reference(alloc, address)?;
-    let source = json!(in alloc; {"path": path})?;
-    let mut map = Map::new(alloc);
-    put_text(alloc, &mut map, "address", place.as_str())?;
-    put_text(alloc, &mut map, "instruction", text)?;
-    put_text(alloc, &mut map, "instructionBytes", bytes)?;
-    put_count(alloc, &mut map, "line", line)?;
-    put(&mut map, alloc, "location", source)?;
-    Ok(Value::Object(map))
+    Object::new(alloc)
+        .text("address", reference(alloc, address))
+        .word("instruction", text)
+        .word("instructionBytes", bytes)
+        .count("line", line)
+        .member("location", at_path(alloc, path))
+        .build()
 }
 
 /// Returns the row of an instruction that begins no line.
@@ -42,19 +48,22 @@ pub fn instruction_row(
 ) -> Result<Value, AllocError>
     ensures { IfOk result (λ v. view v ≡ instruction_row address bytes.now text.now) }
 {
-    let place = reference(alloc, address)?;
-    let mut map = Map::new(alloc);
-    put_text(alloc, &mut map, "address", place.as_str())?;
-    put_text(alloc, &mut map, "instruction", text)?;
-    put_text(alloc, &mut map, "instructionBytes", bytes)?;
-    Ok(Value::Object(map))
+    Object::new(alloc)
+        .text("address", reference(alloc, address))
+        .word("instruction", text)
+        .word("instructionBytes", bytes)
+        .build()
 }
 
 /// Returns a row where no memory is.
 pub fn no_instruction(alloc: Global) -> Result<Value, AllocError>
     ensures { IfOk result (λ v. view v ≡ no_instruction) }
 {
-    json!(in alloc; {"address": "0xFFFF", "instruction": "", "presentationHint": "invalid"})
+    Object::new(alloc)
+        .word("address", "0xFFFF")
+        .word("instruction", "")
+        .word("presentationHint", "invalid")
+        .build()
 }
 
 /// Returns the answer that has some rows of a disassembly.

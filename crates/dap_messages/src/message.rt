@@ -1,13 +1,13 @@
 //! Messages to the client.
 
 ghost use Rattle.std.specs.Prelude.{◌≡◌, IfOk};
-ghost use Rattle.serde_json.specs.View.{members_view, view};
+ghost use Rattle.serde_json.specs.View.{view};
 ghost use Rattle.dap_messages.specs.Messages.{data_of, event_data, next_number, refusal_data, response_data};
-ghost use Rattle.dap_messages.specs.Messages.{response_members, said_of};
+ghost use Rattle.dap_messages.specs.Messages.{said_of};
 
-use crate::bodies::{put_count, put_text};
 use crate::requests::{command_of, number_of};
-use serde_json::{Map, Value, put};
+use json_values::Object;
+use serde_json::Value;
 use std::alloc::{AllocError, Global};
 
 /// A message to the client, but for its number.
@@ -28,53 +28,57 @@ pub fn next_number(sent: u64) -> u64
     if sent == u64::MAX { sent } else { sent + 1 }
 }
 
-/// Returns the members that each response has.
-fn response_members(
+/// Returns the response to a request that is done, of a command and a number.
+fn response(
     alloc: Global,
     number: u64,
-    request: &Value,
-    is_done: bool,
-) -> Result<Map<String, Value>, AllocError>
+    command: &str,
+    request: u64,
+    body: &Value,
+) -> Result<Value, AllocError>
     ensures { IfOk result
-        (λ m. members_view m.entries ≡ response_members number (view request.now) is_done) }
+        (λ v. view v ≡ response_data number command.now request (view body.now)) }
 {
-    let mut map = Map::new(alloc);
-    put_text(alloc, &mut map, "command", command_of(request))?;
-    put_count(alloc, &mut map, "request_seq", number_of(request))?;
-    put_count(alloc, &mut map, "seq", number)?;
-    put(&mut map, alloc, "success", Value::Bool(is_done))?;
-    put_text(alloc, &mut map, "type", "response")?;
-    Ok(map)
+    Object::new(alloc)
+        .member("body", body.clone())
+        .word("command", command)
+        .count("request_seq", request)
+        .count("seq", number)
+        .flag("success", true)
+        .word("type", "response")
+        .build()
 }
 
-/// Returns the response to a request that is done.
-fn response(alloc: Global, number: u64, request: &Value, body: &Value) -> Result<Value, AllocError>
-    ensures { IfOk result (λ v. view v ≡ response_data number (view request.now) (view body.now)) }
+/// Returns the response to a request that is refused, of a command and a number.
+fn refusal(
+    alloc: Global,
+    number: u64,
+    command: &str,
+    request: u64,
+    words: &str,
+) -> Result<Value, AllocError>
+    ensures { IfOk result (λ v. view v ≡ refusal_data number command.now request words.now) }
 {
-    let mut map = response_members(alloc, number, request, true)?;
-    put(&mut map, alloc, "body", body.clone()?)?;
-    Ok(Value::Object(map))
-}
-
-/// Returns the response to a request that is refused.
-fn refusal(alloc: Global, number: u64, request: &Value, words: &str) -> Result<Value, AllocError>
-    ensures { IfOk result (λ v. view v ≡ refusal_data number (view request.now) words.now) }
-{
-    let mut map = response_members(alloc, number, request, false)?;
-    put_text(alloc, &mut map, "message", words)?;
-    Ok(Value::Object(map))
+    Object::new(alloc)
+        .word("command", command)
+        .word("message", words)
+        .count("request_seq", request)
+        .count("seq", number)
+        .flag("success", false)
+        .word("type", "response")
+        .build()
 }
 
 /// Returns an event.
 fn event(alloc: Global, number: u64, name: &str, body: &Value) -> Result<Value, AllocError>
     ensures { IfOk result (λ v. view v ≡ event_data number name.now (view body.now)) }
 {
-    let mut map = Map::new(alloc);
-    put(&mut map, alloc, "body", body.clone()?)?;
-    put_text(alloc, &mut map, "event", name)?;
-    put_count(alloc, &mut map, "seq", number)?;
-    put_text(alloc, &mut map, "type", "event")?;
-    Ok(Value::Object(map))
+    Object::new(alloc)
+        .member("body", body.clone())
+        .word("event", name)
+        .count("seq", number)
+        .word("type", "event")
+        .build()
 }
 
 /// Returns a message with its number, as an answer to a request.
@@ -87,9 +91,10 @@ pub fn message_value(
     ensures { IfOk result
         (λ v. view v ≡ data_of number (view request.now) (said_of message.now)) }
 {
+    let (command, answered) = (command_of(request), number_of(request));
     match message {
-        Message::Done(body) => response(alloc, number, request, body),
-        Message::Refused(words) => refusal(alloc, number, request, words.as_str()),
+        Message::Done(body) => response(alloc, number, command, answered, body),
+        Message::Refused(words) => refusal(alloc, number, command, answered, words.as_str()),
         Message::Event(name, body) => event(alloc, number, name, body),
     }
 }

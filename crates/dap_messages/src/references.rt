@@ -5,7 +5,7 @@ ghost use Rattle.dap_messages.specs.References.{address_of, begins_reference, mo
 ghost use Rattle.dap_messages.specs.References.{offset_at, place_at};
 ghost use Rattle.serde_json.specs.View.{view};
 
-use crate::fields::text_at;
+use json_values::text_at;
 use serde_json::Value;
 
 /// Returns whether some bytes begin as a reference does.

@@ -7,8 +7,8 @@ ghost use Rattle.dap_messages.specs.Requests.{by_instructions, command_of, find,
 ghost use Rattle.dap_messages.specs.Requests.{is_text, moves_by_instructions, number_of};
 ghost use Rattle.dap_messages.specs.Requests.{request_named, request_of, requests, row_view};
 
-use crate::fields::{number_at, text_at};
 use crate::request::{Breakpoints, Change, Move, Query, Request, SessionRequest};
+use json_values::{number_at, text_at};
 use serde_json::Value;
 
 /// The names of requests, each with what it asks for, but for moves by instructions.

@@ -4,40 +4,34 @@ ghost use Rattle.std.specs.Prelude.{◌≡◌, IfOk, map as each};
 ghost use Rattle.dap_messages.specs.Answers.{completion, goto_target, targets_body};
 ghost use Rattle.serde_json.specs.View.{view};
 
-use crate::bodies::{list_body, put_count, put_text};
+use crate::bodies::list_body;
 use crate::texts::{address_text, reference};
-use serde_json::{Map, Value};
+use json_values::Object;
+use serde_json::Value;
 use std::alloc::{AllocError, Global};
 
 /// Returns an address to go to, with its line.
 pub fn goto_target(alloc: Global, address: u16, line: u64) -> Result<Value, AllocError>
     ensures { IfOk result (λ v. view v ≡ goto_target address line) }
 {
-    let place = reference(alloc, address)?;
-    let label = address_text(alloc, address)?;
-    let mut map = Map::new(alloc);
-    put_count(alloc, &mut map, "id", u64::from(address))?;
-    put_text(
-        alloc,
-        &mut map,
-        "instructionPointerReference",
-        place.as_str(),
-    )?;
-    put_text(alloc, &mut map, "label", label.as_str())?;
-    put_count(alloc, &mut map, "line", line)?;
-    Ok(Value::Object(map))
+    Object::new(alloc)
+        .count("id", address as u64)
+        .text("instructionPointerReference", reference(alloc, address))
+        .text("label", address_text(alloc, address))
+        .count("line", line)
+        .build()
 }
 
 /// Returns a word that can stand for so many bytes that are typed, from a column on.
 pub fn completion(alloc: Global, word: &str, start: u64, length: u64) -> Result<Value, AllocError>
     ensures { IfOk result (λ v. view v ≡ completion word.now start length) }
 {
-    let mut map = Map::new(alloc);
-    put_text(alloc, &mut map, "label", word)?;
-    put_count(alloc, &mut map, "length", length)?;
-    put_count(alloc, &mut map, "start", start)?;
-    put_text(alloc, &mut map, "text", word)?;
-    Ok(Value::Object(map))
+    Object::new(alloc)
+        .word("label", word)
+        .count("length", length)
+        .count("start", start)
+        .word("text", word)
+        .build()
 }
 
 /// Returns the answer that has some targets.

@@ -7,22 +7,23 @@ ghost use Rattle.dap_messages.specs.Variables.{byte_variable, flag_variable, fla
 ghost use Rattle.dap_messages.specs.Variables.{number_variable, registers_shown, variable};
 ghost use Rattle.dap_messages.specs.Variables.{variables_body};
 
-use crate::bodies::{list_body, put_count, put_text};
+use crate::bodies::list_body;
 use crate::texts::{address_text, byte_text, number_text};
+use json_values::Object;
 use model::{Flags, Regs};
-use serde_json::{Map, Value};
+use serde_json::Value;
 use std::alloc::{AllocError, Global};
 
 /// Returns a variable of a name, with its value.
 pub fn variable(alloc: Global, name: &str, value: &str) -> Result<Value, AllocError>
     ensures { IfOk result (λ v. view v ≡ variable name.now value.now) }
 {
-    let mut map = Map::new(alloc);
-    put_text(alloc, &mut map, "evaluateName", name)?;
-    put_text(alloc, &mut map, "name", name)?;
-    put_text(alloc, &mut map, "value", value)?;
-    put_count(alloc, &mut map, "variablesReference", 0)?;
-    Ok(Value::Object(map))
+    Object::new(alloc)
+        .word("evaluateName", name)
+        .word("name", name)
+        .word("value", value)
+        .count("variablesReference", 0)
+        .build()
 }
 
 /// Returns a byte as a variable.

@@ -1,6 +1,6 @@
 -- What a request does to a session, and what is answered. Source: Debug Adapter Protocol 1.65; mos65.
-use Rattle.std.specs.Prelude.{◌≡◌, List, [], ◌∷◌, codes, string_bytes}
-use Rattle.dap_breaks.specs.Breaks.{KeepsEvents, SetsBreaks, SetsSourceBreaks, place_of}
+use Rattle.std.specs.Prelude.{◌≡◌, if◌then◌else◌, List, [], ◌∷◌, codes, string_bytes}
+use Rattle.dap_breaks.specs.Breaks.{SetsBreaks, SetsSourceBreaks}
 use Rattle.dap_breaks.specs.Completions.{completions}
 use Rattle.dap_breaks.specs.Targets.{AreTargets}
 use Rattle.dap_breaks.specs.Watches.{KeepsBreaks, SetsWatches, TellsWatches, data_shown}
@@ -9,6 +9,7 @@ use Rattle.dap_messages.specs.Messages.{Said, done, event}
 use Rattle.dap_messages.specs.declared.request.Breakpoints.{Breakpoints}
 use Rattle.dap_messages.specs.declared.request.Breakpoints.TheVariants as kind
 use Rattle.dap_messages.specs.declared.request.Change.TheVariants as change
+use Rattle.dap_messages.specs.declared.request.Move.TheVariants as move
 use Rattle.dap_messages.specs.declared.request.Query.{Query}
 use Rattle.dap_messages.specs.declared.request.Query.TheVariants as query
 use Rattle.dap_messages.specs.declared.request.SessionRequest.{SessionRequest}
@@ -16,7 +17,8 @@ use Rattle.dap_messages.specs.declared.request.SessionRequest.TheVariants as to
 use Rattle.dap_launch.specs.Begun.{IsBegun}
 use Rattle.dap_session.specs.Changes.{Goes, HasChanged, TellsValue, Writes}
 use Rattle.dap_session.specs.Console.{Evaluates, is_console}
-use Rattle.dap_session.specs.Moves.{begun_stand, moved}
+use Rattle.dap_desk.specs.Breaks.{KeepsEvents, place_of}
+use Rattle.dap_desk.specs.Moves.{moved}
 use Rattle.dap_launch.specs.Options.{IsAgain}
 use Rattle.dap_launch.specs.declared.options.Options.{Options}
 use Rattle.dap_launch.specs.declared.seat.Seat.{Seat}
@@ -27,7 +29,7 @@ use Rattle.dap_views.specs.Memory.{memory_shown}
 use Rattle.dap_views.specs.Rows.{disassembled}
 use Rattle.dap_views.specs.Scopes.{variables_shown}
 use Rattle.mon_session.specs.declared.desk.Desk.{Desk}
-use Rattle.mon_steps.specs.RunLines.{KeepsWatches, stand_of}
+use Rattle.mon_steps.specs.RunLines.{KeepsWatches, Stand, stand_of}
 use Rattle.serde_json.specs.Data.{Data}
 
 -- A request is done, and nothing more is said.
@@ -50,7 +52,12 @@ abbrev pub BeginsAgain : Seat → Seat → Type 0
 BeginsAgain old new = (options : Options) × IsAgain old.options options × (begun : Seat)
     × IsBegun options begun × KeepsMade begun.desk new.desk × (new.options ≡ options)
 
--- The machine stands then before the first instruction, or has run to a stop.
+-- The machine stands before the first instruction, or has run to a stop.
+abbrev pub begun_stand : Seat → Stand
+begun_stand seat = if seat.options.stops_on_entry then stand_of seat.desk
+    else moved seat.options.steps move.Go seat.desk
+
+-- So it does where a session has begun again.
 abbrev pub Restarts : Seat → Seat → Type 0
 Restarts old new = (begun : Seat) × BeginsAgain old begun × (stand_of new.desk ≡ begun_stand begun)
 

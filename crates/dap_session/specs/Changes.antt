@@ -7,7 +7,7 @@ use Rattle.base64.specs.Engines.{standard}
 use Rattle.base64.specs.GeneralPurpose.{decode_of}
 use Rattle.dap_breaks.specs.Watches.{items_at}
 use Rattle.dap_messages.specs.Answers.{value_set_body, written_body}
-use Rattle.dap_messages.specs.Fields.{number_at, text_at}
+use Rattle.json_values.specs.Fields.{number_at, text_at}
 use Rattle.dap_messages.specs.Messages.{Said, done}
 use Rattle.dap_messages.specs.References.{place_at}
 use Rattle.dap_views.specs.Scopes.{variables_shown}

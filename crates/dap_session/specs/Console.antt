@@ -3,7 +3,7 @@ use Rattle.std.specs.Prelude.{ℕ, ◌≡◌, ◌<◌, ◌≤◌, ⊤, Bool, tru
 use Rattle.std.specs.Str.{bytes_eq}
 use Rattle.std.specs.Str.Lossy.{utf8_lossy}
 use Rattle.dap_messages.specs.Bodies.{nothing}
-use Rattle.dap_messages.specs.Fields.{text_at}
+use Rattle.json_values.specs.Fields.{text_at}
 use Rattle.dap_messages.specs.Messages.{Said, done, event}
 use Rattle.dap_launch.specs.declared.fault.Fault.{Fault}
 use Rattle.dap_launch.specs.declared.fault.Fault.TheVariants as fault

@@ -1,6 +1,5 @@
 pub mod Answered
 pub mod Changes
 pub mod Console
-pub mod Moves
 pub mod Served
 pub mod Stands

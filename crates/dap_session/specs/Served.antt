@@ -2,7 +2,7 @@
 -- order requests come, mos65.
 use Rattle.std.specs.Prelude.{ℕ, ◌≡◌, ◌⊎◌, ⊤, Bool, true, false, is_none, List, [], ◌∷◌, codes, Option, Some, None}
 use Rattle.dap_messages.specs.Bodies.{capabilities, nothing}
-use Rattle.dap_messages.specs.Fields.{text_at}
+use Rattle.json_values.specs.Fields.{text_at}
 use Rattle.dap_messages.specs.Messages.{Said, done, event, refused}
 use Rattle.dap_messages.specs.declared.request.Request.{Request}
 use Rattle.dap_messages.specs.declared.request.Request.TheVariants as to

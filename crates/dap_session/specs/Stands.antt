@@ -4,9 +4,9 @@ use Rattle.std.specs.List.{list_any}
 use Rattle.dap_messages.specs.Messages.{Said}
 use Rattle.dap_launch.specs.declared.seat.Seat.{Seat}
 use Rattle.dap_views.specs.Told.{told_of}
-use Rattle.dap_views.specs.declared.halts.Halt.{Halt}
-use Rattle.dap_views.specs.declared.halts.Reason.{Reason}
-use Rattle.dap_views.specs.declared.halts.Reason.TheVariants.{Breakpoint, InstructionBreakpoint}
+use Rattle.dap_messages.specs.declared.halt.Halt.{Halt}
+use Rattle.dap_messages.specs.declared.halt.Reason.{Reason}
+use Rattle.dap_messages.specs.declared.halt.Reason.TheVariants.{Breakpoint, InstructionBreakpoint}
 
 abbrev pub is_at : List ℕ → ℕ → Bool
 is_at addresses address = list_any (λ other. other == address) addresses

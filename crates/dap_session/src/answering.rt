@@ -5,25 +5,24 @@ ghost use Rattle.dap_messages.specs.Messages.{said_of};
 ghost use Rattle.dap_session.specs.Answered.{AreAnswers, BeginsAgain, IsDone, IsShown, KeepsMade, Restarts};
 ghost use Rattle.dap_session.specs.Answered.{Sets, SetsListed, Shows, Terminates};
 ghost use Rattle.dap_session.specs.Console.{ShowsIfRefused};
-ghost use Rattle.dap_session.specs.Moves.{begun_stand, moved};
+ghost use Rattle.dap_desk.specs.Moves.{moved};
+ghost use Rattle.dap_session.specs.Answered.{begun_stand};
 ghost use Rattle.mon_steps.specs.RunLines.{KeepsWatches, stand_of};
 ghost use Rattle.serde_json.specs.View.{view};
 
 use crate::changing::{go_to, write_memory};
 use crate::console::{evaluate, set_variable};
-use crate::moves::make_move;
 use crate::stands::{all_done, push_halt};
 use dap_breaks::{
-    Listed, completions, data_shown, goto_targets, set_addresses, set_data, set_lines, set_source,
+    completions, data_shown, goto_targets, set_addresses, set_data, set_lines, set_source,
 };
-use dap_launch::{Fault, Seat, begin, refused, source_of};
+use dap_desk::make_move;
+use dap_launch::{Fault, Seat, begin_again, refused, source_of};
 use dap_messages::{
-    Breakpoints, Change, Counting, Message, Move, Query, SessionRequest, breakpoints_body,
-    continued, exception, nothing, scopes, threads,
+    Breakpoints, Change, Counting, Halt, Listed, Message, Move, Query, Reason, SessionRequest,
+    breakpoints_body, continued, exception, nothing, scopes, stand_by, threads,
 };
-use dap_views::{
-    Halt, Reason, answered, disassembled, frames_shown, memory_shown, stand_by, variables_shown,
-};
+use dap_views::{answered, disassembled, frames_shown, memory_shown, variables_shown};
 use serde_json::Value;
 use std::alloc::{AllocError, Global};
 use std::rt::Files;
@@ -188,10 +187,14 @@ fn begun_again<H: Files + AllocGlobal>(
 ) -> Result<Seat, Fault>
     ensures { IfOk result (BeginsAgain seat.now) }
 {
-    let options = seat.options.again(rt.alloc())?;
-    let mut begun = begin(rt, options)?;
-    set_all_again(rt.alloc(), &mut begun, counting, &seat.listed)?;
-    Ok(begun)
+    let mut begun = begin_again(rt, seat)?;
+    match set_all_again(rt.alloc(), &mut begun, counting, &seat.listed) {
+        Ok(()) => Ok(begun),
+        Err(_) => {
+            begun.end();
+            Err(Fault::OutOfMemory)
+        }
+    }
 }
 
 /// Begins the session again from its file, with the breakpoints that it has.
@@ -206,7 +209,7 @@ fn restart<H: Files + AllocGlobal>(
     ensures refused { IfErr result (λ f. ShowsIfRefused f seat.old.desk seat.new.desk) }
 {
     let begun = begun_again(rt, seat, counting)?;
-    *seat = begun;
+    seat.replace(begun);
     let messages = configured(rt.alloc(), seat)?;
     Ok(messages)
 }

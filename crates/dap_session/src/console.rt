@@ -14,8 +14,9 @@ ghost use Rattle.serde_json.specs.View.{items_view, view};
 
 use crate::stands::push_halt;
 use dap_launch::{Fault, Seat, refused, refused_by};
-use dap_messages::{Message, evaluated, nothing, number_at, text_at, value_set};
-use dap_views::{Reason, answered, look_at, stand_by, tell_unmoved, variables_shown};
+use dap_messages::{Message, Reason, evaluated, nothing, stand_by, value_set};
+use dap_views::{answered, look_at, tell_unmoved, variables_shown};
+use json_values::{number_at, text_at};
 use mon_dispatch::serve;
 use mon_lines::{Command, Flag, Slip, read_line};
 use mon_runs::Event;

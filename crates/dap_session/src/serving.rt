@@ -1,6 +1,8 @@
 //! What is done with a request.
 
-ghost use Rattle.std.specs.Prelude.{◌≡◌, ◌∷◌, ◌++◌, [], IfErr, IfOk, None, OnOk, map as each, string_bytes};
+ghost use Rattle.std.specs.Prelude.{◌≡◌, ◌∷◌, ◌++◌, [], IfErr, IfOk, None, OnErr, OnOk, Some, map as each};
+ghost use Rattle.std.specs.Prelude.{string_bytes};
+ghost use Rattle.dap_launch.specs.declared.seat.Seat.{Seat};
 ghost use Rattle.dap_messages.specs.Messages.{refused, said_of};
 ghost use Rattle.dap_messages.specs.Requests.{request_of};
 ghost use Rattle.dap_session.specs.Served.{Begins, CountsIfRefused, Initializes, IsRefused};
@@ -12,7 +14,7 @@ ghost use Rattle.serde_json.specs.View.{view};
 use crate::answering::answer;
 use crate::console::push_terminated;
 use crate::stands::all_done;
-use dap_launch::{Fault, Seat, begin, options_of, refused};
+use dap_launch::{Fault, Seat, begin, options_of, put_seat, refused};
 use dap_messages::{Counting, Message, Request, SessionRequest, capabilities, nothing, request_of};
 use dap_views::answered;
 use serde_json::Value;
@@ -35,6 +37,14 @@ impl Adapter {
         Adapter {
             counting: None,
             seat: None,
+        }
+    }
+
+    /// Ends the session, if one has begun.
+    pub fn end(self) {
+        match self.seat {
+            Some(seat) => seat.end(),
+            None => {}
         }
     }
 }
@@ -64,18 +74,21 @@ fn launched(alloc: Global) -> Result<Vec<Message>, AllocError>
     Ok(messages)
 }
 
-/// Returns a session that begins, and the answer to its launch.
-fn begun_first<H: Files + AllocGlobal>(
+/// Begins a session, and returns the answer to its launch.
+fn begin_first<H: Files + AllocGlobal>(
     rt: &H,
+    seat: &mut Option<Seat>,
     request: &Value,
-) -> Result<(Seat, Vec<Message>), Fault>
-    ensures { IfOk result
-        (λ p. Begins (view request.now) p.0 (each said_of p.1.items)) }
+) -> Result<Vec<Message>, Fault>
+    ensures done { IfOk result (λ ms. (begun : Seat) × (seat.new ≡ Some begun)
+        × Begins (view request.now) begun (each said_of ms.items)) }
+    ensures refused { OnErr result (seat.new ≡ seat.old) }
 {
     let options = options_of(rt.alloc(), request)?;
     let messages = launched(rt.alloc())?;
     let begun = begin(rt, options)?;
-    Ok((begun, messages))
+    put_seat(seat, begun);
+    Ok(messages)
 }
 
 /// Begins a session, if none has begun.
@@ -89,14 +102,10 @@ fn launch<H: Files + AllocGlobal>(
         (λ ms. Launches (view request.now) seat.old seat.new (each said_of ms.items)) }
     ensures refused { IfErr result (λ f. StaysIfRefused f seat.old seat.new) }
 {
-    match seat {
-        Some(_) => Err(refused(rt.alloc(), "launch comes once")),
-        None => {
-            let (begun, messages) = begun_first(rt, request)?;
-            *seat = Some(begun);
-            Ok(messages)
-        }
+    if seat.is_some() {
+        return Err(refused(rt.alloc(), "launch comes once"));
     }
+    begin_first(rt, seat, request)
 }
 
 /// Serves a request of a session, if one has begun.

@@ -5,10 +5,9 @@ ghost use Rattle.dap_messages.specs.Messages.{said_of};
 ghost use Rattle.dap_session.specs.Answered.{IsDone, all_done};
 ghost use Rattle.dap_session.specs.Stands.{IsToldHalt, KeepsSession, is_at, reason_at};
 
-use dap_breaks::Listed;
 use dap_launch::Seat;
-use dap_messages::{Message, nothing};
-use dap_views::{Halt, Reason, answered, tell_halt};
+use dap_messages::{Halt, Listed, Message, Reason, nothing};
+use dap_views::{answered, tell_halt};
 use std::alloc::{AllocError, Global};
 
 /// Returns that a request is done.

@@ -1,3 +1,2 @@
-mod Breaks
 mod Cells
 mod Following

@@ -1,5 +1,4 @@
 pub mod Frames
-pub mod Halts
 pub mod Looks
 pub mod Memory
 pub mod Rows

@@ -3,7 +3,7 @@
 use Rattle.std.specs.Prelude.{ℕ, ◌-◌, min, List, [], codes, Option, Some, None, unwrap_or}
 use Rattle.base64.specs.Engines.{standard}
 use Rattle.base64.specs.GeneralPurpose.{encode_of}
-use Rattle.dap_messages.specs.Fields.{number_at}
+use Rattle.json_values.specs.Fields.{number_at}
 use Rattle.dap_messages.specs.Answers.{memory_body}
 use Rattle.dap_messages.specs.References.{place_at}
 use Rattle.mon_texts.specs.Memory.{bytes_from}

@@ -2,7 +2,7 @@
 -- scopes there are, mos65.
 use Rattle.std.specs.Prelude.{ℕ, zero, suc, ◌+◌, ◌-◌, ◌==◌, if◌then◌else◌, List, [], ◌∷◌, codes, length, map as each, slice_index, Option, Some, None, option_and_then}
 use Rattle.std.specs.Str.Lossy.{utf8_lossy}
-use Rattle.dap_messages.specs.Fields.{number_at}
+use Rattle.json_values.specs.Fields.{number_at}
 use Rattle.dap_messages.specs.Texts.{address_text}
 use Rattle.dap_messages.specs.Variables.{byte_variable, flags_shown, number_variable, registers_shown, variables_body}
 use Rattle.dap_views.specs.declared.variables.Scope.{Scope}

@@ -6,10 +6,10 @@ use Rattle.std.specs.Str.Lossy.{utf8_lossy}
 use Rattle.dap_messages.specs.Bodies.{output_body, stopped_body}
 use Rattle.dap_messages.specs.Messages.{Said, event}
 use Rattle.dap_messages.specs.Answers.{invalidated_body}
-use Rattle.dap_views.specs.Halts.{word_of}
-use Rattle.dap_views.specs.declared.halts.Halt.{Halt}
-use Rattle.dap_views.specs.declared.halts.Reason.{Reason}
-use Rattle.dap_views.specs.declared.halts.Reason.TheVariants.{Entry}
+use Rattle.dap_messages.specs.Halts.{word_of}
+use Rattle.dap_messages.specs.declared.halt.Halt.{Halt}
+use Rattle.dap_messages.specs.declared.halt.Reason.{Reason}
+use Rattle.dap_messages.specs.declared.halt.Reason.TheVariants.{Entry}
 use Rattle.dap_views.specs.declared.wording.TheConstants.{LESS_BEFORE, LESS_BEHIND}
 use Rattle.model.specs.declared.event.EventFault.{EventFault}
 use Rattle.mon_session.specs.Faults.{fault_text}

@@ -5,8 +5,8 @@ ghost use Rattle.dap_views.specs.Frames.{AreFrames, IsFrame, IsFrameAt, IsFrameO
 ghost use Rattle.dap_views.specs.Frames.{wants_first};
 ghost use Rattle.serde_json.specs.View.{view};
 
-use crate::source::Source;
-use dap_messages::{frame_at_line, frame_without_line, frames_body, number_at};
+use dap_messages::{Source, frame_at_line, frame_without_line, frames_body};
+use json_values::number_at;
 use mon_instructions::push_place;
 use mon_session::Desk;
 use serde_json::Value;

@@ -6,7 +6,8 @@ ghost use Rattle.mon_texts.specs.Memory.{bytes_from};
 ghost use Rattle.serde_json.specs.View.{view};
 
 use base64::engine::general_purpose::STANDARD;
-use dap_messages::{memory_body, number_at, place_at};
+use dap_messages::{memory_body, place_at};
+use json_values::number_at;
 use mon_runs::Session;
 use mon_session::Desk;
 use serde_json::Value;

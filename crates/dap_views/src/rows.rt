@@ -9,9 +9,9 @@ ghost use Rattle.mon_instructions.specs.Instructions.{bytes_at};
 ghost use Rattle.serde_json.specs.View.{view};
 
 use crate::memory::count_at;
-use crate::source::Source;
 use dap_messages::{
-    instruction_at_line, instruction_row, instructions_body, no_instruction, offset_at, place_at,
+    Source, instruction_at_line, instruction_row, instructions_body, no_instruction, offset_at,
+    place_at,
 };
 use disasm::line_in;
 use formatting::{push_byte, push_text};

@@ -8,23 +8,14 @@ ghost use Rattle.dap_views.specs.Told.{line_of, output_said, remark_said, stoppe
 ghost use Rattle.dap_views.specs.Told.{told_of, unmoved_said};
 ghost use Rattle.serde_json.specs.View.{view};
 
-use crate::halts::{Halt, Reason};
 use crate::wording::{LESS_BEFORE, LESS_BEHIND};
-use dap_messages::{Message, invalidated, output_body, stopped_body};
+use dap_messages::{Halt, Message, Reason, Told, invalidated, output_body, stopped_body};
 use formatting::{push_count, push_text};
 use mon_runs::Session;
 use mon_session::{Desk, push_fault};
 use serde_json::Value;
 use source_map::Places;
 use std::alloc::{AllocError, Global};
-
-/// What a client was told: how many of the bytes that the program put out, and why the machine
-/// stands.
-#[derive(Drop)]
-pub struct Told {
-    pub count: u32,
-    pub words: String,
-}
 
 /// Returns what the program put out since it had put out so many bytes. A byte is the character of
 /// its number.

@@ -8,9 +8,9 @@ ghost use Rattle.serde_json.specs.View.{view};
 ghost use Rattle.source_map.specs.Names.{named};
 
 use dap_messages::{
-    address_text, byte_variable, number_at, number_variable, push_flags, push_registers,
-    variables_body,
+    address_text, byte_variable, number_variable, push_flags, push_registers, variables_body,
 };
+use json_values::number_at;
 use mon_runs::Session;
 use mon_session::Desk;
 use serde_json::Value;

@@ -1,7 +1,7 @@
 use Rattle.std.proofs.Common.{◌∙◌}
 use Rattle.dap_session.proofs.answering.begun_again.Goals as goal
 
-pub returns : goal.returns
-returns g c =
-    let begun = c.in_ok-begun.ensures in
-    (c.in_ok-options.options, c.in_ok-options.ensures, c.in_ok-begun.begun, begun, c.in_ok-set_all_again.ensures.kept, c.in_ok-set_all_again.ensures.options ∙ begun.5.options)
+pub returns-in-Ok : goal.returns-in-Ok
+returns-in-Ok g c =
+    let again = c.in_ok-begun.ensures in
+    (again.0, again.1, c.in_ok-begun.begun, again.2, c.in-Ok.ensures.kept, c.set_all_again.ensures.options ∙ again.2.5.options)

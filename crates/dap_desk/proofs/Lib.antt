@@ -1,0 +1,2 @@
+mod BreakList
+mod Replaced

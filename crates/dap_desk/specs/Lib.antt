@@ -1,0 +1,3 @@
+pub mod Breaks
+pub mod Halts
+pub mod Moves

@@ -1,0 +1,4 @@
+use Rattle.dap_messages.proofs.bodies.scope.Goals as goal
+
+pub returns : goal.returns
+returns c = c.build.ensures _ (c.count.ensures _ (c.word.ensures _ (c.flag.ensures _ c.new.ensures)))
