@@ -1,6 +1,6 @@
 -- The way over the tests of a break.
 use Rattle.std.proofs.Common.{◌≡◌, ℕ, zero, suc, ◌+◌, Bool, true, false, cond, List, codes, refl, ap, ◌∙◌, arith, Ok, Err}
-use Rattle.source_map.specs.Names.{Named}
+use Rattle.mon_line_parts.specs.Values.{Named}
 use Rattle.mon_line_parts.specs.Reading.{Reads, SeenWhy, after_word, and_then, is_word}
 use Rattle.mon_lines.specs.Parts.{test_of, tests_within, with_test}
 use Rattle.mon_lines.specs.declared.command.Test.{Test}

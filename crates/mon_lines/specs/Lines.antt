@@ -5,9 +5,8 @@ use Rattle.model.specs.Mnemonics.{mnemonic_named}
 use Rattle.model.specs.declared.event.Setting.{Setting}
 use Rattle.model.specs.declared.instruction.Mnemonic.{Mnemonic}
 use Rattle.model.specs.declared.instruction.Profile.TheVariants.{C}
-use Rattle.source_map.specs.Names.{Named}
 use Rattle.mon_line_parts.specs.Reading.{Reads, SeenWhy, unknown, several, missing, behind, after, after_word, and_then, file_of, is_empty, is_next, is_word, number_in, past, skip, word_of}
-use Rattle.mon_line_parts.specs.Values.{bit_of, bytes_of, count_of}
+use Rattle.mon_line_parts.specs.Values.{Named, bit_of, bytes_of, count_of}
 use Rattle.mon_lines.specs.Parts.{address_at, ends_of, flag_of, kind_of, level_of, setting_of, shown_of, stretch_of, tests_of, times_of, undoing_of, watched_register}
 use Rattle.mon_line_parts.specs.Topics.{topic_of}
 use Rattle.mon_lines.specs.declared.command.Command.{Command}

@@ -3,9 +3,8 @@ use Rattle.std.specs.Prelude.{ℕ, zero, suc, ◌+◌, ◌-◌, ◌==◌, ◌&&�
 use Rattle.std.specs.Str.{byte, bytes_eq, str_eq_ignore_ascii_case}
 use Rattle.model.specs.declared.event.Setting.{Setting}
 use Rattle.model.specs.declared.event.Setting.TheVariants as setting
-use Rattle.source_map.specs.Names.{Named}
 use Rattle.mon_line_parts.specs.Reading.{Reads, missing, unreadable, many, after, after_word, and_then, is_empty, is_next, is_word, past, word_of}
-use Rattle.mon_line_parts.specs.Values.{count_of, sum_of}
+use Rattle.mon_line_parts.specs.Values.{Named, count_of, sum_of}
 use Rattle.mon_lines.specs.declared.command.Compare.{Compare}
 use Rattle.mon_lines.specs.declared.command.Compare.TheVariants.{Equal, Other, Less, LessOrEqual, More, MoreOrEqual}
 use Rattle.mon_lines.specs.declared.command.Flag.{Flag}

@@ -1,8 +1,7 @@
 //! What lines ask for.
 
 use arrayvec::ArrayVec;
-use debugger::Setting;
-use model::Mnemonic;
+use model::{Mnemonic, Setting};
 use mon_line_parts::Topic;
 
 /// A register whose value a test may look at.

@@ -17,13 +17,12 @@ use crate::command::{Command, Register, Undoing};
 use crate::slip::Slip;
 use crate::stretches::{ends_of, kind_of, shown_of, stretch_of, watched_register};
 use crate::tests::{flag_of, register_of, tests_of, times_of};
-use debugger::Setting;
+use model::Setting;
 use mon_line_parts::{
-    Lack, Topic, Why, address_of, after, after_word, bit_of, byte_of, bytes_of, count_of, file_of,
-    is_empty, is_next, is_word, number_in, past, skip, topic_of, word_of,
+    Lack, Names, Places, Topic, Why, address_of, after, after_word, bit_of, byte_of, bytes_of,
+    count_of, file_of, is_empty, is_next, is_word, number_in, past, skip, topic_of, word_of,
 };
 use optable::{Mnemonic, Profile, mnemonic_in};
-use source_map::{Names, Places};
 
 /// Reads `WHERE [if TESTS] [times N]`.
 fn break_at<'a>(names: &Names, pc: u16, text: &'a [u8]) -> Result<(Command<'a>, &'a [u8]), Why<'a>>

@@ -8,9 +8,9 @@ ghost use Rattle.mon_lines.specs.Parts.{watched_register};
 
 use crate::command::{Register, Stretch, WatchKind};
 use mon_line_parts::{
-    Lack, Why, address_of, after, after_word, count_of, is_empty, is_next, is_word, past, word_of,
+    Lack, Names, Why, address_of, after, after_word, count_of, is_empty, is_next, is_same_word,
+    is_word, past, word_of,
 };
-use source_map::{Names, is_same_word};
 
 /// The addresses from the first to so many behind it, none past $FFFF.
 fn so_many_from(first: u16, count: u32) -> Stretch

@@ -10,9 +10,9 @@ ghost use Rattle.mon_lines.specs.Parts.{test_of, tests_of, tests_within, times_o
 use crate::command::{Compare, Flag, Left, Register, Test};
 use arrayvec::ArrayVec;
 use mon_line_parts::{
-    Lack, Why, address_of, after, after_word, count_of, is_next, is_word, past, word_of, word_value,
+    Lack, Names, Why, address_of, after, after_word, count_of, is_next, is_same_word, is_word,
+    past, word_of, word_value,
 };
-use source_map::{Names, is_same_word};
 
 fn is_text(word: &[u8], text: &[u8]) -> bool
     ensures { result ≡ bytes_eq word.now text.now }

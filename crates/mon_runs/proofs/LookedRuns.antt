@@ -8,8 +8,7 @@ use Rattle.mon_runs.specs.Looked.{Arrival, LookedRunsAreSteps, Place, after_stre
 use Rattle.mon_runs.specs.declared.ended.EndWhy.{EndWhy}
 use Rattle.mon_runs.specs.declared.ended.EndWhy.TheVariants as end_why
 use Rattle.mon_runs.specs.declared.looked.Goal.{Goal}
-use Rattle.mon_lines.specs.declared.command.WatchKind.TheVariants as kind
-use Rattle.mon_stops.specs.Stops.{has_access}
+use Rattle.mon_stops.specs.Stops.{Read, Write, has_access}
 use Rattle.mon_stops.specs.declared.breaks.Break.{Break}
 use Rattle.mon_stops.specs.declared.watches.Watch.{Watch}
 
@@ -70,23 +69,23 @@ looked-over w g u left did p whole h none =
 -- ---- what is pushed
 
 pushed-first : (w : List Watch) (stack depth n a : ℕ) (b : Bool) → a ≡ pushed_to stack depth
-    → b ≡ has_access kind.Write a w → pushed_at w stack depth (suc n)
+    → b ≡ has_access Write a w → pushed_at w stack depth (suc n)
     ≡ cond b (Some a) (pushed_at w stack (depth + 1) n)
 unfolding pushed_at
 pushed-first w stack depth n a b to has =
-    (λ i. cond (has_access kind.Write (sym to i) w) (Some (sym to i)) (pushed_at w stack (depth + 1) n))
+    (λ i. cond (has_access Write (sym to i) w) (Some (sym to i)) (pushed_at w stack (depth + 1) n))
     ∙ ap (λ x. cond x (Some a) (pushed_at w stack (depth + 1) n)) (sym has)
 
 pub pushed-ends : (w : List Watch) (stack depth left n a : ℕ) (b : Bool) (whole : Option ℕ)
     → whole ≡ pushed_at w stack depth left → left ≡ suc n → a ≡ pushed_to stack depth
-    → b ≡ has_access kind.Write a w → b ≡ true → Some a ≡ whole
+    → b ≡ has_access Write a w → b ≡ true → Some a ≡ whole
 pushed-ends w stack depth left n a b whole h more to has met =
     sym (h ∙ ap (pushed_at w stack depth) more ∙ pushed-first w stack depth n a b to has
     ∙ ap (λ x. cond x (Some a) (pushed_at w stack (depth + 1) n)) met)
 
 pub pushed-goes : (w : List Watch) (stack depth left n a : ℕ) (b : Bool) (whole : Option ℕ)
     → whole ≡ pushed_at w stack depth left → left ≡ suc n → a ≡ pushed_to stack depth
-    → b ≡ has_access kind.Write a w → b ≡ false → whole ≡ pushed_at w stack (depth + 1) n
+    → b ≡ has_access Write a w → b ≡ false → whole ≡ pushed_at w stack (depth + 1) n
 pushed-goes w stack depth left n a b whole h more to has unmet =
     h ∙ ap (pushed_at w stack depth) more ∙ pushed-first w stack depth n a b to has
     ∙ ap (λ x. cond x (Some a) (pushed_at w stack (depth + 1) n)) unmet

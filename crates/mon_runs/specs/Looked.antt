@@ -5,7 +5,6 @@ use Rattle.std.specs.Option.{option_map, option_or}
 use Rattle.model.specs.State.{State}
 use Rattle.model.specs.Session.{Session}
 use Rattle.model.specs.Run.{run_end, after_run, after_steps}
-use Rattle.mon_lines.specs.declared.command.WatchKind.TheVariants as kind
 use Rattle.mon_runs.specs.Ends.{is_entry, is_end, breaks_after}
 use Rattle.mon_runs.specs.Rests.{rest_between}
 use Rattle.mon_runs.specs.declared.ended.EndWhy.{EndWhy}
@@ -14,7 +13,7 @@ use Rattle.mon_runs.specs.declared.ended.Ended.{Ended}
 use Rattle.mon_runs.specs.declared.looked.Goal.{Goal}
 use Rattle.mon_runs.specs.declared.looked.Goal.TheVariants.{Behind, Left, Rest, Never}
 use Rattle.mon_runs.specs.declared.looked.Sight.{Sight}
-use Rattle.mon_stops.specs.Stops.{has_access, register_change}
+use Rattle.mon_stops.specs.Stops.{Read, Write, has_access, register_change}
 use Rattle.mon_stops.specs.declared.changes.RegisterChange.{RegisterChange}
 use Rattle.mon_stops.specs.declared.breaks.Break.{Break}
 use Rattle.mon_stops.specs.declared.watches.Watch.{Watch}
@@ -35,12 +34,12 @@ goal_met Never before after = false
 abbrev pub if_read : List Watch → Option ℕ → Option EndWhy
 if_read watches None = None
 if_read watches (Some address)
-    = if has_access kind.Read address watches then Some (end_why.Read address) else None
+    = if has_access Read address watches then Some (end_why.Read address) else None
 
 abbrev pub if_stored : List Watch → Option ℕ → Option EndWhy
 if_stored watches None = None
 if_stored watches (Some address)
-    = if has_access kind.Write address watches then Some (end_why.Written address) else None
+    = if has_access Write address watches then Some (end_why.Written address) else None
 
 -- Where a byte is pushed, if so many were pushed before it since the stack pointer was this.
 abbrev pub pushed_to : ℕ → ℕ → ℕ
@@ -49,7 +48,7 @@ pushed_to stack depth = 256 + (stack + (256 - depth)) % 256
 -- The first of the next n bytes pushed whose address is watched for writes.
 unfoldable pub pushed_at : List Watch → ℕ → ℕ → ℕ → Option ℕ
 pushed_at watches stack depth zero = None
-pushed_at watches stack depth (suc n) = if has_access kind.Write (pushed_to stack depth) watches
+pushed_at watches stack depth (suc n) = if has_access Write (pushed_to stack depth) watches
     then Some (pushed_to stack depth) else pushed_at watches stack (depth + 1) n
 
 -- The access of a step that is watched: a read before a store, and a store before what is pushed.

@@ -14,8 +14,7 @@ use crate::ended::{EndWhy, Ended};
 use crate::rests::rest_since;
 use accesses::{Access, access_here};
 use debugger::{Regs, Session, Why};
-use mon_lines::WatchKind;
-use mon_stops::{RegisterChange, Stops};
+use mon_stops::{RegisterChange, Stops, WatchKind};
 
 /// The goal of a run of single steps.
 #[derive(Clone, Copy)]

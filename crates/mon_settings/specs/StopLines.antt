@@ -1,5 +1,5 @@
 -- What lines do to breaks and watches. Source: mos65.
-use Rattle.std.specs.Prelude.{ℕ, ◌+◌, ◌-◌, ◌||◌, Bool, true, false, nat_le, is_none, is_ok, is_some, if◌then◌else◌, List, [], ◌∷◌, ◌++◌, zero, suc, Option, Some, None, Result, Ok, Err}
+use Rattle.std.specs.Prelude.{ℕ, ◌+◌, ◌-◌, ◌||◌, Bool, nat_le, is_none, is_ok, is_some, if◌then◌else◌, List, zero, suc, Option, Some, None, Result, Ok, Err}
 use Rattle.mon_settings.specs.declared.watches.Unwatched.{Unwatched}
 use Rattle.mon_settings.specs.declared.watches.Unwatched.TheVariants.{Port, Full, Wide}
 use Rattle.model.specs.Session.{Session}
@@ -8,24 +8,9 @@ use Rattle.model.specs.declared.session_fault.SessionFault.{SessionFault}
 use Rattle.model.specs.declared.session_fault.SessionFault.TheVariants.{AlreadySet, PortAddress}
 use Rattle.mon_lines.specs.declared.command.Stretch.{Stretch}
 use Rattle.mon_lines.specs.declared.command.WatchKind.TheVariants.{Change}
-use Rattle.mon_stops.specs.Stops.{changed, changes_of, first_with, has_access, without, without_first_with}
-use Rattle.mon_stops.specs.declared.breaks.Break.{Break}
+pub use Rattle.mon_stops.specs.Breaks.{is_set, or_same, with_break}
+use Rattle.mon_stops.specs.Stops.{changed, changes_of, first_with, has_access, without_first_with}
 use Rattle.mon_stops.specs.declared.watches.Watch.{Watch}
-
--- The session after a call: the one that the call gives, or the same if the call is rejected.
-abbrev pub or_same : Session → Result Session SessionFault → Session
-or_same s (Ok t) = t
-or_same s (Err fault) = s
-
--- Whether an address is in a table once it was to be set there. It may have been before.
-abbrev pub is_set : Result Session SessionFault → Bool
-is_set (Ok s) = true
-is_set (Err AlreadySet) = true
-is_set (Err fault) = false
-
--- A break in place of the first one at its address.
-abbrev pub with_break : Break → List Break → List Break
-with_break stop breaks = without stop.address breaks ++ stop ∷ []
 
 -- ---- watches of changes in the session
 

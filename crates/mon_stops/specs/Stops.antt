@@ -19,7 +19,7 @@ use Rattle.mon_lines.specs.declared.command.Compare.TheVariants.{Equal, Other, L
 use Rattle.mon_lines.specs.declared.command.Stretch.{Stretch}
 use Rattle.mon_lines.specs.declared.command.Test.{Test}
 use Rattle.mon_lines.specs.declared.command.WatchKind.{WatchKind}
-use Rattle.mon_lines.specs.declared.command.WatchKind.TheVariants.{Change, Read, Write}
+pub use Rattle.mon_lines.specs.declared.command.WatchKind.TheVariants.{Change, Read, Write}
 use Rattle.mon_stops.specs.declared.breaks.Break.{Break}
 use Rattle.mon_stops.specs.declared.changes.RegisterChange.{RegisterChange}
 use Rattle.mon_stops.specs.declared.watches.Watch.{Watch}

@@ -6,6 +6,7 @@
 
 pub use breaks::Break;
 pub use changes::RegisterChange;
+pub use mon_lines::WatchKind;
 pub use stops::Stops;
 pub use tests::holds;
 pub use watches::Watch;
