@@ -3,17 +3,18 @@
 ghost use Rattle.std.specs.Prelude.{◌≡◌, IfErr, IfOk, false, option_map};
 ghost use Rattle.arguments.specs.Asked.{file_asked, file_view};
 ghost use Rattle.arguments.specs.CommandLine.{with_file};
-ghost use Rattle.clap.specs.Words.{app_of, first_value, found_of, kind_of};
+ghost use Rattle.clap.specs.Words.{App, Rule, app_of, first_value, found_of, kind_of, rule_of};
+ghost use Rattle.clap.specs.Words.{with_rule};
 ghost use Rattle.clap.specs.declared.builder.command.Command.TheViews.{out-Command};
 
 use crate::matching::is_given;
 use crate::options::{file, flag, option, port, profile, rom};
 use crate::value::{form_asked, port_asked, profile_asked, rom_asked};
 use clap::error::ErrorKind;
-use clap::{ArgMatches, Command, Error};
+use clap::{Arg, ArgMatches, Command, Error};
 use memory_map::Port;
 use model::Profile;
-use std::alloc::Global;
+use std::alloc::{AllocError, Global};
 
 /// How a file is read.
 #[derive(Clone, Copy, Debug, PartialEq, Eq)]
@@ -43,6 +44,24 @@ pub struct FileWords<'a> {
     pub profile: Profile,
 }
 
+/// Returns a command with an argument added, if no allocation failed before.
+fn with<'a>(
+    command: Result<Command<'a>, AllocError>,
+    arg: Arg<'a>,
+) -> Result<Command<'a>, AllocError>
+    requires { arg.global ≡ false }
+    ensures shape { (app : App) (rule : Rule) → rule_of arg.entry ≡ rule
+        → IfOk command.entry (λ c. app_of c ≡ app)
+        → IfOk result (λ c. app_of c ≡ with_rule app rule) }
+    ensures local { IfOk command.entry (λ c. (out-Command c).has_globals ≡ false)
+        → IfOk result (λ c. (out-Command c).has_globals ≡ false) }
+{
+    match command {
+        Ok(command) => command.arg(arg),
+        Err(error) => Err(error),
+    }
+}
+
 /// Returns a command with the words of a file and its map added.
 ///
 /// The only error is that an allocation failed.
@@ -55,15 +74,16 @@ pub fn with_file_options<'a>(alloc: Global, command: Command<'a>) -> Result<Comm
     let records = "FILE is an image: a tape, Intel HEX or S-records";
     let raw = "FILE is a raw image, from this address on, four hex digits";
     let prg = "FILE is a PRG file: its address in two bytes, and bytes from it on";
-    let command = command
-        .arg(file(alloc, "FILE", "The source to assemble and load"))?
-        .arg(flag(alloc, "tape", records))?
-        .arg(port(alloc))?
-        .arg(rom(alloc))?
-        .arg(profile(alloc))?
-        .arg(option(alloc, "bin", "HHHH", raw))?
-        .arg(flag(alloc, "prg", prg))?;
-    Ok(command)
+    let command = with(
+        Ok(command),
+        file(alloc, "FILE", "The source to assemble and load"),
+    );
+    let command = with(command, flag(alloc, "tape", records));
+    let command = with(command, port(alloc));
+    let command = with(command, rom(alloc));
+    let command = with(command, profile(alloc));
+    let command = with(command, option(alloc, "bin", "HHHH", raw));
+    Ok(with(command, flag(alloc, "prg", prg))?)
 }
 
 /// Returns the file and the map that the values ask for, or `None` if one is wrong.

@@ -30,7 +30,7 @@ pub use file_refusal::FileRefusal;
 pub use files::{read_most, read_source, write_file};
 pub use load_fault::{LoadFault, tell_no_image};
 pub use map::map_of;
-pub use matching::{is_given, matched};
+pub use matching::{is_given, let_go, matched};
 pub use options::{begin, file, file_list, flag, list, option, port, profile, rom, tape};
 pub use output::{NotWritten, put, write_text};
 pub use refusal::{ReadFault, Refusal};

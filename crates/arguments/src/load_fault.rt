@@ -2,9 +2,9 @@
 
 ghost use Rattle.std.specs.Prelude.{◌≡◌, ◌∷◌, [], codes};
 ghost use Rattle.arguments.specs.FaultLines.{joined, like_line, load_text, no_image_line};
-ghost use Rattle.arguments.specs.FaultLines.{number_part, port_part};
+ghost use Rattle.arguments.specs.FaultLines.{number_part, port_line, port_part};
 ghost use Rattle.arguments.specs.Statuses.{status_of_load};
-ghost use Rattle.arguments.specs.declared.wording.TheConstants.{AT_PORT, USE_TAPE};
+ghost use Rattle.arguments.specs.declared.wording.TheConstants.{USE_TAPE};
 ghost use Rattle.arguments.specs.declared.load_fault.LoadFault.TheVariants.{Refused};
 ghost use Rattle.model.specs.Writers.{AppendsFront};
 
@@ -139,12 +139,17 @@ fn port_text(first: u32, last: u32, free: Option<u16>) -> Text
 }
 
 /// Writes that an image has bytes at the port, and which base is free.
-fn tell_port<E: Write>(file: &str, place: &[u8], errors: &mut E)
+fn tell_port<E: Write>(file: &str, first: u32, last: u32, free: Option<u16>, errors: &mut E)
     ensures { AppendsFront (E.contents errors.old) (E.contents errors.new)
-        (joined (codes "mos65: " ∷ file.now ∷ AT_PORT.now ∷ place.now ∷ [])) }
+        (port_line file.now first last free) }
 {
     put_all(
-        &[b"mos65: ", file.as_bytes(), AT_PORT.as_bytes(), place],
+        &[
+            b"mos65: ",
+            file.as_bytes(),
+            AT_PORT.as_bytes(),
+            port_text(first, last, free).as_slice(),
+        ],
         errors,
     );
 }
@@ -192,7 +197,7 @@ impl LoadFault {
                 1
             }
             LoadFault::AtPort { first, last, free } => {
-                tell_port(file, port_text(first, last, free).as_slice(), errors);
+                tell_port(file, first, last, free, errors);
                 1
             }
             LoadFault::Refused(refusal) => refuse_file(refusal, file, errors),

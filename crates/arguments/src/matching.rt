@@ -19,6 +19,11 @@ pub fn is_given(matches: &ArgMatches<'_>, name: &str) -> bool
     }
 }
 
+/// Lets go of what was found.
+pub fn let_go(matches: ArgMatches<'_>) {
+    drop(matches);
+}
+
 /// Matches words with a command line, and returns what was found.
 ///
 /// # Errors

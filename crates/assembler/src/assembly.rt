@@ -269,8 +269,21 @@ fn assemble_lines(alloc: Global, source: &[u8], map: &MapSpec) -> Result<Assembl
         });
     }
     let mut symbols = Symbols::new(alloc);
-    let laid = lay_out(alloc, map.profile(), &mut symbols, source)?;
-    let image = make_image(alloc, map, &symbols, laid.lines.lines())?;
+    let laid = match lay_out(alloc, map.profile(), &mut symbols, source) {
+        Ok(laid) => laid,
+        Err(fault) => {
+            drop(symbols);
+            return Err(fault);
+        }
+    };
+    let image = match make_image(alloc, map, &symbols, laid.lines.lines()) {
+        Ok(image) => image,
+        Err(fault) => {
+            drop(symbols);
+            drop(laid);
+            return Err(fault);
+        }
+    };
     // For the proof: what `cells` says of each image.
     let _ = image.cells();
     let Laid {
@@ -279,13 +292,18 @@ fn assemble_lines(alloc: Global, source: &[u8], map: &MapSpec) -> Result<Assembl
         labels,
     } = laid;
     let spans = lines.into_spans();
-    let source = Vec::from_slice(alloc, source).map_err(|_| OUT_OF_MEMORY)?;
-    Ok(Assembly {
-        image,
-        source,
-        spans,
-        texts,
-        symbols,
-        labels,
-    })
+    match Vec::from_slice(alloc, source) {
+        Ok(source) => Ok(Assembly {
+            image,
+            source,
+            spans,
+            texts,
+            symbols,
+            labels,
+        }),
+        Err(_) => {
+            drop(symbols);
+            Err(OUT_OF_MEMORY)
+        }
+    }
 }

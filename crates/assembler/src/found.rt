@@ -1,6 +1,6 @@
 //! What the first pass finds.
 
-ghost use Rattle.std.specs.Prelude.{◌≡◌, ◌<◌, ◌≤◌, ◌-◌, ◌^◌, OnOk};
+ghost use Rattle.std.specs.Prelude.{◌≡◌, ◌<◌, ◌≤◌, ◌-◌, ◌^◌, IfSome, OnOk, is_some};
 ghost use Rattle.assembler.specs.Found.{is_kept, with_line, nothing_found};
 ghost use Rattle.assembler.specs.FoundLines.{found_of};
 ghost use Rattle.line_parts.specs.LineViews.{statement_view, line_view};
@@ -30,6 +30,28 @@ fn is_kept(code: Option<Code>, statement: &Statement<'_>) -> bool
         }
         Statement::Bytes(_) | Statement::Words(_) | Statement::WordsHighFirst(_) => true,
         Statement::Instruction(_, _) => code.is_some(),
+    }
+}
+
+/// Returns the statement of a line, if it denotes bytes.
+fn kept_statement(code: Option<Code>, line: Line<'_>) -> Option<Statement<'_>>
+    ensures kept { is_some result ≡ is_kept (line_content code (line_view line.entry)) }
+    ensures content { IfSome result
+        (λ s. content_by code (statement_view s) ≡ line_content code (line_view line.entry)) }
+{
+    match line {
+        Line::Labelled(_, statement) => {
+            if is_kept(code, &statement) {
+                Some(statement)
+            } else {
+                drop(statement);
+                None
+            }
+        }
+        Line::Definition(_, value) => {
+            drop(value);
+            None
+        }
     }
 }
 
@@ -75,26 +97,17 @@ impl<'a> Lines<'a> {
               content = line_content placement.code (line_view line.entry);
             })) }
     {
-        self.spans.push(Span {
-            address,
-            count: placement.count,
-        })?;
-        match line {
-            Line::Labelled(_, statement) => {
-                if is_kept(placement.code, &statement) {
-                    self.kept.push(KeptLine {
-                        number,
-                        address,
-                        count: placement.count,
-                        code: placement.code,
-                        statement,
-                    })?;
-                } else {
-                    drop(statement);
-                }
-            }
-            Line::Definition(_, value) => drop(value),
+        let Placement { count, code, .. } = placement;
+        if let Some(statement) = kept_statement(code, line) {
+            self.kept.push(KeptLine {
+                number,
+                address,
+                count,
+                code,
+                statement,
+            })?;
         }
+        self.spans.push(Span { address, count })?;
         Ok(())
     }
 }

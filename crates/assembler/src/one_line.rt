@@ -2,9 +2,11 @@
 
 ghost use Rattle.std.specs.Prelude.{◌≡◌, ◌+◌, ◌-◌, ◌<◌, ◌≤◌, ◌^◌, IfOk, OnOk, length, take, drop};
 ghost use Rattle.std.specs.Prelude.{replicate, map};
-ghost use Rattle.line_parts.specs.LineViews.{Gives, statement_view};
+ghost use Rattle.line_parts.specs.LineViews.{Gives, line_view, statement_view};
 ghost use Rattle.line_parts.specs.LineFaults.{AnswersSource};
+ghost use Rattle.assembler.specs.OneLine.{line_alone};
 ghost use Rattle.line_parts.specs.Contents.{content_by};
+ghost use Rattle.line_parts.specs.FewBytes.{IsSmallLine};
 ghost use Rattle.model.specs.Layout.{size_of};
 ghost use Rattle.model.specs.OneLineAssembly.{bytes_alone, may_stand_alone, one_line};
 ghost use Rattle.law_sources.specs.Judging.{on_line};
@@ -79,6 +81,38 @@ fn encode_alone(
     Ok(line_of(&bytes))
 }
 
+/// Returns the bytes of a line that was read, alone at an address, or its fault.
+fn line_alone(
+    alloc: Global,
+    profile: Profile,
+    address: u32,
+    line: &line_parts::Line<'_>,
+) -> Result<Line, LineError>
+    requires near { address < 2 ^ 31 - 510 }
+    requires small { IsSmallLine (line_view line.now) }
+    ensures bytes { Gives (λ l. take l.count l.bytes) result
+        (line_alone profile address (line_view line.now)) }
+    ensures rest { IfOk result (λ l. drop l.count l.bytes ≡ replicate (3 - l.count) 0) }
+    ensures few { IfOk result (λ l. l.count ≤ 3) }
+{
+    let mut symbols = Symbols::new(alloc);
+    let placed = place_line(alloc, profile, &mut symbols, address, line);
+    drop(symbols);
+    let placement = placed?;
+    match line {
+        line_parts::Line::Labelled(None, statement) => {
+            if may_stand_alone(statement) && placement.count <= 3 {
+                encode_alone(alloc, address, placement, statement)
+            } else {
+                Err(LineError::Kind(AsmFaultKind::NotOneLine))
+            }
+        }
+        line_parts::Line::Labelled(Some(_), _) | line_parts::Line::Definition(..) => {
+            Err(LineError::Kind(AsmFaultKind::NotOneLine))
+        }
+    }
+}
+
 /// Returns the bytes of a line alone at an address, or its fault.
 #[tactic(auto, unfolding(model::specs::OneLineAssembly::one_line))]
 fn assemble_alone(
@@ -93,20 +127,9 @@ fn assemble_alone(
     ensures few { IfOk result (λ l. l.count ≤ 3) }
 {
     let line = read_line(alloc, profile, text)?;
-    let mut symbols = Symbols::new(alloc);
-    let placement = place_line(alloc, profile, &mut symbols, address, &line)?;
-    match &line {
-        line_parts::Line::Labelled(None, statement) => {
-            if may_stand_alone(statement) && placement.count <= 3 {
-                encode_alone(alloc, address, placement, statement)
-            } else {
-                Err(LineError::Kind(AsmFaultKind::NotOneLine))
-            }
-        }
-        line_parts::Line::Labelled(Some(_), _) | line_parts::Line::Definition(..) => {
-            Err(LineError::Kind(AsmFaultKind::NotOneLine))
-        }
-    }
+    let made = line_alone(alloc, profile, address, &line);
+    drop(line);
+    made
 }
 
 /// Assembles a text at an address in a profile, as one line of a source without names.

@@ -105,13 +105,11 @@ impl AddressTable {
         if self.set.len() >= TABLE_SIZE {
             return Err(SessionFault::TableFull);
         }
-        match self.set.insert(address) {
-            Ok(_) => {
-                self.map[address as usize] = 1;
-                Ok(())
-            }
-            Err(_) => Err(SessionFault::OutOfMemory),
+        if self.set.insert(address).is_err() {
+            return Err(SessionFault::OutOfMemory);
         }
+        self.map[address as usize] = 1;
+        Ok(())
     }
 
     /// Takes an address out; the others keep their order.

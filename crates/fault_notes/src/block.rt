@@ -8,8 +8,10 @@ ghost use Rattle.fault_notes.specs.Blocks.{IsToldText, fault_blocks, known_in, m
 ghost use Rattle.fault_notes.specs.Blocks.{shown_lines, title_of};
 ghost use Rattle.fault_notes.specs.Marks.{IsMeant, known_of};
 ghost use Rattle.line_parts.specs.LineFaults.{out_of_memory};
-ghost use Rattle.model.specs.AllFaults.{faults_of};
+ghost use Rattle.model.specs.AllFaults.{faults_of, fixed_by, found_lines, smallest};
+ghost use Rattle.model.specs.Source.{first_context, read_lines};
 ghost use Rattle.model.specs.TextLines.{lines_of};
+ghost use Rattle.source_faults.specs.Views.{found_all};
 ghost use Rattle.source_notes.specs.Blocks.{AreBlocks, block_of};
 ghost use Rattle.source_notes.specs.Lines.{name_view, names_of, texts_of};
 
@@ -17,8 +19,8 @@ use crate::note::{Context, note_of};
 use crate::wording::{FAULTS, ONE_FAULT};
 use bus::MapSpec;
 use formatting::{push_count, push_text};
-use model::{AsmFault, AsmFaultKind};
-use source_faults::{Mending, lay_out, source_faults};
+use model::{AsmFault, AsmFaultKind, Profile};
+use source_faults::{Found, Mending, lay_out, source_faults};
 use source_notes::{
     Name, Note, every_line, first_told, line_of, line_or_none, names_of, phrase, push_block,
     push_total,
@@ -114,6 +116,57 @@ fn names_read<'a>(
     names_of(alloc, &lines[..count.min(lines.len())])
 }
 
+/// Returns the blocks of faults of a source of which the layout found this, and these names.
+fn found_blocks<'a>(
+    alloc: Global,
+    file: &[u8],
+    source: &'a [u8],
+    profile: Profile,
+    port: u32,
+    symbols: &Symbols,
+    found: &[Found<'a>],
+    faults: &[AsmFault],
+) -> Result<Vec<u8>, AllocError>
+    requires found { found_all found.now ≡ found_lines smallest (first_context profile)
+        (read_lines profile source.now) }
+    requires names { symbols.now ≡ (fixed_by smallest (first_context profile)
+        (read_lines profile source.now)).names }
+    ensures { IfOk result (λ text. AreBlocks
+        (fault_blocks (IsMeant (known_in profile source.now)))
+        file.now (lines_of source.now) faults.now text.items) }
+{
+    let lines = every_line(alloc, source)?;
+    let names = names_read(alloc, &lines, found.len())?;
+    let context = Context {
+        profile,
+        port,
+        names: &names,
+        symbols,
+        found,
+    };
+    line_blocks(alloc, file, &lines, &context, faults)
+}
+
+/// Returns the blocks of faults of a source, whose names are put into an empty list.
+fn laid_blocks(
+    alloc: Global,
+    file: &[u8],
+    source: &[u8],
+    profile: Profile,
+    port: u32,
+    symbols: &mut Symbols,
+    faults: &[AsmFault],
+) -> Result<Vec<u8>, AllocError>
+    requires short { length source.now ≤ 1048576 }
+    requires empty { symbols.old ≡ [] }
+    ensures { IfOk result (λ text. AreBlocks
+        (fault_blocks (IsMeant (known_in profile source.now)))
+        file.now (lines_of source.now) faults.now text.items) }
+{
+    let found = lay_out(alloc, profile, Mending::Smallest, symbols, source)?;
+    found_blocks(alloc, file, source, profile, port, symbols, &found, faults)
+}
+
 /// Returns the blocks of faults of a source that is not too long.
 fn source_blocks(
     alloc: Global,
@@ -129,17 +182,15 @@ fn source_blocks(
 {
     let mut symbols = Symbols::new(alloc);
     let profile = map.profile();
-    let found = lay_out(alloc, profile, Mending::Smallest, &mut symbols, source)?;
-    let lines = every_line(alloc, source)?;
-    let names = names_read(alloc, &lines, found.len())?;
-    let context = Context {
+    laid_blocks(
+        alloc,
+        file,
+        source,
         profile,
-        port: map.port(),
-        names: &names,
-        symbols: &symbols,
-        found: &found,
-    };
-    line_blocks(alloc, file, &lines, &context, faults)
+        map.port(),
+        &mut symbols,
+        faults,
+    )
 }
 
 /// Returns the blocks of faults of a source.

@@ -132,6 +132,16 @@ fn label_hint_words(
     Ok(words)
 }
 
+/// Returns the first mnemonic of a profile that is near a word.
+fn near_mnemonic<'w>(profile: Profile, word: &'w [u8]) -> Option<&'w [u8]> {
+    for name in &MNEMONICS {
+        if is_near(name, word) && mnemonic_in(profile, name).is_some() {
+            return Some(name);
+        }
+    }
+    None
+}
+
 /// Returns why a word is no mnemonic: its profile, the nearest mnemonic, or that it may be a label.
 fn mnemonic_words(
     alloc: Global,
@@ -139,16 +149,12 @@ fn mnemonic_words(
     word: &[u8],
     is_alone: bool,
 ) -> Result<Vec<u8>, AllocError> {
-    for name in &MNEMONICS {
-        if name.eq_ignore_ascii_case(word) {
-            return describe(alloc, word, " is a mnemonic of profile C (--profile C)");
-        }
+    if mnemonic_in(Profile::C, word).is_some() {
+        return describe(alloc, word, " is a mnemonic of profile C (--profile C)");
     }
-    for name in &MNEMONICS {
-        if is_near(name, word) && mnemonic_in(profile, name).is_some() {
-            let pieces: [&[u8]; 4] = [word, b" is no mnemonic; ", name, b" is"];
-            return concat(alloc, &pieces);
-        }
+    if let Some(name) = near_mnemonic(profile, word) {
+        let pieces: [&[u8]; 4] = [word, b" is no mnemonic; ", name, b" is"];
+        return concat(alloc, &pieces);
     }
     if is_alone {
         let pieces: [&[u8]; 4] = [

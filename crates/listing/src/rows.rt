@@ -1,37 +1,26 @@
 //! The rows of a line, and of a name.
 
-ghost use Rattle.std.specs.Prelude.{◌≡◌, ◌+◌, ◌-◌, ◌≤◌, ◌<◌, ◌^◌, ◌++◌, ◌∷◌, OnErr, OnOk, length};
-ghost use Rattle.std.specs.Prelude.{take};
-ghost use Rattle.model.specs.Listing.{group_row, group_rows, line_rows, name_row, number_text};
-ghost use Rattle.model.specs.Listing.{with_spaces};
-ghost use Rattle.model.specs.Text.{spaced_bytes};
+ghost use Rattle.std.specs.Prelude.{◌≡◌, ◌+◌, ◌-◌, ◌≤◌, ◌<◌, ◌^◌, ◌++◌, ◌∷◌, [], OnErr, OnOk};
+ghost use Rattle.std.specs.Prelude.{codes, length, take};
+ghost use Rattle.model.specs.Listing.{address_text, group_row, group_rows, line_rows, name_row};
+ghost use Rattle.model.specs.Listing.{number_text};
 
-use formatting::{address_text, byte_columns, digits_of, digits_of_address};
+use formatting::{Text, address_text, byte_columns, push_bytes, push_hex_address};
 use itoa::Buffer;
 use std::alloc::AllocError;
 
-/// Appends one to three bytes in hex, with a space between them.
-#[tactic(auto, unfolding(model::specs::Text::spaced_bytes))]
-fn push_separated(out: &mut Vec<u8>, bytes: &[u8]) -> Result<(), AllocError>
-    requires { length bytes.now ≤ 3 }
-    ensures rows { OnOk result (out.new.items ≡ out.old.items ++ with_spaces bytes.now) }
-    ensures kept { take (length out.old.items) out.new.items ≡ out.old.items }
+/// Returns an address, two spaces, columns and an end, as rows begin.
+fn row_text(address: u32, columns: &[u8], end: &[u8]) -> Text
+    requires columns { length columns.now ≤ 8 }
+    requires end { length end.now ≤ 2 }
+    ensures { result.items ≡ address_text address ++ 32 ∷ 32 ∷ (columns.now ++ end.now) }
 {
-    match bytes {
-        [a] => out.extend_from_slice(&digits_of(*a)),
-        [a, b] => {
-            let [i, j] = digits_of(*b);
-            out.extend_from_slice(&digits_of(*a))?;
-            out.extend_from_slice(&[b' ', i, j])
-        }
-        [a, b, c] => {
-            let [i, j] = digits_of(*b);
-            let [k, l] = digits_of(*c);
-            out.extend_from_slice(&digits_of(*a))?;
-            out.extend_from_slice(&[b' ', i, j, b' ', k, l])
-        }
-        _ => Ok(()),
-    }
+    let mut text = Text::new();
+    push_bytes(&mut text, &address_text(address));
+    push_bytes(&mut text, b"  ");
+    push_bytes(&mut text, columns);
+    push_bytes(&mut text, end);
+    text
 }
 
 /// Appends a row of one to three further bytes.
@@ -40,11 +29,9 @@ fn push_group(out: &mut Vec<u8>, address: u32, bytes: &[u8]) -> Result<(), Alloc
     ensures rows { OnOk result (out.new.items ≡ out.old.items ++ group_row address bytes.now) }
     ensures kept { take (length out.old.items) out.new.items ≡ out.old.items }
 {
-    out.extend_from_slice(&address_text(address))?;
-    out.extend_from_slice(b"  ")?;
-    push_separated(out, bytes)?;
-    out.push(b'\n')?;
-    Ok(())
+    let width = (3 * bytes.len()).saturating_sub(1);
+    let row = row_text(address, &byte_columns(bytes)[..width], b"\n");
+    out.extend_from_slice(row.as_slice())
 }
 
 /// Appends the rows of all further bytes.
@@ -77,10 +64,8 @@ fn extend_with_line(
         (out.new.items ≡ out.old.items ++ line_rows address bytes.now line.now) }
     ensures kept { take (length out.old.items) out.new.items ≡ out.old.items }
 {
-    out.extend_from_slice(&address_text(address))?;
-    out.extend_from_slice(b"  ")?;
-    out.extend_from_slice(&byte_columns(bytes))?;
-    out.extend_from_slice(b"  ")?;
+    let start = row_text(address, &byte_columns(bytes), b"  ");
+    out.extend_from_slice(start.as_slice())?;
     out.extend_from_slice(line)?;
     out.push(b'\n')?;
     push_groups(out, address + 3, &bytes[bytes.len().min(3)..])
@@ -110,16 +95,20 @@ pub fn push_line(
     }
 }
 
-/// Appends a number as an address if it is one, otherwise in decimal.
-fn push_number(out: &mut Vec<u8>, number: i32) -> Result<(), AllocError>
-    ensures rows { OnOk result (out.new.items ≡ out.old.items ++ number_text number) }
-    ensures kept { take (length out.old.items) out.new.items ≡ out.old.items }
+/// Returns what follows a name: its number, as an address if it is one, otherwise in decimal.
+fn name_end(number: i32) -> Text
+    ensures { result.items ≡ codes " = " ++ number_text number ++ 10 ∷ [] }
 {
+    let mut text = Text::new();
     if number >= 0 && number < 65536 {
-        let [a, b, c, d] = digits_of_address(number as u16);
-        return out.extend_from_slice(&[b'$', a, b, c, d]);
+        push_bytes(&mut text, b" = $");
+        push_hex_address(&mut text, number as u16);
+    } else {
+        push_bytes(&mut text, b" = ");
+        push_bytes(&mut text, Buffer::new().format(number).as_bytes());
     }
-    out.extend_from_slice(Buffer::new().format(number).as_bytes())
+    push_bytes(&mut text, b"\n");
+    text
 }
 
 /// Appends a name's row, as far as allocations succeed.
@@ -128,10 +117,7 @@ fn extend_with_name(out: &mut Vec<u8>, name: &[u8], number: i32) -> Result<(), A
     ensures kept { take (length out.old.items) out.new.items ≡ out.old.items }
 {
     out.extend_from_slice(name)?;
-    out.extend_from_slice(b" = ")?;
-    push_number(out, number)?;
-    out.push(b'\n')?;
-    Ok(())
+    out.extend_from_slice(name_end(number).as_slice())
 }
 
 /// Appends a name's row.

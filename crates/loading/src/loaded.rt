@@ -117,6 +117,25 @@ fn bytes_of(alloc: Global, image: &Image) -> Result<Written, Refusal>
     Written::of_image(alloc, image).map_err(|_| Refusal::OutOfMemory)
 }
 
+/// Returns a session that holds at most `history` earlier states, on an image, and the addresses at
+/// which the image has a byte.
+fn started(
+    alloc: Global,
+    map: MapSpec,
+    image: &Image,
+    history: u32,
+) -> Result<(Session, Written), Refusal>
+    requires history { history ≤ 65536 }
+    requires spared { has_port_byte map image.now ≡ false }
+    ensures session { IfOk result (λ p. p.0 ≡ new_session history (start map image.now)) }
+    ensures bytes { IfOk result (λ p. p.1 ≡ bytes_in image.now) }
+    ensures refused { IfErr result (λ fault. fault ≡ Refusal.OutOfMemory) }
+{
+    let written = bytes_of(alloc, image)?;
+    let session = Session::new(alloc, map, image, history)?;
+    Ok((session, written))
+}
+
 /// Returns a session that holds at most `history` earlier states, on the image of a source.
 fn start_source(
     alloc: Global,
@@ -132,13 +151,17 @@ fn start_source(
     ensures bytes { IfOk result (λ loaded. loaded.written ≡ bytes_in assembly.image) }
     ensures refused { IfErr result (λ fault. fault ≡ Refusal.OutOfMemory) }
 {
-    let session = Session::new(alloc, map, assembly.image(), history)?;
-    let written = bytes_of(alloc, assembly.image())?;
-    Ok(Loaded {
-        session,
-        assembly: Some(assembly),
-        written,
-    })
+    match started(alloc, map, assembly.image(), history) {
+        Ok((session, written)) => Ok(Loaded {
+            session,
+            assembly: Some(assembly),
+            written,
+        }),
+        Err(refusal) => {
+            drop(assembly);
+            Err(refusal)
+        }
+    }
 }
 
 /// Returns a session that holds at most `history` earlier states, on the image of a source's file.
@@ -175,8 +198,7 @@ pub fn start_image(
     ensures bytes { IfOk result (λ loaded. loaded.written ≡ bytes_in image.now) }
     ensures refused { IfErr result (λ fault. fault ≡ Refusal.OutOfMemory) }
 {
-    let session = Session::new(alloc, map, image, history)?;
-    let written = bytes_of(alloc, image)?;
+    let (session, written) = started(alloc, map, image, history)?;
     Ok(Loaded {
         session,
         assembly: None,

@@ -96,20 +96,26 @@ fn load_with_names<H: Files + AllocGlobal>(
         Ok(made) => made,
         Err(fault) => return Err(NamedFault::OfFile(fault)),
     };
-    let names = match load_names(rt, words, path) {
-        Ok(names) => names,
-        Err(refusal) => return Err(NamedFault::OfNames(refusal)),
-    };
-    let Loaded {
-        session,
-        assembly: _none,
-        written,
-    } = loaded;
-    Ok(Loaded {
-        session,
-        assembly: Some(names.with_image(rt.alloc(), image)),
-        written,
-    })
+    match load_names(rt, words, path) {
+        Ok(names) => {
+            let Loaded {
+                session,
+                assembly: none,
+                written,
+            } = loaded;
+            drop(none);
+            Ok(Loaded {
+                session,
+                assembly: Some(names.with_image(rt.alloc(), image)),
+                written,
+            })
+        }
+        Err(refusal) => {
+            drop(image);
+            drop(loaded);
+            Err(NamedFault::OfNames(refusal))
+        }
+    }
 }
 
 /// Loads the file of the words as `load` does, and gives an image the names of a file, if one is

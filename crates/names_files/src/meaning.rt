@@ -44,12 +44,21 @@ fn is_definition(name: &[u8], line: &Line<'_>) -> bool
     }
 }
 
+/// Returns whether a line that was read is the definition of a name.
+fn is_defined_by(name: &[u8], line: Line<'_>) -> bool
+    ensures { result ≡ is_definition name.now (Ok (line_view line.entry)) }
+{
+    let found = is_definition(name, &line);
+    drop(line);
+    found
+}
+
 /// Returns whether a text is read as the definition of a name.
 fn defines(alloc: Global, profile: Profile, name: &[u8], text: &[u8]) -> Result<bool, AllocError>
     ensures { IfOk result (λ yes. yes ≡ is_definition name.now (read_line profile text.now)) }
 {
     match read_line(alloc, profile, text) {
-        Ok(line) => Ok(is_definition(name, &line)),
+        Ok(line) => Ok(is_defined_by(name, line)),
         Err(LineError::Kind(_)) => Ok(false),
         Err(LineError::Memory) => Err(AllocError),
     }
@@ -180,8 +189,8 @@ fn faulty_meaning<'a>(
     }
 }
 
-/// Returns what becomes of a line that was read.
-fn read_name<'a>(line: &Line<'a>) -> Meaning<'a>
+/// Returns what becomes of a line that says this.
+fn meaning_of<'a>(line: &Line<'a>) -> Meaning<'a>
     ensures { meaning_view result ≡ line_meaning (line_view line.now) }
 {
     match line {
@@ -189,6 +198,15 @@ fn read_name<'a>(line: &Line<'a>) -> Meaning<'a>
         Line::Labelled(Some(name), _) => Meaning::Named(name),
         Line::Definition(name, _) => Meaning::Named(name),
     }
+}
+
+/// Returns what becomes of a line that was read.
+fn read_name<'a>(line: Line<'a>) -> Meaning<'a>
+    ensures { meaning_view result ≡ line_meaning (line_view line.entry) }
+{
+    let meaning = meaning_of(&line);
+    drop(line);
+    meaning
 }
 
 /// Returns what becomes of a line that is no label.
@@ -201,7 +219,7 @@ pub fn line_meaning<'a>(
         ≡ read_meaning profile line.now (read_line profile line.now)) }
 {
     match read_line(alloc, profile, line) {
-        Ok(read) => Ok(read_name(&read)),
+        Ok(read) => Ok(read_name(read)),
         Err(LineError::Kind(_)) => faulty_meaning(alloc, profile, equation_word(line)),
         Err(LineError::Memory) => Err(AllocError),
     }

@@ -1,6 +1,6 @@
 -- Warnings, one line after another.
 use Rattle.std.proofs.Common.{◌≡◌, arith, ℕ, zero, suc, ◌+◌, ◌-◌, ◌<◌, ◌≤◌, nat_lt, Bool, true, false, not, ◌||◌, ◌==◌, List, [], ◌∷◌, ◌++◌, length, drop, take, get_or, refl, sym, ap, ◌∙◌, append_assoc, append-nil, Result, Ok, Err}
-use Rattle.std.specs.Prelude.{OnOk}
+use Rattle.std.specs.Prelude.{IfOk, OnOk}
 use Rattle.std.proofs.lemmas.List.{drop_more, drop_all, length-map, nil_from_length, take_all}
 use Rattle.std.proofs.lemmas.Bool.{lt-ltb, ne_eqb}
 use Rattle.std.proofs.lemmas.List.Folds.{list_any_at}
@@ -149,3 +149,10 @@ whole profile texts fs is names lines behind ws found_is lines_is behind_is told
     told ∙ ap (λ (x : List Placed). warnings_in profile names x behind) lines_is
     ∙ ap (λ (x : List (List ℕ)). warnings_in profile names (placed_lines profile texts (found_all fs)) x) (behind_is ∙ ap (λ (n : ℕ). drop n texts) (sym (length-map fs found_view)))
     ∙ ap (λ (x : List all.Found). warnings_found profile texts x names) found_is
+
+-- the same of a call's result
+pub whole_of : {X E : Type 0} (r : Result X E) (items : X → List Warning) (profile : Profile) (texts : List (List ℕ)) (fs : List Found) (names : Definitions) (lines : List Placed) (behind : List (List ℕ))
+    → lines ≡ placed_lines profile texts (found_all fs) → behind ≡ drop (length fs) texts → IfOk r (λ w. items w ≡ warnings_in profile names lines behind)
+    → IfOk r (λ w. items w ≡ warnings_found profile texts (found_all fs) names)
+whole_of (Ok w) items profile texts fs names lines behind lines_is behind_is told = whole profile texts fs (found_all fs) names lines behind (items w) refl lines_is behind_is told
+whole_of (Err e) items profile texts fs names lines behind lines_is behind_is told = tt

@@ -1,6 +1,6 @@
 -- Lines and what was found of them, one after another.
-use Rattle.std.proofs.Common.{◌≡◌, ℕ, ◌+◌, ◌<◌, ◌≤◌, List, [], ◌∷◌, ◌++◌, length, drop, get_or, refl, sym, ap, ◌∙◌, ◌-◌, arith, length-append}
-use Rattle.std.proofs.lemmas.List.{drop_more, drop_all, drop-drop, nil_from_length}
+use Rattle.std.proofs.Common.{◌≡◌, ℕ, ◌+◌, ◌<◌, ◌≤◌, List, [], ◌∷◌, ◌++◌, length, drop, get_or, refl, sym, ap, ◌∙◌, ◌-◌, append_assoc, arith, length-append}
+use Rattle.std.proofs.lemmas.List.{drop_more, drop_all, drop-drop, length-map, nil_from_length}
 use Rattle.std.proofs.Math.Seq.{drop-nil}
 use Rattle.model.specs.AllFaults as all
 use Rattle.model.specs.TextLines.{lines_from, lines_of}
@@ -15,9 +15,13 @@ pub no_lines : (text : List ℕ) → length text ≡ 0 → lines_of text ≡ []
 unfolding lines_from
 no_lines text empty = rw (nil_from_length text empty) refl
 
-snoc : (ps : List PlacedLine) (p : PlacedLine) (rest : List Placed) → placed_views (ps ++ p ∷ []) ++ rest ≡ placed_views ps ++ placed_view p ∷ rest
-snoc [] p rest = refl
-snoc (x ∷ xs) p rest = ap (λ (y : List Placed). placed_view x ∷ y) (snoc xs p rest)
+snoc : (ps : List PlacedLine) (p : PlacedLine) → placed_views (ps ++ p ∷ []) ≡ placed_views ps ++ placed_view p ∷ []
+snoc [] p = refl
+snoc (x ∷ xs) p = ap (λ (y : List Placed). placed_view x ∷ y) (snoc xs p)
+
+-- one line more, as it is seen
+pub placed_more : (ps new : List PlacedLine) (p : PlacedLine) (x : Placed) → new ≡ ps ++ p ∷ [] → placed_view p ≡ x → placed_views new ≡ placed_views ps ++ x ∷ []
+placed_more ps new p x is view = ap placed_views is ∙ snoc ps p ∙ ap (λ (y : Placed). placed_views ps ++ y ∷ []) view
 
 nothing_after : (ps : List Placed) → ps ++ [] ≡ ps
 nothing_after [] = refl
@@ -31,12 +35,14 @@ abbrev pub so_on : Profile → List PlacedLine → List ℕ → ℕ → List Fou
 so_on profile ps rest i fs = placed_views ps ++ placed_lines profile (lines_of rest) (found_all (drop i fs))
 
 -- a line more
-pub goes_on : (profile : Profile) (ps : List PlacedLine) (p : PlacedLine) (rest text behind : List ℕ) (i : ℕ) (fs : List Found) (f : Found) (total : List Placed)
-    → lines_of rest ≡ text ∷ lines_of behind → i < length fs → f ≡ get_or fs i f → placed_view p ≡ placed_line profile text (found_view f)
-    → so_on profile ps rest i fs ≡ total → so_on profile (ps ++ p ∷ []) behind (i + 1) fs ≡ total
-goes_on profile ps p rest text behind i fs f total cut within is view so_far =
-    snoc ps p (placed_lines profile (lines_of behind) (found_all (drop (i + 1) fs)))
-    ∙ sym (rw (cut, first_left fs i f within is, ← view) refl) ∙ so_far
+pub goes_on : (profile : Profile) (ps new : List PlacedLine) (rest text behind : List ℕ) (i : ℕ) (fs : List Found) (f : Found) (total : List Placed)
+    → lines_of rest ≡ text ∷ lines_of behind → i < length fs → f ≡ get_or fs i f → placed_views new ≡ placed_views ps ++ placed_line profile text (found_view f) ∷ []
+    → so_on profile ps rest i fs ≡ total → so_on profile new behind (i + 1) fs ≡ total
+goes_on profile ps new rest text behind i fs f total cut within is view so_far =
+    let left : List Placed = placed_lines profile (lines_of behind) (found_all (drop (i + 1) fs)) in
+    let p : Placed = placed_line profile text (found_view f) in
+    let opened : so_on profile ps rest i fs ≡ placed_views ps ++ p ∷ left = rw (cut, first_left fs i f within is) refl in
+    ap (λ (x : List Placed). x ++ left) view ∙ append_assoc (placed_views ps) (p ∷ []) left ∙ sym opened ∙ so_far
 
 -- no text is left
 pub ends : (profile : Profile) (ps : List PlacedLine) (rest : List ℕ) (i : ℕ) (fs : List Found) (total : List Placed) → length rest ≡ 0
@@ -70,5 +76,8 @@ left_none rest i n all empty less left =
     ∙ ap (λ (k : ℕ). drop k all) sum
 
 -- one line more
-pub one_more : (ps new : List PlacedLine) (p : PlacedLine) (i : ℕ) → new ≡ ps ++ p ∷ [] → length ps ≤ i → length new ≤ i + 1
-one_more ps new p i is few = rw (is, length-append ps (p ∷ [])) (omega (arith, few))
+pub one_more : (ps new : List PlacedLine) (x : Placed) (i : ℕ) → placed_views new ≡ placed_views ps ++ x ∷ [] → length ps ≤ i → length new ≤ i + 1
+one_more ps new x i is few =
+    let count : length new ≡ length ps + 1 =
+    sym (length-map new placed_view) ∙ ap length is ∙ length-append (placed_views ps) (x ∷ []) ∙ ap (λ (n : ℕ). n + 1) (length-map ps placed_view) in
+    omega (arith, few, count)

@@ -1,10 +1,11 @@
 //! What may be meant otherwise in the lines of a source.
 
-ghost use Rattle.std.specs.Prelude.{◌≡◌, ◌+◌, ◌++◌, ◌≤◌, OnOk, [], length};
+ghost use Rattle.std.specs.Prelude.{◌≡◌, ◌+◌, ◌++◌, ◌≤◌, IfOk, OnOk, [], length};
 ghost use Rattle.line_parts.specs.Contents.{map_option};
 ghost use Rattle.line_parts.specs.LineViews.{line_view, statement_view};
 ghost use Rattle.model.specs.Names.{number_in};
 ghost use Rattle.model.specs.TextLines.{lines_of};
+ghost use Rattle.warnings.specs.Placed.{meaning_of};
 ghost use Rattle.warnings.specs.Views.{placed_view, placed_views};
 ghost use Rattle.warnings.specs.Warnings.{begins_silenced, cut_off, denotes_bytes, has_bytes};
 ghost use Rattle.warnings.specs.Warnings.{known, lines_warnings, one_if, says_bytes};
@@ -17,7 +18,7 @@ use crate::placed_line::PlacedLine;
 use crate::placement::meaning_of;
 use crate::written_numbers::Reach;
 use crate::zero_page_writes::is_plain;
-use line_parts::{Line, Statement, next_line};
+use line_parts::{Line, Statement, Token, next_line};
 use model::Profile;
 use std::alloc::{AllocError, Global};
 use symbols::Symbols;
@@ -116,6 +117,34 @@ fn push_line(
     )
 }
 
+/// Appends the warnings of lines, after lines with these names in capitals, and notes theirs.
+fn push_each_line(
+    alloc: Global,
+    warnings: &mut Vec<Warning>,
+    capitals: &mut Symbols,
+    profile: Profile,
+    names: &Symbols,
+    used: &Symbols,
+    reaches: &[Reach],
+    lines: &[PlacedLine<'_>],
+) -> Result<(), AllocError>
+    requires { length lines.now ≤ 1048576 }
+    ensures { OnOk result (warnings.new.items ≡ warnings.old.items
+        ++ lines_warnings (known profile names.now used.now reaches.now) 1 capitals.old
+        (placed_views lines.now)) }
+{
+    let mut number = 0u32;
+    for one in lines {
+        number += 1;
+        let alike = note_capitals(alloc, capitals, name_in(&one.line))?;
+        let behind = &lines[number as usize..];
+        push_line(
+            warnings, profile, names, used, reaches, number, alike, one, behind,
+        )?;
+    }
+    Ok(())
+}
+
 /// Appends the warnings of lines, under all names with their numbers, the names that expressions
 /// use, and what is written of the zero page. The only error is that a request for memory was
 /// refused.
@@ -134,16 +163,16 @@ pub fn push_lines(
         (placed_views lines.now)) }
 {
     let mut capitals = Symbols::new(alloc);
-    let mut number = 0u32;
-    for one in lines {
-        number += 1;
-        let alike = note_capitals(alloc, &mut capitals, name_in(&one.line))?;
-        let behind = &lines[number as usize..];
-        push_line(
-            warnings, profile, names, used, reaches, number, alike, one, behind,
-        )?;
-    }
-    Ok(())
+    push_each_line(
+        alloc,
+        warnings,
+        &mut capitals,
+        profile,
+        names,
+        used,
+        reaches,
+        lines,
+    )
 }
 
 /// Returns whether one of some lines has a byte.
@@ -190,6 +219,22 @@ fn says_bytes(line: &Option<Line<'_>>) -> bool
     }
 }
 
+/// Whether a text is a line that is an instruction or has bytes. Its tokens are put into `room` in
+/// place of its contents.
+fn text_says_bytes<'a>(
+    alloc: Global,
+    profile: Profile,
+    room: &mut Vec<Token<'a>>,
+    text: &'a [u8],
+) -> Result<bool, AllocError>
+    ensures { IfOk result (λ told. told ≡ says_bytes (meaning_of profile text.now)) }
+{
+    let line = meaning_of(alloc, profile, room, text)?;
+    let told = says_bytes(&line);
+    drop(line);
+    Ok(told)
+}
+
 /// Appends the warning of the first line with an instruction or bytes in a text that `.END` cuts
 /// off, the number of whose first line this is. The only error is that a request for memory was
 /// refused.
@@ -209,12 +254,10 @@ pub fn push_cut_off(
     let mut at = number;
     while !rest.is_empty() {
         let (text, after) = next_line(rest);
-        let line = meaning_of(alloc, profile, &mut room, text)?;
-        if says_bytes(&line) {
-            drop(line);
+        let told = text_says_bytes(alloc, profile, &mut room, text)?;
+        if told {
             return push_if(warnings, !is_silenced(text), at, WarningKind::AfterEnd);
         }
-        drop(line);
         rest = after;
         at += 1;
     }

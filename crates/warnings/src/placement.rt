@@ -1,13 +1,13 @@
 //! The lines of a source, put together with what the layout found of them.
 
-ghost use Rattle.std.specs.Prelude.{◌≡◌, ◌≤◌, IfOk, drop, length};
+ghost use Rattle.std.specs.Prelude.{◌≡◌, ◌≤◌, ◌++◌, ◌∷◌, IfOk, OnOk, [], drop, length};
 ghost use Rattle.line_parts.specs.Contents.{map_option};
 ghost use Rattle.line_parts.specs.LineViews.{line_view};
 ghost use Rattle.model.specs.Layout.{size_of};
 ghost use Rattle.model.specs.TextLines.{lines_of};
 ghost use Rattle.source_faults.specs.Views.{found_all, found_view};
 ghost use Rattle.warnings.specs.Placed.{if_bytes, meaning_of, placed_line, placed_lines};
-ghost use Rattle.warnings.specs.Views.{placed_view, placed_views};
+ghost use Rattle.warnings.specs.Views.{placed_views};
 
 use crate::brackets::is_bracketed;
 use crate::placed_line::{Extent, PlacedLine};
@@ -72,27 +72,66 @@ pub fn meaning_of<'a>(
     }
 }
 
-/// A line of which the layout found this.
+/// Appends a line of which the layout found this.
 fn place_line<'a>(
     alloc: Global,
     profile: Profile,
+    lines: &mut Vec<PlacedLine<'a>>,
     room: &mut Vec<Token<'a>>,
     text: &'a [u8],
     found: &Found<'_>,
-) -> Result<PlacedLine<'a>, AllocError>
-    ensures { IfOk result
-        (λ line. placed_view line ≡ placed_line profile text.now (found_view found.now)) }
+) -> Result<(), AllocError>
+    ensures { OnOk result (placed_views lines.new.items ≡ placed_views lines.old.items
+        ++ placed_line profile text.now (found_view found.now) ∷ []) }
 {
     let line = meaning_of(alloc, profile, room, text)?;
-    let bracketed = is_bracketed(profile, room, text, &line)?;
     let extent = extent_of(found);
-    Ok(PlacedLine {
-        text,
-        line,
-        address: extent.address,
-        count: extent.count,
-        bracketed,
-    })
+    match is_bracketed(profile, room, text, &line) {
+        Ok(bracketed) => {
+            lines.push(PlacedLine {
+                text,
+                line,
+                address: extent.address,
+                count: extent.count,
+                bracketed,
+            })?;
+            Ok(())
+        }
+        Err(error) => {
+            drop(line);
+            Err(error)
+        }
+    }
+}
+
+/// Appends the lines of a source of which the layout found these to an empty list, one after
+/// another. Returns the text after them.
+fn place_lines<'a>(
+    alloc: Global,
+    profile: Profile,
+    lines: &mut Vec<PlacedLine<'a>>,
+    room: &mut Vec<Token<'a>>,
+    source: &'a [u8],
+    found: &[Found<'_>],
+) -> Result<&'a [u8], AllocError>
+    requires { lines.old.items ≡ [] }
+    ensures lines { OnOk result (placed_views lines.new.items
+        ≡ placed_lines profile (lines_of source.now) (found_all found.now)) }
+    ensures behind { IfOk result (λ behind. lines_of behind.now
+        ≡ drop (length found.now) (lines_of source.now)) }
+    ensures few { OnOk result (length lines.new.items ≤ length found.now) }
+    ensures short { IfOk result (λ behind. length behind.now ≤ length source.now) }
+{
+    let mut rest = source;
+    for one in found {
+        if rest.is_empty() {
+            return Ok(rest);
+        }
+        let (text, behind) = next_line(rest);
+        place_line(alloc, profile, lines, room, text, one)?;
+        rest = behind;
+    }
+    Ok(rest)
 }
 
 /// Returns the lines of a source of which the layout found these, one after another, and the text
@@ -114,21 +153,6 @@ pub fn placed_lines<'a>(
 {
     let mut lines = Vec::new(alloc);
     let mut room = Vec::new(alloc);
-    let mut rest = source;
-    for one in found {
-        if rest.is_empty() {
-            return Ok(PlacedLines {
-                lines,
-                behind: rest,
-            });
-        }
-        let (text, behind) = next_line(rest);
-        let line = place_line(alloc, profile, &mut room, text, one)?;
-        lines.push(line)?;
-        rest = behind;
-    }
-    Ok(PlacedLines {
-        lines,
-        behind: rest,
-    })
+    let behind = place_lines(alloc, profile, &mut lines, &mut room, source, found)?;
+    Ok(PlacedLines { lines, behind })
 }

@@ -1,8 +1,13 @@
 //! The warnings of a source.
 
-ghost use Rattle.std.specs.Prelude.{◌≡◌, ◌≤◌, IfOk, length};
+ghost use Rattle.std.specs.Prelude.{◌≡◌, ◌≤◌, IfOk, OnOk, [], length};
+ghost use Rattle.model.specs.AllFaults.{fixed_by, found_lines, smallest};
+ghost use Rattle.model.specs.Names.{number_in};
+ghost use Rattle.model.specs.Source.{first_context, read_lines};
 ghost use Rattle.model.specs.TextLines.{lines_of};
 ghost use Rattle.source_faults.specs.Views.{found_all};
+ghost use Rattle.warnings.specs.Reaches.{reaches};
+ghost use Rattle.warnings.specs.Uses.{used_by};
 ghost use Rattle.warnings.specs.Views.{placed_views};
 ghost use Rattle.warnings.specs.Warnings.{has_no_vector, is_empty, warnings_found};
 ghost use Rattle.warnings.specs.Warnings.{warnings_in, warnings_of};
@@ -11,9 +16,9 @@ use crate::all_lines::{begins_silenced, has_bytes, push_cut_off, push_if, push_l
 use crate::flow::is_vectorless;
 use crate::kinds::{Warning, WarningKind};
 use crate::placed_line::PlacedLine;
-use crate::placement::{PlacedLines, placed_lines};
+use crate::placement::placed_lines;
 use crate::used_names::used_by;
-use crate::written_numbers::reaches;
+use crate::written_numbers::{Reach, reaches};
 use bus::MapSpec;
 use model::Profile;
 use source_faults::{Found, Mending, lay_out};
@@ -37,37 +42,77 @@ fn has_no_vector(lines: &[PlacedLine<'_>]) -> bool
     !begins_silenced(lines) && is_vectorless(lines)
 }
 
+/// Appends the warnings of lines that define these names, and of the text after `.END`. The lines
+/// use these names and write this.
+fn push_all(
+    alloc: Global,
+    warnings: &mut Vec<Warning>,
+    profile: Profile,
+    names: &Symbols,
+    used: &Symbols,
+    reached: &[Reach],
+    lines: &[PlacedLine<'_>],
+    behind: &[u8],
+) -> Result<(), AllocError>
+    requires few { length lines.now ≤ 1048576 }
+    requires short { length behind.now ≤ 1048576 }
+    requires none { warnings.old.items ≡ [] }
+    requires used { used.now ≡ used_by (placed_views lines.now) [] }
+    requires reached { reached.now ≡ reaches (number_in names.now) (placed_views lines.now) }
+    ensures { OnOk result (warnings.new.items
+        ≡ warnings_in profile names.now (placed_views lines.now) (lines_of behind.now)) }
+{
+    push_if(warnings, is_empty(names, lines), 1, WarningKind::NoBytes)?;
+    push_if(warnings, has_no_vector(lines), 1, WarningKind::NoVector)?;
+    push_lines(alloc, warnings, profile, names, used, reached, lines)?;
+    push_cut_off(alloc, warnings, profile, lines.len() as u32 + 1, behind)
+}
+
+/// The warnings of lines that define these names and use these, and of the text after `.END`.
+fn warnings_using(
+    alloc: Global,
+    profile: Profile,
+    names: &Symbols,
+    used: &Symbols,
+    lines: &[PlacedLine<'_>],
+    behind: &[u8],
+) -> Result<Vec<Warning>, AllocError>
+    requires few { length lines.now ≤ 1048576 }
+    requires short { length behind.now ≤ 1048576 }
+    requires used { used.now ≡ used_by (placed_views lines.now) [] }
+    ensures { IfOk result (λ warnings. warnings.items
+        ≡ warnings_in profile names.now (placed_views lines.now) (lines_of behind.now)) }
+{
+    let reached = reaches(alloc, names, lines)?;
+    let mut warnings = Vec::new(alloc);
+    push_all(
+        alloc,
+        &mut warnings,
+        profile,
+        names,
+        used,
+        &reached,
+        lines,
+        behind,
+    )?;
+    Ok(warnings)
+}
+
 /// The warnings of lines that define these names, and of the text after `.END`.
 fn warnings_in(
     alloc: Global,
     profile: Profile,
     names: &Symbols,
-    placed: &PlacedLines<'_>,
+    lines: &[PlacedLine<'_>],
+    behind: &[u8],
 ) -> Result<Vec<Warning>, AllocError>
-    requires few { length placed.now.lines.items ≤ 1048576 }
-    requires short { length placed.now.behind.now ≤ 1048576 }
-    ensures { IfOk result (λ warnings. warnings.items ≡ warnings_in profile names.now
-        (placed_views placed.now.lines.items) (lines_of placed.now.behind.now)) }
+    requires few { length lines.now ≤ 1048576 }
+    requires short { length behind.now ≤ 1048576 }
+    ensures { IfOk result (λ warnings. warnings.items
+        ≡ warnings_in profile names.now (placed_views lines.now) (lines_of behind.now)) }
 {
-    let used = used_by(alloc, &placed.lines)?;
-    let reached = reaches(alloc, names, &placed.lines)?;
-    let empty = is_empty(names, &placed.lines);
-    let vectorless = has_no_vector(&placed.lines);
-    let next = placed.lines.len() as u32 + 1;
-    let mut warnings = Vec::new(alloc);
-    push_if(&mut warnings, empty, 1, WarningKind::NoBytes)?;
-    push_if(&mut warnings, vectorless, 1, WarningKind::NoVector)?;
-    push_lines(
-        alloc,
-        &mut warnings,
-        profile,
-        names,
-        &used,
-        &reached,
-        &placed.lines,
-    )?;
-    push_cut_off(alloc, &mut warnings, profile, next, placed.behind)?;
-    Ok(warnings)
+    let used = used_by(alloc, lines)?;
+    warnings_using(alloc, profile, names, &used, lines, behind)
 }
 
 /// The warnings of a source of which the layout found this, and these names.
@@ -84,8 +129,25 @@ fn warnings_found(
         (lines_of source.now) (found_all found.now) names.now) }
 {
     let placed = placed_lines(alloc, profile, source, found)?;
-    let warnings = warnings_in(alloc, profile, names, &placed)?;
-    Ok(warnings)
+    warnings_in(alloc, profile, names, &placed.lines, placed.behind)
+}
+
+/// The warnings of a source, whose names are put into an empty list.
+fn laid_warnings(
+    alloc: Global,
+    profile: Profile,
+    names: &mut Symbols,
+    source: &[u8],
+) -> Result<Vec<Warning>, AllocError>
+    requires short { length source.now ≤ 1048576 }
+    requires empty { names.old ≡ [] }
+    ensures { IfOk result (λ warnings. warnings.items ≡ warnings_found profile
+        (lines_of source.now)
+        (found_lines smallest (first_context profile) (read_lines profile source.now))
+        (fixed_by smallest (first_context profile) (read_lines profile source.now)).names) }
+{
+    let found = lay_out(alloc, profile, Mending::Smallest, names, source)?;
+    warnings_found(alloc, profile, names, source, &found)
 }
 
 /// Returns the warnings of a source in its map's profile, each with its line, in the order of the
@@ -105,9 +167,6 @@ pub fn source_warnings(
     if source.len() > SOURCE_SIZE {
         return Ok(Vec::new(alloc));
     }
-    let profile = map.profile();
     let mut names = Symbols::new(alloc);
-    let found = lay_out(alloc, profile, Mending::Smallest, &mut names, source)?;
-    let warnings = warnings_found(alloc, profile, &names, source, &found)?;
-    Ok(warnings)
+    laid_warnings(alloc, map.profile(), &mut names, source)
 }

@@ -1,12 +1,11 @@
-use Rattle.std.proofs.Common.{ap, sym, true-eqb, ◌∙◌}
-use Rattle.warnings.specs.Warnings.{says_bytes}
+use Rattle.std.proofs.Common.{sym, true-eqb, ◌∙◌}
 use Rattle.warnings.proofs.Looking.{found, none_found}
 use Rattle.warnings.proofs.all_lines.push_cut_off.Goals as goal
 
-pub returns-then-says_bytes : goal.returns-then-says_bytes
-returns-then-says_bytes c =
+pub returns-then-told : goal.returns-then-told
+returns-then-told c =
     found c.push_if.result c.args.profile c.loop-rest.at c.loop-rest.rest.now c.next_line.result.0.now c.next_line.result.1.now c.args.warnings.now.items c.loop-rest.warnings.items c.push_if.new.warnings.items
-    _ c.is_silenced.result c.loop-rest.invariant.same c.next_line.ensures.cut (ap (λ l. says_bytes l) (sym c.in_ok-line.ensures) ∙ sym c.says_bytes.ensures ∙ c.if-says_bytes.true) c.is_silenced.ensures
+    _ c.is_silenced.result c.loop-rest.invariant.same c.next_line.ensures.cut (sym c.in_ok-told.ensures ∙ c.if-told.true) c.is_silenced.ensures
     c.push_if.ensures c.loop-rest.invariant.left
 
 pub returns : goal.returns

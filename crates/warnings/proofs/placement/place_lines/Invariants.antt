@@ -3,7 +3,7 @@ use Rattle.model.specs.TextLines.{lines_of}
 use Rattle.source_faults.specs.Views.{found_all}
 use Rattle.warnings.specs.Placed.{placed_lines}
 use Rattle.warnings.proofs.Placing.{so_on}
-use Rattle.warnings.proofs.placement.placed_lines.Given as goal
+use Rattle.warnings.proofs.placement.place_lines.Given as goal
 
 abbrev pub invariant-loop-one : goal.invariant-loop-one
 invariant-loop-one l = record {

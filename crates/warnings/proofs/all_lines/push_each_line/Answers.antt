@@ -3,7 +3,7 @@ use Rattle.warnings.specs.Views.{placed_view, placed_views}
 use Rattle.warnings.specs.Warnings.{is_alike, known, warnings_with, with_capitals}
 use Rattle.warnings.specs.declared.placed_line.PlacedLine.{PlacedLine}
 use Rattle.warnings.proofs.Looking.{done, goes_on, rest_is}
-use Rattle.warnings.proofs.all_lines.push_lines.Goals as goal
+use Rattle.warnings.proofs.all_lines.push_each_line.Goals as goal
 
 pub loop-one-preserved : goal.loop-one-preserved
 loop-one-preserved c = record {
