@@ -1,3 +1,4 @@
 pub mod Fields
 pub mod Objects
+pub mod ValueLists
 pub mod Values

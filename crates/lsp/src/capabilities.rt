@@ -5,8 +5,7 @@ ghost use Rattle.lsp.specs.Capabilities.{capabilities, colours, fixes, served, s
 ghost use Rattle.json_values.specs.Values.{list_of, word};
 ghost use Rattle.serde_json.specs.View.{view};
 
-use json_values::Object;
-use lsp_messages::ValueList;
+use json_values::{Object, ValueList};
 use serde_json::Value;
 use std::alloc::{AllocError, Global};
 

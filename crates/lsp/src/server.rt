@@ -18,8 +18,9 @@ use crate::answers::{failed, reply};
 use crate::documents::Documents;
 use crate::phase::{Phase, is_exit};
 use bus::MapSpec;
+use json_values::ValueList;
 use lsp_answers::{Text, published};
-use lsp_messages::{Failure, Request, ValueList, marks, notice, read_request};
+use lsp_messages::{Failure, Request, marks, notice, read_request};
 use serde_json::Value;
 use std::alloc::{AllocError, Global};
 

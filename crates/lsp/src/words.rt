@@ -7,7 +7,7 @@ ghost use Rattle.clap.specs.declared.builder.command.Command.TheViews.{out-Comma
 ghost use Rattle.lsp.specs.CommandLine.{lsp_app, lsp_asked, lsp_by, lsp_view};
 
 use arguments::{
-    WordsFault, begin, matched, port, port_asked, profile, profile_asked, value_fault,
+    WordsFault, begin, let_go, matched, port, port_asked, profile, profile_asked, value_fault,
 };
 use clap::error::ErrorKind;
 use clap::{ArgMatches, Command, Error};
@@ -71,7 +71,14 @@ pub fn read_words(alloc: Global, words: &[&str]) -> Result<LspWords, WordsFault>
 {
     let matches = matched(lsp_command(alloc)?, words)?;
     match asked(&matches) {
-        Some(words) => Ok(words),
-        None => Err(value_fault(&matches)),
+        Some(words) => {
+            let_go(matches);
+            Ok(words)
+        }
+        None => {
+            let fault = value_fault(&matches);
+            let_go(matches);
+            Err(fault)
+        }
     }
 }

@@ -6,7 +6,7 @@ ghost use Rattle.lsp_answers.specs.Lists.{completed, completion_of, defined, is_
 ghost use Rattle.lsp_answers.specs.Lists.{mnemonic_item, name_item, symbol_of, symbols_of};
 ghost use Rattle.lsp_answers.specs.Texts.{text_view};
 ghost use Rattle.lsp_answers.specs.Written.{directive_items};
-ghost use Rattle.lsp_messages.specs.ValueLists.{HasValues};
+ghost use Rattle.json_values.specs.ValueLists.{HasValues};
 ghost use Rattle.lsp_messages.specs.Values.{item_data};
 ghost use Rattle.name_uses.specs.Views.{use_view, use_views};
 ghost use Rattle.serde_json.specs.Data.{Data};
@@ -16,7 +16,8 @@ use crate::source_text::Text;
 use crate::written::{
     BYTE_EFFECT, DBYTE_EFFECT, END_EFFECT, RES_EFFECT, WORD_EFFECT, mnemonics_in,
 };
-use lsp_messages::{ValueList, item, symbol};
+use json_values::ValueList;
+use lsp_messages::{item, symbol};
 use model::{Mnemonic, Profile};
 use name_uses::NameUse;
 use optable::letters_of;

@@ -8,7 +8,8 @@ ghost use Rattle.serde_json.specs.View.{view};
 
 use crate::source_text::Text;
 use bus::MapSpec;
-use lsp_messages::{ValueList, mark, marks};
+use json_values::ValueList;
+use lsp_messages::{mark, marks};
 use serde_json::Value;
 use source_diagnostics::{Diagnostic, diagnostics};
 use std::alloc::{AllocError, Global};

@@ -7,7 +7,8 @@ ghost use Rattle.name_uses.specs.Views.{use_views};
 ghost use Rattle.serde_json.specs.View.{view};
 
 use crate::source_text::Text;
-use lsp_messages::{ValueList, location};
+use json_values::ValueList;
+use lsp_messages::location;
 use name_uses::{NameUse, Part, picked};
 use serde_json::Value;
 use std::alloc::{AllocError, Global};

@@ -9,7 +9,8 @@ ghost use Rattle.serde_json.specs.View.{view};
 
 use crate::source_text::Text;
 use bus::MapSpec;
-use lsp_messages::{ValueList, changes, edit};
+use json_values::ValueList;
+use lsp_messages::{changes, edit};
 use name_uses::NameUse;
 use serde_json::Value;
 use source_renaming::{RenameFault, rename as renamed};

@@ -1,2 +1,1 @@
 pub mod ColumnSteps
-pub mod Lists

@@ -2,6 +2,5 @@ pub mod Columns
 pub mod Fields
 pub mod Replies
 pub mod Requests
-pub mod ValueLists
 pub mod Values
 pub mod Views

@@ -63,10 +63,7 @@ fn has(message: &Value, path: &str) -> bool
 pub fn changed_text(message: &Value) -> Option<&str>
     ensures { option_map (λ s. s.now) result ≡ changed_text (view message.now) }
 {
-    if has(message, "/params/contentChanges/1") {
-        return None;
-    }
-    if has(message, "/params/contentChanges/0/range") {
+    if has(message, "/params/contentChanges/1") || has(message, "/params/contentChanges/0/range") {
         return None;
     }
     text_at(message, "/params/contentChanges/0/text")

@@ -3,7 +3,7 @@
 //!
 //! `requests` reads a message, by its method and by what `fields` finds in it; `asked` has what it
 //! asks for. `columns` counts columns in units of UTF-16, `places` has ranges and locations,
-//! `pieces` what stands in an answer, `value_list` the lists, `replies` the envelopes.
+//! `pieces` what stands in an answer, `replies` the envelopes.
 //! `specs/Requests.antt` says what each message asks for, `specs/Values.antt` and
 //! `specs/Replies.antt` which value each answer is.
 #![tactic(auto)]
@@ -15,7 +15,6 @@ mod pieces;
 mod places;
 mod replies;
 mod requests;
-mod value_list;
 
 pub use asked::{At, Question, Request, Whole, Within};
 pub use columns::{character_of, column_of};
@@ -23,4 +22,3 @@ pub use pieces::{changes, edit, hover, item, mark, marks, symbol};
 pub use places::{location, position, range};
 pub use replies::{Failure, failure_reply, notice, result_reply};
 pub use requests::read_request;
-pub use value_list::ValueList;

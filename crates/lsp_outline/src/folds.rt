@@ -9,8 +9,8 @@ ghost use Rattle.source_notes.specs.Lines.{texts_of};
 
 use crate::labels::{is_comment, is_label_line};
 use crate::values::{comment_fold, label_fold};
+use json_values::ValueList;
 use line_parts::Token;
-use lsp_messages::ValueList;
 use model::Profile;
 use serde_json::Value;
 use std::alloc::{AllocError, Global};

@@ -1,15 +1,14 @@
 //! The colours as the protocol counts them.
 
 ghost use Rattle.std.specs.Prelude.{◌≡◌, ◌++◌, IfOk, List};
-ghost use Rattle.lsp_messages.specs.ValueLists.{HasValues};
+ghost use Rattle.json_values.specs.ValueLists.{HasValues};
 ghost use Rattle.lsp_outline.specs.Painted.{counted, further, paint_counts, painted};
 ghost use Rattle.serde_json.specs.Data.{Data};
 ghost use Rattle.serde_json.specs.View.{view};
 ghost use Rattle.source_notes.specs.Lines.{texts_of};
 
 use crate::paint::{Paint, paints_of};
-use json_values::Object;
-use lsp_messages::ValueList;
+use json_values::{Object, ValueList};
 use model::Profile;
 use serde_json::Value;
 use std::alloc::{AllocError, Global};

@@ -1,5 +1,5 @@
--- Why no message is taken where no bytes are read.
-use Rattle.std.proofs.Common.{List, Option, ℕ}
+-- Bytes that are read, and why no message is taken where none are.
+use Rattle.std.proofs.Common.{◌≡◌, ◌∙◌, ◌++◌, List, Option, ap, append_assoc, ℕ}
 use Rattle.message_stream.specs.Taken.{IsUnread, IsUntaken}
 use Rattle.message_stream.specs.declared.fault.StreamFault.{StreamFault}
 use Rattle.message_stream.specs.declared.fault.StreamFault.TheVariants as fault
@@ -11,3 +11,7 @@ untaken bytes left fault.Cut h = absurd h
 untaken bytes left fault.Read h = h
 untaken bytes left fault.Write h = h
 untaken bytes left fault.OutOfMemory h = h
+
+-- More bytes stand behind those that were read so far.
+pub grown : (first held kept new told more : List ℕ) → held ≡ first ++ told → kept ≡ held → new ≡ kept ++ more → new ≡ first ++ (told ++ more)
+grown first held kept new told more so_far same read = read ∙ ap (λ (bytes : List ℕ). bytes ++ more) (same ∙ so_far) ∙ append_assoc first told more

@@ -1,11 +1,11 @@
 //! Messages taken from a reader.
 
-ghost use Rattle.std.specs.Prelude.{◌≡◌, ◌++◌, [], ℕ, IfErr, IfOk, List, MatchOption, MatchResult};
-ghost use Rattle.std.specs.Prelude.{OnErr, OnOk, drop, false, take};
+ghost use Rattle.std.specs.Prelude.{◌≡◌, ◌++◌, [], ℕ, IfErr, IfOk, IfSome, List, MatchOption};
+ghost use Rattle.std.specs.Prelude.{MatchResult, None, OnErr, OnOk, Option, drop, false, take};
 ghost use Rattle.std.specs.Io.KnownBytes.{Consumes, IsAtEnd, Keeps};
 ghost use Rattle.message_stream.specs.Messages.{IsFront, front_of};
 ghost use Rattle.message_stream.specs.Taken.{IsOver, IsUnread, IsUntaken};
-ghost use Rattle.message_stream.specs.declared.front.Front.TheVariants.{Message};
+ghost use Rattle.message_stream.specs.declared.front.Front.TheVariants.{Message, Open};
 
 use crate::fault::StreamFault;
 use crate::front::{Front, front_of};
@@ -60,6 +60,38 @@ impl Incoming {
         Ok(body)
     }
 
+    /// Takes the message in front and returns its body, or why none is taken. Returns nothing if
+    /// no whole message stands in front so far.
+    fn take_front(&mut self, alloc: Global) -> Option<Result<Option<Vec<u8>>, StreamFault>>
+        ensures more { result ≡ None → (front_of self.old ≡ Open) × (self.new ≡ self.old) }
+        ensures taken { (left : Option (List ℕ)) → IfSome result (λ taken. MatchResult taken
+            (λ found. MatchOption found (IsOver self.old left)
+            (λ body. IsFront self.old body.items self.new)) (IsUntaken self.old left)) }
+    {
+        match front_of(self.held.as_slice()) {
+            Front::Message { start, end } => match self.take(alloc, start, end) {
+                Ok(body) => Some(Ok(Some(body))),
+                Err(_) => Some(Err(StreamFault::OutOfMemory)),
+            },
+            Front::Open => None,
+            Front::NoLength => Some(Err(StreamFault::NoLength)),
+            Front::LongHeader => Some(Err(StreamFault::LongHeader)),
+        }
+    }
+
+    /// Returns no message where the stream ends, or that it ends within one.
+    fn ended(&self) -> Result<Option<Vec<u8>>, StreamFault>
+        requires { front_of self.now ≡ Open }
+        ensures { (left : Option (List ℕ)) → IsAtEnd left → MatchResult result
+            (λ found. MatchOption found (IsOver self.now left)
+            (λ body. IsFront self.now body.items self.now)) (IsUntaken self.now left) }
+    {
+        if self.held.is_empty() {
+            return Ok(None);
+        }
+        Err(StreamFault::Cut)
+    }
+
     /// Reads some bytes, and returns whether there were any.
     fn fill<R: Read>(&mut self, reader: &mut R) -> Result<bool, StreamFault>
         ensures read { (told : List ℕ)
@@ -106,21 +138,13 @@ impl Incoming {
             (IsUntaken (self.old ++ told) (R.remaining reader.new)) }
     {
         for _ in 0..u64::MAX {
-            match front_of(self.held.as_slice()) {
-                Front::Message { start, end } => {
-                    return match self.take(alloc, start, end) {
-                        Ok(body) => Ok(Some(body)),
-                        Err(_) => Err(StreamFault::OutOfMemory),
-                    };
-                }
-                Front::NoLength => return Err(StreamFault::NoLength),
-                Front::LongHeader => return Err(StreamFault::LongHeader),
-                Front::Open => {}
+            match self.take_front(alloc) {
+                Some(taken) => return taken,
+                None => {}
             }
             match self.fill(reader) {
                 Ok(true) => {}
-                Ok(false) if self.held.is_empty() => return Ok(None),
-                Ok(false) => return Err(StreamFault::Cut),
+                Ok(false) => return self.ended(),
                 Err(fault) => return Err(fault),
             }
         }

@@ -2,8 +2,8 @@ use Rattle.std.proofs.Common.{List, arith, subst, sym, ℕ}
 use Rattle.std.proofs.lemmas.Simd.{map-map}
 use Rattle.std.specs.Borrow.{Bor}
 use Rattle.json_values.specs.Values.{word}
-use Rattle.lsp_messages.proofs.Lists.{all_values, next_value}
-use Rattle.lsp_messages.specs.ValueLists.{HasValues}
+use Rattle.json_values.proofs.Lists.{all_values, next_value}
+use Rattle.json_values.specs.ValueLists.{HasValues}
 use Rattle.serde_json.specs.Data.{Data}
 use Rattle.lsp.proofs.capabilities.words.Goals as goal
 

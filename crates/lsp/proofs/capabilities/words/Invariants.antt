@@ -1,6 +1,6 @@
 use Rattle.std.proofs.Common.{map, take}
 use Rattle.json_values.specs.Values.{word}
-use Rattle.lsp_messages.specs.ValueLists.{HasValues}
+use Rattle.json_values.specs.ValueLists.{HasValues}
 use Rattle.lsp.proofs.capabilities.words.Given as goal
 
 abbrev pub invariant-loop-text : goal.invariant-loop-text

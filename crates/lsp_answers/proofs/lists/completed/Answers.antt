@@ -1,7 +1,7 @@
 use Rattle.std.proofs.Common.{◌++◌, [], List, ap, map, subst}
 use Rattle.lsp_answers.specs.Lists.{mnemonic_item, name_item}
 use Rattle.lsp_answers.specs.Written.{directive_items}
-use Rattle.lsp_messages.specs.ValueLists.{HasValues}
+use Rattle.json_values.specs.ValueLists.{HasValues}
 use Rattle.model.specs.declared.instruction.Mnemonic.{Mnemonic}
 use Rattle.name_uses.specs.Views.{use_views}
 use Rattle.serde_json.specs.Data.{Data}

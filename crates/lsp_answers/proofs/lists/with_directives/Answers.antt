@@ -1,6 +1,6 @@
 use Rattle.std.proofs.Common.{◌∷◌, ◌++◌, [], List, append_assoc, subst}
-use Rattle.lsp_messages.specs.ValueLists.{HasValues}
-use Rattle.lsp_messages.specs.declared.value_list.ValueList.{ValueList}
+use Rattle.json_values.specs.ValueLists.{HasValues}
+use Rattle.json_values.specs.declared.value_list.ValueList.{ValueList}
 use Rattle.serde_json.specs.Data.{Data}
 use Rattle.lsp_answers.proofs.lists.with_directives.Goals as goal
 

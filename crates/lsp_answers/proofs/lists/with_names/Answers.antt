@@ -2,7 +2,7 @@ use Rattle.std.proofs.Common.{◌++◌, List, arith, subst, sym}
 use Rattle.std.proofs.lemmas.Simd.{map-map}
 use Rattle.lsp_answers.proofs.Behind.{all_behind, next_behind, none_behind}
 use Rattle.lsp_answers.specs.Lists.{name_item}
-use Rattle.lsp_messages.specs.ValueLists.{HasValues}
+use Rattle.json_values.specs.ValueLists.{HasValues}
 use Rattle.name_uses.specs.Views.{use_view}
 use Rattle.name_uses.specs.declared.name_use.NameUse.{NameUse}
 use Rattle.serde_json.specs.Data.{Data}

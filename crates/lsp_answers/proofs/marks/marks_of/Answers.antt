@@ -1,8 +1,8 @@
 use Rattle.std.proofs.Common.{[], ◌∷◌, ◌++◌, arith, map, subst, take}
 use Rattle.lsp_answers.specs.Marks.{mark_of}
 use Rattle.lsp_answers.specs.Texts.{text_view}
-use Rattle.lsp_messages.proofs.Lists.{all_values, next_value}
-use Rattle.lsp_messages.specs.ValueLists.{HasValues}
+use Rattle.json_values.proofs.Lists.{all_values, next_value}
+use Rattle.json_values.specs.ValueLists.{HasValues}
 use Rattle.source_diagnostics.specs.declared.kinds.Diagnostic.{Diagnostic}
 use Rattle.lsp_answers.proofs.marks.marks_of.Goals as goal
 

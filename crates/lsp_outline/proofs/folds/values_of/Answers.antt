@@ -1,5 +1,5 @@
 use Rattle.std.proofs.Common.{arith}
-use Rattle.lsp_messages.proofs.Lists.{all_values, next_value}
+use Rattle.json_values.proofs.Lists.{all_values, next_value}
 use Rattle.lsp_outline.specs.Folds.{fold_data}
 use Rattle.lsp_outline.proofs.folds.values_of.Goals as goal
 

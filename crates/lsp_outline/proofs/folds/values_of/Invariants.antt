@@ -1,5 +1,5 @@
 use Rattle.std.proofs.Common.{map, take}
-use Rattle.lsp_messages.specs.ValueLists.{HasValues}
+use Rattle.json_values.specs.ValueLists.{HasValues}
 use Rattle.lsp_outline.specs.Folds.{fold_data}
 use Rattle.lsp_outline.proofs.folds.values_of.Given as goal
 

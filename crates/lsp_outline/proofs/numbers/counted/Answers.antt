@@ -1,5 +1,5 @@
 use Rattle.std.proofs.Common.{[], List, arith, refl, subst}
-use Rattle.lsp_messages.specs.ValueLists.{HasValues}
+use Rattle.json_values.specs.ValueLists.{HasValues}
 use Rattle.lsp_outline.proofs.Gathered.{gathered, gathered_all}
 use Rattle.lsp_outline.proofs.PaintSteps.{paint_next, paints_end}
 use Rattle.serde_json.specs.Data.{Data}

@@ -1,6 +1,6 @@
 use Rattle.std.proofs.Common.{◌∷◌, ◌++◌, [], List, append_assoc, rules, subst}
-use Rattle.lsp_messages.specs.ValueLists.{HasValues}
-use Rattle.lsp_messages.specs.declared.value_list.ValueList.{ValueList}
+use Rattle.json_values.specs.ValueLists.{HasValues}
+use Rattle.json_values.specs.declared.value_list.ValueList.{ValueList}
 use Rattle.serde_json.specs.Data.{Data}
 use Rattle.lsp_outline.proofs.numbers.with_paint.Goals as goal
 

@@ -8,8 +8,8 @@ use Rattle.serde_json.specs.View.{view}
 use Rattle.serde_json.specs.declared.value.Value.{Value, Array}
 use Rattle.serde_json.proofs.Views.{view-Array}
 use Rattle.json_values.specs.Values.{list_of}
-use Rattle.lsp_messages.specs.ValueLists.{HasValues}
-use Rattle.lsp_messages.specs.declared.value_list.ValueList.{ValueList}
+use Rattle.json_values.specs.ValueLists.{HasValues}
+use Rattle.json_values.specs.declared.value_list.ValueList.{ValueList}
 
 module _ {A : Type 0} (g : A → Data) where
   -- one more

@@ -1,6 +1,6 @@
 -- A list that is made one value after another.
 use Rattle.std.specs.Prelude.{◌≡◌, IfOk, List, map}
-use Rattle.lsp_messages.specs.declared.value_list.ValueList.{ValueList}
+use Rattle.json_values.specs.declared.value_list.ValueList.{ValueList}
 use Rattle.serde_json.specs.Data.{Data}
 use Rattle.serde_json.specs.View.{view}
 

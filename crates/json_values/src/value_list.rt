@@ -30,7 +30,7 @@ pub struct ValueList {
 impl ValueList {
     ghost use Rattle.std.specs.Prelude.{◌++◌, ◌∷◌, [], List};
     ghost use Rattle.json_values.specs.Values.{list_of};
-    ghost use Rattle.lsp_messages.specs.ValueLists.{HasValues};
+    ghost use Rattle.json_values.specs.ValueLists.{HasValues};
 
     /// Begins with no value.
     pub fn new(alloc: Global) -> ValueList
