@@ -1,16 +1,12 @@
 -- Lines one after another, and breakpoints that are told one after another.
-use Rattle.std.proofs.Common.{◌≡◌, ◌∙◌, ℕ, zero, suc, ◌+◌, ◌<◌, ◌≤◌, Bool, true, false, if◌then◌else◌, List, [], ◌∷◌, ◌++◌, length, drop, Option, Some, None, map, take, get_or, refl, sym, ap, add-one, append-nil}
+use Rattle.std.proofs.Common.{◌≡◌, ◌∙◌, ℕ, zero, suc, ◌+◌, ◌≤◌, Bool, true, false, if◌then◌else◌, List, [], ◌∷◌, ◌++◌, length, drop, Option, Some, None, refl, sym, ap, add-one, append-nil}
 use Rattle.std.proofs.lemmas.Grind.{flat_map-append}
-use Rattle.std.proofs.lemmas.List.{drop_all, map-append, take_all, take_more}
+use Rattle.std.proofs.lemmas.List.{drop_all}
 use Rattle.std.specs.Option.{option_to_list}
 use Rattle.std.specs.Prelude.{slice_get}
 use Rattle.assembler.specs.Lines.{LineView}
 use Rattle.dap_breaks.specs.Wanted.{first_row, has_bytes, row_with, told_addresses}
 use Rattle.dap_breaks.specs.declared.wanted.Wanted.{Wanted}
-use Rattle.dap_messages.specs.Answers.{breakpoints_body}
-use Rattle.serde_json.specs.Data.{Data}
-use Rattle.serde_json.specs.View.{view}
-use Rattle.serde_json.specs.declared.value.Value.{Value}
 
 -- ---- lines
 
@@ -56,14 +52,3 @@ unset_more told wanted none = told_more told wanted ∙ ap (λ (o : Option ℕ).
 
 pub set_more : (told : List Wanted) (wanted : Wanted) (address : ℕ) → wanted.address ≡ Some address → told_addresses (told ++ wanted ∷ []) ≡ told_addresses told ++ address ∷ []
 set_more told wanted address some = told_more told wanted ∙ ap (λ (o : Option ℕ). told_addresses told ++ option_to_list o) some
-
--- ---- answers one after another
-
-pub answered_more : (f : Wanted → Data) (all : List Wanted) (i : ℕ) (w : Wanted) (found new : List Value) (v : Value) → i < length all → view v ≡ f (get_or all i w) → new ≡ found ++ v ∷ []
-    → map view found ≡ map f (take i all) → map view new ≡ map f (take (i + 1) all)
-answered_more f all i w found new v within is put so_far =
-    ap (map view) put ∙ map-append view found (v ∷ []) ∙ ap (λ (ds : List Data). ds ++ view v ∷ []) so_far ∙ ap (λ (d : Data). map f (take i all) ++ d ∷ []) is
-    ∙ sym (map-append f (take i all) (get_or all i w ∷ [])) ∙ sym (ap (map f) (take_more all i w within))
-
-pub answered_all : (f : Wanted → Data) (all : List Wanted) (i : ℕ) (found : List Data) (v : Data) → length all ≤ i → found ≡ map f (take i all) → v ≡ breakpoints_body found → v ≡ breakpoints_body (map f all)
-answered_all f all i found v over so_far is = is ∙ ap breakpoints_body (so_far ∙ ap (map f) (take_all i all over))

@@ -1,11 +1,9 @@
 -- Watches set and cleared one after another.
-use Rattle.std.proofs.Common.{◌≡◌, ◌∙◌, ℕ, ◌+◌, ◌<◌, ◌≤◌, List, [], ◌∷◌, ◌++◌, length, get_or, drop, map, take, refl, sym, ap, add-one, arith, append_assoc, append-nil, drop-cons}
+use Rattle.std.proofs.Common.{◌≡◌, ◌∙◌, ℕ, ◌+◌, ◌<◌, ◌≤◌, List, [], ◌∷◌, ◌++◌, length, get_or, drop, map, sym, ap, add-one, arith, append_assoc, append-nil, drop-cons}
 use Rattle.std.proofs.lemmas.Grind.{common_steps}
-use Rattle.std.proofs.lemmas.List.{map-append, take_more}
 use Rattle.dap_breaks.specs.Watches.{Watched, all_unset, unset, watches_in, watches_of, with_all, with_one}
 use Rattle.model.specs.Session.{Session}
 use Rattle.mon_stops.specs.declared.watches.Watch.{Watch}
-use Rattle.serde_json.specs.Data.{Data}
 use Rattle.serde_json.specs.View.{view}
 use Rattle.serde_json.specs.declared.value.Value.{Value}
 
@@ -41,13 +39,3 @@ each_more watches i w h p =
 pub each_none : (watches : List Watch) (i : ℕ) → length watches ≤ i → (p : Watched) → with_all (drop i watches) p ≡ p
 each_none watches i h p =
     let e : drop i watches ≡ [] = grind (arith, common_steps) in ap (λ (l : List Watch). with_all l p) e
-
--- ---- answers one after another
-
-pub told_more : (f : Data → Data) (all : List Value) (i : ℕ) (w : Value) (found new : List Value) (v : Value) → i < length all → view v ≡ f (view (get_or all i w)) → new ≡ found ++ v ∷ []
-    → map view found ≡ map f (map view (take i all)) → map view new ≡ map f (map view (take (i + 1) all))
-told_more f all i w found new v within is put so_far =
-    let front = map view (take i all) in
-    ap (map view) put ∙ map-append view found (v ∷ []) ∙ ap (λ (ds : List Data). ds ++ view v ∷ []) so_far ∙ ap (λ (d : Data). map f front ++ d ∷ []) is
-    ∙ sym (map-append f front (view (get_or all i w) ∷ [])) ∙ sym (ap (map f) (map-append view (take i all) (get_or all i w ∷ [])))
-    ∙ sym (ap (λ (vs : List Value). map f (map view vs)) (take_more all i w within))

@@ -1,6 +1,7 @@
 //! Requests that list breakpoints: each replaces those of the one before.
 
-ghost use Rattle.std.specs.Prelude.{◌≡◌, [], IfOk, OnOk, codes, map as each, option_map};
+ghost use Rattle.std.specs.Prelude.{◌≡◌, [], IfOk, List as ListOf, OnOk, codes};
+ghost use Rattle.std.specs.Prelude.{map as each, option_map};
 ghost use Rattle.dap_breaks.specs.Answered.{IsAnswer, answer_of};
 ghost use Rattle.dap_breaks.specs.Breaks.{SetsBreaks, SetsSourceBreaks};
 ghost use Rattle.dap_desk.specs.Breaks.{KeepsEvents, place_of};
@@ -8,16 +9,17 @@ ghost use Rattle.dap_breaks.specs.Targets.{row_in};
 ghost use Rattle.dap_breaks.specs.Wanted.{Matches, addresses};
 ghost use Rattle.dap_messages.specs.Answers.{breakpoints_body};
 ghost use Rattle.dap_breaks.specs.Watches.{items_at};
+ghost use Rattle.json_values.specs.ValueLists.{HasValues};
+ghost use Rattle.serde_json.specs.Data.{Data};
 ghost use Rattle.serde_json.specs.View.{items_view, view};
 
 use crate::wanted::{List, Wanted, push_at, push_unset, row_from, unset};
 use arguments::is_one_file;
 use dap_desk::{is_break, replace};
 use dap_messages::{
-    Counting, Listed, Source, breakpoint_set, breakpoint_unset, breakpoints_body, data_unwatched,
-    place_at,
+    Counting, Listed, Source, breakpoint_set, breakpoint_unset, data_unwatched, place_at,
 };
-use json_values::text_at;
+use json_values::{Object, ValueList, text_at};
 use mon_runs::Session;
 use mon_session::Desk;
 use mon_stops::Break;
@@ -165,6 +167,16 @@ fn answer(
     }
 }
 
+/// Returns the answer that tells of some breakpoints. The only error is that memory ran out.
+pub fn told_body(alloc: Global, list: ValueList) -> Result<Value, AllocError>
+    ensures { (ds : ListOf Data) → HasValues ds list
+        → IfOk result (λ v. view v ≡ breakpoints_body ds) }
+{
+    Object::new(alloc)
+        .member("breakpoints", list.build())
+        .build()
+}
+
 /// Returns what is answered of breakpoints.
 fn answers(
     alloc: Global,
@@ -175,22 +187,20 @@ fn answers(
     ensures { IfOk result
         (λ v. view v ≡ breakpoints_body (each (answer_of session.now counting) told.now)) }
 {
-    let mut list = Vec::new(alloc);
+    let mut list = ValueList::new(alloc);
     for wanted in told {
-        let value = answer(alloc, session, counting, wanted)?;
-        list.push(value)?;
+        list = list.with(answer(alloc, session, counting, wanted));
     }
-    breakpoints_body(alloc, list)
+    told_body(alloc, list)
 }
 
 /// Returns what is answered of breakpoints of another source, none of which is set.
 fn answers_elsewhere(alloc: Global, request: &Value) -> Result<Value, AllocError> {
-    let mut list = Vec::new(alloc);
+    let mut list = ValueList::new(alloc);
     for _ in list_of(request) {
-        let value = data_unwatched(alloc, "this is not the source of the session")?;
-        list.push(value)?;
+        list = list.with(data_unwatched(alloc, "this is not the source of the session"));
     }
-    breakpoints_body(alloc, list)
+    told_body(alloc, list)
 }
 
 /// Replaces the breakpoints at some addresses by others, whose addresses are held then.

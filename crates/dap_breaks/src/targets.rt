@@ -1,14 +1,15 @@
 //! The addresses at which a line can be gone to.
 
-ghost use Rattle.std.specs.Prelude.{◌≡◌, IfOk, codes, map as each, option_map};
+ghost use Rattle.std.specs.Prelude.{◌≡◌, IfOk, codes, option_map};
 ghost use Rattle.dap_breaks.specs.Targets.{AreTargets, line_in, targets_of, targets_shown};
+ghost use Rattle.json_values.specs.ValueLists.{HasValues};
 ghost use Rattle.serde_json.specs.Find.{pointer};
 ghost use Rattle.serde_json.specs.View.{view};
 
 use crate::listed::row_in;
 use arguments::is_one_file;
 use dap_messages::{Counting, Source, goto_target, targets_body};
-use json_values::text_at;
+use json_values::{Object, ValueList, text_at};
 use serde_json::Value;
 use std::alloc::{AllocError, Global};
 use std::rt::Files;
@@ -24,19 +25,16 @@ fn line_in(counting: Counting, request: &Value) -> u32
 }
 
 /// Returns a line with its address, if there is one, as what can be gone to.
-fn targets_of(
-    alloc: Global,
-    counting: Counting,
-    row: Option<(u32, u16)>,
-) -> Result<Vec<Value>, AllocError>
-    ensures { IfOk result (λ list. each view list.items ≡ targets_of counting row) }
+fn targets_of(alloc: Global, counting: Counting, row: Option<(u32, u16)>) -> ValueList
+    ensures { HasValues (targets_of counting row) result }
 {
-    let mut list = Vec::new(alloc);
-    if let Some((line, address)) = row {
-        let value = goto_target(alloc, address, counting.shown_line(line))?;
-        list.push(value)?;
+    let list = ValueList::new(alloc);
+    match row {
+        Some((line, address)) => {
+            list.with(goto_target(alloc, address, counting.shown_line(line)))
+        }
+        None => list,
     }
-    Ok(list)
 }
 
 /// Returns what can be gone to in the source of the session.
@@ -45,8 +43,8 @@ fn own_targets(alloc: Global, source: &Source<'_>, request: &Value) -> Result<Va
         (option_map (λ a. a.now) source.now.assembly) (view request.now)) }
 {
     let row = row_in(source, line_in(source.counting, request));
-    let list = targets_of(alloc, source.counting, row)?;
-    targets_body(alloc, list)
+    let list = targets_of(alloc, source.counting, row);
+    Object::new(alloc).member("targets", list.build()).build()
 }
 
 /// Returns the addresses at which the line that a request names can be gone to: that of the first

@@ -9,12 +9,10 @@ ghost use Rattle.dap_breaks.specs.Watches.{watched_of, watches_in, watches_named
 ghost use Rattle.dap_breaks.specs.Watches.{with_all, with_one};
 ghost use Rattle.serde_json.specs.View.{view};
 
-use crate::listed::list_of;
-use dap_messages::{
-    Listed, breakpoints_body, data_at, data_unwatched, data_watched, no_data, place_at,
-};
+use crate::listed::{list_of, told_body};
+use dap_messages::{Listed, data_at, data_unwatched, data_watched, no_data, place_at};
 use dap_views::place_named;
-use json_values::{number_at, text_at, text_or};
+use json_values::{ValueList, number_at, text_at, text_or};
 use mon_lines::{Stretch, WatchKind};
 use mon_runs::Session;
 use mon_session::Desk;
@@ -183,14 +181,15 @@ fn set_each(desk: &mut Desk, watches: &[Watch]) -> Result<(), AllocError>
     Ok(())
 }
 
-/// Replaces all watches by others. Those that cannot be set are not.
-fn replace_watches(desk: &mut Desk, watches: &[Watch]) -> Result<(), AllocError>
+/// Replaces all watches by those that a client wants. Those that cannot be set are not.
+fn replace_watches(alloc: Global, desk: &mut Desk, listed: &[Value]) -> Result<(), AllocError>
     ensures watched { OnOk result (watched_of desk.new
-        ≡ with_all watches.now (none_watched (watched_of desk.old))) }
+        ≡ with_all (watches_in (each view listed.now)) (none_watched (watched_of desk.old))) }
     ensures kept { KeepsBreaks desk.old desk.new }
 {
+    let watches = watches_in(alloc, listed)?;
     clear_watches(desk);
-    set_each(desk, watches)
+    set_each(desk, watches.as_slice())
 }
 
 /// Returns whether a byte is watched for an access.
@@ -228,12 +227,11 @@ fn all_told(alloc: Global, stops: &Stops, listed: &[Value]) -> Result<Value, All
     ensures { IfOk result (λ v. view v ≡ breakpoints_body
         (each (told_of stops.now.watches.items) (each view listed.now))) }
 {
-    let mut list = Vec::new(alloc);
+    let mut list = ValueList::new(alloc);
     for wanted in listed {
-        let value = told(alloc, stops, wanted)?;
-        list.push(value)?;
+        list = list.with(told(alloc, stops, wanted));
     }
-    breakpoints_body(alloc, list)
+    told_body(alloc, list)
 }
 
 /// Watches the bytes that a request lists, in place of all that were watched, and returns what is
@@ -255,8 +253,7 @@ pub fn set_data(
         (λ v. TellsWatches (view request.now) desk.new.stops.watches.items (view v)) }
 {
     let wanted = list_of(request);
-    let watches = watches_in(alloc, wanted)?;
-    replace_watches(desk, watches.as_slice())?;
+    replace_watches(alloc, desk, wanted)?;
     desk.text.clear();
     listed.data_request = Some(request.clone()?);
     let body = all_told(alloc, &desk.stops, wanted)?;

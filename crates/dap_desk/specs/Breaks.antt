@@ -4,7 +4,7 @@ use Rattle.model.specs.Breakpoints.{break_set}
 use Rattle.mon_runs.specs.Goals.{without_break}
 use Rattle.mon_runs.specs.Looked.{Place}
 use Rattle.mon_session.specs.declared.desk.Desk.{Desk}
-use Rattle.mon_settings.specs.StopLines.{is_set, or_same, with_break}
+use Rattle.mon_stops.specs.Breaks.{is_set, or_same, with_break}
 use Rattle.mon_stops.specs.Stops.{without}
 use Rattle.mon_stops.specs.declared.breaks.Break.{Break}
 

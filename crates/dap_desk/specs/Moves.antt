@@ -7,7 +7,9 @@ use Rattle.mon_runs.specs.Goals.{opcode_at_pc}
 use Rattle.mon_session.specs.Course.{Course, course_of}
 use Rattle.mon_session.specs.declared.desk.Desk.{Desk}
 use Rattle.mon_steps.specs.BackLines.{undone, undone_by_watches, undone_over}
-use Rattle.mon_steps.specs.RunLines.{Stand, called, ran, ran_by, returned, stand_of, watches_of}
+pub use Rattle.mon_steps.specs.RunLines.{KeepsWatches, Stand, stand_of}
+pub use Rattle.mon_steps.specs.declared.wording.TheConstants.{NO_STOP}
+use Rattle.mon_steps.specs.RunLines.{called, ran, ran_by, returned, watches_of}
 
 -- A JSR as one step, or one step.
 abbrev pub stepped_over : Desk → Stand

@@ -3,30 +3,13 @@
 ghost use Rattle.std.specs.Prelude.{◌≡◌, None, nat_eq, slice_get};
 ghost use Rattle.std.specs.List.{list_any};
 ghost use Rattle.dap_desk.specs.Halts.{back_reason, fault_of, reason_of, run_reason};
-ghost use Rattle.dap_desk.specs.Halts.{stop_reason, stopped_fault, stopped_reason};
+ghost use Rattle.dap_desk.specs.Halts.{stop_reason};
 ghost use Rattle.mon_steps.specs.BackTexts.{is_this};
 
 use dap_messages::{Halt, Reason, stand_by};
 use mon_runs::{EndWhy, Session, Why};
 use mon_session::Desk;
 use mon_steps::wording::{NO_HANDLER, NO_STOP, RETURNED, STUCK, WAITS};
-
-/// Returns why a run of the session has ended.
-fn stopped(why: Why) -> Halt
-    ensures reason { result.reason ≡ stopped_reason why }
-    ensures fault { result.fault ≡ stopped_fault why }
-{
-    match why {
-        Why::Break(_) => stand_by(Reason::Breakpoint, "a break"),
-        Why::Watch(_) => stand_by(Reason::DataBreakpoint, "a watched byte has changed"),
-        Why::Limit => stand_by(Reason::Step, "step"),
-        Why::Refused(fault) => Halt {
-            reason: Reason::Exception,
-            words: "a step is refused",
-            fault: Some(fault),
-        },
-    }
-}
 
 /// Returns why steps have ended.
 pub fn step_halt(why: EndWhy) -> Halt
@@ -35,7 +18,16 @@ pub fn step_halt(why: EndWhy) -> Halt
 {
     match why {
         EndWhy::Met => stand_by(Reason::Step, RETURNED),
-        EndWhy::Stopped(why) => stopped(why),
+        EndWhy::Stopped(Why::Break(_)) => stand_by(Reason::Breakpoint, "a break"),
+        EndWhy::Stopped(Why::Watch(_)) => {
+            stand_by(Reason::DataBreakpoint, "a watched byte has changed")
+        }
+        EndWhy::Stopped(Why::Limit) => stand_by(Reason::Step, "step"),
+        EndWhy::Stopped(Why::Refused(fault)) => Halt {
+            reason: Reason::Exception,
+            words: "a step is refused",
+            fault: Some(fault),
+        },
         EndWhy::Many => stand_by(Reason::Pause, NO_STOP),
         EndWhy::Read(_) => stand_by(Reason::DataBreakpoint, "a watched byte was read"),
         EndWhy::Written(_) => stand_by(Reason::DataBreakpoint, "a watched byte was written"),

@@ -1,10 +1,10 @@
 //! Moves of the machine.
 
-ghost use Rattle.std.specs.Prelude.{◌≡◌, ◌≤◌, length};
+ghost use Rattle.std.specs.Prelude.{◌≡◌};
 ghost use Rattle.dap_desk.specs.Moves.{moved, stepped_over};
 ghost use Rattle.mon_session.specs.Course.{KeepsStops, course_of};
-ghost use Rattle.mon_steps.specs.BackLines.{undone, undone_by_watches, undone_over, undone_to_stop};
-ghost use Rattle.mon_steps.specs.RunLines.{KeepsWatches, called, ran, ran_by, ran_on, returned};
+ghost use Rattle.mon_steps.specs.BackLines.{undone, undone_by_watches, undone_over};
+ghost use Rattle.mon_steps.specs.RunLines.{KeepsWatches, ran, ran_by, returned};
 ghost use Rattle.mon_steps.specs.RunLines.{stand_of, watches_of};
 
 use crate::halts::{back_halt, run_halt, step_halt, stop_halt};
@@ -22,28 +22,6 @@ fn make_steps(desk: &mut Desk, count: u32) -> Ended
     ensures text { desk.new.text ≡ desk.old.text }
 {
     let end = run(&mut desk.session, &mut desk.stops, count);
-    desk.events.note_steps(end.did);
-    end
-}
-
-/// Runs to a stop, and notes the steps.
-fn make_run(desk: &mut Desk) -> Ended
-    ensures stand { stand_of desk.new ≡ ran_on (watches_of desk.old) (stand_of desk.old) }
-    ensures watches { KeepsWatches desk.old desk.new }
-    ensures text { desk.new.text ≡ desk.old.text }
-{
-    let end = go(&mut desk.session, &mut desk.stops);
-    desk.events.note_steps(end.did);
-    end
-}
-
-/// Makes a JSR as one step, and notes its steps.
-fn make_call(desk: &mut Desk) -> Ended
-    ensures stand { stand_of desk.new ≡ called (watches_of desk.old) (stand_of desk.old) }
-    ensures watches { KeepsWatches desk.old desk.new }
-    ensures text { desk.new.text ≡ desk.old.text }
-{
-    let end = over(&mut desk.session, &mut desk.stops);
     desk.events.note_steps(end.did);
     end
 }
@@ -66,7 +44,9 @@ fn step_over(desk: &mut Desk) -> Ended
     ensures text { desk.new.text ≡ desk.old.text }
 {
     if desk.session.peek(desk.session.regs().pc) == JSR {
-        make_call(desk)
+        let end = over(&mut desk.session, &mut desk.stops);
+        desk.events.note_steps(end.did);
+        end
     } else {
         make_steps(desk, 1)
     }
@@ -80,7 +60,11 @@ fn go_on(desk: &mut Desk, steps: Option<u32>) -> Ended
 {
     match steps {
         Some(count) => make_steps(desk, count),
-        None => make_run(desk),
+        None => {
+            let end = go(&mut desk.session, &mut desk.stops);
+            desk.events.note_steps(end.did);
+            end
+        }
     }
 }
 
@@ -105,18 +89,6 @@ fn back_by_one(desk: &mut Desk)
     }
 }
 
-/// Goes back to the last stop, or to the oldest state held.
-fn go_to_stop(desk: &mut Desk)
-    requires { length desk.old.stops.changes.items ≤ 256 }
-    ensures course { course_of desk.new
-        ≡ undone_to_stop desk.old.stops (course_of desk.old) }
-    ensures stops { KeepsStops desk.old desk.new }
-    ensures text { desk.new.text ≡ desk.old.text }
-{
-    let count = back_to_stop(&mut desk.session, &desk.stops);
-    desk.events.note_undone(count);
-}
-
 /// Goes back to the last stop, or to the oldest state held, if at most 256 bytes are watched.
 fn back_on(desk: &mut Desk)
     ensures course { course_of desk.new
@@ -125,7 +97,8 @@ fn back_on(desk: &mut Desk)
     ensures text { desk.new.text ≡ desk.old.text }
 {
     if desk.stops.changes.len() <= 256 {
-        go_to_stop(desk);
+        let count = back_to_stop(&mut desk.session, &desk.stops);
+        desk.events.note_undone(count);
     }
 }
 

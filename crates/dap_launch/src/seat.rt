@@ -118,8 +118,9 @@ fn add_names<H: Files + AllocGlobal>(
     };
     match load_names(rt, &options.words(), path.as_str()) {
         Ok(names) => {
-            places.add_names(rt.alloc(), &names)?;
-            Ok(())
+            let added = places.add_names(rt.alloc(), &names);
+            drop(names);
+            Ok(added?)
         }
         Err(refusal) => { Err(unloaded(rt.alloc(), LoadFault::Refused(refusal), path.as_str())) }
     }
@@ -145,12 +146,7 @@ fn known_places<H: Files + AllocGlobal>(
 }
 
 /// Returns the seat of a session at which no request was served.
-fn seat_on(
-    alloc: Global,
-    options: Options,
-    loaded: Loaded,
-    places: Places,
-) -> Result<Seat, AllocError>
+fn seat_on(alloc: Global, options: Options, loaded: Loaded, places: Places) -> Result<Seat, Fault>
     ensures { IfOk result (IsSeated options loaded.session loaded.assembly places) }
 {
     let Loaded {
@@ -169,10 +165,10 @@ fn seat_on(
                 words: String::new(alloc),
             },
         }),
-        Err(error) => {
+        Err(_) => {
             drop(options);
             drop(assembly);
-            Err(error)
+            Err(Fault::OutOfMemory)
         }
     }
 }
@@ -185,10 +181,7 @@ fn begin_on<H: Files + AllocGlobal>(rt: &H, options: Options, loaded: Loaded) ->
         × IsSeated options loaded.session loaded.assembly known seat) }
 {
     match known_places(rt, &options, &loaded.assembly) {
-        Ok(places) => {
-            let seat = seat_on(rt.alloc(), options, loaded, places)?;
-            Ok(seat)
-        }
+        Ok(places) => seat_on(rt.alloc(), options, loaded, places),
         Err(fault) => {
             drop(options);
             drop(loaded);
@@ -204,10 +197,7 @@ pub fn begin<H: Files + AllocGlobal>(rt: &H, options: Options) -> Result<Seat, F
     ensures { IfOk result (IsBegun options) }
 {
     match load_with_history(rt, &options.words(), options.history) {
-        Ok(loaded) => {
-            let seat = begin_on(rt, options, loaded)?;
-            Ok(seat)
-        }
+        Ok(loaded) => begin_on(rt, options, loaded),
         Err(fault) => Err(unloaded(rt.alloc(), fault, options.file.as_str())),
     }
 }
@@ -220,6 +210,5 @@ pub fn begin_again<H: Files + AllocGlobal>(rt: &H, seat: &Seat) -> Result<Seat, 
         × IsBegun options begun) }
 {
     let options = seat.options.again(rt.alloc())?;
-    let begun = begin(rt, options)?;
-    Ok(begun)
+    begin(rt, options)
 }

@@ -1,6 +1,10 @@
--- Six appended one after another.
-use Rattle.std.proofs.Common.{◌≡◌, ◌∷◌, ◌++◌, [], List, append_assoc}
+-- Six appended one after another, as far as memory did not run out.
+use Rattle.std.proofs.Common.{◌≡◌, ◌∙◌, ◌∷◌, ◌++◌, [], List, ap, append_assoc, subst}
+use Rattle.std.specs.Prelude.{OnOk, Result}
+use Rattle.std.specs.declared.alloc.AllocError.{AllocError}
 use Rattle.serde_json.specs.Data.{Data}
 
-pub six : (m m1 m2 m3 m4 m5 m6 : List Data) (a b c d e f : Data) → m1 ≡ m ++ a ∷ [] → m2 ≡ m1 ++ b ∷ [] → m3 ≡ m2 ++ c ∷ [] → m4 ≡ m3 ++ d ∷ [] → m5 ≡ m4 ++ e ∷ [] → m6 ≡ m5 ++ f ∷ [] → m6 ≡ m ++ a ∷ b ∷ c ∷ d ∷ e ∷ f ∷ []
-six m m1 m2 m3 m4 m5 m6 a b c d e f p1 p2 p3 p4 p5 p6 = rw (p6, p5, p4, p3, p2, p1) (simp append_assoc)
+pub six : (r : Result Unit AllocError) (new m : List Data) (a b c d e f last : Data) → f ≡ last → OnOk r (new ≡ (((((m ++ a ∷ []) ++ b ∷ []) ++ c ∷ []) ++ d ∷ []) ++ e ∷ []) ++ f ∷ []) → OnOk r (new ≡ m ++ a ∷ b ∷ c ∷ d ∷ e ∷ last ∷ [])
+six r new m a b c d e f last same is =
+    let grouped : (((((m ++ a ∷ []) ++ b ∷ []) ++ c ∷ []) ++ d ∷ []) ++ e ∷ []) ++ f ∷ [] ≡ m ++ a ∷ b ∷ c ∷ d ∷ e ∷ f ∷ [] = simp append_assoc in
+    subst (λ (ds : List Data). OnOk r (new ≡ ds)) (grouped ∙ ap (λ (one : Data). m ++ a ∷ b ∷ c ∷ d ∷ e ∷ one ∷ []) same) is

@@ -2,7 +2,7 @@
 use Rattle.std.specs.Prelude.{ℕ, true, false, List, [], ◌∷◌, codes, map}
 use Rattle.json_values.specs.Values.{count, flag, object_of, word}
 use Rattle.dap_messages.specs.Variables.{list_body}
-use Rattle.serde_json.specs.Data.{Data, array, item, no_items, Members, put}
+use Rattle.serde_json.specs.Data.{Data, array, item, no_items}
 
 abbrev pub yes : Data
 yes = flag true
@@ -20,11 +20,6 @@ continued = object_of ((codes "allThreadsContinued", yes) ∷ [])
 -- An object whose members have these names, and are all true.
 abbrev pub all_true : List (List ℕ) → Data
 all_true names = object_of (map (λ name. (name, yes)) names)
-
--- Members of these names, all true, are put into an object.
-abbrev pub put_true : List (List ℕ) → Members → Members
-put_true [] ms = ms
-put_true (name ∷ names) ms = put_true names (put name yes ms)
 
 -- What the adapter can do.
 unfoldable pub capabilities : Data

@@ -6,8 +6,8 @@ ghost use Rattle.dap_messages.specs.Answers.{evaluated_body, exception_body, inv
 ghost use Rattle.dap_messages.specs.Answers.{looked_at_body, memory_body, value_set_body, written_body};
 
 use crate::texts::reference;
-use json_values::Object;
-use serde_json::{Value, json};
+use json_values::{Object, ValueList};
+use serde_json::Value;
 use std::alloc::{AllocError, Global};
 
 /// Returns what a line of the console, or a register, is answered by.
@@ -79,5 +79,8 @@ pub fn exception(alloc: Global, words: &str) -> Result<Value, AllocError>
 pub fn invalidated(alloc: Global) -> Result<Value, AllocError>
     ensures { IfOk result (λ v. view v ≡ invalidated_body) }
 {
-    json!(in alloc; {"areas": ["all"]})
+    let areas = ValueList::new(alloc)
+        .with(Value::try_from_str(alloc, "all"))
+        .build();
+    Object::new(alloc).member("areas", areas).build()
 }

@@ -1,77 +1,66 @@
 //! The bodies of answers that say the same whatever the session.
 
-ghost use Rattle.std.specs.Prelude.{◌≡◌, ◌++◌, IfOk, OnOk, map as each};
-ghost use Rattle.serde_json.specs.View.{members_view, view};
-ghost use Rattle.dap_messages.specs.Bodies.{capabilities, continued, nothing, output_body, put_true};
-ghost use Rattle.dap_messages.specs.Bodies.{scope, scopes, stopped_body};
-ghost use Rattle.dap_messages.specs.Bodies.{threads};
+ghost use Rattle.std.specs.Prelude.{◌≡◌, IfOk, map as each};
+ghost use Rattle.serde_json.specs.View.{view};
+ghost use Rattle.dap_messages.specs.Bodies.{capabilities, continued, nothing, output_body, scope};
+ghost use Rattle.dap_messages.specs.Bodies.{scopes, stopped_body, threads};
 ghost use Rattle.dap_messages.specs.Variables.{list_body};
-ghost use Rattle.serde_json.specs.Data.{put};
 
-use json_values::Object;
-use serde_json::{Map, Value, json, put};
+use json_values::{Object, ValueList};
+use serde_json::Value;
 use std::alloc::{AllocError, Global};
-
-/// What the adapter can do, by the protocol's names.
-const ABILITIES: [&str; 17] = [
-    "supportsCompletionsRequest",
-    "supportsConditionalBreakpoints",
-    "supportsConfigurationDoneRequest",
-    "supportsDataBreakpoints",
-    "supportsDisassembleRequest",
-    "supportsEvaluateForHovers",
-    "supportsExceptionInfoRequest",
-    "supportsGotoTargetsRequest",
-    "supportsHitConditionalBreakpoints",
-    "supportsInstructionBreakpoints",
-    "supportsReadMemoryRequest",
-    "supportsRestartRequest",
-    "supportsSetVariable",
-    "supportsStepBack",
-    "supportsSteppingGranularity",
-    "supportsTerminateRequest",
-    "supportsWriteMemoryRequest",
-];
-
-/// Puts members into an object that have these names, and are all true.
-fn put_true(alloc: Global, map: &mut Map<String, Value>, names: &[&str]) -> Result<(), AllocError>
-    ensures { OnOk result (members_view map.new.entries
-        ≡ put_true (each (λ s. s.now) names.now) (members_view map.old.entries)) }
-{
-    for name in names {
-        put(map, alloc, name, Value::Bool(true))?;
-    }
-    Ok(())
-}
 
 /// Returns what the adapter can do.
 pub fn capabilities(alloc: Global) -> Result<Value, AllocError>
     ensures { IfOk result (λ v. view v ≡ capabilities) }
 {
-    let mut map = Map::new(alloc);
-    put_true(alloc, &mut map, &ABILITIES)?;
-    Ok(Value::Object(map))
+    Object::new(alloc)
+        .flag("supportsCompletionsRequest", true)
+        .flag("supportsConditionalBreakpoints", true)
+        .flag("supportsConfigurationDoneRequest", true)
+        .flag("supportsDataBreakpoints", true)
+        .flag("supportsDisassembleRequest", true)
+        .flag("supportsEvaluateForHovers", true)
+        .flag("supportsExceptionInfoRequest", true)
+        .flag("supportsGotoTargetsRequest", true)
+        .flag("supportsHitConditionalBreakpoints", true)
+        .flag("supportsInstructionBreakpoints", true)
+        .flag("supportsReadMemoryRequest", true)
+        .flag("supportsRestartRequest", true)
+        .flag("supportsSetVariable", true)
+        .flag("supportsStepBack", true)
+        .flag("supportsSteppingGranularity", true)
+        .flag("supportsTerminateRequest", true)
+        .flag("supportsWriteMemoryRequest", true)
+        .build()
 }
 
 /// Returns a body with one member, which is a list.
 pub fn list_body(alloc: Global, name: &str, list: Vec<Value>) -> Result<Value, AllocError>
     ensures { IfOk result (λ v. view v ≡ list_body name.now (each view list.items)) }
 {
-    json!(in alloc; {name: Value::Array(list)})
+    Object::new(alloc)
+        .member(name, Ok(Value::Array(list)))
+        .build()
 }
 
 /// Returns a body without members.
 pub fn nothing(alloc: Global) -> Result<Value, AllocError>
     ensures { IfOk result (λ v. view v ≡ nothing) }
 {
-    json!(in alloc; {})
+    Object::new(alloc).build()
 }
 
 /// Returns the one thread.
 pub fn threads(alloc: Global) -> Result<Value, AllocError>
     ensures { IfOk result (λ v. view v ≡ threads) }
 {
-    json!(in alloc; {"threads": [{"id": 1, "name": "6502"}]})
+    let thread = Object::new(alloc)
+        .count("id", 1)
+        .word("name", "6502")
+        .build();
+    let threads = ValueList::new(alloc).with(thread).build();
+    Object::new(alloc).member("threads", threads).build()
 }
 
 /// Returns a scope of a name, by the number that its variables are asked for by.
@@ -85,36 +74,19 @@ fn scope(alloc: Global, name: &str, number: u64) -> Result<Value, AllocError>
         .build()
 }
 
-/// The scopes, each by the number that its variables are asked for by.
-const SCOPES: [(&str, u64); 6] = [
-    ("Registers", 1),
-    ("Flags", 2),
-    ("Symbols", 3),
-    ("Stack", 4),
-    ("Zero page", 5),
-    ("Machine", 6),
-];
-
-/// Appends scopes.
-fn push_scopes(alloc: Global, list: &mut Vec<Value>, rows: &[(&str, u64)]) -> Result<(), AllocError>
-    ensures { OnOk result (each view list.new.items
-        ≡ each view list.old.items ++ each (λ row. scope row.0.now row.1) rows.now) }
-{
-    for (name, number) in rows {
-        let value = scope(alloc, name, *number)?;
-        list.push(value)?;
-    }
-    Ok(())
-}
-
 /// Returns the scopes: registers, flags, symbols, the stack, the zero page and the machine.
-#[tactic(auto, unfolding(crate::specs::Bodies::scopes))]
 pub fn scopes(alloc: Global) -> Result<Value, AllocError>
     ensures { IfOk result (λ v. view v ≡ scopes) }
 {
-    let mut list = Vec::new(alloc);
-    push_scopes(alloc, &mut list, &SCOPES)?;
-    list_body(alloc, "scopes", list)
+    let scopes = ValueList::new(alloc)
+        .with(scope(alloc, "Registers", 1))
+        .with(scope(alloc, "Flags", 2))
+        .with(scope(alloc, "Symbols", 3))
+        .with(scope(alloc, "Stack", 4))
+        .with(scope(alloc, "Zero page", 5))
+        .with(scope(alloc, "Machine", 6))
+        .build();
+    Object::new(alloc).member("scopes", scopes).build()
 }
 
 /// Returns what the event says that the machine has stopped: the reason, and words of why.

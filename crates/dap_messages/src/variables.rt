@@ -1,6 +1,7 @@
 //! The variables of a scope.
 
-ghost use Rattle.std.specs.Prelude.{◌≡◌, ◌++◌, ◌∷◌, [], IfOk, OnOk, codes, map as each};
+ghost use Rattle.std.specs.Prelude.{◌≡◌, ◌++◌, ◌∷◌, [], IfOk, List, OnOk, codes, map as each};
+ghost use Rattle.serde_json.specs.Data.{Data};
 ghost use Rattle.serde_json.specs.View.{view};
 ghost use Rattle.dap_messages.specs.Texts.{address_text};
 ghost use Rattle.dap_messages.specs.Variables.{byte_variable, flag_variable, flags_shown};
@@ -57,11 +58,18 @@ fn push_variable(
     Ok(())
 }
 
-/// Appends a byte.
-fn push_byte(alloc: Global, list: &mut Vec<Value>, name: &str, byte: u8) -> Result<(), AllocError>
-    ensures { OnOk result (each view list.new.items
-        ≡ each view list.old.items ++ byte_variable name.now byte ∷ []) }
+/// Appends a byte, if what was to be appended before was.
+fn push_byte(
+    alloc: Global,
+    list: &mut Vec<Value>,
+    before: Result<(), AllocError>,
+    name: &str,
+    byte: u8,
+) -> Result<(), AllocError>
+    ensures { (ds : List Data) → OnOk before (each view list.old.items ≡ ds)
+        → OnOk result (each view list.new.items ≡ ds ++ byte_variable name.now byte ∷ []) }
 {
+    before?;
     let value = byte_text(alloc, byte)?;
     push_variable(alloc, list, name, value.as_str())
 }
@@ -80,30 +88,27 @@ pub fn push_registers(alloc: Global, list: &mut Vec<Value>, regs: Regs) -> Resul
     ensures { OnOk result (each view list.new.items
         ≡ each view list.old.items ++ registers_shown regs) }
 {
-    push_counter(alloc, list, regs.pc)?;
-    push_byte(alloc, list, "A", regs.a)?;
-    push_byte(alloc, list, "X", regs.x)?;
-    push_byte(alloc, list, "Y", regs.y)?;
-    push_byte(alloc, list, "S", regs.s)?;
-    push_byte(alloc, list, "P", regs.flags.to_byte(false))?;
-    Ok(())
+    let pc = push_counter(alloc, list, regs.pc);
+    let a = push_byte(alloc, list, pc, "A", regs.a);
+    let x = push_byte(alloc, list, a, "X", regs.x);
+    let y = push_byte(alloc, list, x, "Y", regs.y);
+    let s = push_byte(alloc, list, y, "S", regs.s);
+    push_byte(alloc, list, s, "P", regs.flags.to_byte(false))
 }
 
-/// Appends a flag.
+/// Appends a flag, if what was to be appended before was.
 fn push_flag(
     alloc: Global,
     list: &mut Vec<Value>,
+    before: Result<(), AllocError>,
     name: &str,
     is_set: bool,
 ) -> Result<(), AllocError>
-    ensures { OnOk result (each view list.new.items
-        ≡ each view list.old.items ++ flag_variable name.now is_set ∷ []) }
+    ensures { (ds : List Data) → OnOk before (each view list.old.items ≡ ds)
+        → OnOk result (each view list.new.items ≡ ds ++ flag_variable name.now is_set ∷ []) }
 {
-    if is_set {
-        push_variable(alloc, list, name, "1")
-    } else {
-        push_variable(alloc, list, name, "0")
-    }
+    before?;
+    push_variable(alloc, list, name, if is_set { "1" } else { "0" })
 }
 
 /// Appends the flags.
@@ -111,13 +116,12 @@ pub fn push_flags(alloc: Global, list: &mut Vec<Value>, flags: Flags) -> Result<
     ensures { OnOk result (each view list.new.items
         ≡ each view list.old.items ++ flags_shown flags) }
 {
-    push_flag(alloc, list, "N", flags.n)?;
-    push_flag(alloc, list, "V", flags.v)?;
-    push_flag(alloc, list, "D", flags.d)?;
-    push_flag(alloc, list, "I", flags.i)?;
-    push_flag(alloc, list, "Z", flags.z)?;
-    push_flag(alloc, list, "C", flags.c)?;
-    Ok(())
+    let n = push_flag(alloc, list, Ok(()), "N", flags.n);
+    let v = push_flag(alloc, list, n, "V", flags.v);
+    let d = push_flag(alloc, list, v, "D", flags.d);
+    let i = push_flag(alloc, list, d, "I", flags.i);
+    let z = push_flag(alloc, list, i, "Z", flags.z);
+    push_flag(alloc, list, z, "C", flags.c)
 }
 
 /// Returns the answer that has some variables.

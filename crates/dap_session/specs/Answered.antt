@@ -18,7 +18,7 @@ use Rattle.dap_launch.specs.Begun.{IsBegun}
 use Rattle.dap_session.specs.Changes.{Goes, HasChanged, TellsValue, Writes}
 use Rattle.dap_session.specs.Console.{Evaluates, is_console}
 use Rattle.dap_desk.specs.Breaks.{KeepsEvents, place_of}
-use Rattle.dap_desk.specs.Moves.{moved}
+use Rattle.dap_desk.specs.Moves.{KeepsWatches, Stand, moved, stand_of}
 use Rattle.dap_launch.specs.Options.{IsAgain}
 use Rattle.dap_launch.specs.declared.options.Options.{Options}
 use Rattle.dap_launch.specs.declared.seat.Seat.{Seat}
@@ -29,7 +29,6 @@ use Rattle.dap_views.specs.Memory.{memory_shown}
 use Rattle.dap_views.specs.Rows.{disassembled}
 use Rattle.dap_views.specs.Scopes.{variables_shown}
 use Rattle.mon_session.specs.declared.desk.Desk.{Desk}
-use Rattle.mon_steps.specs.RunLines.{KeepsWatches, Stand, stand_of}
 use Rattle.serde_json.specs.Data.{Data}
 
 -- A request is done, and nothing more is said.

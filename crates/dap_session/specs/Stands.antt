@@ -1,6 +1,7 @@
 -- What a client is told of a halt. Source: Debug Adapter Protocol 1.65, "Stopped Event"; mos65.
 use Rattle.std.specs.Prelude.{ℕ, ◌≡◌, ◌==◌, ◌&&◌, not, Bool, if◌then◌else◌, List, ◌++◌, length}
 use Rattle.std.specs.List.{list_any}
+pub use Rattle.dap_desk.specs.Moves.{NO_STOP}
 use Rattle.dap_messages.specs.Messages.{Said}
 use Rattle.dap_launch.specs.declared.seat.Seat.{Seat}
 use Rattle.dap_views.specs.Told.{told_of}

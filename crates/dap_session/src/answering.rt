@@ -5,9 +5,8 @@ ghost use Rattle.dap_messages.specs.Messages.{said_of};
 ghost use Rattle.dap_session.specs.Answered.{AreAnswers, BeginsAgain, IsDone, IsShown, KeepsMade, Restarts};
 ghost use Rattle.dap_session.specs.Answered.{Sets, SetsListed, Shows, Terminates};
 ghost use Rattle.dap_session.specs.Console.{ShowsIfRefused};
-ghost use Rattle.dap_desk.specs.Moves.{moved};
+ghost use Rattle.dap_desk.specs.Moves.{KeepsWatches, moved, stand_of};
 ghost use Rattle.dap_session.specs.Answered.{begun_stand};
-ghost use Rattle.mon_steps.specs.RunLines.{KeepsWatches, stand_of};
 ghost use Rattle.serde_json.specs.View.{view};
 
 use crate::changing::{go_to, write_memory};
@@ -102,21 +101,23 @@ fn set<H: Files + AllocGlobal>(
         (λ ms. Sets kind (view request.now) seat.old seat.new (each said_of ms.items)) }
 {
     let body = set_listed(rt, seat, counting, request, kind)?;
-    let messages = answered(rt.alloc(), body)?;
-    Ok(messages)
+    answered(rt.alloc(), body)
 }
 
-/// Sets the breakpoints of a kind that a request of an earlier session lists.
+/// Sets the breakpoints of a kind that a request of an earlier session lists, if there is one.
 fn set_again(
     alloc: Global,
     seat: &mut Seat,
     counting: Counting,
-    request: &Value,
+    request: &Option<Value>,
     kind: Breakpoints,
 ) -> Result<(), AllocError>
     ensures kept { KeepsMade seat.old.desk seat.new.desk }
     ensures options { seat.new.options ≡ seat.old.options }
 {
+    let Some(request) = request else {
+        return Ok(());
+    };
     match kind {
         Breakpoints::Source => {
             let source = source_of(&seat.options, &seat.assembly, counting);
@@ -134,23 +135,6 @@ fn set_again(
     }
 }
 
-/// Sets the breakpoints of a kind that a request lists, if there is one.
-fn set_if_listed(
-    alloc: Global,
-    seat: &mut Seat,
-    counting: Counting,
-    request: &Option<Value>,
-    kind: Breakpoints,
-) -> Result<(), AllocError>
-    ensures kept { KeepsMade seat.old.desk seat.new.desk }
-    ensures options { seat.new.options ≡ seat.old.options }
-{
-    match request {
-        Some(request) => set_again(alloc, seat, counting, request, kind),
-        None => Ok(()),
-    }
-}
-
 /// Lists the breakpoints and the watches of a session for one that has begun again.
 fn set_all_again(
     alloc: Global,
@@ -161,21 +145,21 @@ fn set_all_again(
     ensures kept { OnOk result (KeepsMade seat.old.desk seat.new.desk) }
     ensures options { seat.new.options ≡ seat.old.options }
 {
-    set_if_listed(
+    set_again(
         alloc,
         seat,
         counting,
         &old.line_request,
         Breakpoints::Source,
     )?;
-    set_if_listed(
+    set_again(
         alloc,
         seat,
         counting,
         &old.address_request,
         Breakpoints::Instruction,
     )?;
-    set_if_listed(alloc, seat, counting, &old.data_request, Breakpoints::Data)?;
+    set_again(alloc, seat, counting, &old.data_request, Breakpoints::Data)?;
     Ok(())
 }
 
@@ -264,8 +248,7 @@ fn show<H: Files + AllocGlobal>(
         (λ ms. Shows query (view request.now) counting seat.now (each said_of ms.items)) }
 {
     let body = shown(rt, seat, counting, request, query)?;
-    let messages = answered(rt.alloc(), body)?;
-    Ok(messages)
+    answered(rt.alloc(), body)
 }
 
 /// Does what a request of a session asks for, and returns the messages to the client.
@@ -292,7 +275,7 @@ pub fn answer<H: Files + AllocGlobal>(
             Ok(set_variable(alloc, &mut seat.desk, request)?)
         }
         SessionRequest::Changes(Change::Goto) => Ok(go_to(alloc, seat, request)?),
-        SessionRequest::Changes(Change::WriteMemory) => Ok(write_memory(alloc, seat, request)?),
+        SessionRequest::Changes(Change::WriteMemory) => write_memory(alloc, seat, request),
         SessionRequest::Shows(query) => Ok(show(rt, seat, counting, request, query)?),
         SessionRequest::ConfigurationDone => Ok(configured(alloc, seat)?),
         SessionRequest::Restart => Ok(restart(rt, seat, counting)?),

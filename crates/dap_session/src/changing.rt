@@ -37,27 +37,17 @@ fn target_at(request: &Value) -> Option<u16>
     }
 }
 
-/// Says that the machine stands at another instruction.
-#[tactic(auto, using(crate::proofs::Done::done_one))]
-fn gone(alloc: Global, seat: &mut Seat) -> Result<Vec<Message>, AllocError>
-    ensures desk { seat.new.desk ≡ seat.old.desk }
-    ensures answer { IfOk result (λ ms. IsDone (each said_of ms.items)) }
-{
-    let mut messages = all_done(alloc)?;
-    let halt = stand_by(Reason::Goto, "gone to another line");
-    push_halt(alloc, &mut messages, seat, halt)?;
-    Ok(messages)
-}
-
 /// Makes the instruction at an address the next, and says that the machine stands there.
-#[tactic(auto, using(crate::proofs::Stays::shows_same))]
+#[tactic(auto, using(crate::proofs::Done::done_one, crate::proofs::Stays::shows_same))]
 fn go_at(alloc: Global, seat: &mut Seat, address: u16) -> Result<Vec<Message>, Fault>
     ensures done { OnOk result (HasGone address seat.old.desk seat.new.desk) }
     ensures answer { IfOk result (λ ms. IsDone (each said_of ms.items)) }
     ensures refused { IfErr result (λ f. ShowsIfRefused f seat.old.desk seat.new.desk) }
 {
     happen(alloc, &mut seat.desk, Event::Set(Setting::Pc(address)))?;
-    let messages = gone(alloc, seat)?;
+    let mut messages = all_done(alloc)?;
+    let halt = stand_by(Reason::Goto, "gone to another line");
+    push_halt(alloc, &mut messages, seat, halt)?;
     Ok(messages)
 }
 
@@ -72,10 +62,7 @@ pub fn go_to(alloc: Global, seat: &mut Seat, request: &Value) -> Result<Vec<Mess
     ensures refused { IfErr result (λ f. ShowsIfRefused f seat.old.desk seat.new.desk) }
 {
     match target_at(request) {
-        Some(address) => {
-            let messages = go_at(alloc, seat, address)?;
-            Ok(messages)
-        }
+        Some(address) => go_at(alloc, seat, address),
         None => Err(refused(alloc, "this is no address to go to")),
     }
 }
@@ -176,10 +163,7 @@ pub fn write_memory(alloc: Global, seat: &mut Seat, request: &Value) -> Result<V
     ensures refused { IfErr result (λ f. ShowsIfRefused f seat.old.desk seat.new.desk) }
 {
     match place_at(request, "/arguments/memoryReference", "/arguments/offset") {
-        Some(address) => {
-            let messages = write_at(alloc, &mut seat.desk, address, request)?;
-            Ok(messages)
-        }
+        Some(address) => write_at(alloc, &mut seat.desk, address, request),
         None => Err(refused(alloc, "this is no address to write to")),
     }
 }

@@ -14,4 +14,5 @@ mod console;
 mod serving;
 mod stands;
 
+pub use dap_desk::NO_STOP;
 pub use serving::{Adapter, serve};

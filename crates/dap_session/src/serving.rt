@@ -1,9 +1,8 @@
 //! What is done with a request.
 
-ghost use Rattle.std.specs.Prelude.{◌≡◌, ◌∷◌, ◌++◌, [], IfErr, IfOk, None, OnErr, OnOk, Some, map as each};
-ghost use Rattle.std.specs.Prelude.{string_bytes};
+ghost use Rattle.std.specs.Prelude.{◌≡◌, ◌++◌, IfErr, IfOk, None, OnErr, OnOk, Some, map as each};
 ghost use Rattle.dap_launch.specs.declared.seat.Seat.{Seat};
-ghost use Rattle.dap_messages.specs.Messages.{refused, said_of};
+ghost use Rattle.dap_messages.specs.Messages.{said_of};
 ghost use Rattle.dap_messages.specs.Requests.{request_of};
 ghost use Rattle.dap_session.specs.Served.{Begins, CountsIfRefused, Initializes, IsRefused};
 ghost use Rattle.dap_session.specs.Served.{ObeysAdapter, ObeysBegun, ObeysFirst, ObeysLaunched};
@@ -196,16 +195,6 @@ fn ends(adapter: &Adapter, asked: Request) -> bool
     }
 }
 
-/// Returns the refusal of a request.
-fn refused_by(alloc: Global, words: String) -> Result<Vec<Message>, AllocError>
-    ensures { IfOk result
-        (λ ms. each said_of ms.items ≡ refused (string_bytes words) ∷ []) }
-{
-    let mut messages = Vec::new(alloc);
-    messages.push(Message::Refused(words))?;
-    Ok(messages)
-}
-
 /// Appends that the session has ended, if it has.
 fn push_end(alloc: Global, messages: &mut Vec<Message>, is_end: bool) -> Result<(), AllocError>
     ensures { OnOk result (each said_of messages.new.items
@@ -222,7 +211,8 @@ fn push_end(alloc: Global, messages: &mut Vec<Message>, is_end: bool) -> Result<
 fn refusal(alloc: Global, words: String, is_end: bool) -> Result<Vec<Message>, AllocError>
     ensures { IfOk result (λ ms. IsRefused is_end (each said_of ms.items)) }
 {
-    let mut messages = refused_by(alloc, words)?;
+    let mut messages = Vec::new(alloc);
+    messages.push(Message::Refused(words))?;
     push_end(alloc, &mut messages, is_end)?;
     Ok(messages)
 }

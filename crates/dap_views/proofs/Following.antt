@@ -1,10 +1,10 @@
 -- Rows one after another.
-use Rattle.std.proofs.Common.{◌≡◌, ◌∙◌, ℕ, zero, suc, ◌+◌, ◌<◌, ◌≤◌, Bool, true, false, if◌then◌else◌, List, [], ◌∷◌, ◌++◌, map, sym, ap, arith, refl, append_assoc, append-nil}
+use Rattle.std.proofs.Common.{◌≡◌, ◌∙◌, ℕ, zero, suc, ◌+◌, ◌-◌, ◌<◌, ◌≤◌, Bool, true, false, if◌then◌else◌, List, [], ◌∷◌, ◌++◌, map, sym, ap, arith, refl, append_assoc, append-nil}
 use Rattle.std.proofs.lemmas.Bool.{le-ltb, lt-ltb}
 use Rattle.std.proofs.lemmas.List.{map-append}
-use Rattle.std.specs.Prelude.{nat_lt}
+use Rattle.std.specs.Prelude.{min, nat_lt}
 use Rattle.dap_messages.specs.declared.counting.Counting.{Counting}
-use Rattle.dap_views.specs.Rows.{next_row, row_at, rows, rows_on, rows_to}
+use Rattle.dap_views.specs.Rows.{first, found, next_row, row_at, rows, rows_around, rows_on, rows_to}
 use Rattle.mon_session.specs.declared.desk.Desk.{Desk}
 use Rattle.serde_json.specs.Data.{Data}
 use Rattle.serde_json.specs.View.{view}
@@ -63,3 +63,16 @@ pub rows_done : (desk : Desk) (path : List ℕ) (counting : Counting) (end n at 
 unfolding rows
 rows_done desk path counting end n at found whole e so_far =
     sym (append-nil found) ∙ sym (ap (λ k. found ++ rows desk path counting end k at) e) ∙ so_far
+
+-- ---- rows in front of the memory, and the rows behind them
+
+pub around : (desk : Desk) (path : List ℕ) (counting : Counting) (end back on count steps_back steps_on lacking begun less left : ℕ) (m m1 : List Data) → steps_back ≡ back → steps_on ≡ on
+    → lacking ≡ steps_back - found desk end steps_back → begun ≡ first desk end steps_back steps_on → less ≡ min lacking count → left ≡ count - lacking
+    → m1 ≡ m ++ rows desk path counting end less 65536 → m1 ++ rows desk path counting end left begun ≡ m ++ rows_around desk path counting end back on count
+around desk path counting end back on count steps_back steps_on lacking begun less left m m1 is_back is_on is_lacking is_begun is_less is_left put =
+    let none : lacking ≡ back - found desk end back = is_lacking ∙ ap (λ b. b - found desk end b) is_back in
+    let start : begun ≡ first desk end back on = is_begun ∙ (λ i. first desk end (is_back i) (is_on i)) in
+    let few : less ≡ min (back - found desk end back) count = is_less ∙ ap (λ k. min k count) none in
+    let many : left ≡ count - (back - found desk end back) = is_left ∙ ap (λ k. count - k) none in
+    ap (λ (ds : List Data). ds ++ rows desk path counting end left begun) put ∙ append_assoc m (rows desk path counting end less 65536) (rows desk path counting end left begun)
+    ∙ (λ i. m ++ (rows desk path counting end (few i) 65536 ++ rows desk path counting end (many i) (start i)))

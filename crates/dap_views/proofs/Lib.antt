@@ -1,2 +1,3 @@
 mod Cells
 mod Following
+mod Symbols

@@ -2,10 +2,11 @@
 
 ghost use Rattle.std.specs.Prelude.{◌≡◌, ◌++◌, ◌∷◌, ◌-◌, ◌<◌, ◌≤◌, [], IfOk, OnOk, codes, drop, length};
 ghost use Rattle.std.specs.Prelude.{map as each, string_bytes};
-ghost use Rattle.dap_messages.specs.Messages.{done, said_of};
+ghost use Rattle.dap_messages.specs.Messages.{done, event, said_of};
 ghost use Rattle.dap_views.specs.Told.{characters, console_said, halt_shown, less_text};
 ghost use Rattle.dap_views.specs.Told.{line_of, output_said, remark_said, stopped_said};
 ghost use Rattle.dap_views.specs.Told.{told_of, unmoved_said};
+ghost use Rattle.serde_json.specs.Data.{Data};
 ghost use Rattle.serde_json.specs.View.{view};
 
 use crate::wording::{LESS_BEFORE, LESS_BEHIND};
@@ -31,6 +32,21 @@ fn output_since(alloc: Global, session: &Session, from: u32) -> Result<String, A
     Ok(text)
 }
 
+/// Appends an event of a name, with this body.
+fn push_event(
+    messages: &mut Vec<Message>,
+    name: &'static str,
+    body: Result<Value, AllocError>,
+) -> Result<(), AllocError>
+    ensures { (d : Data) → IfOk body (λ v. view v ≡ d)
+        → OnOk result (each said_of messages.new.items
+        ≡ each said_of messages.old.items ++ event name.now d ∷ []) }
+{
+    let body = body?;
+    messages.push(Message::Event(name, body))?;
+    Ok(())
+}
+
 /// Appends an event with a text.
 fn push_output(
     alloc: Global,
@@ -41,9 +57,7 @@ fn push_output(
     ensures { OnOk result (each said_of messages.new.items
         ≡ each said_of messages.old.items ++ output_said category.now text.now ∷ []) }
 {
-    let body = output_body(alloc, category, text)?;
-    messages.push(Message::Event("output", body))?;
-    Ok(())
+    push_event(messages, "output", output_body(alloc, category, text))
 }
 
 /// Returns that so many bytes were taken back.
@@ -151,9 +165,11 @@ fn push_stopped(
     ensures { OnOk result (each said_of messages.new.items
         ≡ each said_of messages.old.items ++ stopped_said reason words.now ∷ []) }
 {
-    let body = stopped_body(alloc, reason.word(), words)?;
-    messages.push(Message::Event("stopped", body))?;
-    Ok(())
+    push_event(
+        messages,
+        "stopped",
+        stopped_body(alloc, reason.word(), words),
+    )
 }
 
 /// Appends what the program put out, a remark if the machine is before the first instruction or at
@@ -186,9 +202,7 @@ pub fn tell_unmoved(alloc: Global, messages: &mut Vec<Message>) -> Result<(), Al
     ensures { OnOk result (each said_of messages.new.items
         ≡ each said_of messages.old.items ++ unmoved_said ∷ []) }
 {
-    let body = invalidated(alloc)?;
-    messages.push(Message::Event("invalidated", body))?;
-    Ok(())
+    push_event(messages, "invalidated", invalidated(alloc))
 }
 
 /// Returns an answer with a body.

@@ -1,7 +1,9 @@
 //! The variables of a scope.
 
 ghost use Rattle.std.specs.Prelude.{◌≡◌, ◌-◌, ◌∷◌, ◌++◌, [], IfOk, OnOk, map as each};
-ghost use Rattle.dap_messages.specs.Variables.{number_variable};
+ghost use Rattle.std.specs.Prelude.{slice_index};
+ghost use Rattle.std.specs.Str.Lossy.{utf8_lossy};
+ghost use Rattle.dap_messages.specs.Variables.{byte_variable, number_variable};
 ghost use Rattle.dap_views.specs.Scopes.{cells, listed, machine_shown, scope_at, symbols_shown};
 ghost use Rattle.dap_views.specs.Scopes.{variables_shown};
 ghost use Rattle.serde_json.specs.View.{view};
@@ -47,6 +49,15 @@ fn scope_at(request: &Value) -> Option<Scope>
     }
 }
 
+/// Returns the byte at a name, under the name.
+fn symbol(alloc: Global, session: &Session, name: &Name) -> Result<Value, AllocError>
+    ensures { IfOk result (λ v. view v ≡ byte_variable (utf8_lossy (named name.now).text)
+        (slice_index session.now.current.bus.memory (named name.now).address)) }
+{
+    let text = String::from_utf8_lossy(alloc, name.text.as_slice())?;
+    byte_variable(alloc, text.as_str(), session.peek(name.address))
+}
+
 /// Appends the bytes at names, each under its name.
 fn push_symbols(
     alloc: Global,
@@ -58,8 +69,7 @@ fn push_symbols(
         ++ symbols_shown session.now.current.bus.memory (each named names.now)) }
 {
     for name in names {
-        let text = String::from_utf8_lossy(alloc, name.text.as_slice())?;
-        let value = byte_variable(alloc, text.as_str(), session.peek(name.address))?;
+        let value = symbol(alloc, session, name)?;
         list.push(value)?;
     }
     Ok(())

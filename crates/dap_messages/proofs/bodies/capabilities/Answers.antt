@@ -1,13 +1,9 @@
-use Rattle.std.proofs.Common.{◌≡◌, ◌∙◌, ap, map, rules}
-use Rattle.dap_messages.proofs.Abilities.{all_put}
-use Rattle.dap_messages.specs.Bodies.{put_true}
-use Rattle.dap_messages.specs.declared.bodies.TheConstants.{ABILITIES}
-use Rattle.serde_json.proofs.Views.{view-Object}
-use Rattle.serde_json.specs.Data.{no_members}
-use Rattle.serde_json.specs.View.{members_view}
+use Rattle.dap_messages.specs.Bodies.{capabilities}
 use Rattle.dap_messages.proofs.bodies.capabilities.Goals as goal
 
 pub returns : goal.returns
+unfolding capabilities
 returns c =
-    let first : members_view c.new-map.result.entries ≡ no_members = search (rules, c.new-map.ensures) in
-    view-Object c.put_true.new.map ∙ all_put _ (c.in_ok-put_true.ensures ∙ ap (put_true (map (λ s. s.now) ABILITIES)) first)
+    let m6 = c.flag-6.ensures _ (c.flag-5.ensures _ (c.flag-4.ensures _ (c.flag-3.ensures _ (c.flag-2.ensures _ (c.flag.ensures _ c.new.ensures))))) in
+    let m12 = c.flag-12.ensures _ (c.flag-11.ensures _ (c.flag-10.ensures _ (c.flag-9.ensures _ (c.flag-8.ensures _ (c.flag-7.ensures _ m6))))) in
+    c.build.ensures _ (c.flag-17.ensures _ (c.flag-16.ensures _ (c.flag-15.ensures _ (c.flag-14.ensures _ (c.flag-13.ensures _ m12)))))

@@ -1,0 +1,11 @@
+use Rattle.std.proofs.Common.{◌∙◌, [], ◌∷◌, List, ap, subst, sym}
+use Rattle.dap_breaks.specs.Targets.{targets_of}
+use Rattle.dap_messages.specs.Answers.{goto_target}
+use Rattle.json_values.specs.ValueLists.{HasValues}
+use Rattle.serde_json.specs.Data.{Data}
+use Rattle.dap_breaks.proofs.targets.targets_of.Goals as goal
+
+pub returns-in-Some : goal.returns-in-Some
+returns-in-Some c =
+    let has = c.with.ensures _ _ c.new-list.ensures c.goto_target.ensures in
+    subst (λ (ds : List Data). HasValues ds c.with.result) (ap (λ n. goto_target c.in-Some.address n ∷ []) c.shown_line.ensures ∙ sym (ap (targets_of c.args.counting) c.in-Some.is)) has
