@@ -10,17 +10,20 @@ use Rattle.dap_messages.specs.Requests.{request_of}
 use Rattle.dap_messages.specs.declared.request.Move.TheVariants.{Go}
 use Rattle.dap_messages.specs.declared.request.Request.{Request}
 use Rattle.dap_messages.specs.declared.request.Request.TheVariants.{InSession}
-use Rattle.dap_messages.specs.declared.request.SessionRequest.TheVariants.{Moves}
+use Rattle.dap_messages.specs.declared.request.SessionRequest.TheVariants.{ConfigurationDone, Moves}
 use Rattle.dap_session.specs.Served.{Serves}
+use Rattle.dap_session.specs.Stands.{NO_STOP}
 use Rattle.dap_session.specs.declared.serving.Adapter.{Adapter}
-use Rattle.mon_steps.specs.declared.wording.TheConstants.{NO_STOP}
 use Rattle.serde_json.specs.Data.{Data}
 
 -- ---- a run that nothing has stopped
 
-abbrev pub is_continue : Request → Bool
-is_continue (InSession (Moves Go)) = true
-is_continue asked = false
+-- A request that lets the machine run: `continue`, and `configurationDone`, which says itself that
+-- the machine stands before the first instruction where it is to stand there.
+abbrev pub is_run : Request → Bool
+is_run (InSession (Moves Go)) = true
+is_run (InSession ConfigurationDone) = true
+is_run asked = false
 
 abbrev pub is_no_stop : Option (List ℕ) → Bool
 is_no_stop None = false
@@ -33,7 +36,7 @@ says_no_stop (done body) = false
 says_no_stop (refused words) = false
 
 abbrev pub is_open : Data → List Said → Bool
-is_open request said = is_continue (request_of request) && list_any says_no_stop said
+is_open request said = is_run (request_of request) && list_any says_no_stop said
 
 -- ---- it goes on
 

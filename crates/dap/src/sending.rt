@@ -31,7 +31,9 @@ fn send_one<W: Write>(
     let Ok(value) = message_value(alloc, number, request, message) else {
         return Err(StreamFault::OutOfMemory);
     };
-    let Ok(text) = value.to_string(alloc) else {
+    let made = value.to_string(alloc);
+    drop(value);
+    let Ok(text) = made else {
         return Err(StreamFault::OutOfMemory);
     };
     write_message(alloc, writer, text.as_bytes())?;

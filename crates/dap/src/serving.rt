@@ -58,8 +58,8 @@ fn refusal(alloc: Global) -> Result<Served, AllocError>
     ensures { IfOk result
         (λ s. IsNotJson (view s.request) (each said_of s.messages.items) s.is_end) }
 {
-    let mut messages = Vec::new(alloc);
     let words = String::from_str(alloc, NOT_JSON)?;
+    let mut messages = Vec::new(alloc);
     messages.push(Message::Refused(words))?;
     Ok(Served {
         request: Value::Null,

@@ -4,7 +4,7 @@ ghost use Rattle.std.specs.Prelude.{◌≡◌, [], ℕ, false, IfOk, List, drop,
 ghost use Rattle.std.specs.Prelude.{option_map, true};
 ghost use Rattle.std.specs.Io.KnownBytes.{Appends};
 ghost use Rattle.std.specs.List.{list_any};
-ghost use Rattle.dap.specs.Slices.{GoesOn, MayRunOn, RunsOn, but_last, is_continue, is_open, says_no_stop};
+ghost use Rattle.dap.specs.Slices.{GoesOn, MayRunOn, RunsOn, but_last, is_open, is_run, says_no_stop};
 ghost use Rattle.dap_messages.specs.Messages.{Said, said_of};
 ghost use Rattle.dap_messages.specs.Requests.{request_of};
 ghost use Rattle.dap_session.specs.Served.{Serves};
@@ -12,22 +12,22 @@ ghost use Rattle.serde_json.specs.View.{view};
 
 use crate::sending::send;
 use dap_messages::{Message, Move, Request, SessionRequest, request_of};
-use dap_session::{Adapter, serve};
+use dap_session::{Adapter, NO_STOP, serve};
 use json_values::text_at;
 use message_stream::{Incoming, StreamFault};
-use mon_steps::wording::NO_STOP;
 use serde_json::Value;
 use std::alloc::{AllocError, Global};
 use std::fs;
 use std::io::Write;
 use std::rt::Files;
 
-/// Returns whether a request is `continue`.
-fn is_continue(asked: Request) -> bool
-    ensures { result ≡ is_continue asked }
+/// Returns whether a request lets the machine run: `continue`, or `configurationDone`.
+fn is_run(asked: Request) -> bool
+    ensures { result ≡ is_run asked }
 {
     match asked {
         Request::InSession(SessionRequest::Moves(Move::Go)) => true,
+        Request::InSession(SessionRequest::ConfigurationDone) => true,
         _ => false,
     }
 }
@@ -58,11 +58,11 @@ fn one_says_no_stop(messages: &[Message]) -> bool
     false
 }
 
-/// Returns whether a request is a `continue` that nothing has stopped, by what is said of it.
+/// Returns whether a request lets the machine run and nothing has stopped it, by what is said.
 fn is_open(request: &Value, messages: &[Message]) -> bool
     ensures { result ≡ is_open (view request.now) (each said_of messages.now) }
 {
-    is_continue(request_of(request)) && one_says_no_stop(messages)
+    is_run(request_of(request)) && one_says_no_stop(messages)
 }
 
 /// Returns whether bytes of the client wait, or may wait: some are held, the file that they are

@@ -6,7 +6,7 @@ ghost use Rattle.clap.specs.Words.{app_of, kind_of};
 ghost use Rattle.clap.specs.declared.builder.command.Command.TheViews.{out-Command};
 ghost use Rattle.dap.specs.CommandLine.{dap_app, seen_in};
 
-use arguments::{WordsFault, begin, matched, option};
+use arguments::{WordsFault, begin, let_go, matched, option};
 use clap::error::ErrorKind;
 use clap::{Command, Error};
 use std::alloc::Global;
@@ -50,5 +50,7 @@ pub fn read_words<'a>(alloc: Global, words: &'a [&'a str]) -> Result<Option<&'a 
     ensures refused { IfErr result (IsRefusalOf dap_app (texts words.entry.now) ⊥) }
 {
     let matches = matched(dap_command(alloc)?, words)?;
-    Ok(matches.get_str("seen"))
+    let seen = matches.get_str("seen");
+    let_go(matches);
+    Ok(seen)
 }

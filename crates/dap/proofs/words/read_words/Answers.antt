@@ -5,6 +5,6 @@ use Rattle.dap.proofs.words.read_words.Goals as goal
 
 pub returns-clause-asked : goal.returns-clause-asked
 returns-clause-asked c =
-    c.get_str.ensures
+    c.get_str-seen.ensures
     ∙ ap (λ (found : Text → Option Text). found (codes "seen"))
     (c.in_ok-matches.ensures.values ∙ ap (λ (app : App). value_in app (texts c.args.words.now)) c.in_ok-dap_command.ensures.shape)
