@@ -34,6 +34,12 @@ use symbols::Symbols;
 /// The most bytes that a source has. Source: mos65.
 const SOURCE_SIZE: usize = 1_048_576;
 
+/// The fault of a source that has more.
+const TOO_LARGE: AsmFault = AsmFault {
+    line: 0,
+    kind: AsmFaultKind::TooLarge,
+};
+
 /// The result of assembling a source.
 #[derive(Drop)]
 pub struct Assembly {
@@ -263,10 +269,7 @@ fn assemble_lines(alloc: Global, source: &[u8], map: &MapSpec) -> Result<Assembl
     ensures spared { IfOk result (λ a. has_port_byte map.now a.image ≡ false) }
 {
     if source.len() > SOURCE_SIZE {
-        return Err(AsmFault {
-            line: 0,
-            kind: AsmFaultKind::TooLarge,
-        });
+        return Err(TOO_LARGE);
     }
     let mut symbols = Symbols::new(alloc);
     let laid = match lay_out(alloc, map.profile(), &mut symbols, source) {
@@ -284,8 +287,7 @@ fn assemble_lines(alloc: Global, source: &[u8], map: &MapSpec) -> Result<Assembl
             return Err(fault);
         }
     };
-    // For the proof: what `cells` says of each image.
-    let _ = image.cells();
+    let _ = image.cells(); // For the proof: what it says of each image.
     let Laid {
         lines,
         texts,

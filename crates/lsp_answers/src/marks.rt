@@ -1,6 +1,6 @@
 //! The marks of a source.
 
-ghost use Rattle.std.specs.Prelude.{◌≡◌, ℕ, IfOk, List, map};
+ghost use Rattle.std.specs.Prelude.{◌≡◌, IfOk, map};
 ghost use Rattle.lsp_answers.specs.Marks.{AreMarks, mark_of, severity_of};
 ghost use Rattle.lsp_answers.specs.Texts.{text_view};
 ghost use Rattle.json_values.specs.Values.{list_of};

@@ -1,6 +1,6 @@
 //! What is meant at a place.
 
-ghost use Rattle.std.specs.Prelude.{◌≡◌, ◌≤◌, ◌++◌, ◌-◌, ℕ, IfOk, List, length, option_and_then, slice_get, string_bytes};
+ghost use Rattle.std.specs.Prelude.{◌≡◌, ◌≤◌, ◌++◌, ◌-◌, IfOk, List, length, string_bytes};
 ghost use Rattle.std.specs.List.{find};
 ghost use Rattle.std.specs.Option.{option_map};
 ghost use Rattle.std.specs.Str.Lossy.{utf8_lossy};
@@ -9,8 +9,7 @@ ghost use Rattle.lsp_answers.specs.Meanings.{IsMeaning, IsOfLine, IsOfName, IsOf
 ghost use Rattle.lsp_answers.specs.Meanings.{IsSaid};
 ghost use Rattle.lsp_answers.specs.Meanings.{found_in, is_mnemonic_on, mnemonic_on, opcode_of};
 ghost use Rattle.lsp_answers.specs.Meanings.{row_of, row_on, tokens_or_none};
-ghost use Rattle.lsp_answers.specs.Texts.{line_at, name_at, text_view};
-ghost use Rattle.model.specs.Mnemonics.{mnemonic_text};
+ghost use Rattle.lsp_answers.specs.Texts.{name_at, text_view};
 ghost use Rattle.model.specs.Token.{tokens_of};
 ghost use Rattle.name_uses.specs.Views.{use_view};
 ghost use Rattle.serde_json.specs.View.{view};

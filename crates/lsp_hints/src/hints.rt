@@ -2,8 +2,7 @@
 
 ghost use Rattle.std.specs.Prelude.{◌≡◌, ◌≤◌, ◌++◌, IfOk, OnOk, length, map};
 ghost use Rattle.lsp_hints.specs.Hints.{found_in, hints_at, hints_from, hints_of, is_refused, line_hints};
-ghost use Rattle.lsp_hints.specs.Hints.{unless_long, width_of};
-ghost use Rattle.json_values.specs.Values.{list_of};
+ghost use Rattle.lsp_hints.specs.Hints.{width_of};
 ghost use Rattle.serde_json.specs.View.{view};
 ghost use Rattle.source_faults.specs.Views.{found_all, found_view};
 ghost use Rattle.source_notes.specs.Lines.{texts_of};
