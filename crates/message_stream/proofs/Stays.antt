@@ -96,6 +96,12 @@ front_by bytes more (Some h) start end e f =
     let last : front_of (bytes ++ more) ≡ Message start end = subst (λ t. front_of (bytes ++ more) ≡ Message start t) (sym body.3) first in
     (last, omega (arith, body.2, body.3), omega (arith, body.3, body.4))
 
+-- A message in front is within the bytes.
+pub front_within : (bytes : List ℕ) (start end : ℕ) → front_of bytes ≡ Message start end → (start ≤ end) × (end ≤ length bytes)
+front_within bytes start end f =
+    let parts = front_by bytes [] (header_len bytes) start end refl f in
+    (parts.1, parts.2)
+
 pub stays : Stays
 stays bytes more body rest front =
     let start = front.0 in

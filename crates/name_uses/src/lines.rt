@@ -21,8 +21,8 @@ fn defines_first(line: &Line<'_>) -> bool
     ensures { result ≡ defines_first (line_view line.now) }
 {
     match line {
-        Line::Labelled(None, _) => false,
-        Line::Labelled(Some(_), _) | Line::Definition(_, _) => true,
+        Line::Labelled(label, _) => label.is_some(),
+        Line::Definition(_, _) => true,
     }
 }
 

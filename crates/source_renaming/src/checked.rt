@@ -13,13 +13,7 @@ fn is_same_cell(cell: Option<u8>, other: Option<u8>) -> bool
     ensures same { result ≡ true → cell ≡ other }
     ensures apart { result ≡ false → cell ≡ other → ⊥ }
 {
-    match cell {
-        None => other.is_none(),
-        Some(byte) => match other {
-            None => false,
-            Some(same) => byte == same,
-        },
-    }
+    cell == other
 }
 
 /// Whether two images are the same.

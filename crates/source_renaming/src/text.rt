@@ -40,7 +40,11 @@ impl Place {
     fn is_of(self, one: &NameUse<'_>) -> bool
         ensures { result ≡ is_at self.line self.column (use_view one.now) }
     {
-        one.line == self.line && one.start == self.column
+        if one.line == self.line {
+            one.start == self.column
+        } else {
+            false
+        }
     }
 }
 

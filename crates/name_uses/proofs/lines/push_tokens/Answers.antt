@@ -14,3 +14,6 @@ loop-token-preserved c =
 
 pub returns : goal.returns
 returns c = tokens_done c.args.profile c.args.number c.loop-token.token-index c.loop-token.defined c.args.tokens.now _ _ (omega (arith, c.loop-token-test.false)) c.loop-token.invariant
+
+pub loop-token-init : goal.loop-token-init
+loop-token-init c = refl

@@ -1,5 +1,6 @@
-use Rattle.std.proofs.Common.{◌≡◌, List, ℕ, false, rules, subst, ◌∙◌}
+use Rattle.std.proofs.Common.{◌≡◌, List, ℕ, false, subst, sym, ◌∙◌}
 use Rattle.source_renaming.proofs.Uses.{named_as, none_taken, renamed_as, some_taken}
+use Rattle.model.specs.Source.{Denotes}
 use Rattle.source_renaming.specs.Renaming.{IsChanged}
 use Rattle.source_renaming.proofs.change.rename.Goals as goal
 
@@ -25,5 +26,11 @@ pub returns-then-not-branch-2-clause-refused : goal.returns-then-not-branch-2-cl
 returns-then-not-branch-2-clause-refused c =
     let text = renamed_as c.args.source.now c.args.old.now c.args.new.now _ c.in_ok-uses.uses.items _ c.in_ok-text.text.items
     (named_as c.args.old.now c.args.source.now _ _ _ _ c.in_ok-uses.uses.items c.profile-profile.ensures c.in_ok-all.ensures c.deref-3.ensures.value c.in_ok-uses.ensures) c.deref-4.ensures.value c.in_ok-text.ensures in
-    let no : c.in_ok-keeps_image.field-0 ≡ false = search rules in
+    let no : c.in_ok-keeps_image.field-0 ≡ false = cc in
     subst (λ (t : List ℕ). IsChanged c.args.map.now c.args.source.now t) (c.deref-5.ensures.value ∙ text) (c.in_ok-keeps_image.ensures.changed no)
+
+pub returns-clause-image : goal.returns-clause-image
+returns-clause-image c = λ image d. subst (λ (t : List ℕ). Denotes c.args.map.now t image) c.deref-5.ensures.value (c.in_ok-keeps_image.ensures.kept (cc) image d)
+
+pub returns-clause-named : goal.returns-clause-named
+returns-clause-named c = rw (sym c.profile-profile.ensures) (sym c.in_ok-is_name.ensures ∙ c.if-not-branch.false)
