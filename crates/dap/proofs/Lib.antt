@@ -1,2 +1,3 @@
-mod Sent
+mod Refusals
 mod Runs
+mod Sent

@@ -9,7 +9,7 @@ use Rattle.dap.specs.Sent.{AreSent}
 use Rattle.dap.specs.Served.{Answers, ServesBody}
 use Rattle.dap_messages.specs.Messages.{Said, said_of}
 use Rattle.dap_messages.specs.declared.message.Message.{Message}
-use Rattle.dap_session.specs.declared.serving.Adapter.{Adapter}
+use Rattle.dap.specs.declared.adapter.Adapter.{Adapter}
 use Rattle.serde_json.specs.Data.{Data}
 
 pub runs_none : (request : Data) (said : List Said) (a : Adapter) (n : ℕ) → RunsOn 0 request said a n said a n []

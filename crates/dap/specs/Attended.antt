@@ -3,7 +3,7 @@
 use Rattle.std.specs.Prelude.{ℕ, ◌≡◌, Bool, true, false, List, Option, Some, None}
 use Rattle.clap.specs.Words.{Text}
 use Rattle.dap.specs.Served.{Answers}
-use Rattle.dap_session.specs.declared.serving.Adapter.{Adapter}
+use Rattle.dap.specs.declared.adapter.Adapter.{Adapter}
 use Rattle.message_stream.specs.Sessions.{IsEndedBy}
 
 -- The exit status that a message asks for, if it asks for the end.

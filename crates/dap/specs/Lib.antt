@@ -1,3 +1,4 @@
+pub mod Adapter
 pub mod Attended
 pub mod CommandLine
 pub mod Sent

@@ -1,13 +1,9 @@
 -- Messages as they are written. Source: Debug Adapter Protocol 1.65, "Base protocol".
-use Rattle.std.specs.Prelude.{ℕ, ◌≡◌, false, List, [], ◌∷◌, ◌++◌}
+use Rattle.std.specs.Prelude.{ℕ, ◌≡◌, List, [], ◌∷◌, ◌++◌}
 use Rattle.dap_messages.specs.Messages.{Said, data_of, next_number}
+use Rattle.json_values.specs.Bodies.{IsTextOf}
 use Rattle.message_stream.specs.Messages.{framed}
 use Rattle.serde_json.specs.Data.{Data}
-use Rattle.serde_json.specs.Written.{compact_text, has_float}
-
--- A text of a value. A value with a float can have several.
-abbrev pub IsTextOf : Data → List ℕ → Type 0
-IsTextOf d text = has_float d ≡ false → text ≡ compact_text d
 
 -- A message is sent with this number, and this is written.
 abbrev pub IsSent : ℕ → Data → Said → List ℕ → Type 0

@@ -1,6 +1,6 @@
 -- What is done with a message, and what is written. Source: Debug Adapter Protocol 1.65, "Base
 -- protocol"; RFC 8259; what is said of a body that is no JSON, mos65.
-use Rattle.std.specs.Prelude.{ℕ, ◌≡◌, IsUtf8, Bool, true, false, List, [], ◌∷◌, ◌++◌, Option, Some, None}
+use Rattle.std.specs.Prelude.{ℕ, ◌≡◌, Bool, true, false, List, [], ◌∷◌, ◌++◌, Option, Some, None}
 use Rattle.clap.specs.Words.{Text}
 use Rattle.dap.specs.Sent.{AreSent}
 use Rattle.dap.specs.Slices.{MayRunOn, RunsOn}
@@ -9,15 +9,10 @@ use Rattle.dap_messages.specs.Messages.{Said, refused}
 use Rattle.dap_messages.specs.Requests.{request_of}
 use Rattle.dap_messages.specs.declared.request.Request.{Request}
 use Rattle.dap_messages.specs.declared.request.Request.TheVariants.{Disconnect}
-use Rattle.dap_session.specs.Served.{Serves}
-use Rattle.dap_session.specs.declared.serving.Adapter.{Adapter}
+use Rattle.dap.specs.Adapter.{Serves}
+use Rattle.dap.specs.declared.adapter.Adapter.{Adapter}
+use Rattle.json_values.specs.Bodies.{IsMessage}
 use Rattle.serde_json.specs.Data.{Data, null}
-use Rattle.serde_json.specs.Read.{read}
-
--- What a body says: a message, or nothing if it is no JSON.
-abbrev pub IsMessage : List ℕ → Option Data → Type 0
-IsMessage body (Some message) = IsUtf8 body × (read body ≡ Some message)
-IsMessage body None = IsUtf8 body → read body ≡ None
 
 abbrev pub is_end : Request → Bool
 is_end Disconnect = true

@@ -10,19 +10,24 @@ use Rattle.dap_messages.specs.Requests.{request_of}
 use Rattle.dap_messages.specs.declared.request.Move.TheVariants.{Go}
 use Rattle.dap_messages.specs.declared.request.Request.{Request}
 use Rattle.dap_messages.specs.declared.request.Request.TheVariants.{InSession}
+use Rattle.dap_messages.specs.declared.request.SessionRequest.{SessionRequest}
 use Rattle.dap_messages.specs.declared.request.SessionRequest.TheVariants.{ConfigurationDone, Moves}
-use Rattle.dap_session.specs.Served.{Serves}
+use Rattle.dap.specs.Adapter.{Serves}
 use Rattle.dap_session.specs.Stands.{NO_STOP}
-use Rattle.dap_session.specs.declared.serving.Adapter.{Adapter}
+use Rattle.dap.specs.declared.adapter.Adapter.{Adapter}
 use Rattle.serde_json.specs.Data.{Data}
 
 -- ---- a run that nothing has stopped
 
 -- A request that lets the machine run: `continue`, and `configurationDone`, which says itself that
 -- the machine stands before the first instruction where it is to stand there.
+abbrev pub lets_run : SessionRequest → Bool
+lets_run (Moves Go) = true
+lets_run ConfigurationDone = true
+lets_run asked = false
+
 abbrev pub is_run : Request → Bool
-is_run (InSession (Moves Go)) = true
-is_run (InSession ConfigurationDone) = true
+is_run (InSession asked) = lets_run asked
 is_run asked = false
 
 abbrev pub is_no_stop : Option (List ℕ) → Bool

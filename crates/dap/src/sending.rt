@@ -8,7 +8,8 @@ ghost use Rattle.dap_messages.specs.Messages.{next_number, said_of};
 ghost use Rattle.message_stream.specs.Taken.{IsUnwritten};
 
 use dap_messages::{Message, message_value, next_number};
-use message_stream::{StreamFault, write_message};
+use json_values::write_value;
+use message_stream::StreamFault;
 use serde_json::Value;
 use std::alloc::Global;
 use std::io::Write;
@@ -31,12 +32,7 @@ fn send_one<W: Write>(
     let Ok(value) = message_value(alloc, number, request, message) else {
         return Err(StreamFault::OutOfMemory);
     };
-    let made = value.to_string(alloc);
-    drop(value);
-    let Ok(text) = made else {
-        return Err(StreamFault::OutOfMemory);
-    };
-    write_message(alloc, writer, text.as_bytes())?;
+    write_value(alloc, writer, &value)?;
     Ok(number)
 }
 

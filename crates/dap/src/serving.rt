@@ -6,19 +6,20 @@ ghost use Rattle.std.specs.Io.KnownBytes.{Appends, Consumes};
 ghost use Rattle.arguments.specs.Words.{texts};
 ghost use Rattle.dap.specs.Attended.{IsAttended, Turns};
 ghost use Rattle.dap.specs.CommandLine.{seen_in};
-ghost use Rattle.dap.specs.Served.{Answers, IsMessage, IsNotJson, ServesBody, ServesMessage};
+ghost use Rattle.dap.specs.Served.{Answers, IsNotJson, ServesBody, ServesMessage};
 ghost use Rattle.dap.specs.Served.{is_end};
 ghost use Rattle.dap_messages.specs.Messages.{said_of};
 ghost use Rattle.message_stream.specs.Messages.{IsFront};
 ghost use Rattle.message_stream.specs.Sessions.{IsEndedBy};
 ghost use Rattle.serde_json.specs.View.{view};
 
+use crate::adapter::{Adapter, serve};
 use crate::sending::send;
 use crate::slices::run_on;
 use crate::words::read_words;
 use arguments::{Refusal, put_all, refuse, refused_words};
 use dap_messages::{Message, Request, request_of};
-use dap_session::{Adapter, serve};
+use json_values::value_of;
 use message_stream::{Incoming, StreamFault};
 use serde_json::Value;
 use std::alloc::{AllocError, Global};
@@ -27,23 +28,6 @@ use std::rt::Files;
 
 /// What is said of a body that is no JSON.
 pub const NOT_JSON: &str = "this is no JSON";
-
-/// Returns the value of a body, or nothing if it is no JSON. The only error is that a request for
-/// memory was refused.
-fn value_of(alloc: Global, body: &[u8]) -> Result<Option<Value>, AllocError>
-    ensures { IfOk result (λ found. IsMessage body.now (option_map view found)) }
-{
-    match Value::from_slice(alloc, body) {
-        Ok(value) => Ok(Some(value)),
-        Err(error) => {
-            if error.is_memory() {
-                Err(AllocError)
-            } else {
-                Ok(None)
-            }
-        }
-    }
-}
 
 /// A message that was served: its value, what is answered, and whether it asks for the end.
 #[derive(Drop)]

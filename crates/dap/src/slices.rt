@@ -4,15 +4,17 @@ ghost use Rattle.std.specs.Prelude.{◌≡◌, [], ℕ, false, IfOk, List, drop,
 ghost use Rattle.std.specs.Prelude.{option_map, true};
 ghost use Rattle.std.specs.Io.KnownBytes.{Appends};
 ghost use Rattle.std.specs.List.{list_any};
-ghost use Rattle.dap.specs.Slices.{GoesOn, MayRunOn, RunsOn, but_last, is_open, is_run, says_no_stop};
+ghost use Rattle.dap.specs.Slices.{GoesOn, MayRunOn, RunsOn, but_last, is_open, is_run, lets_run};
+ghost use Rattle.dap.specs.Slices.{says_no_stop};
 ghost use Rattle.dap_messages.specs.Messages.{Said, said_of};
 ghost use Rattle.dap_messages.specs.Requests.{request_of};
-ghost use Rattle.dap_session.specs.Served.{Serves};
+ghost use Rattle.dap.specs.Adapter.{Serves};
 ghost use Rattle.serde_json.specs.View.{view};
 
+use crate::adapter::{Adapter, serve};
 use crate::sending::send;
 use dap_messages::{Message, Move, Request, SessionRequest, request_of};
-use dap_session::{Adapter, NO_STOP, serve};
+use dap_session::NO_STOP;
 use json_values::text_at;
 use message_stream::{Incoming, StreamFault};
 use serde_json::Value;
@@ -21,13 +23,23 @@ use std::fs;
 use std::io::Write;
 use std::rt::Files;
 
+/// Returns whether a request of a session is `continue`, or `configurationDone`.
+fn lets_run(asked: SessionRequest) -> bool
+    ensures { result ≡ lets_run asked }
+{
+    match asked {
+        SessionRequest::Moves(Move::Go) => true,
+        SessionRequest::ConfigurationDone => true,
+        _ => false,
+    }
+}
+
 /// Returns whether a request lets the machine run: `continue`, or `configurationDone`.
 fn is_run(asked: Request) -> bool
     ensures { result ≡ is_run asked }
 {
     match asked {
-        Request::InSession(SessionRequest::Moves(Move::Go)) => true,
-        Request::InSession(SessionRequest::ConfigurationDone) => true,
+        Request::InSession(asked) => lets_run(asked),
         _ => false,
     }
 }
@@ -85,7 +97,10 @@ fn waits<H: Files>(rt: &H, seen: Option<&str>, incoming: &Incoming) -> bool
 fn take_last(messages: &mut Vec<Message>)
     ensures { each said_of messages.new.items ≡ but_last (each said_of messages.old.items) }
 {
-    let _ = messages.pop();
+    match messages.pop() {
+        Some(message) => drop(message),
+        None => {}
+    }
 }
 
 /// Takes the message away that is the first.
@@ -93,7 +108,7 @@ fn take_first(messages: &mut Vec<Message>)
     ensures { each said_of messages.new.items ≡ drop 1 (each said_of messages.old.items) }
 {
     if !messages.is_empty() {
-        let _ = messages.remove(0);
+        drop(messages.remove(0));
     }
 }
 

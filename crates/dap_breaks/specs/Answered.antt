@@ -4,7 +4,8 @@ use Rattle.std.specs.List.{list_any}
 use Rattle.dap_breaks.specs.Wanted.{told_addresses}
 use Rattle.dap_breaks.specs.declared.listed.TheConstants.{NO_ROOM}
 use Rattle.dap_breaks.specs.declared.wanted.Wanted.{Wanted}
-use Rattle.dap_messages.specs.Answers.{breakpoint_set, breakpoint_unset, breakpoints_body}
+use Rattle.dap_breaks.specs.Values.{breakpoint_set, breakpoint_unset}
+use Rattle.dap_messages.specs.Answers.{breakpoints_body}
 use Rattle.dap_messages.specs.Counting.{shown_line}
 use Rattle.dap_messages.specs.declared.counting.Counting.{Counting}
 use Rattle.model.specs.Session.{Session}

@@ -1,15 +1,14 @@
 -- What can stand in a line of the console for the word that is typed. Source: Debug Adapter
 -- Protocol 1.65, "Completions Request", "CompletionItem"; which words and names, mos65.
-use Rattle.std.specs.Prelude.{ℕ, ◌+◌, ◌-◌, nat_lt, Bool, true, false, if◌then◌else◌, List, [], ◌∷◌, codes, length, take, drop, Option, Some, None, unwrap_or}
+use Rattle.std.specs.Prelude.{ℕ, ◌+◌, ◌-◌, nat_lt, Bool, if◌then◌else◌, List, [], ◌∷◌, codes, length, take, drop, Option, Some, None, unwrap_or}
 use Rattle.std.specs.List.{flat_map, list_all}
 use Rattle.std.specs.Str.Lossy.{utf8_lossy}
-use Rattle.dap_messages.specs.Answers.{completion, targets_body}
+use Rattle.dap_breaks.specs.Values.{completion, targets_body}
 use Rattle.dap_messages.specs.Counting.{first_column}
 use Rattle.json_values.specs.Fields.{number_at, text_at}
 use Rattle.dap_messages.specs.declared.counting.Counting.{Counting}
 use Rattle.model.specs.Token.{is_blank, is_word_byte}
 use Rattle.mon_line_parts.specs.Topics.{TopicWord, begins_with, words}
-use Rattle.mon_line_parts.specs.declared.topic.Topic.{Topic}
 use Rattle.mon_line_parts.specs.declared.topic.Topic.TheVariants as topic
 use Rattle.serde_json.specs.Data.{Data}
 use Rattle.source_map.specs.Names.{Named}

@@ -3,7 +3,7 @@
 use Rattle.std.specs.Prelude.{ℕ, List, [], ◌∷◌, codes, Option, Some, None}
 use Rattle.assembler.specs.Assembly.{AssemblyView, source_lines}
 use Rattle.dap_breaks.specs.Wanted.{first_row}
-use Rattle.dap_messages.specs.Answers.{goto_target, targets_body}
+use Rattle.dap_breaks.specs.Values.{goto_target, targets_body}
 use Rattle.dap_messages.specs.Counting.{line_at, no_line, shown_line}
 use Rattle.dap_messages.specs.declared.counting.Counting.{Counting}
 use Rattle.mon_session.specs.Course.{IsEither}

@@ -1,7 +1,7 @@
 -- Breakpoints that a client wants. Source: Debug Adapter Protocol 1.65, "SourceBreakpoint",
 -- "InstructionBreakpoint"; that a line without bytes stands for the next that has some, and what a
 -- condition is, mos65.
-use Rattle.std.specs.Prelude.{ℕ, ◌≡◌, ◌==◌, ◌&&◌, nat_le, nat_lt, Bool, if◌then◌else◌, List, [], ◌∷◌, ◌++◌, codes, length, map, Option, Some, None}
+use Rattle.std.specs.Prelude.{ℕ, ◌≡◌, ◌==◌, ◌&&◌, nat_le, nat_lt, Bool, if◌then◌else◌, List, [], ◌∷◌, ◌++◌, codes, length, map, Option, Some, None, unwrap_or}
 use Rattle.std.specs.List.{flat_map}
 use Rattle.std.specs.Option.{option_to_list}
 use Rattle.assembler.specs.Lines.{LineView}
@@ -30,15 +30,18 @@ first_row line (row ∷ rows) = if has_bytes line row then Some (row.number, row
 
 -- ---- conditions
 
-abbrev pub option_text : List ℕ → Option (List ℕ) → List ℕ
-option_text words None = []
-option_text words (Some text) = if length text == 0 then [] else words ++ text
+-- Words and a text behind them, unless the text is empty.
+abbrev pub option_text : List ℕ → List ℕ → List ℕ
+option_text words text = if length text == 0 then [] else words ++ text
 
+-- A condition or a hit count that is missing is empty.
 abbrev pub condition_text : Data → List ℕ
-condition_text wanted = option_text (codes " if ") (text_at (codes "/condition") wanted)
+condition_text wanted
+    = option_text (codes " if ") (unwrap_or (text_at (codes "/condition") wanted) [])
 
 abbrev pub hits_text : Data → List ℕ
-hits_text wanted = option_text (codes " times ") (text_at (codes "/hitCondition") wanted)
+hits_text wanted
+    = option_text (codes " times ") (unwrap_or (text_at (codes "/hitCondition") wanted) [])
 
 -- The line of `mon` that sets a breakpoint: a condition stands behind `if`, a hit count behind
 -- `times`.
@@ -55,5 +58,5 @@ told_addresses told = flat_map (λ wanted. option_to_list wanted.address) told
 abbrev pub addresses : List Break → List ℕ
 addresses stops = map (λ stop. stop.address) stops
 
-abbrev pub Matches : WantedList → Type 0
+unfoldable pub Matches : WantedList → Type 0
 Matches list = told_addresses list.told.items ≡ addresses list.stops.items

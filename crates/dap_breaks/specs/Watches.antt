@@ -4,7 +4,8 @@
 use Rattle.std.specs.Prelude.{ℕ, ◌≡◌, ◌==◌, ◌||◌, ◌&&◌, not, Bool, true, bytes_eq, if◌then◌else◌, List, [], ◌∷◌, ◌++◌, codes, map, Option, Some, None, option_and_then, unwrap_or}
 use Rattle.std.specs.List.{flat_map}
 use Rattle.dap_breaks.specs.declared.watches.TheConstants.{NO_DATA, NOT_WATCHED}
-use Rattle.dap_messages.specs.Answers.{breakpoints_body, data_at, data_unwatched, data_watched, no_data}
+use Rattle.dap_breaks.specs.Values.{data_at, data_unwatched, data_watched, no_data}
+use Rattle.dap_messages.specs.Answers.{breakpoints_body}
 use Rattle.json_values.specs.Fields.{number_at, text_at}
 use Rattle.dap_messages.specs.References.{place_at}
 use Rattle.dap_views.specs.Looks.{place_named}

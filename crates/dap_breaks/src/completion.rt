@@ -1,6 +1,6 @@
 //! What can stand in a line of the console for the word that is typed.
 
-ghost use Rattle.std.specs.Prelude.{◌≡◌, ◌≤◌, ◌++◌, IfOk, OnOk, length, map as each};
+ghost use Rattle.std.specs.Prelude.{◌≡◌, ◌≤◌, ◌++◌, IfOk, OnOk, length, map as each, take};
 ghost use Rattle.std.specs.List.{flat_map, list_all};
 ghost use Rattle.dap_breaks.specs.Completions.{begun_behind, bytes_before, column_behind};
 ghost use Rattle.dap_breaks.specs.Completions.{completions, front_of, if_begun, is_ascii};
@@ -10,7 +10,8 @@ ghost use Rattle.model.specs.Token.{is_blank, is_word_byte};
 ghost use Rattle.serde_json.specs.View.{view};
 ghost use Rattle.source_map.specs.Names.{named};
 
-use dap_messages::{Counting, completion, targets_body};
+use crate::values::{completion, targets_body};
+use dap_messages::Counting;
 use json_values::{number_at, text_or};
 use mon_line_parts::{Topic, all_words, begins_with};
 use mon_session::Desk;
@@ -36,17 +37,25 @@ fn bytes_before(counting: Counting, column: Option<u64>) -> u64
     }
 }
 
-/// Returns the text of a request before its column: all of it if the column is behind it.
-fn front_of(counting: Counting, request: &Value) -> &[u8]
-    ensures { result.now ≡ front_of counting (view request.now) }
+/// Returns so many bytes of the front of a text: all of it if it has no more.
+fn front(text: &[u8], count: u64) -> &[u8]
+    ensures { result.now ≡ take count text.now }
 {
-    let text = text_or(request, "/arguments/text", "").as_bytes();
-    let count = bytes_before(counting, number_at(request, "/arguments/column"));
     if count < text.len() as u64 {
         &text[..count as usize]
     } else {
         text
     }
+}
+
+/// Returns the text of a request before its column: all of it if the column is behind it.
+fn front_of(counting: Counting, request: &Value) -> &[u8]
+    ensures { result.now ≡ front_of counting (view request.now) }
+{
+    front(
+        text_or(request, "/arguments/text", "").as_bytes(),
+        bytes_before(counting, number_at(request, "/arguments/column")),
+    )
 }
 
 /// Returns whether a byte is a letter, a digit or `_`.

@@ -3,14 +3,15 @@
 //!
 //! `wanted` reads the breakpoints of a list, `listed` sets them and answers. `watches` watches
 //! bytes, `targets` has the addresses at which a line can be gone to, `completion` what can stand
-//! for a word that is typed. What a list does stands in `specs/Breaks.antt` and
-//! `specs/Watches.antt`, what is answered in `specs/Answered.antt`, what can be chosen in
-//! `specs/Targets.antt` and `specs/Completions.antt`.
+//! for a word that is typed. `values` makes the values of answers, by `specs/Values.antt`. What a
+//! list does stands in `specs/Breaks.antt` and `specs/Watches.antt`, what is answered in
+//! `specs/Answered.antt`, what can be chosen in `specs/Targets.antt` and `specs/Completions.antt`.
 #![tactic(auto)]
 
 mod completion;
 mod listed;
 mod targets;
+mod values;
 mod wanted;
 mod watches;
 

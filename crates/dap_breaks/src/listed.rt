@@ -13,18 +13,18 @@ ghost use Rattle.json_values.specs.ValueLists.{HasValues};
 ghost use Rattle.serde_json.specs.Data.{Data};
 ghost use Rattle.serde_json.specs.View.{items_view, view};
 
-use crate::wanted::{List, Wanted, push_at, push_unset, row_from, unset};
+use crate::values::{breakpoint_set, breakpoint_unset, data_unwatched};
+use crate::wanted::{List, Wanted, push_at, push_why, row_from};
 use arguments::is_one_file;
 use dap_desk::{is_break, replace};
-use dap_messages::{
-    Counting, Listed, Source, breakpoint_set, breakpoint_unset, data_unwatched, place_at,
-};
+use dap_messages::{Counting, Listed, Source, place_at};
 use json_values::{Object, ValueList, text_at};
 use mon_runs::Session;
 use mon_session::Desk;
 use mon_stops::Break;
 use serde_json::Value;
 use std::alloc::{AllocError, Global};
+use std::mem;
 use std::rt::Files;
 
 /// What is said where no line has bytes.
@@ -79,10 +79,7 @@ fn push_line(
     let line = source.counting.line_at(wanted);
     match row_in(source, line) {
         Some((line, address)) => push_at(alloc, list, desk, wanted, line, address),
-        None => {
-            let wanted = unset(alloc, line, NO_BYTES)?;
-            push_unset(list, wanted)
-        }
+        None => push_why(alloc, list, line, NO_BYTES),
     }
 }
 
@@ -116,10 +113,7 @@ fn push_address(
             let line = desk.places.line_at(address).unwrap_or(0);
             push_at(alloc, list, desk, wanted, line, address)
         }
-        None => {
-            let wanted = unset(alloc, 0, "this is no address")?;
-            push_unset(list, wanted)
-        }
+        None => push_why(alloc, list, 0, "this is no address"),
     }
 }
 
@@ -241,6 +235,13 @@ fn set_list(
     answers(alloc, &desk.session, counting, told.as_slice())
 }
 
+/// Holds a request in place of the one before.
+pub fn hold(held: &mut Option<Value>, request: &Value) -> Result<(), AllocError> {
+    let copy = request.clone()?;
+    drop(mem::replace(held, Some(copy)));
+    Ok(())
+}
+
 /// Sets the breakpoints of the source that a request lists, in place of those before, and returns
 /// what is answered.
 ///
@@ -260,7 +261,7 @@ pub fn set_lines(
     ensures answer { IfOk result (IsAnswer desk.new.session source.now.counting
         listed.new.lines.items) }
 {
-    listed.line_request = Some(request.clone()?);
+    hold(&mut listed.line_request, request)?;
     let list = lines_listed(alloc, desk, source, request)?;
     set_list(alloc, desk, &mut listed.lines, source.counting, list)
 }
@@ -284,7 +285,7 @@ pub fn set_addresses(
     ensures answer { IfOk result (IsAnswer desk.new.session counting
         listed.new.addresses.items) }
 {
-    listed.address_request = Some(request.clone()?);
+    hold(&mut listed.address_request, request)?;
     let list = addresses_listed(alloc, desk, request)?;
     set_list(alloc, desk, &mut listed.addresses, counting, list)
 }

@@ -7,8 +7,9 @@ ghost use Rattle.serde_json.specs.Find.{pointer};
 ghost use Rattle.serde_json.specs.View.{view};
 
 use crate::listed::row_in;
+use crate::values::{goto_target, targets_body};
 use arguments::is_one_file;
-use dap_messages::{Counting, Source, goto_target, targets_body};
+use dap_messages::{Counting, Source};
 use json_values::{Object, ValueList, text_at};
 use serde_json::Value;
 use std::alloc::{AllocError, Global};

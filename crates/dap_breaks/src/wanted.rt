@@ -9,7 +9,7 @@ ghost use Rattle.serde_json.specs.View.{view};
 
 use assembler::{Assembly, SourceLine};
 use formatting::{push_address, push_text};
-use json_values::text_at;
+use json_values::text_or;
 use mon_lines::{Command, Slip, read_line};
 use mon_session::Desk;
 use mon_stops::Break;
@@ -39,7 +39,13 @@ pub struct List {
 fn has_bytes(row: &SourceLine<'_>, line: u32) -> bool
     ensures { result ≡ has_bytes line (line_view row.now) }
 {
-    row.number >= line && row.count > 0 && row.address < 65536
+    if row.number < line {
+        return false;
+    }
+    if row.count == 0 {
+        return false;
+    }
+    row.address < 65536
 }
 
 /// Returns the number and the address of a line, if it is at a number or behind it, and has bytes.
@@ -64,21 +70,23 @@ pub fn row_from(assembly: &Assembly, line: u32) -> Option<(u32, u16)>
     None
 }
 
-/// Appends words and a text behind them, unless there is no text.
-fn push_option(text: &mut Vec<u8>, words: &str, option: Option<&str>) -> Result<(), AllocError>
-    ensures { OnOk result (text.new.items
-        ≡ text.old.items ++ option_text words.now (option_map (λ s. s.now) option.entry)) }
+/// Appends two texts.
+fn push_both(text: &mut Vec<u8>, first: &str, second: &str) -> Result<(), AllocError>
+    ensures { OnOk result (text.new.items ≡ text.old.items ++ (first.now ++ second.now)) }
 {
-    match option {
-        Some(option) => {
-            if option.is_empty() {
-                return Ok(());
-            }
-            push_text(text, words)?;
-            push_text(text, option)
-        }
-        None => Ok(()),
+    push_text(text, first)?;
+    push_text(text, second)
+}
+
+/// Appends words and a text behind them, unless the text is empty.
+fn push_option(text: &mut Vec<u8>, words: &str, option: &str) -> Result<(), AllocError>
+    ensures { OnOk result
+        (text.new.items ≡ text.old.items ++ option_text words.now option.now) }
+{
+    if option.is_empty() {
+        return Ok(());
     }
+    push_both(text, words, option)
 }
 
 /// Appends the condition of a breakpoint, if it has one.
@@ -86,14 +94,14 @@ fn push_condition(line: &mut Vec<u8>, wanted: &Value) -> Result<(), AllocError>
     ensures { OnOk result
         (line.new.items ≡ line.old.items ++ condition_text (view wanted.now)) }
 {
-    push_option(line, " if ", text_at(wanted, "/condition"))
+    push_option(line, " if ", text_or(wanted, "/condition", ""))
 }
 
 /// Appends the hit count of a breakpoint, if it has one.
 fn push_hits(line: &mut Vec<u8>, wanted: &Value) -> Result<(), AllocError>
     ensures { OnOk result (line.new.items ≡ line.old.items ++ hits_text (view wanted.now)) }
 {
-    push_option(line, " times ", text_at(wanted, "/hitCondition"))
+    push_option(line, " times ", text_or(wanted, "/hitCondition", ""))
 }
 
 /// Returns the line of `mon` that sets a breakpoint.
@@ -109,7 +117,7 @@ fn break_line(alloc: Global, wanted: &Value, address: u16) -> Result<Vec<u8>, Al
 }
 
 /// Returns what is told of a breakpoint that cannot be set, for this reason.
-pub fn unset(alloc: Global, line: u32, words: &str) -> Result<Wanted, AllocError>
+fn unset(alloc: Global, line: u32, words: &str) -> Result<Wanted, AllocError>
     ensures address { IfOk result (λ wanted. wanted.address ≡ None) }
     ensures line { IfOk result (λ wanted. wanted.line ≡ line) }
     ensures words { IfOk result (λ wanted. string_bytes wanted.words ≡ words.now) }
@@ -137,12 +145,20 @@ fn slipped(alloc: Global, line: u32, slip: Slip<'_>) -> Result<Wanted, AllocErro
 }
 
 /// Appends what is told of a breakpoint that cannot be set.
-pub fn push_unset(list: &mut List, wanted: Wanted) -> Result<(), AllocError>
+fn push_unset(list: &mut List, wanted: Wanted) -> Result<(), AllocError>
     requires { wanted.address ≡ None }
     ensures { OnOk result (Matches list.old → Matches list.new) }
 {
     list.told.push(wanted)?;
     Ok(())
+}
+
+/// Appends what is told of a breakpoint that cannot be set, for this reason.
+pub fn push_why(alloc: Global, list: &mut List, line: u32, words: &str) -> Result<(), AllocError>
+    ensures { OnOk result (Matches list.old → Matches list.new) }
+{
+    let wanted = unset(alloc, line, words)?;
+    push_unset(list, wanted)
 }
 
 /// Appends a breakpoint that can be set.
@@ -154,8 +170,8 @@ fn push_stop(alloc: Global, list: &mut List, line: u32, stop: Break) -> Result<(
         line,
         words: String::new(alloc),
     };
-    list.stops.push(stop)?;
     list.told.push(wanted)?;
+    list.stops.push(stop)?;
     Ok(())
 }
 
@@ -178,10 +194,7 @@ fn push_read(
                 times,
             },
         ) => push_stop(alloc, list, line, Break::new(address, tests, times)),
-        Ok(_) => {
-            let wanted = unset(alloc, line, "this is no break")?;
-            push_unset(list, wanted)
-        }
+        Ok(_) => push_why(alloc, list, line, "this is no break"),
         Err(slip) => {
             let wanted = slipped(alloc, line, slip)?;
             push_unset(list, wanted)
@@ -202,8 +215,7 @@ pub fn push_at(
 {
     let text = break_line(alloc, wanted, address)?;
     if text.len() > 255 {
-        let wanted = unset(alloc, line, "the condition is too long")?;
-        return push_unset(list, wanted);
+        return push_why(alloc, list, line, "the condition is too long");
     }
     push_read(alloc, list, desk, line, text.as_slice())
 }

@@ -9,8 +9,9 @@ ghost use Rattle.dap_breaks.specs.Watches.{watched_of, watches_in, watches_named
 ghost use Rattle.dap_breaks.specs.Watches.{with_all, with_one};
 ghost use Rattle.serde_json.specs.View.{view};
 
-use crate::listed::{list_of, told_body};
-use dap_messages::{Listed, data_at, data_unwatched, data_watched, no_data, place_at};
+use crate::listed::{hold, list_of, told_body};
+use crate::values::{data_at, data_unwatched, data_watched, no_data};
+use dap_messages::{Listed, place_at};
 use dap_views::place_named;
 use json_values::{ValueList, number_at, text_at, text_or};
 use mon_lines::{Stretch, WatchKind};
@@ -32,8 +33,8 @@ fn has_bytes(scope: Option<u64>) -> bool
     ensures { result ≡ has_bytes scope }
 {
     match scope {
-        Some(scope) => !(scope == 1 || scope == 2 || scope == 6),
-        None => true,
+        Some(1 | 2 | 6) => false,
+        _ => true,
     }
 }
 
@@ -85,15 +86,22 @@ pub fn data_shown(alloc: Global, desk: &Desk, request: &Value) -> Result<Value, 
     }
 }
 
-/// Appends a watch of one byte.
-fn push_watch(list: &mut Vec<Watch>, address: u16, kind: WatchKind) -> Result<(), AllocError>
-    ensures { OnOk result (list.new.items ≡ list.old.items ++ byte_watch address kind ∷ []) }
+/// Returns a watch of one byte.
+fn byte_watch(address: u16, kind: WatchKind) -> Watch
+    ensures { result ≡ byte_watch address kind }
 {
     let stretch = Stretch {
         first: address,
         last: address,
     };
-    list.push(Watch::Bytes { stretch, kind })?;
+    Watch::Bytes { stretch, kind }
+}
+
+/// Appends a watch of one byte.
+fn push_watch(list: &mut Vec<Watch>, address: u16, kind: WatchKind) -> Result<(), AllocError>
+    ensures { OnOk result (list.new.items ≡ list.old.items ++ byte_watch address kind ∷ []) }
+{
+    list.push(byte_watch(address, kind))?;
     Ok(())
 }
 
@@ -199,8 +207,11 @@ fn is_watched(stops: &Stops, address: u16, access: &str) -> bool
     match access {
         "read" => stops.has_access(WatchKind::Read, address),
         "readWrite" => {
-            stops.has_access(WatchKind::Read, address)
-                && stops.has_access(WatchKind::Write, address)
+            if stops.has_access(WatchKind::Read, address) {
+                stops.has_access(WatchKind::Write, address)
+            } else {
+                false
+            }
         }
         _ => stops.has_access(WatchKind::Change, address),
     }
@@ -255,7 +266,7 @@ pub fn set_data(
     let wanted = list_of(request);
     replace_watches(alloc, desk, wanted)?;
     desk.text.clear();
-    listed.data_request = Some(request.clone()?);
+    hold(&mut listed.data_request, request)?;
     let body = all_told(alloc, &desk.stops, wanted)?;
     Ok(body)
 }

@@ -1,8 +1,11 @@
 -- The bodies of answers. Source: Debug Adapter Protocol 1.65.
 use Rattle.std.specs.Prelude.{ℕ, true, false, List, [], ◌∷◌, codes, map}
-use Rattle.json_values.specs.Values.{count, flag, object_of, word}
-use Rattle.dap_messages.specs.Variables.{list_body}
+use Rattle.json_values.specs.Values.{count, flag, list_of, object_of, word}
 use Rattle.serde_json.specs.Data.{Data, array, item, no_items}
+
+-- An object with one member, which is a list.
+abbrev pub list_body : List ℕ → List Data → Data
+list_body name ds = object_of ((name, list_of ds) ∷ [])
 
 abbrev pub yes : Data
 yes = flag true
@@ -49,14 +52,3 @@ unfoldable pub scopes : Data
 scopes = list_body (codes "scopes") (scope (codes "Registers") 1 ∷ scope (codes "Flags") 2
     ∷ scope (codes "Symbols") 3 ∷ scope (codes "Stack") 4 ∷ scope (codes "Zero page") 5
     ∷ scope (codes "Machine") 6 ∷ [])
-
--- ---- events
-
-abbrev pub stopped_body : List ℕ → List ℕ → Data
-stopped_body reason words = object_of ((codes "allThreadsStopped", yes)
-    ∷ (codes "description", word words) ∷ (codes "reason", word reason)
-    ∷ (codes "threadId", count 1) ∷ [])
-
-abbrev pub output_body : List ℕ → List ℕ → Data
-output_body category text = object_of ((codes "category", word category)
-    ∷ (codes "output", word text) ∷ [])

@@ -6,4 +6,3 @@ pub mod Messages
 pub mod References
 pub mod Requests
 pub mod Texts
-pub mod Variables

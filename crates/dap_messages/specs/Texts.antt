@@ -1,11 +1,8 @@
--- How bytes, addresses and references to them are shown. Each is ASCII, so that it is text as it
+-- How addresses and references to them are shown. Each is ASCII, so that it is text as it
 -- stands. Source: mos65.
 use Rattle.std.specs.Prelude.{ℕ, List, ◌++◌, codes}
 use Rattle.std.specs.Str.Lossy.{utf8_lossy}
-use Rattle.model.specs.Text.{hex_address, hex_byte}
-
-abbrev pub byte_text : ℕ → List ℕ
-byte_text byte = utf8_lossy (codes "$" ++ hex_byte byte)
+use Rattle.model.specs.Text.{hex_address}
 
 abbrev pub marked : List ℕ → ℕ → List ℕ
 marked mark address = utf8_lossy (mark ++ hex_address address)

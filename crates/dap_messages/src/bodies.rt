@@ -2,9 +2,9 @@
 
 ghost use Rattle.std.specs.Prelude.{◌≡◌, IfOk, map as each};
 ghost use Rattle.serde_json.specs.View.{view};
-ghost use Rattle.dap_messages.specs.Bodies.{capabilities, continued, nothing, output_body, scope};
-ghost use Rattle.dap_messages.specs.Bodies.{scopes, stopped_body, threads};
-ghost use Rattle.dap_messages.specs.Variables.{list_body};
+ghost use Rattle.dap_messages.specs.Answers.{breakpoints_body};
+ghost use Rattle.dap_messages.specs.Bodies.{capabilities, continued, nothing, scope};
+ghost use Rattle.dap_messages.specs.Bodies.{scopes, threads};
 
 use json_values::{Object, ValueList};
 use serde_json::Value;
@@ -35,12 +35,12 @@ pub fn capabilities(alloc: Global) -> Result<Value, AllocError>
         .build()
 }
 
-/// Returns a body with one member, which is a list.
-pub fn list_body(alloc: Global, name: &str, list: Vec<Value>) -> Result<Value, AllocError>
-    ensures { IfOk result (λ v. view v ≡ list_body name.now (each view list.items)) }
+/// Returns the answer that tells of some breakpoints.
+pub fn breakpoints_body(alloc: Global, list: Vec<Value>) -> Result<Value, AllocError>
+    ensures { IfOk result (λ v. view v ≡ breakpoints_body (each view list.items)) }
 {
     Object::new(alloc)
-        .member(name, Ok(Value::Array(list)))
+        .member("breakpoints", Ok(Value::Array(list)))
         .build()
 }
 
@@ -87,28 +87,6 @@ pub fn scopes(alloc: Global) -> Result<Value, AllocError>
         .with(scope(alloc, "Machine", 6))
         .build();
     Object::new(alloc).member("scopes", scopes).build()
-}
-
-/// Returns what the event says that the machine has stopped: the reason, and words of why.
-pub fn stopped_body(alloc: Global, reason: &str, words: &str) -> Result<Value, AllocError>
-    ensures { IfOk result (λ v. view v ≡ stopped_body reason.now words.now) }
-{
-    Object::new(alloc)
-        .flag("allThreadsStopped", true)
-        .word("description", words)
-        .word("reason", reason)
-        .count("threadId", 1)
-        .build()
-}
-
-/// Returns what the event says that has a text, of the console of the program or of the adapter.
-pub fn output_body(alloc: Global, category: &str, text: &str) -> Result<Value, AllocError>
-    ensures { IfOk result (λ v. view v ≡ output_body category.now text.now) }
-{
-    Object::new(alloc)
-        .word("category", category)
-        .word("output", text)
-        .build()
 }
 
 /// Returns what is answered to a move.

@@ -1,2 +1,2 @@
 mod Done
-mod Stays
+pub mod Stays

@@ -14,14 +14,14 @@ use Rattle.dap_messages.specs.declared.request.Query.{Query}
 use Rattle.dap_messages.specs.declared.request.Query.TheVariants as query
 use Rattle.dap_messages.specs.declared.request.SessionRequest.{SessionRequest}
 use Rattle.dap_messages.specs.declared.request.SessionRequest.TheVariants as to
-use Rattle.dap_launch.specs.Begun.{IsBegun}
+use Rattle.dap_session.specs.Begun.{IsBegun}
 use Rattle.dap_session.specs.Changes.{Goes, HasChanged, TellsValue, Writes}
 use Rattle.dap_session.specs.Console.{Evaluates, is_console}
 use Rattle.dap_desk.specs.Breaks.{KeepsEvents, place_of}
 use Rattle.dap_desk.specs.Moves.{KeepsWatches, Stand, moved, stand_of}
-use Rattle.dap_launch.specs.Options.{IsAgain}
-use Rattle.dap_launch.specs.declared.options.Options.{Options}
-use Rattle.dap_launch.specs.declared.seat.Seat.{Seat}
+use Rattle.dap_session.specs.Options.{IsAgain}
+use Rattle.dap_session.specs.declared.options.Options.{Options}
+use Rattle.dap_session.specs.declared.seat.Seat.{Seat}
 use Rattle.dap_messages.specs.Answers.{breakpoints_body, exception_body}
 use Rattle.dap_messages.specs.declared.counting.Counting.{Counting}
 use Rattle.dap_views.specs.Frames.{AreFrames, wants_first}
@@ -109,7 +109,7 @@ Sets kind request old new said
 abbrev pub Terminates : List Said → Type 0
 Terminates said = said ≡ done nothing ∷ event (codes "terminated") nothing ∷ []
 
-abbrev pub AreAnswers : SessionRequest → Data → Counting → Seat → Seat → List Said → Type 0
+unfoldable pub AreAnswers : SessionRequest → Data → Counting → Seat → Seat → List Said → Type 0
 AreAnswers (to.Moves way) request counting old new said
     = (stand_of new.desk ≡ moved old.options.steps way old.desk)
     × KeepsWatches old.desk new.desk × IsDone said

@@ -1,12 +1,12 @@
 -- Lines of the console. Source: Debug Adapter Protocol 1.65, "Evaluate Request"; mos65.
-use Rattle.std.specs.Prelude.{ℕ, ◌≡◌, ◌<◌, ◌≤◌, ⊤, Bool, true, false, List, [], ◌∷◌, codes, length, Option, Some, None, unwrap_or}
+use Rattle.std.specs.Prelude.{ℕ, ◌≡◌, ◌<◌, ◌≤◌, ⊤, Bool, true, false, List, [], ◌∷◌, codes, length, string_bytes, Option, Some, None, unwrap_or}
 use Rattle.std.specs.Str.{bytes_eq}
 use Rattle.std.specs.Str.Lossy.{utf8_lossy}
 use Rattle.dap_messages.specs.Bodies.{nothing}
 use Rattle.json_values.specs.Fields.{text_at}
 use Rattle.dap_messages.specs.Messages.{Said, done, event}
-use Rattle.dap_launch.specs.declared.fault.Fault.{Fault}
-use Rattle.dap_launch.specs.declared.fault.Fault.TheVariants as fault
+use Rattle.dap_session.specs.declared.fault.Fault.{Fault}
+use Rattle.dap_session.specs.declared.fault.Fault.TheVariants as fault
 use Rattle.dap_views.specs.Looks.{look_at}
 use Rattle.mon_dispatch.specs.Lines.{IsTooLong, Serves}
 use Rattle.mon_session.specs.Course.{ShowsOnly}
@@ -62,7 +62,7 @@ abbrev pub ShowsIfRefused : Fault → Desk → Desk → Type 0
 ShowsIfRefused (fault.Refused words) old new = ShowsOnly old new
 ShowsIfRefused fault.OutOfMemory old new = ⊤
 
--- That memory ran out.
-abbrev pub IsMemory : Fault → Type 0
-IsMemory (fault.Refused words) = ⊥
-IsMemory fault.OutOfMemory = ⊤
+-- A request is refused with these words, or memory ran out.
+abbrev pub IsRefusal : List ℕ → Fault → Type 0
+IsRefusal words (fault.Refused own) = string_bytes own ≡ words
+IsRefusal words fault.OutOfMemory = ⊤

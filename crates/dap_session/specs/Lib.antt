@@ -1,5 +1,6 @@
 pub mod Answered
+pub mod Begun
 pub mod Changes
 pub mod Console
-pub mod Served
+pub mod Options
 pub mod Stands

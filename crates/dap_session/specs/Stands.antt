@@ -3,7 +3,7 @@ use Rattle.std.specs.Prelude.{ℕ, ◌≡◌, ◌==◌, ◌&&◌, not, Bool, if�
 use Rattle.std.specs.List.{list_any}
 pub use Rattle.dap_desk.specs.Moves.{NO_STOP}
 use Rattle.dap_messages.specs.Messages.{Said}
-use Rattle.dap_launch.specs.declared.seat.Seat.{Seat}
+use Rattle.dap_session.specs.declared.seat.Seat.{Seat}
 use Rattle.dap_views.specs.Told.{told_of}
 use Rattle.dap_messages.specs.declared.halt.Halt.{Halt}
 use Rattle.dap_messages.specs.declared.halt.Reason.{Reason}

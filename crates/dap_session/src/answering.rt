@@ -10,13 +10,14 @@ ghost use Rattle.dap_session.specs.Answered.{begun_stand};
 ghost use Rattle.serde_json.specs.View.{view};
 
 use crate::changing::{go_to, write_memory};
-use crate::console::{evaluate, set_variable};
+use crate::console::{evaluate, push_terminated, set_variable};
+use crate::fault::{Fault, refused};
+use crate::seat::{Seat, begin_again, source_of};
 use crate::stands::{all_done, push_halt};
 use dap_breaks::{
     completions, data_shown, goto_targets, set_addresses, set_data, set_lines, set_source,
 };
 use dap_desk::make_move;
-use dap_launch::{Fault, Seat, begin_again, refused, source_of};
 use dap_messages::{
     Breakpoints, Change, Counting, Halt, Listed, Message, Move, Query, Reason, SessionRequest,
     breakpoints_body, continued, exception, nothing, scopes, stand_by, threads,
@@ -80,12 +81,12 @@ fn set_listed<H: Files + AllocGlobal>(
     match kind {
         Breakpoints::Source => {
             let source = source_of(&seat.options, &seat.assembly, counting);
-            Ok(set_source(rt, &mut seat.desk, &mut seat.listed, &source, request)?)
+            set_source(rt, &mut seat.desk, &mut seat.listed, &source, request)
         }
         Breakpoints::Instruction => {
-            Ok(set_addresses(alloc, &mut seat.desk, &mut seat.listed, counting, request)?)
+            set_addresses(alloc, &mut seat.desk, &mut seat.listed, counting, request)
         }
-        Breakpoints::Data => Ok(set_data(alloc, &mut seat.desk, &mut seat.listed, request)?),
+        Breakpoints::Data => set_data(alloc, &mut seat.desk, &mut seat.listed, request),
     }
 }
 
@@ -102,6 +103,12 @@ fn set<H: Files + AllocGlobal>(
 {
     let body = set_listed(rt, seat, counting, request, kind)?;
     answered(rt.alloc(), body)
+}
+
+/// Lets go of what is told. The only error is that memory ran out.
+fn let_go(told: Result<Value, AllocError>) -> Result<(), AllocError> {
+    drop(told?);
+    Ok(())
 }
 
 /// Sets the breakpoints of a kind that a request of an earlier session lists, if there is one.
@@ -121,17 +128,12 @@ fn set_again(
     match kind {
         Breakpoints::Source => {
             let source = source_of(&seat.options, &seat.assembly, counting);
-            let _ = set_lines(alloc, &mut seat.desk, &mut seat.listed, &source, request)?;
-            Ok(())
+            let_go(set_lines(alloc, &mut seat.desk, &mut seat.listed, &source, request))
         }
         Breakpoints::Instruction => {
-            let _ = set_addresses(alloc, &mut seat.desk, &mut seat.listed, counting, request)?;
-            Ok(())
+            let_go(set_addresses(alloc, &mut seat.desk, &mut seat.listed, counting, request))
         }
-        Breakpoints::Data => {
-            let _ = set_data(alloc, &mut seat.desk, &mut seat.listed, request)?;
-            Ok(())
-        }
+        Breakpoints::Data => let_go(set_data(alloc, &mut seat.desk, &mut seat.listed, request)),
     }
 }
 
@@ -203,8 +205,7 @@ fn terminate(alloc: Global) -> Result<Vec<Message>, AllocError>
     ensures { IfOk result (λ ms. Terminates (each said_of ms.items)) }
 {
     let mut messages = all_done(alloc)?;
-    let body = nothing(alloc)?;
-    messages.push(Message::Event("terminated", body))?;
+    push_terminated(alloc, &mut messages)?;
     Ok(messages)
 }
 
@@ -254,7 +255,7 @@ fn show<H: Files + AllocGlobal>(
 /// Does what a request of a session asks for, and returns the messages to the client.
 ///
 /// Errors: `Refused` if it cannot be done. Nothing but the text said last is changed then.
-#[tactic(auto, using(crate::proofs::Stays::shows_same))]
+#[tactic(auto, using(crate::proofs::Stays::shows_same), unfolding(crate::specs::Answered::AreAnswers))]
 pub fn answer<H: Files + AllocGlobal>(
     rt: &H,
     seat: &mut Seat,

@@ -13,13 +13,14 @@ ghost use Rattle.mon_settings.specs.ByteLines.{bytes_put};
 ghost use Rattle.serde_json.specs.View.{view};
 
 use crate::console::happen;
+use crate::fault::{Fault, refused};
+use crate::seat::Seat;
 use crate::stands::{all_done, push_halt};
 use base64::DecodeAllocError;
 use base64::engine::general_purpose::STANDARD;
-use dap_launch::{Fault, Seat, refused};
 use dap_messages::{Message, Reason, place_at, stand_by, written_body};
 use dap_views::{answered, tell_unmoved};
-use json_values::{number_at, text_at};
+use json_values::{number_at, text_or};
 use model::Setting;
 use mon_runs::{Event, Session};
 use mon_session::Desk;
@@ -71,7 +72,7 @@ pub fn go_to(alloc: Global, seat: &mut Seat, request: &Value) -> Result<Vec<Mess
 fn data_of(request: &Value) -> &str
     ensures { result.now ≡ data_of (view request.now) }
 {
-    text_at(request, "/arguments/data").unwrap_or("")
+    text_or(request, "/arguments/data", "")
 }
 
 /// Returns the bytes that a request writes.

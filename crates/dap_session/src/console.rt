@@ -12,11 +12,12 @@ ghost use Rattle.dap_session.specs.Stands.{KeepsProgram, KeepsSession};
 ghost use Rattle.mon_session.specs.Course.{KeepsStops, course_of, happened};
 ghost use Rattle.serde_json.specs.View.{items_view, view};
 
+use crate::fault::{Fault, refused, refused_by};
+use crate::seat::Seat;
 use crate::stands::push_halt;
-use dap_launch::{Fault, Seat, refused, refused_by};
 use dap_messages::{Message, Reason, evaluated, nothing, stand_by, value_set};
 use dap_views::{answered, look_at, tell_unmoved, variables_shown};
-use json_values::{number_at, text_at};
+use json_values::{number_at, text_at, text_or};
 use mon_dispatch::serve;
 use mon_lines::{Command, Flag, Slip, read_line};
 use mon_runs::Event;
@@ -131,7 +132,7 @@ fn is_console(request: &Value) -> bool
 fn expression_of(request: &Value) -> &str
     ensures { result.now ≡ expression_of (view request.now) }
 {
-    text_at(request, "/arguments/expression").unwrap_or("")
+    text_or(request, "/arguments/expression", "")
 }
 
 /// Serves a line of the console, or shows a register or the byte at a place.
@@ -155,12 +156,13 @@ pub fn evaluate(alloc: Global, seat: &mut Seat, request: &Value) -> Result<Vec<M
 
 /// Returns the line of `mon` that sets a variable of a scope.
 fn setting_line(alloc: Global, request: &Value) -> Result<String, AllocError> {
-    let name = text_at(request, "/arguments/name").unwrap_or("");
-    let value = text_at(request, "/arguments/value").unwrap_or("");
-    match number_at(request, "/arguments/variablesReference") {
-        Some(1 | 2) => format!(in alloc; "set {name} {value}"),
-        _ => format!(in alloc; "put {name} {value}"),
-    }
+    let name = text_or(request, "/arguments/name", "");
+    let value = text_or(request, "/arguments/value", "");
+    let word = match number_at(request, "/arguments/variablesReference") {
+        Some(1 | 2) => "set",
+        _ => "put",
+    };
+    format!(in alloc; "{word} {name} {value}")
 }
 
 /// Makes an event.
@@ -281,7 +283,10 @@ fn value_of<'a>(variables: &'a [Value], name: &str) -> Option<&'a str>
 fn variables_in(shown: &Value) -> &[Value]
     ensures { items_view result.now ≡ items_at (codes "/variables") (view shown.now) }
 {
-    match shown.pointer("/variables").and_then(Value::as_array) {
+    let Some(listed) = shown.pointer("/variables") else {
+        return &[];
+    };
+    match listed.as_array() {
         Some(list) => list.as_slice(),
         None => &[],
     }
@@ -292,8 +297,8 @@ fn variables_in(shown: &Value) -> &[Value]
 fn value_shown<'a>(request: &'a Value, variables: &'a [Value]) -> &'a str
     ensures { result.now ≡ value_shown (view request.now) (each view variables.now) }
 {
-    let name = text_at(request, "/arguments/name").unwrap_or("");
-    let asked = text_at(request, "/arguments/value").unwrap_or("");
+    let name = text_or(request, "/arguments/name", "");
+    let asked = text_or(request, "/arguments/value", "");
     value_of(variables, name).unwrap_or(asked)
 }
 

@@ -1,18 +1,29 @@
-//! A session of the debug adapter: what each request does to it, and what is answered.
+//! A session of the debug adapter, from its launch on: what each request does to it, and what is
+//! answered.
 //!
-//! `dap_launch` begins one, `dap_desk` moves the machine. `stands` tells why it stands, `console`
-//! serves lines of `mon` and sets variables, `changing` makes another instruction the next and
-//! writes to memory. `answering` has each request of a session, `serving` passes one to it if a
-//! session has begun. What each request does stands in `specs/Served.antt` and
-//! `specs/Answered.antt`: what a line does in `specs/Console.antt`, a variable, a target and bytes
-//! in `specs/Changes.antt`.
+//! `launching` reads what a launch asks for into `options`, `seat` begins a session on it, `fault`
+//! has why a request is not done. `stands` tells why the machine stands, `console` serves lines of
+//! `mon` and sets variables, `changing` makes another instruction the next and writes to memory,
+//! `answering` has each request of a session. `dap_desk` moves the machine.
+//!
+//! What a launch asks for stands in `specs/Options.antt`, how a session begins in
+//! `specs/Begun.antt`, what each request does in `specs/Answered.antt`: what a line does in
+//! `specs/Console.antt`, a variable, a target and bytes in `specs/Changes.antt`.
 #![tactic(auto)]
 
 mod answering;
 mod changing;
 mod console;
-mod serving;
+mod fault;
+mod launching;
+mod options;
+mod seat;
 mod stands;
 
+pub use answering::answer;
+pub use console::push_terminated;
 pub use dap_desk::NO_STOP;
-pub use serving::{Adapter, serve};
+pub use fault::{Fault, refused};
+pub use options::Options;
+pub use seat::{Seat, begin_session, put_seat};
+pub use stands::all_done;

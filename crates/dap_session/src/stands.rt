@@ -5,7 +5,7 @@ ghost use Rattle.dap_messages.specs.Messages.{said_of};
 ghost use Rattle.dap_session.specs.Answered.{IsDone, all_done};
 ghost use Rattle.dap_session.specs.Stands.{IsToldHalt, KeepsSession, is_at, reason_at};
 
-use dap_launch::Seat;
+use crate::seat::Seat;
 use dap_messages::{Halt, Listed, Message, Reason, nothing};
 use dap_views::{answered, tell_halt};
 use std::alloc::{AllocError, Global};
@@ -22,12 +22,7 @@ pub fn all_done(alloc: Global) -> Result<Vec<Message>, AllocError>
 fn is_at(addresses: &[u16], address: u16) -> bool
     ensures { result ≡ is_at addresses.now address }
 {
-    for other in addresses {
-        if *other == address {
-            return true;
-        }
-    }
-    false
+    addresses.iter().any(|other| *other == address)
 }
 
 /// Returns why the machine stands. A breakpoint at an address that no line has is told apart.

@@ -1,31 +1,33 @@
 -- Bytes of memory one after another, as variables and as they are.
-use Rattle.std.proofs.Common.{◌≡◌, ◌∙◌, ℕ, suc, ◌+◌, ◌-◌, ◌<◌, ◌≤◌, List, [], ◌∷◌, ◌++◌, length, map, get_or, sym, ap, arith, append_assoc, append-nil}
-use Rattle.std.proofs.lemmas.List.{map-append}
+use Rattle.std.proofs.Common.{◌≡◌, ◌∙◌, ℕ, zero, suc, ◌+◌, ◌-◌, ◌<◌, ◌≤◌, List, [], ◌∷◌, ◌++◌, length, get_or, sym, ap, arith, append_assoc, append-nil, subst}
 use Rattle.dap_views.specs.Scopes.{cell, cells}
+use Rattle.json_values.specs.ValueLists.{HasValues}
+use Rattle.json_values.specs.declared.value_list.ValueList.{ValueList}
 use Rattle.mon_texts.specs.Memory.{bytes_from}
 use Rattle.mon_texts.proofs.Bytes.{next_byte}
 use Rattle.serde_json.specs.Data.{Data}
-use Rattle.serde_json.specs.View.{view}
-use Rattle.serde_json.specs.declared.value.Value.{Value}
 
-cells_next : (memory : List ℕ) (i to : ℕ) → i < to → cells memory i (to - i) ≡ cell memory i ∷ cells memory (i + 1) (to - (i + 1))
+-- one behind the others
+cells_behind : (memory : List ℕ) (a n : ℕ) → cells memory a (suc n) ≡ cells memory a n ++ cell memory (a + n) ∷ []
 unfolding cells
-cells_next memory i to more = let n : to - i ≡ suc (to - (i + 1)) = omega arith in ap (cells memory i) n
+cells_behind memory a zero = let e : a ≡ a + 0 = omega arith in ap (λ (k : ℕ). cell memory k ∷ []) e
+cells_behind memory a (suc n) =
+    let e : (a + 1) + n ≡ a + suc n = omega arith in
+    ap (λ (ds : List Data). cell memory a ∷ ds) (cells_behind memory (a + 1) n)
+    ∙ ap (λ (k : ℕ). cell memory a ∷ (cells memory (a + 1) n ++ cell memory k ∷ [])) e
 
-pub cells_more : (memory : List ℕ) (i to : ℕ) (found new : List Value) (v : Value) (whole : List Data) → i < to → view v ≡ cell memory i → new ≡ found ++ v ∷ []
-    → map view found ++ cells memory i (to - i) ≡ whole → map view new ++ cells memory (i + 1) (to - (i + 1)) ≡ whole
-cells_more memory i to found new v whole more is put so_far =
-    let rest = cells memory (i + 1) (to - (i + 1)) in
-    ap (λ (ds : List Data). ds ++ rest) (ap (map view) put ∙ map-append view found (v ∷ []))
-    ∙ append_assoc (map view found) (view v ∷ []) rest
-    ∙ ap (λ (d : Data). map view found ++ d ∷ rest) is
-    ∙ sym (ap (λ (ds : List Data). map view found ++ ds) (cells_next memory i to more)) ∙ so_far
-
-pub cells_done : (memory : List ℕ) (i to : ℕ) (found whole : List Data) → to ≤ i → found ++ cells memory i (to - i) ≡ whole → found ≡ whole
+pub cells_none : (memory : List ℕ) (from : ℕ) → [] ≡ cells memory from (from - from)
 unfolding cells
-cells_done memory i to found whole past so_far =
-    let n : to - i ≡ 0 = omega arith in
-    sym (append-nil found) ∙ sym (ap (λ k. found ++ cells memory i k) n) ∙ so_far
+cells_none memory from = let n : 0 ≡ from - from = omega arith in ap (cells memory from) n
+
+pub cells_more : (memory : List ℕ) (from address : ℕ) (list : ValueList) → from ≤ address
+    → HasValues (cells memory from (address - from) ++ cell memory address ∷ []) list → HasValues (cells memory from ((address + 1) - from)) list
+cells_more memory from address list behind has =
+    let n : (address + 1) - from ≡ suc (address - from) = omega arith in
+    let at : from + (address - from) ≡ address = omega arith in
+    let one : cells memory from ((address + 1) - from) ≡ cells memory from (address - from) ++ cell memory address ∷ []
+    = ap (cells memory from) n ∙ cells_behind memory from (address - from) ∙ ap (λ (k : ℕ). cells memory from (address - from) ++ cell memory k ∷ []) at in
+    subst (λ (ds : List Data). HasValues ds list) (sym one) has
 
 pub bytes_more : (memory : List ℕ) (first offset count : ℕ) (found new : List ℕ) (whole : List ℕ) → first + offset < length memory → offset < count
     → new ≡ found ++ get_or memory (first + offset) 0 ∷ [] → found ++ bytes_from memory (first + offset) (count - offset) ≡ whole

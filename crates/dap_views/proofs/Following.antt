@@ -1,8 +1,8 @@
 -- Rows one after another.
-use Rattle.std.proofs.Common.{◌≡◌, ◌∙◌, ℕ, zero, suc, ◌+◌, ◌-◌, ◌<◌, ◌≤◌, Bool, true, false, if◌then◌else◌, List, [], ◌∷◌, ◌++◌, map, sym, ap, arith, refl, append_assoc, append-nil}
+use Rattle.std.proofs.Common.{◌≡◌, ◌∙◌, ℕ, zero, suc, ◌+◌, ◌-◌, ◌<◌, ◌≤◌, if◌then◌else◌, List, [], ◌∷◌, ◌++◌, map, sym, ap, arith, refl, append_assoc, append-nil}
 use Rattle.std.proofs.lemmas.Bool.{le-ltb, lt-ltb}
 use Rattle.std.proofs.lemmas.List.{map-append}
-use Rattle.std.specs.Prelude.{min, nat_lt}
+use Rattle.std.specs.Prelude.{min}
 use Rattle.dap_messages.specs.declared.counting.Counting.{Counting}
 use Rattle.dap_views.specs.Rows.{first, found, next_row, row_at, rows, rows_around, rows_on, rows_to}
 use Rattle.mon_session.specs.declared.desk.Desk.{Desk}

@@ -1,3 +1,5 @@
 mod Cells
 mod Following
+mod Lossy
+mod Shown
 mod Symbols

@@ -3,7 +3,7 @@
 use Rattle.std.specs.Prelude.{ℕ, ◌≡◌, ◌==◌, Bool, true, false, List, [], ◌∷◌, codes, Option, Some, None, unwrap_or}
 use Rattle.std.specs.Str.Lossy.{utf8_lossy}
 use Rattle.json_values.specs.Fields.{number_at}
-use Rattle.dap_messages.specs.Answers.{frame_at_line, frame_without_line, frames_body}
+use Rattle.dap_views.specs.Values.{frame_at_line, frame_without_line, frames_body}
 use Rattle.dap_messages.specs.Counting.{first_column, shown_line}
 use Rattle.dap_messages.specs.declared.counting.Counting.{Counting}
 use Rattle.mon_instructions.specs.Places.{place_text}

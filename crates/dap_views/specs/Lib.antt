@@ -4,3 +4,5 @@ pub mod Memory
 pub mod Rows
 pub mod Scopes
 pub mod Told
+pub mod Values
+pub mod Variables

@@ -2,8 +2,10 @@
 -- mos65.
 use Rattle.std.specs.Prelude.{ℕ, nat_lt, false, if◌then◌else◌, List, ◌++◌, codes, length, slice_index, Option, Some, None, option_map, Result, Ok, Err}
 use Rattle.std.specs.Str.{bytes_eq}
-use Rattle.dap_messages.specs.Answers.{evaluated_body, looked_at_body}
-use Rattle.dap_messages.specs.Texts.{address_text, byte_text}
+use Rattle.dap_messages.specs.Answers.{evaluated_body}
+use Rattle.dap_messages.specs.Texts.{address_text}
+use Rattle.dap_views.specs.Values.{looked_at_body}
+use Rattle.dap_views.specs.Variables.{byte_text}
 use Rattle.model.specs.Effect.{status}
 use Rattle.model.specs.State.{State}
 use Rattle.model.specs.declared.registers.Regs.{Regs}

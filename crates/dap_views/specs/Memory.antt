@@ -4,7 +4,7 @@ use Rattle.std.specs.Prelude.{ℕ, ◌-◌, min, List, [], codes, Option, Some, 
 use Rattle.base64.specs.Engines.{standard}
 use Rattle.base64.specs.GeneralPurpose.{encode_of}
 use Rattle.json_values.specs.Fields.{number_at}
-use Rattle.dap_messages.specs.Answers.{memory_body}
+use Rattle.dap_views.specs.Values.{memory_body}
 use Rattle.dap_messages.specs.References.{place_at}
 use Rattle.mon_texts.specs.Memory.{bytes_from}
 use Rattle.serde_json.specs.Data.{Data}

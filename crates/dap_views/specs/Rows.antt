@@ -3,7 +3,7 @@
 use Rattle.std.specs.Prelude.{ℕ, ℤ, zero, suc, pos, negsuc, ◌+◌, ◌-◌, ◌*◌, ◌==◌, ◌&&◌, min, nat_lt, Bool, if◌then◌else◌, List, [], ◌∷◌, ◌++◌, codes, take, Option, Some, None}
 use Rattle.std.specs.List.{flat_map}
 use Rattle.std.specs.Str.Lossy.{utf8_lossy}
-use Rattle.dap_messages.specs.Answers.{instruction_at_line, instruction_row, instructions_body, no_instruction}
+use Rattle.dap_views.specs.Values.{instruction_at_line, instruction_row, instructions_body, no_instruction}
 use Rattle.dap_messages.specs.Counting.{shown_line}
 use Rattle.dap_messages.specs.References.{offset_at, place_at}
 use Rattle.dap_messages.specs.declared.counting.Counting.{Counting}

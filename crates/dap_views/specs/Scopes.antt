@@ -4,7 +4,7 @@ use Rattle.std.specs.Prelude.{ℕ, zero, suc, ◌+◌, ◌-◌, ◌==◌, if◌t
 use Rattle.std.specs.Str.Lossy.{utf8_lossy}
 use Rattle.json_values.specs.Fields.{number_at}
 use Rattle.dap_messages.specs.Texts.{address_text}
-use Rattle.dap_messages.specs.Variables.{byte_variable, flags_shown, number_variable, registers_shown, variables_body}
+use Rattle.dap_views.specs.Variables.{byte_variable, flags_shown, number_variable, registers_shown, variables_body}
 use Rattle.dap_views.specs.declared.variables.Scope.{Scope}
 use Rattle.dap_views.specs.declared.variables.Scope.TheVariants.{Registers, Flags, Symbols, Stack, ZeroPage, Machine}
 use Rattle.model.specs.Session.{Session}

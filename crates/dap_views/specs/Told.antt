@@ -3,9 +3,8 @@
 use Rattle.std.specs.Prelude.{ℕ, ◌-◌, nat_lt, if◌then◌else◌, List, [], ◌∷◌, ◌++◌, codes, decimal, drop, encode_utf8, length, Option, Some, None}
 use Rattle.std.specs.List.{flat_map}
 use Rattle.std.specs.Str.Lossy.{utf8_lossy}
-use Rattle.dap_messages.specs.Bodies.{output_body, stopped_body}
+use Rattle.dap_views.specs.Values.{invalidated_body, output_body, stopped_body}
 use Rattle.dap_messages.specs.Messages.{Said, event}
-use Rattle.dap_messages.specs.Answers.{invalidated_body}
 use Rattle.dap_messages.specs.Halts.{word_of}
 use Rattle.dap_messages.specs.declared.halt.Halt.{Halt}
 use Rattle.dap_messages.specs.declared.halt.Reason.{Reason}

@@ -5,7 +5,9 @@ ghost use Rattle.dap_views.specs.Frames.{AreFrames, IsFrame, IsFrameAt, IsFrameO
 ghost use Rattle.dap_views.specs.Frames.{wants_first};
 ghost use Rattle.serde_json.specs.View.{view};
 
-use dap_messages::{Source, frame_at_line, frame_without_line, frames_body};
+use crate::frame_values::{frame_at_line, frame_without_line, frames_body};
+use crate::texts::as_text;
+use dap_messages::Source;
 use json_values::number_at;
 use mon_instructions::push_place;
 use mon_session::Desk;
@@ -27,8 +29,8 @@ fn place_name(alloc: Global, places: &Places, address: u16) -> Result<String, Al
         (λ text. string_bytes text ≡ place_name places.now.names address) }
 {
     let mut text = Vec::new(alloc);
-    push_place(&mut text, places, address)?;
-    String::from_utf8_lossy(alloc, text.as_slice())
+    let grown = push_place(&mut text, places, address);
+    as_text(alloc, text, grown)
 }
 
 /// Returns the frame at an address in a line.
@@ -99,10 +101,8 @@ fn one(alloc: Global, value: Value) -> Result<Vec<Value>, AllocError>
 fn wants_first(request: &Value) -> bool
     ensures { result ≡ wants_first (view request.now) }
 {
-    match number_at(request, "/arguments/startFrame") {
-        Some(number) => number == 0,
-        None => true,
-    }
+    let first = number_at(request, "/arguments/startFrame").unwrap_or(0);
+    first == 0
 }
 
 /// Returns the frames from one on that the request names: that at the program counter is the only

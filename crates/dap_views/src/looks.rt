@@ -1,14 +1,20 @@
 //! A register, or the byte at a place.
 
-ghost use Rattle.std.specs.Prelude.{◌≡◌, IfOk, option_map, string_bytes};
-ghost use Rattle.dap_views.specs.Looks.{look_at, place_named, place_on, place_shown};
+ghost use Rattle.std.specs.Prelude.{◌≡◌, IfOk, option_map, slice_index, string_bytes};
+ghost use Rattle.dap_views.specs.Values.{looked_at_body};
+ghost use Rattle.dap_views.specs.Variables.{byte_text};
+ghost use Rattle.dap_views.specs.Looks.{first_in, look_at, place_named, place_on, place_shown};
 ghost use Rattle.dap_views.specs.Looks.{register_byte, register_shown};
+ghost use Rattle.mon_lines.specs.Lines.{command_view};
 ghost use Rattle.serde_json.specs.View.{view};
 
-use dap_messages::{address_text, byte_text, evaluated, looked_at};
+use crate::texts::byte_text;
+use dap_messages::{address_text, evaluated, reference};
 use formatting::push_text;
+use json_values::Object;
 use model::Regs;
 use mon_lines::{Command, read_line};
+use mon_runs::Session;
 use mon_session::Desk;
 use serde_json::Value;
 use source_map::Places;
@@ -46,6 +52,16 @@ fn register_shown(alloc: Global, regs: Regs, name: &str) -> Result<Option<String
     }
 }
 
+/// Returns the first address that a command shows, if it shows some.
+fn first_in(command: Command<'_>) -> Option<u16>
+    ensures { result ≡ first_in (command_view command.entry) }
+{
+    match command {
+        Command::Mem(stretch) => Some(stretch.first),
+        _ => None,
+    }
+}
+
 /// Returns the first address that a line shows, if it has at most 255 bytes, and shows some.
 fn place_on(line: &[u8], places: &Places, pc: u16) -> Option<u16>
     ensures { result ≡ place_on places.now.names pc line.now }
@@ -54,8 +70,8 @@ fn place_on(line: &[u8], places: &Places, pc: u16) -> Option<u16>
         return None;
     }
     match read_line(line, places, pc) {
-        Ok(Command::Mem(stretch)) => Some(stretch.first),
-        _ => None,
+        Ok(command) => first_in(command),
+        Err(_) => None,
     }
 }
 
@@ -72,6 +88,18 @@ pub fn place_named(alloc: Global, desk: &Desk, text: &str) -> Result<Option<u16>
     Ok(place_on(line.as_slice(), &desk.places, desk.session.regs().pc))
 }
 
+/// Returns the byte at an address.
+fn byte_shown(alloc: Global, session: &Session, address: u16) -> Result<Value, AllocError>
+    ensures { IfOk result (λ v. view v ≡ looked_at_body address
+        (byte_text (slice_index session.now.current.bus.memory address))) }
+{
+    Object::new(alloc)
+        .text("memoryReference", reference(alloc, address))
+        .text("result", byte_text(alloc, session.peek(address)))
+        .count("variablesReference", 0)
+        .build()
+}
+
 /// Returns the byte at the place that a text names, if it names one.
 fn place_shown(alloc: Global, desk: &Desk, text: &str) -> Result<Option<Value>, AllocError>
     ensures { IfOk result (λ found. option_map view found
@@ -79,8 +107,7 @@ fn place_shown(alloc: Global, desk: &Desk, text: &str) -> Result<Option<Value>, 
 {
     match place_named(alloc, desk, text)? {
         Some(address) => {
-            let text = byte_text(alloc, desk.session.peek(address))?;
-            let value = looked_at(alloc, address, text.as_str())?;
+            let value = byte_shown(alloc, &desk.session, address)?;
             Ok(Some(value))
         }
         None => Ok(None),

@@ -1,12 +1,13 @@
 //! Bytes of memory.
 
 ghost use Rattle.std.specs.Prelude.{◌≡◌, ◌+◌, ◌≤◌, IfOk};
-ghost use Rattle.dap_views.specs.Memory.{count_at, memory_at, memory_shown};
+ghost use Rattle.dap_views.specs.Memory.{bytes_shown, count_at, memory_at, memory_shown};
 ghost use Rattle.mon_texts.specs.Memory.{bytes_from};
 ghost use Rattle.serde_json.specs.View.{view};
 
+use crate::bodies::memory_body;
 use base64::engine::general_purpose::STANDARD;
-use dap_messages::{memory_body, place_at};
+use dap_messages::place_at;
 use json_values::number_at;
 use mon_runs::Session;
 use mon_session::Desk;
@@ -36,11 +37,24 @@ pub fn count_at(request: &Value, path: &str) -> u32
     ensures value { result ≡ count_at path.now (view request.now) }
     ensures most { result ≤ 65536 }
 {
-    match number_at(request, path) {
-        Some(count) if count < 65536 => count as u32,
-        Some(_) => 65536,
-        None => 0,
-    }
+    let count = number_at(request, path).unwrap_or(0);
+    count.min(65536) as u32
+}
+
+/// Returns those of so many bytes from an address on that there are, and how many there are not.
+fn bytes_shown(
+    alloc: Global,
+    session: &Session,
+    first: u16,
+    count: u32,
+) -> Result<Value, AllocError>
+    ensures { IfOk result
+        (λ v. view v ≡ bytes_shown session.now.current.bus.memory first count) }
+{
+    let most = count.min(65536 - u32::from(first));
+    let bytes = bytes_from(alloc, session, first, most)?;
+    let text = STANDARD.encode(alloc, bytes.as_slice())?;
+    memory_body(alloc, first, text.as_str(), u64::from(count - most))
 }
 
 /// Returns so many bytes from an address on, as far as the memory goes: none where there is no
@@ -55,12 +69,7 @@ fn memory_at(
         (λ v. view v ≡ memory_at session.now.current.bus.memory count first) }
 {
     match first {
-        Some(first) => {
-            let most = count.min(65536 - u32::from(first));
-            let bytes = bytes_from(alloc, session, first, most)?;
-            let text = STANDARD.encode(alloc, bytes.as_slice())?;
-            memory_body(alloc, first, text.as_str(), u64::from(count - most))
-        }
+        Some(first) => bytes_shown(alloc, session, first, count),
         None => memory_body(alloc, 0, "", u64::from(count)),
     }
 }

@@ -1,18 +1,21 @@
 //! The rows of a disassembly.
 
-ghost use Rattle.std.specs.Prelude.{◌≡◌, ◌≤◌, ◌++◌, ◌-◌, IfOk, OnOk, map as each};
-ghost use Rattle.dap_views.specs.Rows.{ahead, behind, disassembled, first, found, is_instruction};
+ghost use Rattle.std.specs.Prelude.{◌≡◌, ◌≤◌, ◌++◌, ◌-◌, [], IfOk, OnOk, codes, map as each};
+ghost use Rattle.std.specs.Prelude.{List as ListOf, string_bytes, ℕ};
+ghost use Rattle.std.specs.List.{flat_map};
+ghost use Rattle.std.specs.Str.Lossy.{utf8_lossy};
+ghost use Rattle.dap_views.specs.Rows.{ahead, behind, disassembled, first, found, further};
+ghost use Rattle.dap_views.specs.Rows.{is_instruction};
 ghost use Rattle.dap_views.specs.Rows.{joined, next_row, row_at, row_bytes, row_len};
-ghost use Rattle.dap_views.specs.Rows.{row_shown, row_text, rows, rows_around, rows_at};
-ghost use Rattle.dap_views.specs.Rows.{rows_on, rows_to};
+ghost use Rattle.dap_views.specs.Rows.{row_on, row_shown, row_text, rows, rows_around, rows_at};
+ghost use Rattle.dap_views.specs.Rows.{rows_on, rows_to, up_to};
 ghost use Rattle.mon_instructions.specs.Instructions.{bytes_at};
 ghost use Rattle.serde_json.specs.View.{view};
 
 use crate::memory::count_at;
-use dap_messages::{
-    Source, instruction_at_line, instruction_row, instructions_body, no_instruction, offset_at,
-    place_at,
-};
+use crate::row_values::{instruction_at_line, instruction_row, instructions_body, no_instruction};
+use crate::texts::as_text;
+use dap_messages::{Source, offset_at, place_at};
 use disasm::line_in;
 use formatting::{push_byte, push_text};
 use mon_instructions::{push_instruction, push_listed};
@@ -24,17 +27,28 @@ use std::alloc::{AllocError, Global};
 /// Behind the memory.
 const BEHIND: u32 = 65536;
 
-/// Returns how many bytes the row at an address has, which has one if it would run past an end.
+/// Returns how many bytes a row at an address has, which has one if it would run past an end.
+fn up_to(until: u32, address: u32, len: u8) -> u8
+    requires { address ≤ 65535 }
+    ensures { result ≡ up_to until address len }
+{
+    if address >= until {
+        return len;
+    }
+    if until < address + u32::from(len) {
+        1
+    } else {
+        len
+    }
+}
+
+/// Returns how many bytes the row at an address has, up to an end.
 fn row_len(alloc: Global, desk: &Desk, until: u32, address: u16) -> Result<u8, AllocError>
     ensures { IfOk result (λ len. len ≡ row_len desk.now until address) }
 {
     let mut text = Vec::new(alloc);
     let len = push_listed(&mut text, &desk.session, &desk.places, address)?;
-    if u32::from(address) < until && until < u32::from(address) + u32::from(len) {
-        Ok(1)
-    } else {
-        Ok(len)
-    }
+    Ok(up_to(until, u32::from(address), len))
 }
 
 /// Returns where the row behind one begins.
@@ -93,6 +107,18 @@ fn bytes_at(session: &Session, address: u16) -> [u8; 3]
     ]
 }
 
+/// Appends bytes in hex, with words in front of each.
+fn push_further(text: &mut Vec<u8>, between: &str, bytes: &[u8]) -> Result<(), AllocError>
+    ensures { OnOk result
+        (text.new.items ≡ text.old.items ++ flat_map (further between.now) bytes.now) }
+{
+    for byte in bytes {
+        push_text(text, between)?;
+        push_byte(text, *byte)?;
+    }
+    Ok(())
+}
+
 /// Appends bytes in hex, with words in front of the first and between them.
 fn push_joined(
     text: &mut Vec<u8>,
@@ -103,17 +129,13 @@ fn push_joined(
     ensures { OnOk result
         (text.new.items ≡ text.old.items ++ joined front.now between.now bytes.now) }
 {
-    match bytes {
-        [] => Ok(()),
-        [first, others @ ..] => {
+    match bytes.split_first() {
+        Some((first, others)) => {
             push_text(text, front)?;
             push_byte(text, *first)?;
-            for byte in others {
-                push_text(text, between)?;
-                push_byte(text, *byte)?;
-            }
-            Ok(())
+            push_further(text, between, others)
         }
+        None => Ok(()),
     }
 }
 
@@ -153,6 +175,50 @@ fn push_row_text(text: &mut Vec<u8>, desk: &Desk, address: u16, len: u8) -> Resu
     }
 }
 
+/// Returns the bytes of a row, in hex.
+fn bytes_shown(alloc: Global, desk: &Desk, address: u16, len: u8) -> Result<String, AllocError>
+    ensures { IfOk result (λ text. string_bytes text
+        ≡ utf8_lossy (joined [] (codes " ") (row_bytes desk.now address len))) }
+{
+    let mut text = Vec::new(alloc);
+    let grown = push_row_bytes(&mut text, "", " ", desk, address, len);
+    as_text(alloc, text, grown)
+}
+
+/// Returns the text of a row.
+fn text_shown(alloc: Global, desk: &Desk, address: u16, len: u8) -> Result<String, AllocError>
+    ensures { IfOk result
+        (λ text. string_bytes text ≡ utf8_lossy (row_text desk.now address len)) }
+{
+    let mut text = Vec::new(alloc);
+    let grown = push_row_text(&mut text, desk, address, len);
+    as_text(alloc, text, grown)
+}
+
+/// Returns a row of bytes and a text, if memory did not run out for them. It may begin a line of
+/// the source.
+fn row_on(
+    alloc: Global,
+    source: &Source<'_>,
+    address: u16,
+    bytes: Result<String, AllocError>,
+    text: Result<String, AllocError>,
+    line: Option<u32>,
+) -> Result<Value, AllocError>
+    ensures { (b t : ListOf ℕ) → IfOk bytes (λ s. string_bytes s ≡ b)
+        → IfOk text (λ s. string_bytes s ≡ t)
+        → IfOk result (λ v. view v
+        ≡ row_on source.now.path.now source.now.counting address b t line) }
+{
+    match line {
+        Some(line) => {
+            let line = source.counting.shown_line(line);
+            instruction_at_line(alloc, address, bytes, text, line, source.path)
+        }
+        None => instruction_row(alloc, address, bytes, text),
+    }
+}
+
 /// Returns the row of some bytes at an address, which may begin a line of the source.
 fn row_shown(
     alloc: Global,
@@ -164,26 +230,16 @@ fn row_shown(
     ensures { IfOk result (λ v. view v ≡ row_shown desk.now source.now.path.now
         source.now.counting address len) }
 {
-    let mut bytes = Vec::new(alloc);
-    push_row_bytes(&mut bytes, "", " ", desk, address, len)?;
-    let bytes = String::from_utf8_lossy(alloc, bytes.as_slice())?;
-    let mut text = Vec::new(alloc);
-    push_row_text(&mut text, desk, address, len)?;
-    let text = String::from_utf8_lossy(alloc, text.as_slice())?;
-    match desk.places.line_at(address) {
-        Some(line) => {
-            let line = source.counting.shown_line(line);
-            instruction_at_line(
-                alloc,
-                address,
-                bytes.as_str(),
-                text.as_str(),
-                line,
-                source.path,
-            )
-        }
-        None => instruction_row(alloc, address, bytes.as_str(), text.as_str()),
-    }
+    let bytes = bytes_shown(alloc, desk, address, len);
+    let text = text_shown(alloc, desk, address, len);
+    row_on(
+        alloc,
+        source,
+        address,
+        bytes,
+        text,
+        desk.places.line_at(address),
+    )
 }
 
 /// Returns the row at an address. Where no memory is, it says so.

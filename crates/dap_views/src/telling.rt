@@ -1,17 +1,21 @@
 //! What a client is told besides the answer to a request.
 
-ghost use Rattle.std.specs.Prelude.{◌≡◌, ◌++◌, ◌∷◌, ◌-◌, ◌<◌, ◌≤◌, [], IfOk, OnOk, codes, drop, length};
-ghost use Rattle.std.specs.Prelude.{map as each, string_bytes};
+ghost use Rattle.std.specs.Prelude.{◌≡◌, ◌++◌, ◌∷◌, ◌-◌, ◌<◌, ◌≤◌, [], ℕ, IfOk, OnOk};
+ghost use Rattle.std.specs.Prelude.{List, codes, decimal, drop, length, map as each, string_bytes};
+ghost use Rattle.dap_views.specs.declared.wording.TheConstants.{LESS_BEFORE, LESS_BEHIND};
 ghost use Rattle.dap_messages.specs.Messages.{done, event, said_of};
-ghost use Rattle.dap_views.specs.Told.{characters, console_said, halt_shown, less_text};
-ghost use Rattle.dap_views.specs.Told.{line_of, output_said, remark_said, stopped_said};
+ghost use Rattle.dap_views.specs.Told.{characters, console_said, fault_shown, halt_shown};
+ghost use Rattle.dap_views.specs.Told.{less_text, line_of, output_said, remark_said, stopped_said};
 ghost use Rattle.dap_views.specs.Told.{told_of, unmoved_said};
 ghost use Rattle.serde_json.specs.Data.{Data};
 ghost use Rattle.serde_json.specs.View.{view};
 
+use crate::bodies::{invalidated, output_body, stopped_body};
+use crate::texts::as_text;
 use crate::wording::{LESS_BEFORE, LESS_BEHIND};
-use dap_messages::{Halt, Message, Reason, Told, invalidated, output_body, stopped_body};
+use dap_messages::{Halt, Message, Reason, Told};
 use formatting::{push_count, push_text};
+use model::EventFault;
 use mon_runs::Session;
 use mon_session::{Desk, push_fault};
 use serde_json::Value;
@@ -47,17 +51,28 @@ fn push_event(
     Ok(())
 }
 
-/// Appends an event with a text.
+/// Appends an event with a text, if memory did not run out for it.
 fn push_output(
     alloc: Global,
     messages: &mut Vec<Message>,
     category: &str,
-    text: &str,
+    text: Result<String, AllocError>,
 ) -> Result<(), AllocError>
-    ensures { OnOk result (each said_of messages.new.items
-        ≡ each said_of messages.old.items ++ output_said category.now text.now ∷ []) }
+    ensures { (bytes : List ℕ) → IfOk text (λ s. string_bytes s ≡ bytes)
+        → OnOk result (each said_of messages.new.items
+        ≡ each said_of messages.old.items ++ output_said category.now bytes ∷ []) }
 {
     push_event(messages, "output", output_body(alloc, category, text))
+}
+
+/// Appends that so many bytes were taken back.
+fn push_less_text(text: &mut Vec<u8>, count: u32) -> Result<(), AllocError>
+    ensures { OnOk result (text.new.items
+        ≡ text.old.items ++ (LESS_BEFORE.now ++ decimal count ++ LESS_BEHIND.now)) }
+{
+    push_text(text, LESS_BEFORE)?;
+    push_count(text, u64::from(count))?;
+    push_text(text, LESS_BEHIND)
 }
 
 /// Returns that so many bytes were taken back.
@@ -65,10 +80,8 @@ fn less_text(alloc: Global, count: u32) -> Result<String, AllocError>
     ensures { IfOk result (λ text. string_bytes text ≡ less_text count) }
 {
     let mut text = Vec::new(alloc);
-    push_text(&mut text, LESS_BEFORE)?;
-    push_count(&mut text, u64::from(count))?;
-    push_text(&mut text, LESS_BEHIND)?;
-    String::from_utf8_lossy(alloc, text.as_slice())
+    let grown = push_less_text(&mut text, count);
+    as_text(alloc, text, grown)
 }
 
 /// Appends that bytes were taken back, since the client was told more than there are.
@@ -83,8 +96,8 @@ fn push_less(
         ++ output_said (codes "console")
         (less_text (told - length session.now.current.bus.out)) ∷ []) }
 {
-    let text = less_text(alloc, told - session.output_len())?;
-    push_output(alloc, messages, "console", text.as_str())
+    let text = less_text(alloc, told - session.output_len());
+    push_output(alloc, messages, "console", text)
 }
 
 /// Appends what the program put out since the client was told so many bytes, or that bytes were
@@ -100,8 +113,8 @@ fn push_console(
 {
     let count = session.output_len();
     if told < count {
-        let text = output_since(alloc, session, told)?;
-        push_output(alloc, messages, "stdout", text.as_str())
+        let text = output_since(alloc, session, told);
+        push_output(alloc, messages, "stdout", text)
     } else if count < told {
         push_less(alloc, messages, session, told)
     } else {
@@ -123,8 +136,7 @@ fn push_words(alloc: Global, messages: &mut Vec<Message>, words: &str) -> Result
     ensures { OnOk result (each said_of messages.new.items ≡ each said_of messages.old.items
         ++ output_said (codes "console") (line_of words.now) ∷ []) }
 {
-    let text = line_of(alloc, words)?;
-    push_output(alloc, messages, "console", text.as_str())
+    push_output(alloc, messages, "console", line_of(alloc, words))
 }
 
 /// Appends why the machine stands as a remark, if it is before the first instruction or at its
@@ -140,17 +152,22 @@ fn push_remark(alloc: Global, messages: &mut Vec<Message>, halt: Halt) -> Result
     }
 }
 
+/// Returns why a step is refused.
+fn fault_shown(alloc: Global, places: &Places, fault: EventFault) -> Result<String, AllocError>
+    ensures { IfOk result (λ words. string_bytes words ≡ fault_shown places.now.names fault) }
+{
+    let mut text = Vec::new(alloc);
+    let grown = push_fault(&mut text, places, fault);
+    as_text(alloc, text, grown)
+}
+
 /// Returns why the machine stands, in words: if a step is refused, why it is.
 fn halt_shown(alloc: Global, places: &Places, halt: Halt) -> Result<String, AllocError>
     ensures { IfOk result (λ words. string_bytes words
         ≡ halt_shown places.now.names halt.words.now halt.fault) }
 {
     match halt.fault {
-        Some(fault) => {
-            let mut text = Vec::new(alloc);
-            push_fault(&mut text, places, fault)?;
-            String::from_utf8_lossy(alloc, text.as_slice())
-        }
+        Some(fault) => fault_shown(alloc, places, fault),
         None => String::from_str(alloc, halt.words),
     }
 }

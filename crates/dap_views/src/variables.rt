@@ -1,18 +1,20 @@
 //! The variables of a scope.
 
-ghost use Rattle.std.specs.Prelude.{◌≡◌, ◌-◌, ◌∷◌, ◌++◌, [], IfOk, OnOk, map as each};
-ghost use Rattle.std.specs.Prelude.{slice_index};
+ghost use Rattle.std.specs.Prelude.{◌≡◌, ◌-◌, ℕ, IfOk, List, map as each, slice_index};
+ghost use Rattle.std.specs.Prelude.{string_bytes};
 ghost use Rattle.std.specs.Str.Lossy.{utf8_lossy};
-ghost use Rattle.dap_messages.specs.Variables.{byte_variable, number_variable};
-ghost use Rattle.dap_views.specs.Scopes.{cells, listed, machine_shown, scope_at, symbols_shown};
-ghost use Rattle.dap_views.specs.Scopes.{variables_shown};
+ghost use Rattle.dap_views.specs.Scopes.{cell, cells, listed, machine_shown, scope_at};
+ghost use Rattle.dap_views.specs.Scopes.{symbols_shown, variables_shown};
+ghost use Rattle.dap_views.specs.Variables.{byte_variable, flag_variable, flags_shown};
+ghost use Rattle.dap_views.specs.Variables.{number_variable, registers_shown, variable};
+ghost use Rattle.json_values.specs.Values.{list_of};
 ghost use Rattle.serde_json.specs.View.{view};
 ghost use Rattle.source_map.specs.Names.{named};
 
-use dap_messages::{
-    address_text, byte_variable, number_variable, push_flags, push_registers, variables_body,
-};
-use json_values::number_at;
+use crate::texts::{byte_text, number_text};
+use dap_messages::address_text;
+use json_values::{Object, ValueList, number_at};
+use model::{Flags, Regs};
 use mon_runs::Session;
 use mon_session::Desk;
 use serde_json::Value;
@@ -49,6 +51,76 @@ fn scope_at(request: &Value) -> Option<Scope>
     }
 }
 
+/// Returns a variable of a name, with its value, if memory did not run out for that.
+fn variable(
+    alloc: Global,
+    name: &str,
+    value: Result<String, AllocError>,
+) -> Result<Value, AllocError>
+    ensures { (bytes : List ℕ) → IfOk value (λ s. string_bytes s ≡ bytes)
+        → IfOk result (λ v. view v ≡ variable name.now bytes) }
+{
+    Object::new(alloc)
+        .word("evaluateName", name)
+        .word("name", name)
+        .text("value", value)
+        .count("variablesReference", 0)
+        .build()
+}
+
+/// Returns a byte as a variable.
+fn byte_variable(alloc: Global, name: &str, byte: u8) -> Result<Value, AllocError>
+    ensures { IfOk result (λ v. view v ≡ byte_variable name.now byte) }
+{
+    variable(alloc, name, byte_text(alloc, byte))
+}
+
+/// Returns a flag as a variable.
+fn flag_variable(alloc: Global, name: &str, is_set: bool) -> Result<Value, AllocError>
+    ensures { IfOk result (λ v. view v ≡ flag_variable name.now is_set) }
+{
+    if is_set {
+        variable(alloc, name, String::from_str(alloc, "1"))
+    } else {
+        variable(alloc, name, String::from_str(alloc, "0"))
+    }
+}
+
+/// Returns a number in decimal as a variable.
+fn number_variable(alloc: Global, name: &str, number: u64) -> Result<Value, AllocError>
+    ensures { IfOk result (λ v. view v ≡ number_variable name.now number) }
+{
+    variable(alloc, name, number_text(alloc, number))
+}
+
+/// Returns the registers. The status register is shown with B clear.
+fn registers(alloc: Global, regs: Regs) -> Result<Value, AllocError>
+    ensures { IfOk result (λ v. view v ≡ list_of (registers_shown regs)) }
+{
+    ValueList::new(alloc)
+        .with(variable(alloc, "PC", address_text(alloc, regs.pc)))
+        .with(byte_variable(alloc, "A", regs.a))
+        .with(byte_variable(alloc, "X", regs.x))
+        .with(byte_variable(alloc, "Y", regs.y))
+        .with(byte_variable(alloc, "S", regs.s))
+        .with(byte_variable(alloc, "P", regs.flags.to_byte(false)))
+        .build()
+}
+
+/// Returns the flags.
+fn flags(alloc: Global, flags: Flags) -> Result<Value, AllocError>
+    ensures { IfOk result (λ v. view v ≡ list_of (flags_shown flags)) }
+{
+    ValueList::new(alloc)
+        .with(flag_variable(alloc, "N", flags.n))
+        .with(flag_variable(alloc, "V", flags.v))
+        .with(flag_variable(alloc, "D", flags.d))
+        .with(flag_variable(alloc, "I", flags.i))
+        .with(flag_variable(alloc, "Z", flags.z))
+        .with(flag_variable(alloc, "C", flags.c))
+        .build()
+}
+
 /// Returns the byte at a name, under the name.
 fn symbol(alloc: Global, session: &Session, name: &Name) -> Result<Value, AllocError>
     ensures { IfOk result (λ v. view v ≡ byte_variable (utf8_lossy (named name.now).text)
@@ -58,90 +130,68 @@ fn symbol(alloc: Global, session: &Session, name: &Name) -> Result<Value, AllocE
     byte_variable(alloc, text.as_str(), session.peek(name.address))
 }
 
-/// Appends the bytes at names, each under its name.
-fn push_symbols(
-    alloc: Global,
-    list: &mut Vec<Value>,
-    session: &Session,
-    names: &[Name],
-) -> Result<(), AllocError>
-    ensures { OnOk result (each view list.new.items ≡ each view list.old.items
-        ++ symbols_shown session.now.current.bus.memory (each named names.now)) }
+/// Returns the bytes at names, each under its name.
+fn symbols(alloc: Global, session: &Session, names: &[Name]) -> Result<Value, AllocError>
+    ensures { IfOk result (λ v. view v
+        ≡ list_of (symbols_shown session.now.current.bus.memory (each named names.now))) }
 {
+    let mut list = ValueList::new(alloc);
     for name in names {
-        let value = symbol(alloc, session, name)?;
-        list.push(value)?;
+        list = list.with(symbol(alloc, session, name));
     }
-    Ok(())
+    list.build()
 }
 
-/// Appends the bytes from an address up to another, each under its address.
-fn push_cells(
-    alloc: Global,
-    list: &mut Vec<Value>,
-    session: &Session,
-    from: u16,
-    to: u16,
-) -> Result<(), AllocError>
-    ensures { OnOk result (each view list.new.items ≡ each view list.old.items
-        ++ cells session.now.current.bus.memory from (to - from)) }
+/// Returns the byte at an address, under its address.
+fn cell(alloc: Global, session: &Session, address: u16) -> Result<Value, AllocError>
+    ensures { IfOk result (λ v. view v ≡ cell session.now.current.bus.memory address) }
 {
+    let name = address_text(alloc, address)?;
+    byte_variable(alloc, name.as_str(), session.peek(address))
+}
+
+/// Returns the bytes from an address up to another, each under its address.
+fn cells(alloc: Global, session: &Session, from: u16, to: u16) -> Result<Value, AllocError>
+    ensures { IfOk result
+        (λ v. view v ≡ list_of (cells session.now.current.bus.memory from (to - from))) }
+{
+    let mut list = ValueList::new(alloc);
     for address in from..to {
-        let name = address_text(alloc, address)?;
-        let value = byte_variable(alloc, name.as_str(), session.peek(address))?;
-        list.push(value)?;
+        list = list.with(cell(alloc, session, address));
     }
-    Ok(())
+    list.build()
 }
 
-/// Appends a number.
-fn push_number(
-    alloc: Global,
-    list: &mut Vec<Value>,
-    name: &str,
-    number: u64,
-) -> Result<(), AllocError>
-    ensures { OnOk result (each view list.new.items
-        ≡ each view list.old.items ++ number_variable name.now number ∷ []) }
+/// Returns the cycles, how many events are held, and how many bytes were put out.
+fn machine(alloc: Global, session: &Session) -> Result<Value, AllocError>
+    ensures { IfOk result (λ v. view v ≡ list_of (machine_shown session.now)) }
 {
-    let value = number_variable(alloc, name, number)?;
-    list.push(value)?;
-    Ok(())
+    ValueList::new(alloc)
+        .with(number_variable(alloc, "cycles", session.cycles()))
+        .with(number_variable(alloc, "events held", session.held() as u64))
+        .with(number_variable(alloc, "bytes put out", session.output_len() as u64))
+        .build()
 }
 
-/// Appends the cycles, how many events are held, and how many bytes were put out.
-fn push_machine(alloc: Global, list: &mut Vec<Value>, session: &Session) -> Result<(), AllocError>
-    ensures { OnOk result (each view list.new.items
-        ≡ each view list.old.items ++ machine_shown session.now) }
-{
-    push_number(alloc, list, "cycles", session.cycles())?;
-    push_number(alloc, list, "events held", session.held() as u64)?;
-    push_number(alloc, list, "bytes put out", session.output_len() as u64)?;
-    Ok(())
-}
-
-/// Appends the variables of a scope, if there is one. The bytes of the stack are those from that
-/// above the stack pointer on.
-fn push_listed(
+/// Returns the variables of a scope: none if there is no scope. The bytes of the stack are those
+/// from that above the stack pointer on.
+fn listed(
     alloc: Global,
-    list: &mut Vec<Value>,
     session: &Session,
     names: &[Name],
     scope: Option<Scope>,
-) -> Result<(), AllocError>
-    ensures { OnOk result (each view list.new.items ≡ each view list.old.items
-        ++ listed session.now (each named names.now) scope) }
+) -> Result<Value, AllocError>
+    ensures { IfOk result
+        (λ v. view v ≡ list_of (listed session.now (each named names.now) scope)) }
 {
     match scope {
-        Some(Scope::Registers) => push_registers(alloc, list, session.regs()),
-        Some(Scope::Flags) => push_flags(alloc, list, session.regs().flags),
-        Some(Scope::Symbols) => push_symbols(alloc, list, session, names),
-        Some(Scope::Stack) => {
-            push_cells(alloc, list, session, 257 + u16::from(session.regs().s), 512)
-        }
-        Some(Scope::ZeroPage) => push_cells(alloc, list, session, 0, 256),
-        Some(Scope::Machine) => push_machine(alloc, list, session),
-        None => Ok(()),
+        Some(Scope::Registers) => registers(alloc, session.regs()),
+        Some(Scope::Flags) => flags(alloc, session.regs().flags),
+        Some(Scope::Symbols) => symbols(alloc, session, names),
+        Some(Scope::Stack) => cells(alloc, session, 257 + u16::from(session.regs().s), 512),
+        Some(Scope::ZeroPage) => cells(alloc, session, 0, 256),
+        Some(Scope::Machine) => machine(alloc, session),
+        None => ValueList::new(alloc).build(),
     }
 }
 
@@ -151,7 +201,6 @@ pub fn variables_shown(alloc: Global, desk: &Desk, request: &Value) -> Result<Va
         ≡ variables_shown desk.now.session desk.now.places.names (view request.now)) }
 {
     let names = desk.places.names().all();
-    let mut list = Vec::new(alloc);
-    push_listed(alloc, &mut list, &desk.session, names, scope_at(request))?;
-    variables_body(alloc, list)
+    let list = listed(alloc, &desk.session, names, scope_at(request));
+    Object::new(alloc).member("variables", list).build()
 }

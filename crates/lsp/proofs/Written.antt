@@ -1,7 +1,8 @@
 -- Values written one after another.
 use Rattle.std.proofs.Common.{◌≡◌, ◌∙◌, ℕ, ◌+◌, ◌<◌, ◌≤◌, List, [], ◌∷◌, ◌++◌, length, get_or, drop, map, refl, sym, ap, add-one, drop-cons}
 use Rattle.std.proofs.lemmas.List.{drop_all}
-use Rattle.lsp.specs.Writing.{AreWritten, IsTextOf}
+use Rattle.json_values.specs.Bodies.{IsTextOf}
+use Rattle.lsp.specs.Writing.{AreWritten}
 use Rattle.message_stream.specs.Messages.{framed}
 use Rattle.serde_json.specs.Data.{Data}
 use Rattle.serde_json.specs.View.{view}

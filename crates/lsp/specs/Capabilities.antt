@@ -1,6 +1,6 @@
 -- What the server can do. Source: Language Server Protocol 3.17, "Initialize Request".
 use Rattle.std.specs.Prelude.{true, [], ◌∷◌, codes, map}
-use Rattle.lsp_outline.specs.Colours.{modifiers, types}
+use Rattle.lsp_hints.specs.Colours.{modifiers, types}
 use Rattle.json_values.specs.Values.{count, list_of, object_of, word}
 use Rattle.serde_json.specs.Data.{Data, boolean}
 

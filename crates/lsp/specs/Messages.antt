@@ -2,7 +2,7 @@
 -- "Text Document Synchronization", "PublishDiagnostics Notification"; JSON-RPC 2.0: a message with
 -- `id` and `method` is a request, one without `id` a notice, one with `id` and `result` or `error`
 -- an answer.
-use Rattle.std.specs.Prelude.{◌≡◌, IsUtf8, ℕ, ◌&&◌, ◌||◌, not, is_some, Bool, true, false, if◌then◌else◌, List, [], ◌∷◌, codes, Option, Some, None}
+use Rattle.std.specs.Prelude.{◌≡◌, ℕ, ◌&&◌, ◌||◌, not, is_some, Bool, true, false, if◌then◌else◌, List, [], ◌∷◌, codes, Option, Some, None}
 use Rattle.lsp.specs.Answers.{IsFailure, IsReply, is_initialize}
 use Rattle.lsp.specs.State.{Opened, State, closed, opened}
 use Rattle.lsp.specs.declared.phase.Phase.{Phase}
@@ -18,7 +18,6 @@ use Rattle.lsp_messages.specs.declared.replies.Failure.TheVariants.{NotJson, NoR
 use Rattle.model.specs.State.{Map}
 use Rattle.serde_json.specs.Data.{Data, null}
 use Rattle.serde_json.specs.Find.{get}
-use Rattle.serde_json.specs.Read.{read}
 
 -- ---- the state after a message
 
@@ -125,11 +124,6 @@ status_in Running = 1
 -- The exit status that a message asks for, if it asks for the end.
 abbrev pub end_of : State → Data → Option ℕ
 end_of s message = if is_exit (request_of message) then Some (status_in s.phase) else None
-
--- What a body says: a message, or nothing if it is no JSON.
-abbrev pub IsMessage : List ℕ → Option Data → Type 0
-IsMessage body (Some message) = IsUtf8 body × (read body ≡ Some message)
-IsMessage body None = IsUtf8 body → read body ≡ None
 
 -- ---- what a server does with a body: its state then, what it tells, and whether it ends
 

@@ -4,7 +4,8 @@
 use Rattle.std.specs.Prelude.{ℕ, ◌≡◌, ◌⊎◌, List, [], Option, None}
 use Rattle.std.specs.Io.KnownBytes.{Appends, IsAtEnd}
 use Rattle.lsp.specs.CommandLine.{LspAsked}
-use Rattle.lsp.specs.Messages.{Does, IsMessage}
+use Rattle.json_values.specs.Bodies.{IsMessage}
+use Rattle.lsp.specs.Messages.{Does}
 use Rattle.lsp.specs.State.{State, start}
 use Rattle.lsp.specs.Writing.{AreWritten}
 use Rattle.lsp.specs.declared.phase.Phase.TheVariants.{ShutDown}

@@ -3,8 +3,8 @@ use Rattle.std.specs.Prelude.{ℕ, List, [], Option, Some, None}
 use Rattle.lsp_answers.specs.Texts.{TextView, line_at, number_in}
 use Rattle.lsp_hints.specs.Hints.{hints_of}
 use Rattle.lsp_hints.specs.Signatures.{signatures_of}
-use Rattle.lsp_outline.specs.Folds.{folded}
-use Rattle.lsp_outline.specs.Painted.{painted}
+use Rattle.lsp_hints.specs.Folds.{folded}
+use Rattle.lsp_hints.specs.Painted.{painted}
 use Rattle.serde_json.specs.Data.{Data}
 
 abbrev pub colours_in : TextView → Data

@@ -1,9 +1,11 @@
 //! What is answered to requests.
 
-ghost use Rattle.std.specs.Prelude.{IfOk};
+ghost use Rattle.std.specs.Prelude.{◌≡◌, IfOk, OnErr};
 ghost use Rattle.lsp.specs.Answers.{IsFailure, IsFresh, IsReplyIn, IsRunning};
 ghost use Rattle.lsp.specs.State.{documents_view};
+ghost use Rattle.lsp_messages.specs.Replies.{result_data};
 ghost use Rattle.lsp_messages.specs.Requests.{asks, renames};
+ghost use Rattle.lsp_messages.specs.declared.replies.Failure.TheVariants.{Refused};
 ghost use Rattle.lsp_messages.specs.Views.{request_view};
 ghost use Rattle.serde_json.specs.View.{view};
 
@@ -36,6 +38,23 @@ fn question_reply(
     Ok(reply)
 }
 
+/// Answers with the changes of a rename, or with the words of why there are none.
+fn renamed_reply(
+    alloc: Global,
+    id: &Value,
+    renamed: Result<Value, &'static str>,
+) -> Result<Value, AllocError>
+    ensures changed { IfOk renamed.entry (λ changes. IfOk result
+        (λ v. view v ≡ result_data (view id.now) (view changes))) }
+    ensures kept { OnErr renamed.entry
+        (IfOk result (λ v. IsFailure (view id.now) Refused (view v))) }
+{
+    match renamed {
+        Ok(changes) => result_reply(alloc, id, changes),
+        Err(words) => failed_in_words(alloc, id, Failure::Refused, words),
+    }
+}
+
 /// Answers a request for another name for the name at a position.
 fn rename_reply(
     alloc: Global,
@@ -51,16 +70,11 @@ fn rename_reply(
         (renames uri.now line character name.now) (view v)) }
 {
     let text = text_on(alloc, map, documents, uri)?;
-    match rename(alloc, map, uri, &text, line, character, name)? {
-        Ok(changes) => {
-            let reply = result_reply(alloc, id, changes)?;
-            Ok(reply)
-        }
-        Err(words) => {
-            let reply = failed_in_words(alloc, id, Failure::Refused, words)?;
-            Ok(reply)
-        }
-    }
+    renamed_reply(
+        alloc,
+        id,
+        rename(alloc, map, uri, &text, line, character, name)?,
+    )
 }
 
 /// Returns the words of a failure.

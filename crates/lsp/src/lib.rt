@@ -5,9 +5,9 @@
 //! documents that are open (`documents`) and how far the client has come (`phase`). `answers` has
 //! the answer to each request, and `questions` what is answered to questions about documents, of
 //! their texts (`texts`). `capabilities` says what the server can do. What a message asks for is
-//! read by `lsp_messages`, what is answered of a source is made by `lsp_answers`, `lsp_outline`
-//! and `lsp_hints`, and `lsp_messages` makes the values. `specs/Messages.antt` says what the
-//! server does with a message, `specs/Answers.antt` what it answers.
+//! read by `lsp_messages`, what is answered of a source is made by `lsp_answers` and
+//! `lsp_hints`, and `lsp_messages` makes the values. `specs/Messages.antt` says what the server
+//! does with a message, `specs/Answers.antt` what it answers.
 #![tactic(auto)]
 
 mod answers;

@@ -8,9 +8,8 @@ ghost use Rattle.serde_json.specs.View.{view};
 use crate::texts::line_in;
 use bus::MapSpec;
 use lsp_answers::{Text, completion, definition, hover, references, symbols};
-use lsp_hints::{fixes_in, hints_in, signatures_at};
+use lsp_hints::{fixes_in, folded, hints_in, painted, signatures_at};
 use lsp_messages::{At, Question, Whole, Within};
-use lsp_outline::{folded, painted};
 use serde_json::Value;
 use std::alloc::{AllocError, Global};
 

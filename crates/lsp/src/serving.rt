@@ -3,16 +3,15 @@
 ghost use Rattle.std.specs.Prelude.{◌≡◌, ◌≤◌, ◌++◌, ℕ, IfOk, List, None, OnOk, Option, Some};
 ghost use Rattle.std.specs.Prelude.{map as each};
 ghost use Rattle.std.specs.Io.KnownBytes.{Appends, Consumes};
-ghost use Rattle.std.specs.Option.{option_map};
 ghost use Rattle.arguments.specs.Words.{Fits, Refuses, texts};
 ghost use Rattle.lsp.specs.CommandLine.{LspAsked, lsp_app, lsp_asked, lsp_view};
-ghost use Rattle.lsp.specs.Messages.{Does, IsMessage};
+ghost use Rattle.json_values.specs.Bodies.{IsMessage};
+ghost use Rattle.lsp.specs.Messages.{Does};
 ghost use Rattle.lsp.specs.Sessions.{Answers, IsSession, map_for};
 ghost use Rattle.lsp.specs.State.{server_view};
 ghost use Rattle.lsp.specs.Turns.{Comes};
-ghost use Rattle.lsp.specs.Writing.{AreWritten, IsTextOf};
+ghost use Rattle.lsp.specs.Writing.{AreWritten};
 ghost use Rattle.lsp.specs.declared.phase.Phase.TheVariants.{ShutDown};
-ghost use Rattle.message_stream.specs.Messages.{framed};
 ghost use Rattle.serde_json.specs.Data.{Data};
 ghost use Rattle.serde_json.specs.View.{view};
 
@@ -21,25 +20,12 @@ use crate::server::{Server, asks_for_end, refused, serve};
 use crate::words::{LspWords, read_words};
 use arguments::{Refusal, map_of, put_all, refuse, refused_words};
 use bus::MapSpec;
+use json_values::{value_of, write_value};
 use lsp_messages::Failure;
-use message_stream::{Incoming, StreamFault, write_message};
+use message_stream::{Incoming, StreamFault};
 use serde_json::Value;
 use std::alloc::{AllocError, Global};
 use std::io::{Read, Write};
-
-/// Writes a value as a message, and flushes the output.
-///
-/// Errors: `Write` if the output fails; `OutOfMemory` if an allocation fails.
-fn tell_one<O: Write>(alloc: Global, value: &Value, output: &mut O) -> Result<(), StreamFault>
-    ensures { OnOk result ((text : List ℕ) × IsTextOf (view value.now) text
-        × Appends (O.contents output.old) (O.contents output.new) (framed text)) }
-{
-    let Ok(text) = value.to_string(alloc) else {
-        return Err(StreamFault::OutOfMemory);
-    };
-    write_message(alloc, output, text.as_bytes())?;
-    Ok(())
-}
 
 /// Writes values as messages, and flushes the output behind each.
 ///
@@ -49,26 +35,9 @@ fn tell<O: Write>(alloc: Global, values: &[Value], output: &mut O) -> Result<(),
         × Appends (O.contents output.old) (O.contents output.new) written) }
 {
     for value in values {
-        tell_one(alloc, value, output)?;
+        write_value(alloc, output, value)?;
     }
     Ok(())
-}
-
-/// Returns the value of a body, or nothing if it is no JSON. The only error is that a request for
-/// memory was refused.
-fn value_of(alloc: Global, body: &[u8]) -> Result<Option<Value>, AllocError>
-    ensures { IfOk result (λ found. IsMessage body.now (option_map view found)) }
-{
-    match Value::from_slice(alloc, body) {
-        Ok(value) => Ok(Some(value)),
-        Err(error) => {
-            if error.is_memory() {
-                Err(AllocError)
-            } else {
-                Ok(None)
-            }
-        }
-    }
 }
 
 /// Does what a message asks for, and returns what is told then, and the exit status if it asks for

@@ -1,2 +1,3 @@
 pub mod Behind
 pub mod DefinedSteps
+pub mod Marking

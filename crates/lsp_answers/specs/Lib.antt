@@ -1,3 +1,5 @@
+pub mod Diagnostics
+pub mod Kinds
 pub mod Lists
 pub mod Marks
 pub mod Meanings

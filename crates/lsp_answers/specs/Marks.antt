@@ -8,10 +8,10 @@ use Rattle.lsp_messages.specs.Values.{mark_data, marks_data}
 use Rattle.model.specs.AllFaults.{faults_of}
 use Rattle.model.specs.State.{Map}
 use Rattle.serde_json.specs.Data.{Data}
-use Rattle.source_diagnostics.specs.Diagnostics.{AreDiagnostics}
-use Rattle.source_diagnostics.specs.Kinds.{is_fault, name_of}
-use Rattle.source_diagnostics.specs.declared.kinds.Diagnostic.{Diagnostic}
-use Rattle.source_diagnostics.specs.declared.kinds.DiagnosticKind.{DiagnosticKind}
+use Rattle.lsp_answers.specs.Diagnostics.{AreDiagnostics}
+use Rattle.lsp_answers.specs.Kinds.{is_fault, name_of}
+use Rattle.lsp_answers.specs.declared.kinds.Diagnostic.{Diagnostic}
+use Rattle.lsp_answers.specs.declared.kinds.DiagnosticKind.{DiagnosticKind}
 
 -- A fault is an error, and a warning a warning.
 abbrev pub severity_of : DiagnosticKind → ℕ

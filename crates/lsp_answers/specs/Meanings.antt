@@ -1,6 +1,6 @@
 -- What is meant at a place. Source: Language Server Protocol 3.17, "Hover Request"; what is said is
 -- mos65's wording, of which only what it begins with is defined.
-use Rattle.std.specs.Prelude.{◌≡◌, ℕ, ◌-◌, ◌&&◌, nat_le, nat_lt, is_some, Bool, true, false, List, [], ◌∷◌, ◌++◌, length, Option, Some, None, option_and_then, slice_get}
+use Rattle.std.specs.Prelude.{◌≡◌, ℕ, ◌-◌, ◌&&◌, nat_le, nat_lt, is_some, Bool, true, false, List, [], ◌++◌, length, Option, Some, None, option_and_then, slice_get}
 use Rattle.std.specs.List.{find}
 use Rattle.std.specs.Str.Lossy.{utf8_lossy}
 use Rattle.lsp_answers.specs.Texts.{TextView, line_at, name_at, number_in, range_in, use_range}

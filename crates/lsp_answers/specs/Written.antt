@@ -1,5 +1,5 @@
 -- The directives, as what may be written, each with what it does.
-use Rattle.std.specs.Prelude.{ℕ, List, [], ◌∷◌, codes}
+use Rattle.std.specs.Prelude.{List, [], ◌∷◌, codes}
 use Rattle.lsp_answers.specs.declared.written.TheConstants.{BYTE_EFFECT, WORD_EFFECT, DBYTE_EFFECT, RES_EFFECT, END_EFFECT}
 use Rattle.lsp_messages.specs.Values.{item_data}
 use Rattle.serde_json.specs.Data.{Data}

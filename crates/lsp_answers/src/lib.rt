@@ -5,17 +5,27 @@
 //! answer's value of it: `marks` (`Marks.antt`), `meanings` (`Meanings.antt`) with the words of
 //! `wording`, `names` (`Names.antt`), `renaming` (`Renames.antt`), and `lists` (`Lists.antt`) with
 //! what may be written in any source (`written`).
+//!
+//! `diagnostics` (`finding`) is what is marked, and finds the same as `check`: all faults
+//! (`fault_marks`), and the warnings (`warning_marks`) where there is none. `Diagnostics.antt` says
+//! which these are, and which bytes each means.
 #![tactic(auto)]
 
+mod fault_marks;
+mod finding;
+mod kinds;
 mod lists;
 mod marks;
 mod meanings;
 mod names;
 mod renaming;
 mod source_text;
+mod warning_marks;
 mod wording;
 mod written;
 
+pub use finding::diagnostics;
+pub use kinds::Diagnostic;
 pub use lists::{completion, symbols};
 pub use marks::published;
 pub use meanings::hover;

@@ -6,12 +6,13 @@ ghost use Rattle.lsp_answers.specs.Texts.{text_view};
 ghost use Rattle.json_values.specs.Values.{list_of};
 ghost use Rattle.serde_json.specs.View.{view};
 
+use crate::finding::diagnostics;
+use crate::kinds::Diagnostic;
 use crate::source_text::Text;
 use bus::MapSpec;
 use json_values::ValueList;
 use lsp_messages::{mark, marks};
 use serde_json::Value;
-use source_diagnostics::{Diagnostic, diagnostics};
 use std::alloc::{AllocError, Global};
 
 /// Returns how grave a fault or a warning is, as the protocol counts it.

@@ -47,7 +47,6 @@ pub struct Placed {
 }
 
 /// Lays out a source.
-#[tactic(auto, unfolding(crate::specs::Meanings::found_in))]
 fn lay_out_text<'a>(alloc: Global, text: &Text<'a>) -> Result<Laid<'a>, AllocError>
     requires { length text.now.source.now ≤ 1048576 }
     ensures { IfOk result (λ laid. found_all laid.found.items ≡ found_in (text_view text.now)) }

@@ -8,17 +8,22 @@ use name_uses::{NameUse, Part, picked};
 use source_notes::push_signed;
 use std::alloc::{AllocError, Global};
 
+/// Appends a number that is an address: the address, and the number in brackets.
+fn push_place(words: &mut Vec<u8>, address: u16) -> Result<(), AllocError> {
+    push_text(words, "$")?;
+    push_address(words, address)?;
+    push_text(words, " (")?;
+    push_count(words, address as u64)?;
+    push_text(words, ")")
+}
+
 /// Appends a number: as an address too, if it is one.
 fn push_number(words: &mut Vec<u8>, number: i32) -> Result<(), AllocError> {
     push_text(words, " = ")?;
-    if number >= 0 && number <= 65535 {
-        push_text(words, "$")?;
-        push_address(words, number as u16)?;
-        push_text(words, " (")?;
-        push_signed(words, number)?;
-        return push_text(words, ")");
+    match u16::try_from(number) {
+        Ok(address) => push_place(words, address),
+        Err(_) => push_signed(words, number),
     }
-    push_signed(words, number)
 }
 
 /// Appends where some names are defined.

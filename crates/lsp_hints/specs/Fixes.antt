@@ -10,8 +10,8 @@ use Rattle.lsp_messages.specs.Values.{changes_data, edit_data}
 use Rattle.model.specs.AllFaults.{faults_of}
 use Rattle.model.specs.State.{Map}
 use Rattle.serde_json.specs.Data.{Data}
-use Rattle.source_diagnostics.specs.Diagnostics.{AreDiagnostics}
-use Rattle.source_diagnostics.specs.declared.kinds.Diagnostic.{Diagnostic}
+use Rattle.lsp_answers.specs.Diagnostics.{AreDiagnostics}
+use Rattle.lsp_answers.specs.declared.kinds.Diagnostic.{Diagnostic}
 
 abbrev pub action_data : List ℕ → Data → Data
 action_data title edit = object_of ((codes "edit", edit) ∷ (codes "kind", word (codes "quickfix"))

@@ -1,5 +1,8 @@
+pub mod Colours
 pub mod Fixes
+pub mod Folds
 pub mod Hints
 pub mod Operations
+pub mod Painted
 pub mod RightWords
 pub mod Signatures

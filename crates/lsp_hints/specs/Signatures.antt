@@ -7,7 +7,7 @@ use Rattle.lsp_hints.specs.Operations.{operation_at}
 use Rattle.lsp_hints.specs.declared.operation.Operation.{Operation}
 use Rattle.lsp_hints.specs.declared.operation.Operation.TheVariants.{Instruction, Bytes, Words, WordsHighFirst, Reserve, Finish, Origin, Definition}
 use Rattle.lsp_hints.specs.declared.signatures.TheConstants.{MODES}
-use Rattle.lsp_hints.specs.declared.wording.TheConstants.{BYTE_FORM, DBYTE_FORM, DEFINITION_FORM, END_FORM, FORM_ABS, FORM_ABSX, FORM_ABSY, FORM_ACC, FORM_IMM, FORM_IND, FORM_INDX, FORM_INDY, FORM_INDZ, FORM_REL, FORM_ZP, FORM_ZPX, FORM_ZPY, ORIGIN_FORM, RES_FORM, WORD_FORM}
+use Rattle.lsp_hints.specs.declared.wording.TheConstants.{BYTE_FORM, DBYTE_FORM, DEFINITION_FORM, END_FORM, ORIGIN_FORM, RES_FORM, WORD_FORM}
 use Rattle.lsp_messages.specs.Columns.{column_of}
 use Rattle.json_values.specs.Values.{count, list_of, object_of, word}
 use Rattle.model.specs.Mnemonics.{mnemonic_text}
@@ -20,19 +20,19 @@ use Rattle.serde_json.specs.Data.{Data, null}
 
 abbrev pub operand_form : Mode → List ℕ
 operand_form Imp = []
-operand_form Acc = FORM_ACC.now
-operand_form Imm = FORM_IMM.now
-operand_form Zp = FORM_ZP.now
-operand_form ZpX = FORM_ZPX.now
-operand_form ZpY = FORM_ZPY.now
-operand_form Abs = FORM_ABS.now
-operand_form AbsX = FORM_ABSX.now
-operand_form AbsY = FORM_ABSY.now
-operand_form IndX = FORM_INDX.now
-operand_form IndY = FORM_INDY.now
-operand_form Ind = FORM_IND.now
-operand_form Rel = FORM_REL.now
-operand_form IndZ = FORM_INDZ.now
+operand_form Acc = codes " A"
+operand_form Imm = codes " #$nn"
+operand_form Zp = codes " $nn"
+operand_form ZpX = codes " $nn,X"
+operand_form ZpY = codes " $nn,Y"
+operand_form Abs = codes " $nnnn"
+operand_form AbsX = codes " $nnnn,X"
+operand_form AbsY = codes " $nnnn,Y"
+operand_form IndX = codes " ($nn,X)"
+operand_form IndY = codes " ($nn),Y"
+operand_form Ind = codes " ($nnnn)"
+operand_form Rel = codes " LABEL"
+operand_form IndZ = codes " ($nn)"
 
 abbrev pub form_label : Mnemonic → Mode → List ℕ
 form_label m mode = mnemonic_text m ++ operand_form mode

@@ -45,7 +45,10 @@ fn least_more(mnemonic: Mnemonic) -> u64
     ensures value { result ≡ least_more mnemonic }
     ensures small { result ≤ 1 }
 {
-    if mnemonic == Mnemonic::Bra { 1 } else { 0 }
+    match mnemonic {
+        Mnemonic::Bra => 1,
+        _ => 0,
+    }
 }
 
 /// Returns how many cycles an instruction takes at most behind those of the table: those of a

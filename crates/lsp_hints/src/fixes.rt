@@ -12,10 +12,9 @@ ghost use Rattle.serde_json.specs.View.{view};
 use crate::right_words::right_word;
 use bus::MapSpec;
 use json_values::{Object, ValueList};
-use lsp_answers::Text;
+use lsp_answers::{Diagnostic, Text, diagnostics};
 use lsp_messages::{changes, edit};
 use serde_json::Value;
-use source_diagnostics::{Diagnostic, diagnostics};
 use std::alloc::{AllocError, Global};
 
 /// Returns the title of a change to a word.

@@ -19,7 +19,6 @@ use symbols::Symbols;
 const SOURCE_SIZE: usize = 1_048_576;
 
 /// Finds where the lines of a source stand.
-#[tactic(auto, unfolding(crate::specs::Hints::found_in))]
 fn laid_out<'a>(
     alloc: Global,
     profile: Profile,

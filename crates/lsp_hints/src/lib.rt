@@ -1,22 +1,34 @@
-//! What an editor offers beside a source: the address and the cycles of each line, the forms of the
-//! operation that is being written, and the right word for a wrong one.
+//! What an editor shows beside a source and in it: the address and the cycles of each line, the
+//! forms of the operation that is being written, the right word for a wrong one, the colours of
+//! tokens, and the folds of labels and comments.
 //!
 //! `hints` has what stands behind lines, in the words of `cycles`. `signatures` has the forms of
 //! the operation at a place, which `operation` finds in a line. `fixes` has the change for a fault
 //! where `check` names the right word, which `right_words` finds in what `check` says. The
 //! definitions are `Hints.antt`, `Operations.antt`, `Signatures.antt`, `RightWords.antt` and
 //! `Fixes.antt`.
+//!
+//! `painted` has the colours as the protocol counts them: `colour` gives each token one, `paint`
+//! finds where they stand, `numbers` counts from one to the next. `folded` has the folds, of lines
+//! that `labels` knows. The definitions are `Colours.antt`, `Painted.antt` and `Folds.antt`.
 #![tactic(auto)]
 
+mod colour;
 mod cycles;
 mod fixes;
+mod folds;
 mod hints;
+mod labels;
+mod numbers;
 mod operation;
+mod paint;
 mod right_words;
 mod signatures;
 mod values;
 mod wording;
 
 pub use fixes::fixes_in;
+pub use folds::folded;
 pub use hints::hints_in;
+pub use numbers::painted;
 pub use signatures::signatures_at;

@@ -33,7 +33,7 @@ pub enum Operation {
 }
 
 /// Returns whether some bytes begin with this one.
-fn begins_with(byte: u8, bytes: &[u8]) -> bool
+pub fn begins_with(byte: u8, bytes: &[u8]) -> bool
     ensures { result ≡ begins_with byte bytes.now }
 {
     match bytes {
@@ -43,7 +43,7 @@ fn begins_with(byte: u8, bytes: &[u8]) -> bool
 }
 
 /// Returns where the blanks behind a place of a line end.
-fn blanks_after(line: &[u8], place: usize) -> usize
+pub fn blanks_after(line: &[u8], place: usize) -> usize
     requires { place ≤ length line.now }
     ensures end { result ≡ blanks_after line.now place }
     ensures within { result ≤ length line.now }

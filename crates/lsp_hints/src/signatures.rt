@@ -10,9 +10,7 @@ ghost use Rattle.serde_json.specs.View.{view};
 use crate::operation::{Operation, operation_at};
 use crate::values::{help, signature};
 use crate::wording::{
-    BYTE_FORM, DBYTE_FORM, DEFINITION_FORM, END_FORM, FORM_ABS, FORM_ABSX, FORM_ABSY, FORM_ACC,
-    FORM_IMM, FORM_IND, FORM_INDX, FORM_INDY, FORM_INDZ, FORM_REL, FORM_ZP, FORM_ZPX, FORM_ZPY,
-    ORIGIN_FORM, RES_FORM, WORD_FORM,
+    BYTE_FORM, DBYTE_FORM, DEFINITION_FORM, END_FORM, ORIGIN_FORM, RES_FORM, WORD_FORM,
 };
 use formatting::push_text;
 use lsp_messages::column_of;
@@ -45,19 +43,19 @@ fn operand_form(mode: Mode) -> &'static str
 {
     match mode {
         Mode::Imp => "",
-        Mode::Acc => FORM_ACC,
-        Mode::Imm => FORM_IMM,
-        Mode::Zp => FORM_ZP,
-        Mode::ZpX => FORM_ZPX,
-        Mode::ZpY => FORM_ZPY,
-        Mode::Abs => FORM_ABS,
-        Mode::AbsX => FORM_ABSX,
-        Mode::AbsY => FORM_ABSY,
-        Mode::IndX => FORM_INDX,
-        Mode::IndY => FORM_INDY,
-        Mode::Ind => FORM_IND,
-        Mode::Rel => FORM_REL,
-        Mode::IndZ => FORM_INDZ,
+        Mode::Acc => " A",
+        Mode::Imm => " #$nn",
+        Mode::Zp => " $nn",
+        Mode::ZpX => " $nn,X",
+        Mode::ZpY => " $nn,Y",
+        Mode::Abs => " $nnnn",
+        Mode::AbsX => " $nnnn,X",
+        Mode::AbsY => " $nnnn,Y",
+        Mode::IndX => " ($nn,X)",
+        Mode::IndY => " ($nn),Y",
+        Mode::Ind => " ($nnnn)",
+        Mode::Rel => " LABEL",
+        Mode::IndZ => " ($nn)",
     }
 }
 

@@ -1,6 +1,6 @@
 use Rattle.std.proofs.Common.{◌∙◌, [], ◌∷◌, List, ap, subst, sym}
 use Rattle.dap_breaks.specs.Targets.{targets_of}
-use Rattle.dap_messages.specs.Answers.{goto_target}
+use Rattle.dap_breaks.specs.Values.{goto_target}
 use Rattle.json_values.specs.ValueLists.{HasValues}
 use Rattle.serde_json.specs.Data.{Data}
 use Rattle.dap_breaks.proofs.targets.targets_of.Goals as goal

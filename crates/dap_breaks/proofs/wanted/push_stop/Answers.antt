@@ -1,11 +1,12 @@
 use Rattle.std.proofs.Common.{◌∙◌, ℕ, ◌∷◌, ◌++◌, [], List, ap, refl, sym}
 use Rattle.std.proofs.lemmas.List.{map-append}
-use Rattle.dap_breaks.specs.Wanted.{addresses, told_addresses}
+use Rattle.dap_breaks.specs.Wanted.{Matches, addresses, told_addresses}
 use Rattle.dap_breaks.proofs.Matching.{set_more}
 use Rattle.mon_stops.specs.declared.breaks.Break.{Break}
 use Rattle.dap_breaks.proofs.wanted.push_stop.Goals as goal
 
 pub returns : goal.returns
-returns c = λ m. ap told_addresses c.in_ok-push-2.ensures.items ∙ set_more c.args.list.now.told.items _ c.args.stop.address refl
+unfolding Matches
+returns c = λ m. ap told_addresses c.in_ok-push.ensures.items ∙ set_more c.args.list.now.told.items _ c.args.stop.address refl
     ∙ ap (λ (found : List ℕ). found ++ c.args.stop.address ∷ []) m ∙ sym (map-append (λ (s : Break). s.address) c.args.list.now.stops.items (c.args.stop ∷ []))
-    ∙ sym (ap addresses c.in_ok-push.ensures.items)
+    ∙ sym (ap addresses c.in_ok-push-2.ensures.items)

@@ -1,5 +1,5 @@
 use Rattle.std.proofs.Common.{◌≡◌, ℕ, IfOk, List, subst}
-use Rattle.dap_messages.specs.Bodies.{stopped_body}
+use Rattle.dap_views.specs.Values.{stopped_body}
 use Rattle.serde_json.specs.View.{view}
 use Rattle.dap_views.proofs.telling.push_stopped.Goals as goal
 

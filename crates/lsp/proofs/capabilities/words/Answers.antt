@@ -11,7 +11,7 @@ pub loop-text-init : goal.loop-text-init
 loop-text-init c = c.new-list.ensures
 
 pub loop-text-preserved : goal.loop-text-preserved
-loop-text-preserved c = next_value (λ (s : Bor (List ℕ)). word s.now) c.args.texts.now c.loop-text.text-index _ _ (omega (arith, c.loop-text-test.true)) (c.with-list.ensures _ _ c.loop-text.invariant c.try_from_str.ensures)
+loop-text-preserved c = next_value (λ (s : Bor (List ℕ)). word s.now) c.args.texts.now c.loop-text.text-index _ c.with-list.result (omega (arith, c.loop-text-test.true)) (c.with-list.ensures _ _ c.loop-text.invariant c.try_from_str.ensures)
 
 pub returns : goal.returns
 returns c =

@@ -3,8 +3,8 @@ use Rattle.std.proofs.lemmas.Result.{IfOk-weaker}
 use Rattle.std.specs.Borrow.{Bor}
 use Rattle.lsp.specs.Answers.{of_document}
 use Rattle.lsp_answers.specs.Texts.{text_view}
-use Rattle.lsp_outline.specs.Folds.{folded}
-use Rattle.lsp_outline.specs.Painted.{painted}
+use Rattle.lsp_hints.specs.Folds.{folded}
+use Rattle.lsp_hints.specs.Painted.{painted}
 use Rattle.lsp_messages.specs.declared.asked.Whole.{Whole}
 use Rattle.serde_json.specs.View.{view}
 use Rattle.lsp.proofs.questions.of_document.Goals as goal

@@ -12,7 +12,7 @@ loop-value-init g c = ([], Appends-nil _, λ behind h. h)
 pub loop-value-preserved : goal.loop-value-preserved
 loop-value-preserved g c =
     let inv = c.loop-value.invariant in
-    let one = c.in_ok-tell_one.ensures in
+    let one = c.in_ok-write_value.ensures.written in
     let values = c.args.values.now in (
       inv.0 ++ framed one.0,
       Appends-trans _ _ _ inv.0 (framed one.0) inv.1 one.2,

@@ -3,7 +3,7 @@ use Rattle.lsp_answers.specs.Marks.{mark_of}
 use Rattle.lsp_answers.specs.Texts.{text_view}
 use Rattle.json_values.proofs.Lists.{all_values, next_value}
 use Rattle.json_values.specs.ValueLists.{HasValues}
-use Rattle.source_diagnostics.specs.declared.kinds.Diagnostic.{Diagnostic}
+use Rattle.lsp_answers.specs.declared.kinds.Diagnostic.{Diagnostic}
 use Rattle.lsp_answers.proofs.marks.marks_of.Goals as goal
 
 pub loop-one-init : goal.loop-one-init

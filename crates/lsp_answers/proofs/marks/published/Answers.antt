@@ -4,7 +4,7 @@ use Rattle.json_values.specs.Values.{list_of}
 use Rattle.lsp_answers.specs.Marks.{mark_of}
 use Rattle.lsp_answers.specs.Texts.{text_view}
 use Rattle.lsp_messages.specs.Values.{marks_data}
-use Rattle.source_diagnostics.specs.declared.kinds.Diagnostic.{Diagnostic}
+use Rattle.lsp_answers.specs.declared.kinds.Diagnostic.{Diagnostic}
 use Rattle.lsp_answers.proofs.marks.published.Goals as goal
 
 pub returns : goal.returns

@@ -14,7 +14,7 @@ pub loop-one-init : goal.loop-one-init
 loop-one-init c = c.new-found.ensures
 
 pub loop-one-preserved : goal.loop-one-preserved
-loop-one-preserved c = next_value (λ (u : NameUse). edit_data c.args.word.now (use_range (text_view c.args.text.now) (use_view u))) c.args.uses.now c.loop-one.one-index _ _ (omega (arith, c.loop-one-test.true)) (c.with-found.ensures _ _ c.loop-one.invariant (c.edit.ensures _ c.range_of.ensures))
+loop-one-preserved c = next_value (λ (u : NameUse). edit_data c.args.word.now (use_range (text_view c.args.text.now) (use_view u))) c.args.uses.now c.loop-one.one-index _ c.with-found.result (omega (arith, c.loop-one-test.true)) (c.with-found.ensures _ _ c.loop-one.invariant (c.edit.ensures _ c.range_of.ensures))
 
 pub returns : goal.returns
 returns c =

@@ -4,7 +4,7 @@ use Rattle.std.specs.List.{flat_map}
 use Rattle.lsp_answers.specs.Texts.{text_view}
 use Rattle.lsp_hints.specs.Fixes.{fixes_between}
 use Rattle.serde_json.specs.View.{view}
-use Rattle.source_diagnostics.specs.declared.kinds.Diagnostic.{Diagnostic}
+use Rattle.lsp_answers.specs.declared.kinds.Diagnostic.{Diagnostic}
 use Rattle.lsp_hints.proofs.fixes.fixes_among.Goals as goal
 
 module _ {A D : Type 0} (f : A → List D) where
@@ -22,3 +22,6 @@ loop-one-preserved c =
     let old = map view c.loop-one.fixes.items in
     more f c.args.found.now c.loop-one.one-index c.one-item.result old _ _
     (omega (arith, c.loop-one-test.true)) (c.in_ok-push_fix_between.ensures ∙ ap (λ (d : Diagnostic). old ++ f d) c.one-item.is) c.loop-one.invariant
+
+pub loop-one-init : goal.loop-one-init
+loop-one-init c = rw c.new-fixes.ensures.items refl

@@ -1,0 +1,236 @@
+//! What is done with a request: which comes when, and what it does to an adapter.
+
+ghost use Rattle.std.specs.Prelude.{◌≡◌, ◌++◌, IfErr, IfOk, None, OnErr, OnOk, Some, map as each};
+ghost use Rattle.dap_session.specs.declared.seat.Seat.{Seat};
+ghost use Rattle.dap_messages.specs.Messages.{said_of};
+ghost use Rattle.dap_messages.specs.Requests.{request_of};
+ghost use Rattle.dap.specs.Adapter.{Begins, CountsIfRefused, Initializes, IsRefused};
+ghost use Rattle.dap.specs.Adapter.{ObeysAdapter, ObeysBegun, ObeysFirst, ObeysLaunched};
+ghost use Rattle.dap.specs.Adapter.{Launches, RestsIfRefused, Serves, StaysIfRefused, end_said};
+ghost use Rattle.dap.specs.Adapter.{ends, launched};
+ghost use Rattle.serde_json.specs.View.{view};
+
+use dap_messages::{Counting, Message, Request, SessionRequest, capabilities, nothing, request_of};
+use dap_session::{
+    Fault, Seat, all_done, answer, begin_session, push_terminated, put_seat, refused,
+};
+use dap_views::answered;
+use serde_json::Value;
+use std::alloc::{AllocError, Global};
+use std::rt::Files;
+
+/// An adapter: how its client counts, and the session, if one has begun.
+#[derive(Drop)]
+pub struct Adapter {
+    pub counting: Option<Counting>,
+    pub seat: Option<Seat>,
+}
+
+impl Adapter {
+    /// Makes an adapter of which nothing was asked.
+    pub fn new() -> Adapter
+        ensures counting { result.counting ≡ None }
+        ensures seat { result.seat ≡ None }
+    {
+        Adapter {
+            counting: None,
+            seat: None,
+        }
+    }
+
+    /// Ends the session, if one has begun.
+    pub fn end(self) {
+        match self.seat {
+            Some(seat) => seat.end(),
+            None => {}
+        }
+    }
+}
+
+/// Notes how a client counts, and answers what the adapter can do.
+fn initialize(
+    alloc: Global,
+    counting: &mut Option<Counting>,
+    request: &Value,
+) -> Result<Vec<Message>, AllocError>
+    ensures { IfOk result (λ ms. Initializes (view request.now) counting.new
+        (each said_of ms.items)) }
+{
+    let body = capabilities(alloc)?;
+    let messages = answered(alloc, body)?;
+    *counting = Some(Counting::of(request));
+    Ok(messages)
+}
+
+/// Returns the answer to a launch, after which breakpoints may be set.
+fn launched(alloc: Global) -> Result<Vec<Message>, AllocError>
+    ensures { IfOk result (λ ms. each said_of ms.items ≡ launched) }
+{
+    let mut messages = all_done(alloc)?;
+    let body = nothing(alloc)?;
+    messages.push(Message::Event("initialized", body))?;
+    Ok(messages)
+}
+
+/// Begins a session, and returns the answer to its launch.
+fn begin_first<H: Files + AllocGlobal>(
+    rt: &H,
+    seat: &mut Option<Seat>,
+    request: &Value,
+) -> Result<Vec<Message>, Fault>
+    ensures done { IfOk result (λ ms. (begun : Seat) × (seat.new ≡ Some begun)
+        × Begins (view request.now) begun (each said_of ms.items)) }
+    ensures refused { OnErr result (seat.new ≡ seat.old) }
+{
+    let messages = launched(rt.alloc())?;
+    let begun = begin_session(rt, request)?;
+    put_seat(seat, begun);
+    Ok(messages)
+}
+
+/// Begins a session, if none has begun.
+#[tactic(auto, using(crate::proofs::Refusals::stays_same))]
+fn launch<H: Files + AllocGlobal>(
+    rt: &H,
+    seat: &mut Option<Seat>,
+    request: &Value,
+) -> Result<Vec<Message>, Fault>
+    ensures done { IfOk result
+        (λ ms. Launches (view request.now) seat.old seat.new (each said_of ms.items)) }
+    ensures refused { IfErr result (λ f. StaysIfRefused f seat.old seat.new) }
+{
+    if seat.is_some() {
+        return Err(refused(rt.alloc(), "launch comes once"));
+    }
+    begin_first(rt, seat, request)
+}
+
+/// Serves a request of a session, if one has begun.
+#[tactic(auto, using(crate::proofs::Refusals::stays_same))]
+fn serve_launched<H: Files + AllocGlobal>(
+    rt: &H,
+    seat: &mut Option<Seat>,
+    counting: Counting,
+    request: &Value,
+    asked: SessionRequest,
+) -> Result<Vec<Message>, Fault>
+    ensures done { IfOk result (λ ms. ObeysLaunched asked (view request.now) counting seat.old
+        seat.new (each said_of ms.items)) }
+    ensures refused { IfErr result (λ f. StaysIfRefused f seat.old seat.new) }
+{
+    match seat {
+        Some(seat) => answer(rt, seat, counting, request, asked),
+        None => Err(refused(rt.alloc(), "no program was launched")),
+    }
+}
+
+/// Serves a request of a client that has said how it counts.
+#[tactic(auto, using(crate::proofs::Refusals::stays_same))]
+fn serve_begun<H: Files + AllocGlobal>(
+    rt: &H,
+    seat: &mut Option<Seat>,
+    counting: Counting,
+    request: &Value,
+    asked: Request,
+) -> Result<Vec<Message>, Fault>
+    ensures done { IfOk result (λ ms. ObeysBegun asked (view request.now) counting seat.old
+        seat.new (each said_of ms.items)) }
+    ensures refused { IfErr result (λ f. StaysIfRefused f seat.old seat.new) }
+{
+    match asked {
+        Request::Initialize | Request::NoRequest => {
+            Err(refused(rt.alloc(), "this cannot be served here"))
+        }
+        Request::Launch => launch(rt, seat, request),
+        Request::Disconnect => Ok(all_done(rt.alloc())?),
+        Request::InSession(asked) => serve_launched(rt, seat, counting, request, asked),
+    }
+}
+
+/// Serves a request of a client that has not said how it counts.
+#[tactic(auto, using(crate::proofs::Refusals::counts_same))]
+fn serve_first(
+    alloc: Global,
+    counting: &mut Option<Counting>,
+    request: &Value,
+    asked: Request,
+) -> Result<Vec<Message>, Fault>
+    ensures done { IfOk result
+        (λ ms. ObeysFirst asked (view request.now) counting.new (each said_of ms.items)) }
+    ensures refused { IfErr result (λ f. CountsIfRefused f counting.old counting.new) }
+{
+    match asked {
+        Request::Initialize => Ok(initialize(alloc, counting, request)?),
+        _ => Err(refused(alloc, "initialize comes first")),
+    }
+}
+
+/// Serves a request.
+#[tactic(auto, using(crate::proofs::Refusals::counts_same, crate::proofs::Refusals::stays_same))]
+fn serve_asked<H: Files + AllocGlobal>(
+    rt: &H,
+    adapter: &mut Adapter,
+    request: &Value,
+    asked: Request,
+) -> Result<Vec<Message>, Fault>
+    ensures done { IfOk result (λ ms. ObeysAdapter asked (view request.now) adapter.old
+        adapter.new (each said_of ms.items)) }
+    ensures refused { IfErr result (λ f. RestsIfRefused f adapter.old adapter.new) }
+{
+    match adapter.counting {
+        Some(counting) => serve_begun(rt, &mut adapter.seat, counting, request, asked),
+        None => serve_first(rt.alloc(), &mut adapter.counting, request, asked),
+    }
+}
+
+/// Returns whether a refused request leaves a client without a session that it asked for.
+fn ends(adapter: &Adapter, asked: Request) -> bool
+    ensures { result ≡ ends asked adapter.now.seat }
+{
+    match asked {
+        Request::Launch => adapter.seat.is_none(),
+        _ => false,
+    }
+}
+
+/// Appends that the session has ended, if it has.
+fn push_end(alloc: Global, messages: &mut Vec<Message>, is_end: bool) -> Result<(), AllocError>
+    ensures { OnOk result (each said_of messages.new.items
+        ≡ each said_of messages.old.items ++ end_said is_end) }
+{
+    if is_end {
+        push_terminated(alloc, messages)?;
+    }
+    Ok(())
+}
+
+/// Returns the refusal of a request, and that the session has ended, if it has.
+#[tactic(auto, using(crate::proofs::Refusals::refused_end))]
+fn refusal(alloc: Global, words: String, is_end: bool) -> Result<Vec<Message>, AllocError>
+    ensures { IfOk result (λ ms. IsRefused is_end (each said_of ms.items)) }
+{
+    let mut messages = Vec::new(alloc);
+    messages.push(Message::Refused(words))?;
+    push_end(alloc, &mut messages, is_end)?;
+    Ok(messages)
+}
+
+/// Serves a request, and returns its answer and events. The only error is a failed allocation.
+pub fn serve<H: Files + AllocGlobal>(
+    rt: &H,
+    adapter: &mut Adapter,
+    request: &Value,
+) -> Result<Vec<Message>, AllocError>
+    ensures { IfOk result (λ ms. Serves (request_of (view request.now)) (view request.now)
+        adapter.old adapter.new (each said_of ms.items)) }
+{
+    let asked = request_of(request);
+    match serve_asked(rt, adapter, request, asked) {
+        Ok(messages) => Ok(messages),
+        Err(Fault::Refused(words)) => {
+            let messages = refusal(rt.alloc(), words, ends(adapter, asked))?;
+            Ok(messages)
+        }
+        Err(Fault::OutOfMemory) => Err(AllocError),
+    }
+}

@@ -1,0 +1,49 @@
+use Rattle.std.proofs.Common.{◌≡◌, List, map, subst}
+use Rattle.std.specs.Result.{IfOk}
+use Rattle.dap_messages.specs.Answers.{breakpoints_body}
+use Rattle.serde_json.specs.View.{view}
+use Rattle.serde_json.specs.declared.value.Value.{Value}
+use Rattle.dap_session.proofs.answering.shown.Goals as goal
+
+pub returns-in-Threads : goal.returns-in-Threads
+returns-in-Threads g c = rw c.in-Threads.is c.threads.ensures
+
+pub returns-in-Scopes : goal.returns-in-Scopes
+returns-in-Scopes g c = rw c.in-Scopes.is c.scopes.ensures
+
+pub returns-in-Variables : goal.returns-in-Variables
+returns-in-Variables g c = rw c.in-Variables.is c.variables_shown.ensures
+
+pub returns-in-ReadMemory : goal.returns-in-ReadMemory
+returns-in-ReadMemory g c = rw c.in-ReadMemory.is c.memory_shown.ensures
+
+pub returns-in-DataBreakpointInfo : goal.returns-in-DataBreakpointInfo
+returns-in-DataBreakpointInfo g c = rw c.in-DataBreakpointInfo.is c.data_shown.ensures
+
+pub returns-in-Completions : goal.returns-in-Completions
+returns-in-Completions g c = rw c.in-Completions.is c.completions.ensures
+
+pub returns-in-Pause : goal.returns-in-Pause
+returns-in-Pause g c = rw c.in-Pause.is c.nothing.ensures
+
+pub returns-in-StackTrace : goal.returns-in-StackTrace
+returns-in-StackTrace g c =
+    let source = c.source_of-source.ensures in
+    rw (c.in-StackTrace.is, ← source.path, ← source.counting) c.frames_shown.ensures
+
+pub returns-in-Disassemble : goal.returns-in-Disassemble
+returns-in-Disassemble g c =
+    let source = c.source_of-source.ensures in
+    rw (c.in-Disassemble.is, ← source.path, ← source.counting) c.disassembled.ensures
+
+pub returns-in-GotoTargets : goal.returns-in-GotoTargets
+returns-in-GotoTargets g c =
+    let source = c.source_of-source.ensures in
+    rw (c.in-GotoTargets.is, ← source.assembly, ← source.counting) c.goto_targets.ensures
+
+pub returns-in-ExceptionInfo : goal.returns-in-ExceptionInfo
+returns-in-ExceptionInfo g c = rw (c.in-ExceptionInfo.is, ← c.as_str.ensures.value) c.exception.ensures
+
+pub returns-in-SetExceptionBreakpoints : goal.returns-in-SetExceptionBreakpoints
+returns-in-SetExceptionBreakpoints g c = rw c.in-SetExceptionBreakpoints.is
+    (subst (λ (list : List Value). IfOk c.breakpoints_body.result (λ v. view v ≡ breakpoints_body (map view list))) c.new.ensures.items c.breakpoints_body.ensures)

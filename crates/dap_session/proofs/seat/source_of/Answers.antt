@@ -1,0 +1,9 @@
+use Rattle.std.proofs.Common.{refl}
+use Rattle.dap_session.proofs.seat.source_of.Goals as goal
+
+pub returns : goal.returns
+returns c = record {
+  path = c.as_str.ensures.value;
+  assembly = c.as_ref.ensures.value;
+  counting = refl;
+}

@@ -1,0 +1,28 @@
+use Rattle.std.proofs.Common.{◌≡◌, ◌-◌, List, ap, arith, subst}
+use Rattle.dap_views.proofs.Cells.{cells_more, cells_none}
+use Rattle.dap_views.specs.Scopes.{cells}
+use Rattle.json_values.specs.ValueLists.{HasValues}
+use Rattle.serde_json.specs.Data.{Data}
+use Rattle.dap_views.proofs.variables.cells.Goals as goal
+
+pub loop-address-init : goal.loop-address-init
+loop-address-init c = record {
+  cells = subst (λ (ds : List Data). HasValues ds c.new-list.result) (cells_none c.args.session.now.current.bus.memory c.args.from) c.new-list.ensures;
+  behind = omega arith;
+  within = omega arith;
+}
+
+pub loop-address-preserved : goal.loop-address-preserved
+loop-address-preserved c =
+    let inv = c.loop-address.invariant in
+    record {
+      cells = cells_more c.args.session.now.current.bus.memory c.args.from c.loop-address.address _ inv.behind (c.with-list.ensures _ _ inv.cells c.cell.ensures);
+      behind = omega (arith, inv.behind);
+      within = omega (arith, inv.behind, c.loop-address-test.true);
+    }
+
+pub returns : goal.returns
+returns c =
+    let inv = c.loop-address.invariant in
+    let n : c.loop-address.address - c.args.from ≡ c.args.to - c.args.from = omega (arith, inv.within, c.loop-address-test.false) in
+    c.build.ensures _ (subst (λ (ds : List Data). HasValues ds c.loop-address.list) (ap (cells c.args.session.now.current.bus.memory c.args.from) n) inv.cells)

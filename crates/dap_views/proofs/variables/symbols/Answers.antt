@@ -1,0 +1,22 @@
+use Rattle.std.proofs.Common.{List, ap, arith, subst}
+use Rattle.dap_views.proofs.Shown.{shown_as}
+use Rattle.dap_views.proofs.Symbols.{symbol_shown, symbols_of}
+use Rattle.json_values.proofs.Lists.{all_values, next_value}
+use Rattle.json_values.specs.ValueLists.{HasValues}
+use Rattle.serde_json.specs.Data.{Data}
+use Rattle.dap_views.proofs.variables.symbols.Goals as goal
+
+pub loop-name-init : goal.loop-name-init
+loop-name-init c = c.new-list.ensures
+
+pub loop-name-preserved : goal.loop-name-preserved
+loop-name-preserved c =
+    let g = symbol_shown c.args.session.now.current.bus.memory in
+    next_value g c.args.names.now c.loop-name.name-index _ _ (omega (arith, c.loop-name-test.true))
+    (c.with-list.ensures _ _ c.loop-name.invariant (shown_as _ _ _ (ap g c.name-item.is) c.symbol.ensures))
+
+pub returns : goal.returns
+returns c =
+    let memory = c.args.session.now.current.bus.memory in
+    let all = all_values (symbol_shown memory) c.args.names.now c.loop-name.name-index c.loop-name.list (omega (arith, c.loop-name-test.false)) c.loop-name.invariant in
+    c.build.ensures _ (subst (λ (ds : List Data). HasValues ds c.loop-name.list) (symbols_of memory c.args.names.now) all)

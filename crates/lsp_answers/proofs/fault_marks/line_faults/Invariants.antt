@@ -1,0 +1,9 @@
+use Rattle.std.proofs.Common.{take}
+use Rattle.fault_notes.specs.Blocks.{fault_blocks}
+use Rattle.fault_notes.specs.Marks.{IsMeant, known_of}
+use Rattle.lsp_answers.specs.Diagnostics.{AreMarked, fault_kind}
+use Rattle.source_notes.specs.Lines.{texts_of}
+use Rattle.lsp_answers.proofs.fault_marks.line_faults.Given as goal
+
+abbrev pub invariant-loop-fault : goal.invariant-loop-fault
+invariant-loop-fault l = AreMarked (fault_blocks (IsMeant (known_of l.context))) fault_kind (texts_of l.lines) (take l.fault-index l.faults) l.found.items

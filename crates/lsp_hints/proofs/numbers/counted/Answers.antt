@@ -1,0 +1,23 @@
+use Rattle.std.proofs.Common.{[], List, arith, refl, subst}
+use Rattle.json_values.specs.ValueLists.{HasValues}
+use Rattle.lsp_hints.proofs.Gathered.{gathered, gathered_all}
+use Rattle.lsp_hints.proofs.PaintSteps.{paint_next, paints_end}
+use Rattle.serde_json.specs.Data.{Data}
+use Rattle.lsp_hints.proofs.numbers.counted.Goals as goal
+
+pub loop-paint-init : goal.loop-paint-init
+loop-paint-init c = ([], c.new-counts.ensures, refl)
+
+pub loop-paint-preserved : goal.loop-paint-preserved
+loop-paint-preserved c =
+    let so_far = c.loop-paint.invariant in (
+      _,
+      c.with_paint-counts.ensures so_far.0 so_far.1,
+      gathered so_far.0 _ _ _ _ _ refl (paint_next c.loop-paint.line c.loop-paint.start c.loop-paint.paint-index c.args.paints.now _ (omega (arith, c.loop-paint-test.true))) so_far.2,
+    )
+
+pub returns : goal.returns
+returns c =
+    let so_far = c.loop-paint.invariant in
+    subst (λ (ds : List Data). HasValues ds c.loop-paint.counts)
+    (gathered_all so_far.0 _ _ (paints_end c.loop-paint.line c.loop-paint.start c.loop-paint.paint-index c.args.paints.now (omega (arith, c.loop-paint-test.false))) so_far.2) so_far.1

@@ -1,0 +1,81 @@
+//! The colours of tokens.
+
+ghost use Rattle.std.specs.Prelude.{◌≡◌};
+ghost use Rattle.line_parts.specs.Lexemes.{lexeme_of};
+ghost use Rattle.lsp_hints.specs.Colours.{colour_of, modifiers_of, type_of, word_colour};
+
+use line_parts::Token;
+use model::{Profile, TokenKind};
+use name_uses::is_reserved;
+
+/// What a part of a line is painted as.
+#[derive(Clone, Copy)]
+pub enum Colour {
+    /// A mnemonic, A, X or Y.
+    Reserved,
+    /// A directive.
+    Directive,
+    /// A name that its line defines.
+    Defined,
+    /// Another name.
+    Named,
+    /// A number.
+    Number,
+    /// A character or a string.
+    Quoted,
+    /// A comment.
+    Comment,
+}
+
+impl Colour {
+    /// Returns the number of its type in the legend.
+    pub fn type_number(self) -> usize
+        ensures { result ≡ type_of self }
+    {
+        match self {
+            Colour::Reserved => 0,
+            Colour::Directive => 1,
+            Colour::Defined | Colour::Named => 2,
+            Colour::Number => 3,
+            Colour::Quoted => 4,
+            Colour::Comment => 5,
+        }
+    }
+
+    /// Returns its modifiers, a bit for each in the legend.
+    pub fn modifiers(self) -> usize
+        ensures { result ≡ modifiers_of self }
+    {
+        match self {
+            Colour::Defined => 1,
+            Colour::Reserved | Colour::Directive | Colour::Named => 0,
+            Colour::Number | Colour::Quoted | Colour::Comment => 0,
+        }
+    }
+}
+
+/// Returns the colour of a word, which its line defines, or not.
+fn word_colour(profile: Profile, defines: bool, text: &[u8]) -> Colour
+    ensures { result ≡ word_colour profile defines text.now }
+{
+    if is_reserved(profile, text) {
+        Colour::Reserved
+    } else if defines {
+        Colour::Defined
+    } else {
+        Colour::Named
+    }
+}
+
+/// Returns the colour of a token, which its line defines, or not. A symbol has none.
+pub fn colour_of(profile: Profile, defines: bool, token: &Token<'_>) -> Option<Colour>
+    ensures { result ≡ colour_of profile defines (lexeme_of token.now) }
+{
+    match token.kind {
+        TokenKind::Word => Some(word_colour(profile, defines, token.text)),
+        TokenKind::Directive => Some(Colour::Directive),
+        TokenKind::Number => Some(Colour::Number),
+        TokenKind::Char | TokenKind::Str => Some(Colour::Quoted),
+        TokenKind::Symbol => None,
+    }
+}

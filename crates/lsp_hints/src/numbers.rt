@@ -1,0 +1,65 @@
+//! The colours as the protocol counts them.
+
+ghost use Rattle.std.specs.Prelude.{◌≡◌, ◌++◌, IfOk, List};
+ghost use Rattle.json_values.specs.ValueLists.{HasValues};
+ghost use Rattle.lsp_hints.specs.Painted.{counted, further, paint_counts, painted};
+ghost use Rattle.serde_json.specs.Data.{Data};
+ghost use Rattle.serde_json.specs.View.{view};
+ghost use Rattle.source_notes.specs.Lines.{texts_of};
+
+use crate::paint::{Paint, paints_of};
+use json_values::{Object, ValueList};
+use model::Profile;
+use serde_json::Value;
+use std::alloc::{AllocError, Global};
+
+/// Returns how far behind a start in a line another part of a text starts, which is in its own line
+/// the start itself.
+fn further(line: usize, start: usize, paint: &Paint) -> usize
+    ensures { result ≡ further line start paint.now }
+{
+    if paint.line == line {
+        paint.start.saturating_sub(start)
+    } else {
+        paint.start
+    }
+}
+
+/// Puts the five numbers of a part of a text that comes after a start in a line behind others.
+fn with_paint(counts: ValueList, line: usize, start: usize, paint: &Paint) -> ValueList
+    ensures { (ds : List Data) → HasValues ds counts
+        → HasValues (ds ++ paint_counts line start paint.now) result }
+{
+    counts
+        .with(Ok(Value::from(paint.line.saturating_sub(line))))
+        .with(Ok(Value::from(further(line, start, paint))))
+        .with(Ok(Value::from(paint.width)))
+        .with(Ok(Value::from(paint.colour.type_number())))
+        .with(Ok(Value::from(paint.colour.modifiers())))
+}
+
+/// Returns the numbers of some parts of a text.
+fn counted(alloc: Global, paints: &[Paint]) -> ValueList
+    ensures { HasValues (counted 0 0 paints.now) result }
+{
+    let mut counts = ValueList::new(alloc);
+    let mut line = 0;
+    let mut start = 0;
+    for paint in paints {
+        counts = with_paint(counts, line, start, paint);
+        line = paint.line;
+        start = paint.start;
+    }
+    counts
+}
+
+/// Returns the colours of the lines of a source: of each token but symbols, and of each comment, in
+/// their order. A line that is not made of tokens has none. The only error is that a request for
+/// memory was refused.
+pub fn painted(alloc: Global, profile: Profile, lines: &[&[u8]]) -> Result<Value, AllocError>
+    ensures { IfOk result (λ v. view v ≡ painted profile (texts_of lines.now)) }
+{
+    let paints = paints_of(alloc, profile, lines)?;
+    let data = counted(alloc, &paints).build();
+    Object::new(alloc).member("data", data).build()
+}

@@ -1,0 +1,155 @@
+//! Where the colours stand.
+
+ghost use Rattle.std.specs.Prelude.{◌≡◌, ◌≤◌, ◌++◌, IfOk, OnOk, Some, length};
+ghost use Rattle.line_parts.specs.Lexemes.{lexeme_of, lexemes};
+ghost use Rattle.lsp_hints.specs.Painted.{code_end, comment_paints, line_paints, paints_of};
+ghost use Rattle.lsp_hints.specs.Painted.{starts_definition, token_paints, tokens_paints};
+ghost use Rattle.model.specs.Token.{tokens_of};
+ghost use Rattle.source_notes.specs.Lines.{texts_of};
+
+use crate::colour::{Colour, colour_of};
+use crate::operation::blanks_after;
+use lexer::{tokens_are_slices, tokens_into};
+use line_parts::Token;
+use model::{LineFault, Profile};
+use source_notes::is_symbol;
+use std::alloc::{AllocError, Global};
+
+/// A part of a line with its colour.
+#[derive(Clone, Copy)]
+pub struct Paint {
+    /// Its line, counted from 0.
+    pub line: usize,
+    /// Where in the line it starts, counted from 0.
+    pub start: usize,
+    /// How many bytes it has.
+    pub width: usize,
+    pub colour: Colour,
+}
+
+/// Returns whether a line of these tokens defines the name that it begins with.
+fn starts_definition(tokens: &[Token<'_>]) -> bool
+    ensures { result ≡ starts_definition (lexemes tokens.now) }
+{
+    match tokens {
+        [_, mark, ..] => is_symbol(mark, b':') || is_symbol(mark, b'='),
+        _ => false,
+    }
+}
+
+/// Appends a token of a line with its colour, if it has one.
+fn push_token(
+    paints: &mut Vec<Paint>,
+    profile: Profile,
+    line: usize,
+    defines: bool,
+    token: &Token<'_>,
+) -> Result<(), AllocError>
+    ensures { OnOk result (paints.new.items
+        ≡ paints.old.items ++ token_paints profile line defines (lexeme_of token.now)) }
+{
+    match colour_of(profile, defines, token) {
+        Some(colour) => {
+            paints.push(Paint {
+                line,
+                start: token.start,
+                width: token.text.len(),
+                colour,
+            })?;
+            Ok(())
+        }
+        None => Ok(()),
+    }
+}
+
+/// Appends the tokens of a line with their colours.
+fn push_tokens(
+    paints: &mut Vec<Paint>,
+    profile: Profile,
+    line: usize,
+    tokens: &[Token<'_>],
+) -> Result<(), AllocError>
+    ensures { OnOk result (paints.new.items ≡ paints.old.items ++ tokens_paints profile line
+        (starts_definition (lexemes tokens.now)) (lexemes tokens.now)) }
+{
+    let mut defines = starts_definition(tokens);
+    for token in tokens {
+        push_token(paints, profile, line, defines, token)?;
+        defines = false;
+    }
+    Ok(())
+}
+
+/// Returns where the last of the tokens of a line ends; 0 without tokens.
+fn code_end(text: &[u8], tokens: &[Token<'_>]) -> usize
+    requires { tokens_of text.now ≡ Some (lexemes tokens.now) }
+    ensures end { result ≡ code_end 0 (lexemes tokens.now) }
+    ensures within { result ≤ length text.now }
+{
+    tokens_are_slices();
+    let mut end = 0;
+    for token in tokens {
+        end = token.start + token.text.len();
+    }
+    end
+}
+
+/// Appends the comment of a line, if it has one.
+fn push_comment(
+    paints: &mut Vec<Paint>,
+    line: usize,
+    text: &[u8],
+    tokens: &[Token<'_>],
+) -> Result<(), AllocError>
+    requires { tokens_of text.now ≡ Some (lexemes tokens.now) }
+    ensures { OnOk result (paints.new.items
+        ≡ paints.old.items ++ comment_paints line text.now (code_end 0 (lexemes tokens.now))) }
+{
+    let end = code_end(text, tokens);
+    let start = blanks_after(text, end);
+    if start < text.len() {
+        paints.push(Paint {
+            line,
+            start,
+            width: text.len() - start,
+            colour: Colour::Comment,
+        })?;
+    }
+    Ok(())
+}
+
+/// Appends what is painted of a line.
+#[tactic(auto, unfolding(crate::specs::Painted::line_paints))]
+fn push_line<'a>(
+    paints: &mut Vec<Paint>,
+    room: &mut Vec<Token<'a>>,
+    profile: Profile,
+    line: usize,
+    text: &'a [u8],
+) -> Result<(), AllocError>
+    ensures { OnOk result (paints.new.items
+        ≡ paints.old.items ++ line_paints profile line text.now) }
+{
+    match tokens_into(room, text) {
+        Ok(()) => {
+            push_tokens(paints, profile, line, room)?;
+            push_comment(paints, line, text, room)
+        }
+        Err(LineFault::OutOfMemory) => Err(AllocError),
+        Err(LineFault::Syntax) => Ok(()),
+    }
+}
+
+/// Returns what is painted of the lines of a source. The only error is that a request for memory
+/// was refused.
+pub fn paints_of(alloc: Global, profile: Profile, lines: &[&[u8]]) -> Result<Vec<Paint>, AllocError>
+    ensures { IfOk result
+        (λ paints. paints.items ≡ paints_of profile (texts_of lines.now)) }
+{
+    let mut paints = Vec::new(alloc);
+    let mut room = Vec::new(alloc);
+    for (index, line) in lines.iter().enumerate() {
+        push_line(&mut paints, &mut room, profile, index, line)?;
+    }
+    Ok(paints)
+}

@@ -1,4 +1,0 @@
-pub mod EndSteps
-pub mod Gathered
-pub mod PaintSteps
-pub mod FoldSteps

@@ -1,8 +1,0 @@
-use Rattle.std.proofs.Common.{◌≡◌, ◌++◌}
-use Rattle.lsp_outline.proofs.PaintSteps.{lines_left}
-use Rattle.lsp_outline.specs.Painted.{paints_of}
-use Rattle.source_notes.specs.Lines.{texts_of}
-use Rattle.lsp_outline.proofs.paint.paints_of.Given as goal
-
-abbrev pub invariant-loop-index : goal.invariant-loop-index
-invariant-loop-index l = l.paints.items ++ lines_left l.profile l.lines l.index ≡ paints_of l.profile (texts_of l.lines)

@@ -1,4 +1,0 @@
-use Rattle.lsp_outline.proofs.values.label_fold.Goals as goal
-
-pub returns : goal.returns
-returns c = c.build.ensures _ (c.count-2.ensures _ (c.count.ensures _ c.new.ensures))

@@ -1,3 +1,0 @@
-pub mod Colours
-pub mod Folds
-pub mod Painted

@@ -1,2 +1,0 @@
-pub mod Diagnostics
-pub mod Kinds
