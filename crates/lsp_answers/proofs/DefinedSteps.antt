@@ -1,35 +1,38 @@
--- The names that are defined, one use after another.
-use Rattle.std.proofs.Common.{◌≡◌, ◌∙◌, ℕ, ◌+◌, ◌<◌, ◌≤◌, true, false, List, [], ◌∷◌, ◌++◌, length, drop, refl, sym, ap, append_assoc, append-nil, get_or, add-one, drop-cons}
-use Rattle.std.proofs.lemmas.List.{drop_all, map-append}
+-- The values of the names that are defined, one use after another.
+use Rattle.std.proofs.Common.{◌≡◌, ◌∙◌, ℕ, ◌+◌, ◌<◌, ◌≤◌, true, false, List, [], ◌∷◌, ◌++◌, length, take, map, refl, sym, ap, subst, append-nil, get_or}
+use Rattle.std.proofs.lemmas.List.{map-append, take_all, take_more}
+use Rattle.std.proofs.lemmas.List.Elements.{filter-append}
+use Rattle.json_values.specs.ValueLists.{HasValues}
+use Rattle.json_values.specs.declared.value_list.ValueList.{ValueList}
 use Rattle.lsp_answers.specs.Lists.{defined, is_defined}
 use Rattle.name_uses.specs.Uses.{Use}
 use Rattle.name_uses.specs.Views.{use_view, use_views}
 use Rattle.name_uses.specs.declared.name_use.NameUse.{NameUse}
+use Rattle.serde_json.specs.Data.{Data}
 
--- those from an index on
-abbrev pub defined_left : List NameUse → ℕ → List Use
-defined_left uses i = defined (use_views (drop i uses))
+module _ (g : Use → Data) where
+  -- the values of those among the first uses
+  abbrev pub AreDefined : List NameUse → ℕ → ValueList → Type 0
+  AreDefined all i list = HasValues (map g (defined (use_views (take i all)))) list
 
-opened : (uses : List NameUse) (i : ℕ) (d : NameUse) → i < length uses → defined_left uses i ≡ defined (use_view (get_or uses i d) ∷ use_views (drop (i + 1) uses))
-opened uses i d within =
-    let cut : drop i uses ≡ get_or uses i d ∷ drop (i + 1) uses = rw (add-one, drop-cons uses i d) refl in
-    ap (λ (us : List NameUse). defined (use_views us)) cut
+  defined_more : (all : List NameUse) (i : ℕ) (e : NameUse) → i < length all
+      → defined (use_views (take (i + 1) all)) ≡ defined (use_views (take i all)) ++ defined (use_view (get_or all i e) ∷ [])
+  defined_more all i e within =
+      ap (λ (us : List NameUse). defined (use_views us)) (take_more all i e within) ∙ ap defined (map-append use_view (take i all) (get_or all i e ∷ []))
+      ∙ filter-append is_defined (use_views (take i all)) (use_view (get_or all i e) ∷ [])
 
-pub other_use : (uses : List NameUse) (i : ℕ) (d : NameUse) (found whole : List Use) → i < length uses → is_defined (use_view (get_or uses i d)) ≡ false
-    → found ++ defined_left uses i ≡ whole → found ++ defined_left uses (i + 1) ≡ whole
-other_use uses i d found whole within other so_far =
-    let at : defined_left uses i ≡ defined_left uses (i + 1) = opened uses i d within ∙ rw other refl in
-    sym (ap (λ (us : List Use). found ++ us) at) ∙ so_far
+  pub other_use : (all : List NameUse) (i : ℕ) (e : NameUse) (list : ValueList) → i < length all → is_defined (use_view (get_or all i e)) ≡ false → AreDefined all i list → AreDefined all (i + 1) list
+  other_use all i e list within other so_far =
+      let none : defined (use_view (get_or all i e) ∷ []) ≡ [] = rw other refl in
+      let same = defined_more all i e within ∙ ap (λ (us : List Use). defined (use_views (take i all)) ++ us) none ∙ append-nil (defined (use_views (take i all))) in
+      subst (λ (us : List Use). HasValues (map g us) list) (sym same) so_far
 
-pub one_more : (uses : List NameUse) (i : ℕ) (d : NameUse) (old new : List NameUse) (whole : List Use) → i < length uses → is_defined (use_view (get_or uses i d)) ≡ true
-    → new ≡ old ++ get_or uses i d ∷ [] → use_views old ++ defined_left uses i ≡ whole → use_views new ++ defined_left uses (i + 1) ≡ whole
-one_more uses i d old new whole within same put so_far =
-    let left = defined_left uses (i + 1) in
-    let at : defined_left uses i ≡ use_view (get_or uses i d) ∷ left = opened uses i d within ∙ rw same refl in
-    let pushed : use_views new ≡ use_views old ++ use_view (get_or uses i d) ∷ [] = ap use_views put ∙ map-append use_view old (get_or uses i d ∷ []) in
-    ap (λ (us : List Use). us ++ left) pushed ∙ append_assoc (use_views old) (use_view (get_or uses i d) ∷ []) left ∙ sym (ap (λ (us : List Use). use_views old ++ us) at) ∙ so_far
+  pub one_more : (all : List NameUse) (i : ℕ) (e : NameUse) (list : ValueList) → i < length all → is_defined (use_view (get_or all i e)) ≡ true
+      → HasValues (map g (defined (use_views (take i all))) ++ g (use_view (get_or all i e)) ∷ []) list → AreDefined all (i + 1) list
+  one_more all i e list within is has =
+      let one : defined (use_view (get_or all i e) ∷ []) ≡ use_view (get_or all i e) ∷ [] = rw is refl in
+      let same = defined_more all i e within ∙ ap (λ (us : List Use). defined (use_views (take i all)) ++ us) one in
+      subst (λ (ds : List Data). HasValues ds list) (sym (ap (map g) same ∙ map-append g (defined (use_views (take i all))) (use_view (get_or all i e) ∷ []))) has
 
-pub defined_done : (uses : List NameUse) (i : ℕ) (found whole : List Use) → length uses ≤ i → found ++ defined_left uses i ≡ whole → found ≡ whole
-defined_done uses i found whole past so_far =
-    let none : defined_left uses i ≡ [] = rw (drop_all i uses past) refl in
-    sym (append-nil found) ∙ sym (ap (λ (us : List Use). found ++ us) none) ∙ so_far
+  pub all_defined : (all : List NameUse) (i : ℕ) (list : ValueList) → length all ≤ i → AreDefined all i list → HasValues (map g (defined (use_views all))) list
+  all_defined all i list past has = subst (λ (us : List NameUse). HasValues (map g (defined (use_views us))) list) (take_all i all past) has

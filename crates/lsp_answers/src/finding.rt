@@ -26,10 +26,14 @@ pub fn diagnostics(
     ensures { IfOk result (λ found.
         AreDiagnostics map.now source.now (faults_of map.now source.now) found.items) }
 {
-    let faults = source_faults(alloc, source, map)?;
-    if faults.is_empty() {
-        let warnings = source_warnings(alloc, source, map)?;
-        return marked_warnings(alloc, source, &warnings);
+    let Ok(faults) = source_faults(alloc, source, map) else {
+        return Err(AllocError);
+    };
+    if !faults.is_empty() {
+        return marked_faults(alloc, source, map, &faults);
     }
-    marked_faults(alloc, source, map, &faults)
+    match source_warnings(alloc, source, map) {
+        Ok(warnings) => marked_warnings(alloc, source, &warnings),
+        Err(error) => Err(error),
+    }
 }

@@ -1,10 +1,12 @@
 //! A fault or a warning.
 
-ghost use Rattle.std.specs.Prelude.{◌≡◌};
+ghost use Rattle.std.specs.Prelude.{◌≡◌, IfOk};
+ghost use Rattle.lsp_answers.specs.Diagnostics.{IsPut};
 ghost use Rattle.lsp_answers.specs.Kinds.{is_fault, name_of};
 
 use model::AsmFaultKind;
 use source_notes::Note;
+use std::alloc::AllocError;
 use warning_notes::kind_name;
 use warnings::WarningKind;
 
@@ -47,4 +49,23 @@ pub struct Diagnostic {
     pub kind: DiagnosticKind,
     /// The bytes of the line that are meant, and what is said.
     pub note: Note,
+}
+
+/// Puts a diagnostic behind others. The only error is that memory ran out, before or here.
+pub fn with_note(
+    found: Result<Vec<Diagnostic>, AllocError>,
+    line: u32,
+    kind: DiagnosticKind,
+    note: Result<Note, AllocError>,
+) -> Result<Vec<Diagnostic>, AllocError>
+    ensures { IfOk result (λ all. IsPut found line kind note all.items) }
+{
+    let Ok(mut all) = found else {
+        return Err(AllocError);
+    };
+    let Ok(note) = note else {
+        return Err(AllocError);
+    };
+    all.push(Diagnostic { line, kind, note })?;
+    Ok(all)
 }

@@ -8,12 +8,14 @@
 //!
 //! `diagnostics` (`finding`) is what is marked, and finds the same as `check`: all faults
 //! (`fault_marks`), and the warnings (`warning_marks`) where there is none. `Diagnostics.antt` says
-//! which these are, and which bytes each means.
+//! which these are, and which bytes each means. `laid` is what the layout finds of a source, for
+//! its faults and for what is meant at a place.
 #![tactic(auto)]
 
 mod fault_marks;
 mod finding;
 mod kinds;
+mod laid;
 mod lists;
 mod marks;
 mod meanings;

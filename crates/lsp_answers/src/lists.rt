@@ -1,8 +1,7 @@
 //! The names of a source, and what may be written.
 
 ghost use Rattle.std.specs.Prelude.{◌≡◌, ◌++◌, IfOk, List, map};
-ghost use Rattle.json_values.specs.Values.{list_of};
-ghost use Rattle.lsp_answers.specs.Lists.{completed, completion_of, defined, is_defined};
+ghost use Rattle.lsp_answers.specs.Lists.{completion_of, defined};
 ghost use Rattle.lsp_answers.specs.Lists.{mnemonic_item, name_item, symbol_of, symbols_of};
 ghost use Rattle.lsp_answers.specs.Texts.{text_view};
 ghost use Rattle.lsp_answers.specs.Written.{directive_items};
@@ -18,7 +17,7 @@ use crate::written::{
 };
 use json_values::ValueList;
 use lsp_messages::{item, symbol};
-use model::{Mnemonic, Profile};
+use model::Mnemonic;
 use name_uses::NameUse;
 use optable::letters_of;
 use serde_json::Value;
@@ -35,45 +34,18 @@ fn symbol_of(alloc: Global, text: &Text<'_>, one: &NameUse<'_>) -> Result<Value,
     symbol(alloc, name, range, selected)
 }
 
-/// Returns whether a line defines a name where it stands.
-fn is_defined(one: &NameUse<'_>) -> bool
-    ensures { result ≡ is_defined (use_view one.now) }
-{
-    one.defines
-}
-
-/// Returns those of some uses where a line defines the name.
-fn defined<'a>(alloc: Global, uses: &[NameUse<'a>]) -> Result<Vec<NameUse<'a>>, AllocError>
-    ensures { IfOk result (λ found. use_views found.items ≡ defined (use_views uses.now)) }
-{
-    let mut found = Vec::new(alloc);
-    for one in uses {
-        if is_defined(one) {
-            found.push(*one)?;
-        }
-    }
-    Ok(found)
-}
-
-/// Returns the values of some names.
-fn symbols_among(alloc: Global, text: &Text<'_>, uses: &[NameUse<'_>]) -> Result<Value, AllocError>
-    ensures { IfOk result
-        (λ v. view v ≡ list_of (map (symbol_of (text_view text.now)) (use_views uses.now))) }
-{
-    let mut found = ValueList::new(alloc);
-    for one in uses {
-        found = found.with(symbol_of(alloc, text, one));
-    }
-    found.build()
-}
-
 /// Returns the names that a source defines, in their order, each with where that is. The only error
 /// is that a request for memory was refused.
 pub fn symbols(alloc: Global, text: &Text<'_>) -> Result<Value, AllocError>
     ensures { IfOk result (λ v. view v ≡ symbols_of (text_view text.now)) }
 {
-    let uses = defined(alloc, &text.uses)?;
-    symbols_among(alloc, text, &uses)
+    let mut found = ValueList::new(alloc);
+    for one in &text.uses {
+        if one.defines {
+            found = found.with(symbol_of(alloc, text, one));
+        }
+    }
+    found.build()
 }
 
 /// Returns what may be written for a name.
@@ -83,14 +55,15 @@ fn name_item(alloc: Global, one: &NameUse<'_>) -> Result<Value, AllocError>
     item(alloc, String::from_utf8_lossy(alloc, one.text), 6, "name")
 }
 
-/// Puts some names behind what may be written.
-fn with_names(alloc: Global, items: ValueList, uses: &[NameUse<'_>]) -> ValueList
-    ensures { (ds : List Data) → HasValues ds items
-        → HasValues (ds ++ map name_item (use_views uses.now)) result }
+/// Returns what may be written for those of some uses where a line defines the name.
+fn name_items(alloc: Global, uses: &[NameUse<'_>]) -> ValueList
+    ensures { HasValues (map name_item (defined (use_views uses.now))) result }
 {
-    let mut items = items;
+    let mut items = ValueList::new(alloc);
     for one in uses {
-        items = items.with(name_item(alloc, one));
+        if one.defines {
+            items = items.with(name_item(alloc, one));
+        }
     }
     items
 }
@@ -134,21 +107,12 @@ fn with_directives(alloc: Global, items: ValueList) -> ValueList
         .with(directive_item(alloc, ".END", END_EFFECT))
 }
 
-/// Returns what may be written: the names of some uses, the mnemonics of a profile, and the
-/// directives.
-fn completed(alloc: Global, profile: Profile, uses: &[NameUse<'_>]) -> Result<Value, AllocError>
-    ensures { IfOk result (λ v. view v ≡ completed profile (use_views uses.now)) }
-{
-    let names = with_names(alloc, ValueList::new(alloc), uses);
-    let words = with_mnemonics(alloc, names, mnemonics_in(profile));
-    with_directives(alloc, words).build()
-}
-
 /// Returns what may be written in a source: its names, the mnemonics and the directives. The only
 /// error is that a request for memory was refused.
 pub fn completion(alloc: Global, text: &Text<'_>) -> Result<Value, AllocError>
     ensures { IfOk result (λ v. view v ≡ completion_of (text_view text.now)) }
 {
-    let uses = defined(alloc, &text.uses)?;
-    completed(alloc, text.profile, &uses)
+    let names = name_items(alloc, &text.uses);
+    let words = with_mnemonics(alloc, names, mnemonics_in(text.profile));
+    with_directives(alloc, words).build()
 }

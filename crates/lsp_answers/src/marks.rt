@@ -54,6 +54,8 @@ pub fn published(
 ) -> Result<Value, AllocError>
     ensures { IfOk result (λ v. AreMarks map.now uri.now (text_view text.now) (view v)) }
 {
-    let found = diagnostics(alloc, text.source, map)?;
-    marks(alloc, uri, marks_of(alloc, text, &found))
+    match diagnostics(alloc, text.source, map) {
+        Ok(found) => marks(alloc, uri, marks_of(alloc, text, &found)),
+        Err(error) => Err(error),
+    }
 }

@@ -1,21 +1,23 @@
 //! What is meant at a place.
 
-ghost use Rattle.std.specs.Prelude.{◌≡◌, ◌≤◌, ◌++◌, ◌-◌, IfOk, List, length, string_bytes};
+ghost use Rattle.std.specs.Prelude.{◌≡◌, ◌++◌, ℕ, IfOk, List, string_bytes};
 ghost use Rattle.std.specs.List.{find};
 ghost use Rattle.std.specs.Option.{option_map};
 ghost use Rattle.std.specs.Str.Lossy.{utf8_lossy};
 ghost use Rattle.line_parts.specs.Lexemes.{lexeme_of, lexemes};
-ghost use Rattle.lsp_answers.specs.Meanings.{IsMeaning, IsOfLine, IsOfName, IsOfPlace, IsOfRow};
-ghost use Rattle.lsp_answers.specs.Meanings.{IsSaid};
-ghost use Rattle.lsp_answers.specs.Meanings.{found_in, is_mnemonic_on, mnemonic_on, opcode_of};
+ghost use Rattle.lsp_answers.specs.Meanings.{IsMeaning, IsOfLine, IsOfName, IsOfPlace};
+ghost use Rattle.lsp_answers.specs.Meanings.{IsOfToken, IsSaid};
+ghost use Rattle.lsp_answers.specs.Meanings.{found_in, is_mnemonic_on, opcode_of};
 ghost use Rattle.lsp_answers.specs.Meanings.{row_of, row_on, tokens_or_none};
 ghost use Rattle.lsp_answers.specs.Texts.{name_at, text_view};
 ghost use Rattle.model.specs.Token.{tokens_of};
 ghost use Rattle.name_uses.specs.Views.{use_view};
+ghost use Rattle.serde_json.specs.Data.{Data};
 ghost use Rattle.serde_json.specs.View.{view};
 ghost use Rattle.source_faults.specs.Views.{found_all, found_view};
 
-use crate::source_text::Text;
+use crate::laid::laid_of;
+use crate::source_text::{SOURCE_SIZE, Text};
 use crate::wording::{instruction_tail, name_tail};
 use lexer::tokens;
 use line_parts::{Statement, Token};
@@ -24,19 +26,10 @@ use model::{LineFault, Profile, Row};
 use name_uses::NameUse;
 use optable::{decode_in, letters_of, mnemonic_in};
 use serde_json::Value;
-use source_faults::{Found, Mending, lay_out};
+use source_faults::Found;
+use source_notes::concat;
 use std::alloc::{AllocError, Global};
 use symbols::Symbols;
-
-/// The most bytes that a source has (mos65).
-const SOURCE_SIZE: usize = 1_048_576;
-
-/// What the layout finds of a source: each line, and the numbers of its names.
-#[derive(Drop)]
-pub struct Laid<'a> {
-    pub found: Vec<Found<'a>>,
-    pub symbols: Symbols,
-}
 
 /// An instruction in its place.
 #[derive(Clone, Copy)]
@@ -46,51 +39,49 @@ pub struct Placed {
     pub address: u32,
 }
 
-/// Lays out a source.
-fn lay_out_text<'a>(alloc: Global, text: &Text<'a>) -> Result<Laid<'a>, AllocError>
-    requires { length text.now.source.now ≤ 1048576 }
-    ensures { IfOk result (λ laid. found_all laid.found.items ≡ found_in (text_view text.now)) }
-{
-    let mut symbols = Symbols::new(alloc);
-    let found = lay_out(
-        alloc,
-        text.profile,
-        Mending::Smallest,
-        &mut symbols,
-        text.source,
-    )?;
-    Ok(Laid { found, symbols })
-}
-
 /// Returns words and others behind them, as text.
-fn joined(alloc: Global, front: &[u8], rest: &[u8]) -> Result<String, AllocError>
-    ensures { IfOk result (λ text. string_bytes text ≡ utf8_lossy (front.now ++ rest.now)) }
+fn joined(
+    alloc: Global,
+    front: &[u8],
+    rest: Result<Vec<u8>, AllocError>,
+) -> Result<String, AllocError>
+    ensures { (bytes : List ℕ) → IfOk rest (λ words. words.items ≡ bytes)
+        → IfOk result (λ text. string_bytes text ≡ utf8_lossy (front.now ++ bytes)) }
 {
-    let mut words = Vec::from_slice(alloc, front)?;
-    words.extend_from_slice(rest)?;
-    String::from_utf8_lossy(alloc, &words)
+    let Ok(rest) = rest else {
+        return Err(AllocError);
+    };
+    match concat(alloc, &[front, &rest]) {
+        Ok(words) => String::from_utf8_lossy(alloc, &words),
+        Err(error) => Err(error),
+    }
 }
 
 /// Returns what is said at a place, in these words and behind them others, with the range that it
 /// is said of.
-fn said(alloc: Global, front: &[u8], rest: &[u8], range: Value) -> Result<Value, AllocError>
-    ensures { IfOk result (λ v. IsSaid front.now (view range) (view v)) }
+fn said(
+    alloc: Global,
+    front: &[u8],
+    rest: Result<Vec<u8>, AllocError>,
+    range: Result<Value, AllocError>,
+) -> Result<Value, AllocError>
+    ensures { (r : Data) → IfOk range (λ v. view v ≡ r)
+        → IfOk result (λ v. IsSaid front.now r (view v)) }
 {
-    said_of(alloc, joined(alloc, front, rest), Ok(range))
+    said_of(alloc, joined(alloc, front, rest), range)
 }
 
 /// Returns what is said of a name.
 fn name_said(
     alloc: Global,
     text: &Text<'_>,
-    laid: &Laid<'_>,
+    symbols: &Symbols,
     one: &NameUse<'_>,
 ) -> Result<Value, AllocError>
     ensures { IfOk result (λ v. IsOfName (text_view text.now) (use_view one.now) (view v)) }
 {
-    let rest = name_tail(alloc, text, laid, one)?;
-    let range = text.range_of(alloc, one)?;
-    said(alloc, one.text, &rest, range)
+    let rest = name_tail(alloc, &text.uses, symbols, one.text);
+    said(alloc, one.text, rest, text.range_of(alloc, one))
 }
 
 /// Returns the tokens of a line; none of a line that is not made of tokens.
@@ -126,20 +117,6 @@ fn mnemonic_among<'a>(profile: Profile, column: usize, tokens: &[Token<'a>]) -> 
     None
 }
 
-/// Returns the mnemonic at a column of a line, if one stands there.
-fn mnemonic_on<'a>(
-    alloc: Global,
-    profile: Profile,
-    column: usize,
-    line: &'a [u8],
-) -> Result<Option<Token<'a>>, AllocError>
-    ensures { IfOk result (λ found. option_map lexeme_of found
-        ≡ mnemonic_on profile column line.now) }
-{
-    let found = tokens_or_none(alloc, line)?;
-    Ok(mnemonic_among(profile, column, &found))
-}
-
 /// Returns the opcode of what is found of a line, with its address, if it is an instruction.
 fn opcode_of(found: &Found<'_>) -> Option<(u8, u32)>
     ensures { option_map (λ p. p.0) result ≡ opcode_of (found_view found.now).place.content }
@@ -147,22 +124,19 @@ fn opcode_of(found: &Found<'_>) -> Option<(u8, u32)>
     let Found::Bytes(kept) = found else {
         return None;
     };
-    match &kept.statement {
-        Statement::Instruction(_, _) => match kept.code {
-            Some(code) => Some((code.opcode, kept.address)),
-            None => None,
-        },
-        Statement::Nothing | Statement::Origin(_) | Statement::Bytes(_) => None,
-        Statement::Words(_) | Statement::WordsHighFirst(_) => None,
-        Statement::Reserve(_) | Statement::Finish => None,
+    match (&kept.statement, kept.code) {
+        (Statement::Instruction(_, _), Some(code)) => Some((code.opcode, kept.address)),
+        _ => None,
     }
 }
 
 /// Returns the row of what is found of a line, with its address, if it is an instruction.
-pub fn row_of(profile: Profile, found: &Found<'_>) -> Option<Placed>
+fn row_of(profile: Profile, found: &Found<'_>) -> Option<Placed>
     ensures { option_map (λ p. p.row) result ≡ row_of profile (found_view found.now) }
 {
-    let (opcode, address) = opcode_of(found)?;
+    let Some((opcode, address)) = opcode_of(found) else {
+        return None;
+    };
     match decode_in(profile, opcode) {
         Some(row) => Some(Placed {
             row,
@@ -183,24 +157,27 @@ fn row_on(profile: Profile, found: &[Found<'_>], number: u32) -> Option<Placed>
     }
 }
 
-/// Returns what is said of a mnemonic of a line: of its instruction, or `null` if it has none.
-fn instruction_said(
+/// Returns what is said of a mnemonic of a line: of its instruction. It is `null` if the line has
+/// none, or where no mnemonic is.
+fn token_said(
     alloc: Global,
     text: &Text<'_>,
+    found: &[Found<'_>],
     number: u32,
-    token: &Token<'_>,
-    placed: Option<Placed>,
+    token: Option<Token<'_>>,
 ) -> Result<Value, AllocError>
-    ensures { IfOk result (λ v. IsOfRow (text_view text.now) number (lexeme_of token.now)
-        (option_map (λ p. p.row) placed) (view v)) }
+    requires { found_all found.now ≡ found_in (text_view text.now) }
+    ensures { IfOk result (λ v. IsOfToken (text_view text.now) number
+        (option_map lexeme_of token.entry) (view v)) }
 {
-    match placed {
-        Some(placed) => {
-            let rest = instruction_tail(alloc, &placed)?;
-            let range = text.range(alloc, number, token.start, token.text.len())?;
-            said(alloc, &letters_of(placed.row.mnemonic), &rest, range)
+    match (token, row_on(text.profile, found, number)) {
+        (Some(token), Some(placed)) => {
+            let letters = letters_of(placed.row.mnemonic);
+            let rest = instruction_tail(alloc, &placed);
+            let range = text.range(alloc, number, token.start, token.text.len());
+            said(alloc, &letters, rest, range)
         }
-        None => Ok(Value::Null),
+        _ => Ok(Value::Null),
     }
 }
 
@@ -209,23 +186,23 @@ fn instruction_said(
 fn line_said(
     alloc: Global,
     text: &Text<'_>,
-    laid: &Laid<'_>,
+    found: &[Found<'_>],
     number: Option<u32>,
     character: u64,
 ) -> Result<Value, AllocError>
-    requires { found_all laid.now.found.items ≡ found_in (text_view text.now) }
+    requires { found_all found.now ≡ found_in (text_view text.now) }
     ensures { IfOk result (λ v. IsOfLine (text_view text.now) character number (view v)) }
 {
     let Some(number) = number else {
         return Ok(Value::Null);
     };
     let line = text.line(number);
-    match mnemonic_on(alloc, text.profile, column_of(line, character), line)? {
-        Some(token) => {
-            let placed = row_on(text.profile, &laid.found, number);
-            instruction_said(alloc, text, number, &token, placed)
+    match tokens_or_none(alloc, line) {
+        Ok(tokens) => {
+            let token = mnemonic_among(text.profile, column_of(line, character), &tokens);
+            token_said(alloc, text, found, number, token)
         }
-        None => Ok(Value::Null),
+        Err(error) => Err(error),
     }
 }
 
@@ -233,17 +210,18 @@ fn line_said(
 fn place_said(
     alloc: Global,
     text: &Text<'_>,
-    laid: &Laid<'_>,
+    found: &[Found<'_>],
+    symbols: &Symbols,
     line: u64,
     character: u64,
 ) -> Result<Value, AllocError>
-    requires { found_all laid.now.found.items ≡ found_in (text_view text.now) }
+    requires { found_all found.now ≡ found_in (text_view text.now) }
     ensures { IfOk result (λ v. IsOfPlace (text_view text.now) line character
         (name_at (text_view text.now) line character) (view v)) }
 {
     match text.name_at(line, character) {
-        Some(one) => name_said(alloc, text, laid, &one),
-        None => line_said(alloc, text, laid, text.number(line), character),
+        Some(one) => name_said(alloc, text, symbols, &one),
+        None => line_said(alloc, text, found, text.number(line), character),
     }
 }
 
@@ -256,6 +234,8 @@ pub fn hover(alloc: Global, text: &Text<'_>, line: u64, character: u64) -> Resul
     if text.source.len() > SOURCE_SIZE {
         return Ok(Value::Null);
     }
-    let laid = lay_out_text(alloc, text)?;
-    place_said(alloc, text, &laid, line, character)
+    match laid_of(alloc, text.profile, text.source) {
+        Ok(laid) => place_said(alloc, text, &laid.found, &laid.symbols, line, character),
+        Err(error) => Err(error),
+    }
 }

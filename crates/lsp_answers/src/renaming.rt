@@ -1,13 +1,13 @@
 //! A name changed.
 
-ghost use Rattle.std.specs.Prelude.{◌≡◌, IfErr, IfOk};
+ghost use Rattle.std.specs.Prelude.{◌≡◌, IfErr, IfOk, IsErr, IsOk};
 ghost use Rattle.lsp_answers.specs.Renames.{IsKept, IsKeptAt, IsRename, IsRenameAt, IsTold, edits_of};
 ghost use Rattle.lsp_answers.specs.Texts.{name_at, text_view};
 ghost use Rattle.lsp_messages.specs.Values.{changes_data};
 ghost use Rattle.name_uses.specs.Views.{use_views};
 ghost use Rattle.serde_json.specs.View.{view};
 
-use crate::source_text::Text;
+use crate::source_text::{SOURCE_SIZE, Text};
 use bus::MapSpec;
 use json_values::ValueList;
 use lsp_messages::{changes, edit};
@@ -16,9 +16,6 @@ use serde_json::Value;
 use source_renaming::{RenameFault, rename as renamed};
 use std::alloc::{AllocError, Global};
 
-/// The most bytes that a source has (mos65).
-const SOURCE_SIZE: usize = 1_048_576;
-
 /// Returns the changes of a document that put a word in place of some uses.
 fn changed(
     alloc: Global,
@@ -26,28 +23,33 @@ fn changed(
     text: &Text<'_>,
     uses: &[NameUse<'_>],
     word: &str,
-) -> Result<Value, AllocError>
-    ensures { IfOk result (λ v. view v
-        ≡ changes_data uri.now (edits_of (text_view text.now) word.now (use_views uses.now))) }
+) -> Result<Result<Value, &'static str>, AllocError>
+    ensures changed { IfOk result (λ r. IfOk r (λ v. view v
+        ≡ changes_data uri.now (edits_of (text_view text.now) word.now (use_views uses.now)))) }
+    ensures told { IfOk result (λ r. IsOk r) }
 {
     let mut found = ValueList::new(alloc);
     for one in uses {
         found = found.with(edit(alloc, word, text.range_of(alloc, one)));
     }
-    changes(alloc, uri, found.build())
+    match changes(alloc, uri, found.build()) {
+        Ok(changes) => Ok(Ok(changes)),
+        Err(error) => Err(error),
+    }
 }
 
 /// Returns why a name is not changed, in words. The only error is that memory ran out.
-fn refusal(fault: RenameFault) -> Result<&'static str, AllocError>
-    ensures { IfOk result (λ words. IsTold fault) }
+fn refusal(fault: RenameFault) -> Result<Result<Value, &'static str>, AllocError>
+    ensures told { IfOk result (λ r. IfErr r (λ words. IsTold fault)) }
+    ensures kept { IfOk result (λ r. IsErr r) }
 {
     match fault {
-        RenameFault::NoName => Ok(
+        RenameFault::NoName => Ok(Err(
             "a name begins with a letter, has letters, digits and _, at most 31, and is no \
             mnemonic, A, X or Y",
-        ),
-        RenameFault::Taken => Ok("the source has this name already"),
-        RenameFault::Changed => Ok("a line or the source would be too long"),
+        )),
+        RenameFault::Taken => Ok(Err("the source has this name already")),
+        RenameFault::Changed => Ok(Err("a line or the source would be too long")),
         RenameFault::OutOfMemory => Err(AllocError),
     }
 }
@@ -70,14 +72,8 @@ fn rename_of(
         return Ok(Err("a source has at most 1048576 bytes"));
     }
     match renamed(alloc, map, text.source, old, name.as_bytes()) {
-        Ok(renaming) => {
-            let changes = changed(alloc, uri, text, &renaming.uses, name)?;
-            Ok(Ok(changes))
-        }
-        Err(fault) => {
-            let words = refusal(fault)?;
-            Ok(Err(words))
-        }
+        Ok(renaming) => changed(alloc, uri, text, &renaming.uses, name),
+        Err(fault) => refusal(fault),
     }
 }
 

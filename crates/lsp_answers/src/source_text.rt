@@ -15,7 +15,7 @@ use source_notes::{every_line, line_of, line_or_none};
 use std::alloc::{AllocError, Global};
 
 /// The most bytes that a source has (mos65).
-const SOURCE_SIZE: usize = 1_048_576;
+pub const SOURCE_SIZE: usize = 1_048_576;
 
 /// A source with its lines and its names.
 #[derive(Drop)]
@@ -41,14 +41,18 @@ impl<'a> Text<'a> {
                 uses: Vec::new(alloc),
             });
         }
-        let lines = every_line(alloc, source)?;
-        let uses = name_uses(alloc, profile, source)?;
-        Ok(Text {
-            profile,
-            source,
-            lines,
-            uses,
-        })
+        let Ok(lines) = every_line(alloc, source) else {
+            return Err(AllocError);
+        };
+        match name_uses(alloc, profile, source) {
+            Ok(uses) => Ok(Text {
+                profile,
+                source,
+                lines,
+                uses,
+            }),
+            Err(error) => Err(error),
+        }
     }
 
     /// Returns the line of this number, counted from 1; empty where there is none.
@@ -73,9 +77,13 @@ impl<'a> Text<'a> {
     pub fn name_at(&self, line: u64, character: u64) -> Option<NameUse<'a>>
         ensures { option_map use_view result ≡ name_at (text_view self.now) line character }
     {
-        let number = self.number(line)?;
-        let column = column_of(self.line(number), character);
-        name_at(&self.uses, number, column)
+        match self.number(line) {
+            Some(number) => {
+                let column = column_of(self.line(number), character);
+                name_at(&self.uses, number, column)
+            }
+            None => None,
+        }
     }
 
     /// Returns the range of so many bytes from a column of a line on. The only error is that a

@@ -1,5 +1,5 @@
 use Rattle.std.proofs.Common.{refl}
 use Rattle.lsp_answers.proofs.meanings.opcode_of.Goals as goal
 
-pub returns-in-Some : goal.returns-in-Some
-returns-in-Some c = rw (c.in-Bytes.is, c.in-Instruction.is, c.in-Some.is) refl
+pub returns-in-Instruction-Some : goal.returns-in-Instruction-Some
+returns-in-Instruction-Some c = rw (c.in-Bytes.is, c.in-Instruction-Some.is-0, c.in-Instruction-Some.is-1) refl

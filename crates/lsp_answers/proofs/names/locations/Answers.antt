@@ -1,11 +1,13 @@
-use Rattle.std.proofs.Common.{List, arith, subst, sym}
+use Rattle.std.proofs.Common.{◌≡◌, ◌∙◌, List, Vec, arith, ap, map, subst, sym}
+use Rattle.std.proofs.lemmas.Result.{IfOk-at_ok}
 use Rattle.std.proofs.lemmas.Simd.{map-map}
+use Rattle.std.specs.declared.alloc.Global.{Global}
 use Rattle.lsp_answers.specs.Texts.{text_view, use_range}
 use Rattle.lsp_messages.specs.Values.{location_data}
 use Rattle.json_values.proofs.Lists.{all_values, next_value}
 use Rattle.json_values.specs.ValueLists.{HasValues}
 use Rattle.name_uses.specs.Uses.{Use}
-use Rattle.name_uses.specs.Views.{use_view}
+use Rattle.name_uses.specs.Views.{use_view, use_views}
 use Rattle.name_uses.specs.declared.name_use.NameUse.{NameUse}
 use Rattle.serde_json.specs.Data.{Data}
 use Rattle.lsp_answers.proofs.names.locations.Goals as goal
@@ -14,10 +16,11 @@ pub loop-one-init : goal.loop-one-init
 loop-one-init c = c.new-found.ensures
 
 pub loop-one-preserved : goal.loop-one-preserved
-loop-one-preserved c = next_value (λ (u : NameUse). location_data c.args.uri.now (use_range (text_view c.args.text.now) (use_view u))) c.args.uses.now c.loop-one.one-index _ _ (omega (arith, c.loop-one-test.true)) (c.with-found.ensures _ _ c.loop-one.invariant (c.location.ensures _ c.range_of.ensures))
+loop-one-preserved c = next_value (λ (u : NameUse). location_data c.args.uri.now (use_range (text_view c.args.text.now) (use_view u))) c.deref-one-items.result.now c.loop-one.one-index _ _ (omega (arith, c.loop-one-test.true)) (c.with-found.ensures _ _ c.loop-one.invariant (c.location.ensures _ c.range_of.ensures))
 
 pub returns : goal.returns
-returns c =
+returns c us has =
     let g = λ (u : Use). location_data c.args.uri.now (use_range (text_view c.args.text.now) u) in
-    let all = all_values (λ (u : NameUse). g (use_view u)) c.args.uses.now c.loop-one.one-index c.loop-one.found (omega (arith, c.loop-one-test.false)) c.loop-one.invariant in
-    c.build.ensures _ (subst (λ (ds : List Data). HasValues ds c.loop-one.found) (sym (map-map g use_view c.args.uses.now)) all)
+    let all = all_values (λ (u : NameUse). g (use_view u)) c.deref-one-items.result.now c.loop-one.one-index c.loop-one.found (omega (arith, c.loop-one-test.false)) c.loop-one.invariant in
+    let same = IfOk-at_ok (λ (v : Vec NameUse Global). use_views v.items ≡ us) c.in-Ok.is has in
+    c.build.ensures _ (subst (λ (ds : List Data). HasValues ds c.loop-one.found) (sym (map-map g use_view c.deref-one-items.result.now) ∙ ap (map g) (ap use_views c.deref-one-items.ensures.value ∙ same)) all)

@@ -6,4 +6,4 @@ use Rattle.name_uses.specs.Views.{use_view}
 use Rattle.lsp_answers.proofs.names.locations.Given as goal
 
 abbrev pub invariant-loop-one : goal.invariant-loop-one
-invariant-loop-one l = HasValues (map (λ u. location_data l.uri (use_range (text_view l.text) (use_view u))) (take l.one-index l.uses)) l.found
+invariant-loop-one l = HasValues (map (λ u. location_data l.uri (use_range (text_view l.text) (use_view u))) (take l.one-index l.one-items)) l.found
