@@ -1,5 +1,7 @@
+pub mod Chained
 pub mod Filtered
 pub mod Nothing
 pub mod Refused
 pub mod Small
+pub mod Turning
 pub mod Written

@@ -8,7 +8,7 @@ use Rattle.serde_json.specs.Data.{Data}
 use Rattle.serde_json.specs.View.{view}
 use Rattle.serde_json.specs.declared.value.Value.{Value}
 
-written_none : AreWritten [] []
+pub written_none : AreWritten [] []
 unfolding AreWritten
 written_none = refl
 

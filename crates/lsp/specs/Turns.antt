@@ -8,6 +8,12 @@ use Rattle.message_stream.specs.Messages.{IsFront}
 use Rattle.message_stream.specs.Taken.{IsOver}
 use Rattle.model.specs.State.{Map}
 
+-- A turn that serves a message ends the session so, or does not end it.
+abbrev pub EndsBy : (Option ℕ → Type 0) → Turn → Type 0
+EndsBy Such Served = Such None
+EndsBy Such (Ended status) = Such (Some status)
+EndsBy Such Over = ⊥
+
 -- A message in front of the bytes was served, and these are held behind it; or there was none, and
 -- nothing is left to read.
 abbrev pub Comes : Map → List ℕ → Option (List ℕ) → List ℕ → State → State → List ℕ → Turn → Type 0

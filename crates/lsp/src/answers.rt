@@ -1,11 +1,10 @@
 //! What is answered to requests.
 
-ghost use Rattle.std.specs.Prelude.{◌≡◌, IfOk, OnErr};
+ghost use Rattle.std.specs.Prelude.{◌≡◌, IfOk, IsErr, MatchResult};
 ghost use Rattle.lsp.specs.Answers.{IsFailure, IsFresh, IsReplyIn, IsRunning};
 ghost use Rattle.lsp.specs.State.{documents_view};
 ghost use Rattle.lsp_messages.specs.Replies.{result_data};
 ghost use Rattle.lsp_messages.specs.Requests.{asks, renames};
-ghost use Rattle.lsp_messages.specs.declared.replies.Failure.TheVariants.{Refused};
 ghost use Rattle.lsp_messages.specs.Views.{request_view};
 ghost use Rattle.serde_json.specs.View.{view};
 
@@ -20,6 +19,22 @@ use lsp_messages::{Failure, Question, Request, failure_reply, result_reply};
 use serde_json::Value;
 use std::alloc::{AllocError, Global};
 
+/// Answers with a result, if memory did not run out for it.
+fn answered(
+    alloc: Global,
+    id: &Value,
+    given: Result<Value, AllocError>,
+) -> Result<Value, AllocError>
+    ensures { MatchResult given
+        (λ g. IfOk result (λ v. view v ≡ result_data (view id.now) (view g)))
+        (λ e. IsErr result) }
+{
+    match given {
+        Ok(given) => result_reply(alloc, id, given),
+        Err(error) => Err(error),
+    }
+}
+
 /// Answers a question about a document.
 fn question_reply(
     alloc: Global,
@@ -33,29 +48,11 @@ fn question_reply(
         (asks uri.now question) (view v)) }
 {
     let text = text_on(alloc, map, documents, uri)?;
-    let given = answer_to(alloc, map, uri, &text, question)?;
-    let reply = result_reply(alloc, id, given)?;
-    Ok(reply)
+    answered(alloc, id, answer_to(alloc, map, uri, &text, question))
 }
 
-/// Answers with the changes of a rename, or with the words of why there are none.
-fn renamed_reply(
-    alloc: Global,
-    id: &Value,
-    renamed: Result<Value, &'static str>,
-) -> Result<Value, AllocError>
-    ensures changed { IfOk renamed.entry (λ changes. IfOk result
-        (λ v. view v ≡ result_data (view id.now) (view changes))) }
-    ensures kept { OnErr renamed.entry
-        (IfOk result (λ v. IsFailure (view id.now) Refused (view v))) }
-{
-    match renamed {
-        Ok(changes) => result_reply(alloc, id, changes),
-        Err(words) => failed_in_words(alloc, id, Failure::Refused, words),
-    }
-}
-
-/// Answers a request for another name for the name at a position.
+/// Answers a request for another name for the name at a position: with the changes, or with the
+/// words of why there are none.
 fn rename_reply(
     alloc: Global,
     map: &MapSpec,
@@ -70,11 +67,11 @@ fn rename_reply(
         (renames uri.now line character name.now) (view v)) }
 {
     let text = text_on(alloc, map, documents, uri)?;
-    renamed_reply(
-        alloc,
-        id,
-        rename(alloc, map, uri, &text, line, character, name)?,
-    )
+    match rename(alloc, map, uri, &text, line, character, name) {
+        Ok(Ok(changes)) => result_reply(alloc, id, changes),
+        Ok(Err(words)) => failed_in_words(alloc, id, Failure::Refused, words),
+        Err(error) => Err(error),
+    }
 }
 
 /// Returns the words of a failure.
@@ -98,8 +95,7 @@ fn failed_in_words(
 ) -> Result<Value, AllocError>
     ensures { IfOk result (λ v. IsFailure (view id.now) failure (view v)) }
 {
-    let reply = failure_reply(alloc, id, failure, words)?;
-    Ok(reply)
+    failure_reply(alloc, id, failure, words)
 }
 
 /// Answers a request that fails, in the words of its failure.
@@ -145,8 +141,7 @@ fn fresh_reply(alloc: Global, id: &Value, begins: bool) -> Result<Value, AllocEr
     ensures { IfOk result (λ v. IsFresh (view id.now) begins (view v)) }
 {
     if begins {
-        let result = capabilities(alloc)?;
-        result_reply(alloc, id, result)
+        answered(alloc, id, capabilities(alloc))
     } else {
         failed(alloc, id, Failure::NotInitialized)
     }

@@ -34,7 +34,7 @@ fn colours(alloc: Global) -> Result<Value, AllocError>
         .member("tokenTypes", words(alloc, &TYPES))
         .build();
     Object::new(alloc)
-        .member("full", Ok(Value::Bool(true)))
+        .flag("full", true)
         .member("legend", legend)
         .build()
 }
@@ -63,7 +63,7 @@ fn sync(alloc: Global) -> Result<Value, AllocError>
 {
     Object::new(alloc)
         .count("change", 1)
-        .member("openClose", Ok(Value::Bool(true)))
+        .flag("openClose", true)
         .build()
 }
 
@@ -74,14 +74,14 @@ fn served(alloc: Global) -> Result<Value, AllocError>
     Object::new(alloc)
         .member("codeActionProvider", fixes(alloc))
         .member("completionProvider", Object::new(alloc).build())
-        .member("definitionProvider", Ok(Value::Bool(true)))
-        .member("documentSymbolProvider", Ok(Value::Bool(true)))
-        .member("foldingRangeProvider", Ok(Value::Bool(true)))
-        .member("hoverProvider", Ok(Value::Bool(true)))
-        .member("inlayHintProvider", Ok(Value::Bool(true)))
+        .flag("definitionProvider", true)
+        .flag("documentSymbolProvider", true)
+        .flag("foldingRangeProvider", true)
+        .flag("hoverProvider", true)
+        .flag("inlayHintProvider", true)
         .word("positionEncoding", "utf-16")
-        .member("referencesProvider", Ok(Value::Bool(true)))
-        .member("renameProvider", Ok(Value::Bool(true)))
+        .flag("referencesProvider", true)
+        .flag("renameProvider", true)
         .member("semanticTokensProvider", colours(alloc))
         .member("signatureHelpProvider", signatures(alloc))
         .member("textDocumentSync", sync(alloc))

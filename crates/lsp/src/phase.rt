@@ -2,7 +2,7 @@
 
 ghost use Rattle.std.specs.Prelude.{◌≡◌, ◌≤◌};
 ghost use Rattle.lsp.specs.Answers.{is_initialize};
-ghost use Rattle.lsp.specs.Messages.{is_exit, is_shutdown, phase_after, status_in};
+ghost use Rattle.lsp.specs.Messages.{is_exit, phase_after, status_in};
 ghost use Rattle.lsp_messages.specs.Views.{request_view};
 
 use lsp_messages::Request;
@@ -26,7 +26,7 @@ impl Phase {
         match self {
             Phase::Fresh if is_initialize(request) => Phase::Running,
             Phase::Fresh => Phase::Fresh,
-            Phase::Running if is_shutdown(request) => Phase::ShutDown,
+            Phase::Running if matches!(request, Request::Shutdown) => Phase::ShutDown,
             Phase::Running => Phase::Running,
             Phase::ShutDown => Phase::ShutDown,
         }
@@ -49,13 +49,6 @@ pub fn is_initialize(request: Request<'_>) -> bool
     ensures { result ≡ is_initialize (request_view request.entry) }
 {
     matches!(request, Request::Initialize)
-}
-
-/// Returns whether a request is `shutdown`.
-fn is_shutdown(request: Request<'_>) -> bool
-    ensures { result ≡ is_shutdown (request_view request.entry) }
-{
-    matches!(request, Request::Shutdown)
 }
 
 /// Returns whether a request is `exit`.

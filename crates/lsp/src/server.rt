@@ -1,6 +1,7 @@
 //! What the server does with a message.
 
-ghost use Rattle.std.specs.Prelude.{◌≡◌, ◌∷◌, [], IfOk, OnOk, is_some, map as each};
+ghost use Rattle.std.specs.Prelude.{◌≡◌, ◌∷◌, [], IfOk, IsErr, MatchResult, OnOk, is_some};
+ghost use Rattle.std.specs.Prelude.{map as each};
 ghost use Rattle.lsp.specs.Messages.{AreAnswers, AreRefused, AreReplies, AreTold, AreToldIn};
 ghost use Rattle.lsp.specs.Messages.{documents_after, documents_in, end_of, is_answer, published};
 ghost use Rattle.lsp.specs.Messages.{state_after};
@@ -43,21 +44,30 @@ impl Server {
     }
 }
 
-/// Returns one answer.
-fn one(alloc: Global, reply: Value) -> Result<Vec<Value>, AllocError>
-    ensures { IfOk result (λ vs. each view vs.items ≡ view reply ∷ []) }
+/// Returns one answer, if memory did not run out for it.
+fn one(alloc: Global, reply: Result<Value, AllocError>) -> Result<Vec<Value>, AllocError>
+    ensures { MatchResult reply (λ v. IfOk result (λ vs. each view vs.items ≡ view v ∷ []))
+        (λ e. IsErr result) }
 {
+    let reply = reply?;
     let mut replies = Vec::new(alloc);
     replies.push(reply)?;
     Ok(replies)
 }
 
-/// Returns the notice of some marks.
-fn told_marks(alloc: Global, marks: Value) -> Result<Vec<Value>, AllocError>
-    ensures { IfOk result (λ vs. each view vs.items ≡ published (view marks) ∷ []) }
+/// Returns the notice of some marks, if memory did not run out for them.
+fn told_marks(alloc: Global, marks: Result<Value, AllocError>) -> Result<Vec<Value>, AllocError>
+    ensures { MatchResult marks
+        (λ v. IfOk result (λ vs. each view vs.items ≡ published (view v) ∷ []))
+        (λ e. IsErr result) }
 {
-    let notice = notice(alloc, "textDocument/publishDiagnostics", marks)?;
-    one(alloc, notice)
+    match marks {
+        Ok(marks) => one(
+            alloc,
+            notice(alloc, "textDocument/publishDiagnostics", marks),
+        ),
+        Err(error) => Err(error),
+    }
 }
 
 /// Returns the notice of the marks of a document with this text.
@@ -67,9 +77,7 @@ fn marks_told(alloc: Global, map: &MapSpec, uri: &str, text: &str) -> Result<Vec
         × (each view vs.items ≡ published marks ∷ [])) }
 {
     let text = Text::read(alloc, map.profile(), text.as_bytes())?;
-    let marks = published(alloc, map, uri, &text)?;
-    let notices = told_marks(alloc, marks)?;
-    Ok(notices)
+    told_marks(alloc, published(alloc, map, uri, &text))
 }
 
 /// Returns the notice that a document has no marks.
@@ -77,8 +85,7 @@ fn no_marks_told(alloc: Global, uri: &str) -> Result<Vec<Value>, AllocError>
     ensures { IfOk result
         (λ vs. each view vs.items ≡ published (marks_data uri.now (list_of [])) ∷ []) }
 {
-    let none = marks(alloc, uri, ValueList::new(alloc).build())?;
-    told_marks(alloc, none)
+    told_marks(alloc, marks(alloc, uri, ValueList::new(alloc).build()))
 }
 
 /// Does what a notice about a document asks for, and returns what is told then. The only error is
@@ -133,9 +140,7 @@ fn note_in(
 pub fn refused(alloc: Global, failure: Failure) -> Result<Vec<Value>, AllocError>
     ensures { IfOk result (λ vs. AreRefused failure (each view vs.items)) }
 {
-    let reply = failed(alloc, &Value::Null, failure)?;
-    let replies = one(alloc, reply)?;
-    Ok(replies)
+    one(alloc, failed(alloc, &Value::Null, failure))
 }
 
 /// Returns whether a message has something of a name.
@@ -159,20 +164,21 @@ fn is_answer(message: &Value) -> bool
 fn replies(
     alloc: Global,
     map: &MapSpec,
-    server: &Server,
+    phase: Phase,
+    documents: &Documents,
     id: &Value,
     request: Request<'_>,
     is_answer: bool,
 ) -> Result<Vec<Value>, AllocError>
-    ensures { IfOk result (λ vs. AreReplies is_answer map.now (server_view server.now)
+    ensures { IfOk result (λ vs. AreReplies is_answer map.now
+        (record { phase = phase; documents = documents_view documents.now })
         (view id.now) (request_view request.entry) (each view vs.items)) }
 {
     if is_answer {
-        return Ok(Vec::new(alloc));
+        Ok(Vec::new(alloc))
+    } else {
+        one(alloc, reply(alloc, map, phase, documents, id, request))
     }
-    let answer = reply(alloc, map, server.phase, &server.documents, id, request)?;
-    let answers = one(alloc, answer)?;
-    Ok(answers)
 }
 
 /// Does what a message asks for, and returns what is to be told then: one answer to a request, and
@@ -192,9 +198,10 @@ pub fn serve(
     let request = read_request(message);
     match message.get("id") {
         Some(id) => {
-            let answers = replies(alloc, map, server, id, request, is_answer(message))?;
-            server.phase = server.phase.after(request);
-            Ok(answers)
+            let phase = server.phase;
+            server.phase = phase.after(request);
+            let answers = is_answer(message);
+            replies(alloc, map, phase, &server.documents, id, request, answers)
         }
         None => {
             let told = note_in(alloc, map, server.phase, &mut server.documents, request)?;

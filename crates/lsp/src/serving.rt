@@ -1,17 +1,17 @@
 //! Messages taken from the input, one after another, and answered.
 
-ghost use Rattle.std.specs.Prelude.{◌≡◌, ◌≤◌, ◌++◌, ℕ, IfOk, List, None, OnOk, Option, Some};
-ghost use Rattle.std.specs.Prelude.{map as each};
+ghost use Rattle.std.specs.Prelude.{◌≡◌, ◌≤◌, ◌++◌, [], ℕ, IfOk, IsErr, List};
+ghost use Rattle.std.specs.Prelude.{MatchResult, None, Some, map as each};
 ghost use Rattle.std.specs.Io.KnownBytes.{Appends, Consumes};
 ghost use Rattle.arguments.specs.Words.{Fits, Refuses, texts};
 ghost use Rattle.lsp.specs.CommandLine.{LspAsked, lsp_app, lsp_asked, lsp_view};
-ghost use Rattle.json_values.specs.Bodies.{IsMessage};
 ghost use Rattle.lsp.specs.Messages.{Does};
 ghost use Rattle.lsp.specs.Sessions.{Answers, IsSession, map_for};
-ghost use Rattle.lsp.specs.State.{server_view};
-ghost use Rattle.lsp.specs.Turns.{Comes};
+ghost use Rattle.lsp.specs.State.{server_view, start};
+ghost use Rattle.lsp.specs.Turns.{Comes, EndsBy};
 ghost use Rattle.lsp.specs.Writing.{AreWritten};
 ghost use Rattle.lsp.specs.declared.phase.Phase.TheVariants.{ShutDown};
+ghost use Rattle.lsp.specs.declared.serving.Turn.TheVariants.{Served};
 ghost use Rattle.serde_json.specs.Data.{Data};
 ghost use Rattle.serde_json.specs.View.{view};
 
@@ -27,83 +27,6 @@ use serde_json::Value;
 use std::alloc::{AllocError, Global};
 use std::io::{Read, Write};
 
-/// Writes values as messages, and flushes the output behind each.
-///
-/// Errors: `Write` if the output fails; `OutOfMemory` if an allocation fails.
-fn tell<O: Write>(alloc: Global, values: &[Value], output: &mut O) -> Result<(), StreamFault>
-    ensures { OnOk result ((written : List ℕ) × AreWritten (each view values.now) written
-        × Appends (O.contents output.old) (O.contents output.new) written) }
-{
-    for value in values {
-        write_value(alloc, output, value)?;
-    }
-    Ok(())
-}
-
-/// Does what a message asks for, and returns what is told then, and the exit status if it asks for
-/// the end.
-fn obeyed(
-    alloc: Global,
-    map: &MapSpec,
-    server: &mut Server,
-    message: &Value,
-) -> Result<(Vec<Value>, Option<u8>), AllocError>
-    ensures { IfOk result (λ p. Does map.now (server_view server.old)
-        (Some (view message.now)) (server_view server.new) (each view p.0.items) p.1) }
-{
-    match asks_for_end(server, message) {
-        Some(status) => Ok((Vec::new(alloc), Some(status))),
-        None => {
-            let values = serve(alloc, map, server, message)?;
-            Ok((values, None))
-        }
-    }
-}
-
-/// Does what the body of a message asks for, and returns what is told then, and the exit status if
-/// it asks for the end.
-fn served(
-    alloc: Global,
-    map: &MapSpec,
-    server: &mut Server,
-    body: &[u8],
-) -> Result<(Vec<Value>, Option<u8>), AllocError>
-    ensures { IfOk result (λ p. (message : Option Data) × IsMessage body.now message
-        × Does map.now (server_view server.old) message (server_view server.new)
-        (each view p.0.items) p.1) }
-{
-    match value_of(alloc, body)? {
-        Some(message) => obeyed(alloc, map, server, &message),
-        None => {
-            let values = refused(alloc, Failure::NotJson)?;
-            Ok((values, None))
-        }
-    }
-}
-
-/// Does what the body of a message asks for, and writes what is told then. Returns the exit status
-/// if the message asks for the end.
-///
-/// Errors: `Write` if the output fails; `OutOfMemory` if an allocation fails.
-#[tactic(auto, unfolding(crate::specs::Sessions::Answers))]
-fn answer<O: Write>(
-    alloc: Global,
-    map: &MapSpec,
-    server: &mut Server,
-    body: &[u8],
-    output: &mut O,
-) -> Result<Option<u8>, StreamFault>
-    ensures { IfOk result (λ end. (written : List ℕ) × Answers map.now body.now
-        (server_view server.old) (server_view server.new) end written
-        × Appends (O.contents output.old) (O.contents output.new) written) }
-{
-    let Ok((values, end)) = served(alloc, map, server, body) else {
-        return Err(StreamFault::OutOfMemory);
-    };
-    tell(alloc, &values, output)?;
-    Ok(end)
-}
-
 /// What came of a turn.
 #[derive(Clone, Copy)]
 enum Turn {
@@ -113,6 +36,84 @@ enum Turn {
     Ended(u8),
     /// The input has ended behind a message.
     Over,
+}
+
+/// Writes values as messages, and flushes the output behind each. A message is served then.
+///
+/// Errors: `Write` if the output fails; `OutOfMemory` if an allocation fails.
+fn tell<O: Write>(alloc: Global, values: &[Value], output: &mut O) -> Result<Turn, StreamFault>
+    ensures { IfOk result (λ turn. (turn ≡ Served) × (written : List ℕ)
+        × AreWritten (each view values.now) written
+        × Appends (O.contents output.old) (O.contents output.new) written) }
+{
+    for value in values {
+        write_value(alloc, output, value)?;
+    }
+    Ok(Turn::Served)
+}
+
+/// Writes what is told after a message, if memory did not run out for it. The message is served
+/// then.
+///
+/// Errors: `Write` if the output fails; `OutOfMemory` if an allocation fails, before or here.
+fn told<O: Write>(
+    alloc: Global,
+    values: Result<Vec<Value>, AllocError>,
+    output: &mut O,
+) -> Result<Turn, StreamFault>
+    ensures { MatchResult values
+        (λ vs. IfOk result (λ turn. (turn ≡ Served) × (written : List ℕ)
+        × AreWritten (each view vs.items) written
+        × Appends (O.contents output.old) (O.contents output.new) written))
+        (λ e. IsErr result) }
+{
+    match values {
+        Ok(values) => tell(alloc, &values, output),
+        Err(_) => Err(StreamFault::OutOfMemory),
+    }
+}
+
+/// Does what a message asks for, and writes what is told then.
+///
+/// Errors: `Write` if the output fails; `OutOfMemory` if an allocation fails.
+fn obey<O: Write>(
+    alloc: Global,
+    map: &MapSpec,
+    server: &mut Server,
+    message: &Value,
+    output: &mut O,
+) -> Result<Turn, StreamFault>
+    ensures { IfOk result (λ turn. (vs : List Data) × (written : List ℕ)
+        × EndsBy (λ end. Does map.now (server_view server.old) (Some (view message.now))
+        (server_view server.new) vs end) turn × AreWritten vs written
+        × Appends (O.contents output.old) (O.contents output.new) written) }
+{
+    match asks_for_end(server, message) {
+        Some(status) => Ok(Turn::Ended(status)),
+        None => told(alloc, serve(alloc, map, server, message), output),
+    }
+}
+
+/// Does what the body of a message asks for, and writes what is told then.
+///
+/// Errors: `Write` if the output fails; `OutOfMemory` if an allocation fails.
+fn answer<O: Write>(
+    alloc: Global,
+    map: &MapSpec,
+    server: &mut Server,
+    body: &[u8],
+    output: &mut O,
+) -> Result<Turn, StreamFault>
+    ensures { IfOk result (λ turn. (written : List ℕ)
+        × EndsBy (λ end. Answers map.now body.now (server_view server.old)
+        (server_view server.new) end written) turn
+        × Appends (O.contents output.old) (O.contents output.new) written) }
+{
+    match value_of(alloc, body) {
+        Ok(Some(message)) => obey(alloc, map, server, &message, output),
+        Ok(None) => told(alloc, refused(alloc, Failure::NotJson), output),
+        Err(_) => Err(StreamFault::OutOfMemory),
+    }
 }
 
 /// Takes the next message of the input and serves it: it is answered, and the answer flushed, when
@@ -134,12 +135,10 @@ fn take_turn<R: Read, O: Write>(
         (server_view server.old) (server_view server.new) written turn
         × Appends (O.contents output.old) (O.contents output.new) written) }
 {
-    let Some(body) = incoming.next(alloc, input)? else {
-        return Ok(Turn::Over);
-    };
-    match answer(alloc, map, server, &body, output)? {
-        Some(status) => Ok(Turn::Ended(status)),
-        None => Ok(Turn::Served),
+    match incoming.next(alloc, input) {
+        Ok(Some(body)) => answer(alloc, map, server, &body, output),
+        Ok(None) => Ok(Turn::Over),
+        Err(fault) => Err(fault),
     }
 }
 
@@ -164,6 +163,33 @@ fn status_at_end(server: &Server) -> Result<u8, StreamFault>
 fn attend<R: Read, O: Write>(
     alloc: Global,
     map: &MapSpec,
+    incoming: &mut Incoming,
+    server: &mut Server,
+    input: &mut R,
+    output: &mut O,
+) -> Result<u8, StreamFault>
+    requires empty { incoming.old ≡ [] }
+    requires fresh { server_view server.old ≡ start }
+    ensures session { IfOk result (λ status. IsSession map.now (R.remaining input.old)
+        (R.remaining input.new) status (O.contents output.old) (O.contents output.new)) }
+    ensures small { IfOk result (λ status. status ≤ 1) }
+{
+    for _ in 0..u64::MAX {
+        match take_turn(alloc, map, incoming, server, input, output)? {
+            Turn::Served => {}
+            Turn::Ended(status) => return Ok(status),
+            Turn::Over => return status_at_end(server),
+        }
+    }
+    Err(StreamFault::Read)
+}
+
+/// Serves a session from its first message on, and returns the exit status.
+///
+/// Errors: those of `attend`.
+fn session<R: Read, O: Write>(
+    alloc: Global,
+    map: &MapSpec,
     input: &mut R,
     output: &mut O,
 ) -> Result<u8, StreamFault>
@@ -173,14 +199,7 @@ fn attend<R: Read, O: Write>(
 {
     let mut incoming = Incoming::new(alloc);
     let mut server = Server::new(alloc);
-    for _ in 0..u64::MAX {
-        match take_turn(alloc, map, &mut incoming, &mut server, input, output)? {
-            Turn::Served => {}
-            Turn::Ended(status) => return Ok(status),
-            Turn::Over => return status_at_end(&server),
-        }
-    }
-    Err(StreamFault::Read)
+    attend(alloc, map, &mut incoming, &mut server, input, output)
 }
 
 /// Returns why a session ends before its end is asked for, in words.
@@ -229,7 +248,7 @@ fn done<R: Read, O: Write, E: Write>(
         Ok(map) => map,
         Err(fault) => return refuse(Refusal::from(fault), errors),
     };
-    match attend(alloc, &map, input, output) {
+    match session(alloc, &map, input, output) {
         Ok(status) => status,
         Err(fault) => cut_off(fault, errors),
     }

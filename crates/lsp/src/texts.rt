@@ -2,7 +2,7 @@
 
 ghost use Rattle.std.specs.Prelude.{◌≡◌, IfOk};
 ghost use Rattle.lsp.specs.Answers.{text_on};
-ghost use Rattle.lsp.specs.Shown.{line_by, line_in};
+ghost use Rattle.lsp.specs.Shown.{line_in};
 ghost use Rattle.lsp.specs.State.{documents_view, source_in};
 ghost use Rattle.lsp_answers.specs.Texts.{text_view};
 
@@ -34,19 +34,12 @@ pub fn text_on<'a>(
     Text::read(alloc, map.profile(), source_in(documents, uri))
 }
 
-/// Returns the line of this number of a text, counted from 1; an empty one where there is none.
-fn line_by<'a>(text: &Text<'a>, number: Option<u32>) -> &'a [u8]
-    ensures { result.now ≡ line_by (text_view text.now) number }
-{
-    match number {
-        Some(number) => text.line(number),
-        None => &[],
-    }
-}
-
 /// Returns the line of a text that the protocol counts from 0; an empty one where there is none.
 pub fn line_in<'a>(text: &Text<'a>, line: u64) -> &'a [u8]
     ensures { result.now ≡ line_in (text_view text.now) line }
 {
-    line_by(text, text.number(line))
+    match text.number(line) {
+        Some(number) => text.line(number),
+        None => &[],
+    }
 }

@@ -1,8 +1,8 @@
 -- The way along the lines of a source to what can be folded.
-use Rattle.std.proofs.Common.{◌≡◌, ◌∙◌, ℕ, ◌+◌, ◌<◌, true, false, List, ◌∷◌, ◌++◌, length, drop, Option, None, Some, refl, ap, get_or, add-one, drop-cons, arith}
+use Rattle.std.proofs.Common.{◌≡◌, ◌∙◌, ℕ, ◌+◌, ◌<◌, true, false, List, ◌∷◌, ◌++◌, length, drop, Option, None, Some, refl, ap, get_or, unwrap_or, add-one, drop-cons, arith}
 use Rattle.std.proofs.lemmas.List.{drop_all}
 use Rattle.std.specs.Borrow.{Bor}
-use Rattle.lsp_hints.specs.Folds.{comment_folds, folds_to, is_comment, is_label_line, label_folds, or_here}
+use Rattle.lsp_hints.specs.Folds.{comment_folds, folds_to, is_comment, is_label_line, label_folds}
 use Rattle.lsp_hints.specs.declared.folds.Fold.{Fold}
 use Rattle.lsp_hints.specs.declared.folds.FoldKind.TheVariants as kinds
 use Rattle.model.specs.declared.instruction.Profile.{Profile}
@@ -36,7 +36,7 @@ abbrev pub comments_left : Option ℕ → List (Bor (List ℕ)) → ℕ → List
 comments_left from lines i = comment_folds i from (texts_of (drop i lines))
 
 pub comment_here : (from : Option ℕ) (i : ℕ) (lines : List (Bor (List ℕ))) (d : Bor (List ℕ)) → i < length lines → is_comment (get_or lines i d).now ≡ true
-    → comments_left from lines i ≡ comments_left (Some (or_here from i)) lines (i + 1)
+    → comments_left from lines i ≡ comments_left (Some (unwrap_or from i)) lines (i + 1)
 unfolding comment_folds
 comment_here from i lines d within here = ap (λ (ls : List (Bor (List ℕ))). comment_folds i from (texts_of ls)) (cut lines i d within) ∙ rw here refl
 

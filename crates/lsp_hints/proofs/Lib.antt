@@ -1,4 +1,5 @@
 pub mod EndSteps
+pub mod FlatSteps
 pub mod FoldSteps
 pub mod Gathered
 pub mod HintSteps

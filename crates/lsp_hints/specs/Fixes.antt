@@ -1,9 +1,10 @@
 -- The changes that an editor offers for faults. Source: Language Server Protocol 3.17, "Code Action
 -- Request"; for which faults, mos65.
-use Rattle.std.specs.Prelude.{◌≡◌, ℕ, ◌-◌, ◌&&◌, nat_le, max, Bool, if◌then◌else◌, List, [], ◌∷◌, ◌++◌, codes, Option, Some, None}
+use Rattle.std.specs.Prelude.{◌≡◌, ℕ, ◌-◌, max, if◌then◌else◌, List, [], ◌∷◌, ◌++◌, codes, Option, Some, None}
 use Rattle.std.specs.List.{flat_map}
 use Rattle.std.specs.Str.Lossy.{utf8_lossy}
 use Rattle.lsp_answers.specs.Texts.{TextView, range_in}
+use Rattle.lsp_hints.specs.Hints.{is_between}
 use Rattle.lsp_hints.specs.RightWords.{right_word}
 use Rattle.json_values.specs.Values.{list_of, object_of, word}
 use Rattle.lsp_messages.specs.Values.{changes_data, edit_data}
@@ -38,11 +39,9 @@ abbrev pub fixes_of : List ℕ → TextView → Diagnostic → List Data
 fixes_of uri t d = fixes_by uri t d (right_word t.profile t.uses d.note.words.items)
 
 -- Its line is between the first and the last of those that are asked for, counted from 0.
-abbrev pub is_between : ℕ × ℕ → Diagnostic → Bool
-is_between between d = nat_le between.0 (d.line - 1) && nat_le (d.line - 1) between.1
-
 abbrev pub fixes_between : List ℕ → TextView → ℕ × ℕ → Diagnostic → List Data
-fixes_between uri t between d = if is_between between d then fixes_of uri t d else []
+fixes_between uri t between d
+    = if is_between between (d.line - 1) then fixes_of uri t d else []
 
 -- The changes for what `check` tells of a source between two lines, in its order.
 abbrev pub AreFixes : Map → List ℕ → TextView → ℕ × ℕ → Data → Type 0

@@ -1,6 +1,6 @@
 -- What can be folded of a source. Source: Language Server Protocol 3.17, "Folding Range Request";
 -- which lines, mos65.
-use Rattle.std.specs.Prelude.{ℕ, ◌+◌, ◌-◌, ◌&&◌, nat_lt, Bool, false, if◌then◌else◌, List, [], ◌∷◌, ◌++◌, codes, map, Option, Some, None}
+use Rattle.std.specs.Prelude.{ℕ, ◌+◌, ◌-◌, ◌&&◌, nat_lt, Bool, false, if◌then◌else◌, List, [], ◌∷◌, ◌++◌, codes, map, Option, Some, None, unwrap_or}
 use Rattle.lsp_hints.specs.Operations.{begins_with}
 use Rattle.lsp_hints.specs.Painted.{is_mark}
 use Rattle.lsp_hints.specs.declared.folds.Fold.{Fold}
@@ -49,15 +49,11 @@ label_folds profile number from (line ∷ lines) = if is_label_line profile line
     then folds_to kinds.Label from number ++ label_folds profile (number + 1) (Some number) lines
     else label_folds profile (number + 1) from lines
 
-abbrev pub or_here : Option ℕ → ℕ → ℕ
-or_here None number = number
-or_here (Some first) number = first
-
 -- The runs of lines with a comment alone; such a run before these lines goes on.
 unfoldable pub comment_folds : ℕ → Option ℕ → List (List ℕ) → List Fold
 comment_folds number from [] = folds_to kinds.Comment from number
 comment_folds number from (line ∷ lines) = if is_comment line
-    then comment_folds (number + 1) (Some (or_here from number)) lines
+    then comment_folds (number + 1) (Some (unwrap_or from number)) lines
     else folds_to kinds.Comment from number ++ comment_folds (number + 1) None lines
 
 -- The folds of labels, and behind them those of comments.

@@ -59,14 +59,14 @@ operation_of profile word behind = if begins_with 61 (without_blanks behind)
     then (if begins_with 42 word then Some Origin else Some Definition)
     else operation_by (mnemonic_named profile word) word
 
--- Before the first `;`.
-abbrev pub code_end : List ℕ → ℕ
-code_end line = prefix_len (λ b. not (b == 59)) line
+-- How many bytes stand before the first `;`.
+abbrev pub first_size : List ℕ → ℕ
+first_size bytes = prefix_len (λ b. not (b == 59)) bytes
 
 -- The operation of a line where a column is behind its word and before any `;`.
 abbrev pub operation_at : Profile → List ℕ → ℕ → Option Operation
 operation_at profile line column =
     let rest = drop (start_of line) line in
     let size = word_size rest in
-    if nat_le (start_of line + size) column && nat_le column (code_end line)
+    if nat_le (start_of line + size) column && nat_le column (first_size line)
     then operation_of profile (take size rest) (drop size rest) else None

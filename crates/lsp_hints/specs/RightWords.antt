@@ -1,16 +1,13 @@
 -- The right word, in what `check` says of a fault. Its words name one behind a `;`, as `WORD is` or
 -- `write WORD`. Source: mos65.
-use Rattle.std.specs.Prelude.{ℕ, ◌==◌, ◌||◌, ◌&&◌, not, Bool, if◌then◌else◌, is_some, List, codes, drop, length, take, Option, Some, None}
+use Rattle.std.specs.Prelude.{ℕ, ◌==◌, ◌||◌, ◌&&◌, Bool, if◌then◌else◌, is_some, List, codes, drop, length, take, Option, Some, None}
 use Rattle.std.specs.List.{list_any, prefix_len, starts_with}
 use Rattle.std.specs.Str.{bytes_eq}
+use Rattle.lsp_hints.specs.Operations.{first_size}
 use Rattle.model.specs.Mnemonics.{mnemonic_named}
 use Rattle.model.specs.Token.{is_word_byte}
 use Rattle.model.specs.declared.instruction.Profile.{Profile}
 use Rattle.name_uses.specs.Uses.{Use}
-
--- How many bytes stand before the first `;`.
-abbrev pub first_size : List ℕ → ℕ
-first_size words = prefix_len (λ b. not (b == 59)) words
 
 -- Behind the first `;` and the blank after it.
 abbrev pub second_part : List ℕ → List ℕ

@@ -1,60 +1,46 @@
 -- The forms of operations. Source: Language Server Protocol 3.17, "Signature Help Request"; how a
 -- form is written, mos65.
-use Rattle.std.specs.Prelude.{ℕ, List, [], ◌∷◌, ◌++◌, codes, Option, Some, None}
+use Rattle.std.specs.Prelude.{ℕ, List, [], ◌∷◌, ◌++◌, codes, map, Option, Some, None}
+use Rattle.std.specs.Borrow.{Bor}
 use Rattle.std.specs.List.{flat_map}
 use Rattle.std.specs.Str.Lossy.{utf8_lossy}
 use Rattle.lsp_hints.specs.Operations.{operation_at}
 use Rattle.lsp_hints.specs.declared.operation.Operation.{Operation}
 use Rattle.lsp_hints.specs.declared.operation.Operation.TheVariants.{Instruction, Bytes, Words, WordsHighFirst, Reserve, Finish, Origin, Definition}
-use Rattle.lsp_hints.specs.declared.signatures.TheConstants.{MODES}
-use Rattle.lsp_hints.specs.declared.wording.TheConstants.{BYTE_FORM, DBYTE_FORM, DEFINITION_FORM, END_FORM, ORIGIN_FORM, RES_FORM, WORD_FORM}
+use Rattle.lsp_hints.specs.declared.wording.TheConstants.{BYTE_FORM, DBYTE_FORM, DEFINITION_FORM, END_FORM, OPERANDS, ORIGIN_FORM, RES_FORM, WORD_FORM}
 use Rattle.lsp_messages.specs.Columns.{column_of}
 use Rattle.json_values.specs.Values.{count, list_of, object_of, word}
 use Rattle.model.specs.Mnemonics.{mnemonic_text}
 use Rattle.model.specs.OpcodeTable.{opcode_of}
 use Rattle.model.specs.declared.instruction.Mnemonic.{Mnemonic}
 use Rattle.model.specs.declared.instruction.Mode.{Mode}
-use Rattle.model.specs.declared.instruction.Mode.TheVariants.{Imp, Acc, Imm, Zp, ZpX, ZpY, Abs, AbsX, AbsY, IndX, IndY, Ind, Rel, IndZ}
 use Rattle.model.specs.declared.instruction.Profile.{Profile}
 use Rattle.serde_json.specs.Data.{Data, null}
 
-abbrev pub operand_form : Mode → List ℕ
-operand_form Imp = []
-operand_form Acc = codes " A"
-operand_form Imm = codes " #$nn"
-operand_form Zp = codes " $nn"
-operand_form ZpX = codes " $nn,X"
-operand_form ZpY = codes " $nn,Y"
-operand_form Abs = codes " $nnnn"
-operand_form AbsX = codes " $nnnn,X"
-operand_form AbsY = codes " $nnnn,Y"
-operand_form IndX = codes " ($nn,X)"
-operand_form IndY = codes " ($nn),Y"
-operand_form Ind = codes " ($nnnn)"
-operand_form Rel = codes " LABEL"
-operand_form IndZ = codes " ($nn)"
-
-abbrev pub form_label : Mnemonic → Mode → List ℕ
-form_label m mode = mnemonic_text m ++ operand_form mode
+abbrev pub form_label : Mnemonic → List ℕ → List ℕ
+form_label m operand = mnemonic_text m ++ operand
 
 abbrev pub signature_data : List ℕ → Data
 signature_data label = object_of ((codes "label", word label) ∷ [])
 
-abbrev pub form_by : Mnemonic → Mode → Option ℕ → List Data
-form_by m mode None = []
-form_by m mode (Some opcode) = signature_data (utf8_lossy (form_label m mode)) ∷ []
+abbrev pub form_by : Mnemonic → List ℕ → Option ℕ → List Data
+form_by m operand None = []
+form_by m operand (Some opcode) = signature_data (utf8_lossy (form_label m operand)) ∷ []
 
--- The form of a mnemonic in a mode, if the profile has it.
-abbrev pub form_of : Profile → Mnemonic → Mode → List Data
-form_of profile m mode = form_by m mode (opcode_of profile m mode)
+-- The form of a mnemonic in a mode with this operand, if the profile has it.
+abbrev pub form_of : Profile → Mnemonic → Mode × List ℕ → List Data
+form_of profile m row = form_by m row.1 (opcode_of profile m row.0)
 
--- The modes, in the order in which forms are listed.
-unfoldable pub all_modes : List Mode
-all_modes = MODES
+abbrev pub written : Mode × Bor (List ℕ) → Mode × List ℕ
+written row = (row.0, row.1.now)
+
+-- The modes with their operands, in the order in which forms are listed.
+unfoldable pub all_operands : List (Mode × List ℕ)
+all_operands = map (λ row. (row.0, row.1.now)) OPERANDS
 
 -- The forms of an operation: of a mnemonic one for each of its modes.
 abbrev pub forms_of : Profile → Operation → List Data
-forms_of profile (Instruction m) = flat_map (form_of profile m) all_modes
+forms_of profile (Instruction m) = flat_map (form_of profile m) all_operands
 forms_of profile Bytes = signature_data BYTE_FORM.now ∷ []
 forms_of profile Words = signature_data WORD_FORM.now ∷ []
 forms_of profile WordsHighFirst = signature_data DBYTE_FORM.now ∷ []

@@ -28,28 +28,18 @@ pub enum Colour {
 }
 
 impl Colour {
-    /// Returns the number of its type in the legend.
-    pub fn type_number(self) -> usize
-        ensures { result ≡ type_of self }
+    /// Returns the number of its type in the legend, and its modifiers, a bit for each there.
+    pub fn numbers(self) -> (usize, usize)
+        ensures { result ≡ (type_of self, modifiers_of self) }
     {
         match self {
-            Colour::Reserved => 0,
-            Colour::Directive => 1,
-            Colour::Defined | Colour::Named => 2,
-            Colour::Number => 3,
-            Colour::Quoted => 4,
-            Colour::Comment => 5,
-        }
-    }
-
-    /// Returns its modifiers, a bit for each in the legend.
-    pub fn modifiers(self) -> usize
-        ensures { result ≡ modifiers_of self }
-    {
-        match self {
-            Colour::Defined => 1,
-            Colour::Reserved | Colour::Directive | Colour::Named => 0,
-            Colour::Number | Colour::Quoted | Colour::Comment => 0,
+            Colour::Reserved => (0, 0),
+            Colour::Directive => (1, 0),
+            Colour::Defined => (2, 1),
+            Colour::Named => (2, 0),
+            Colour::Number => (3, 0),
+            Colour::Quoted => (4, 0),
+            Colour::Comment => (5, 0),
         }
     }
 }

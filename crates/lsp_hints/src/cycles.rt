@@ -1,41 +1,36 @@
 //! What is shown of an address and an instruction.
 
-ghost use Rattle.std.specs.Prelude.{◌≡◌, ◌≤◌, ◌++◌, IfOk, OnOk};
+ghost use Rattle.std.specs.Prelude.{◌≡◌, ◌≤◌, ◌++◌, Some, length};
 ghost use Rattle.std.specs.Option.{option_map};
-ghost use Rattle.lsp_hints.specs.Hints.{cycles_words, has_bytes, hint_words, least_more};
-ghost use Rattle.lsp_hints.specs.Hints.{most_more, place_words, row_of, up_to};
-ghost use Rattle.line_parts.specs.KeptLines.{placed_line_of};
+ghost use Rattle.lsp_hints.specs.Hints.{cycles_words, hint_words, least_more, most_more};
+ghost use Rattle.lsp_hints.specs.Hints.{place_words};
+ghost use Rattle.source_faults.specs.Views.{found_view};
 
-use formatting::{address_text, push_count, push_text};
-use line_parts::{KeptLine, Statement};
+use formatting::{Text, address_text, push_bytes, push_decimal};
+use line_parts::Statement;
 use model::{Mnemonic, Mode, Profile, Row};
 use optable::decode_in;
-use std::alloc::{AllocError, Global};
+use source_faults::Found;
 
-/// Returns whether a line has bytes.
-fn has_bytes(kept: &KeptLine<'_>) -> bool
-    ensures { result ≡ has_bytes (placed_line_of kept.now).content }
+/// Returns the address of a line with bytes, and the row of its opcode if it is an instruction.
+pub fn place_of(profile: Profile, found: &Found<'_>) -> Option<(u32, Option<Row>)>
+    ensures { option_map (λ place. place_words place.0 place.1) result
+        ≡ hint_words profile (found_view found.now).place }
 {
-    match &kept.statement {
-        Statement::Bytes(_) | Statement::Words(_) | Statement::WordsHighFirst(_) => true,
-        Statement::Instruction(_, _) => kept.code.is_some(),
-        Statement::Nothing | Statement::Origin(_) => false,
-        Statement::Reserve(_) | Statement::Finish => false,
-    }
-}
-
-/// Returns the row of the opcode of a line, if it is an instruction.
-fn row_of(profile: Profile, kept: &KeptLine<'_>) -> Option<Row>
-    ensures { result ≡ row_of profile (placed_line_of kept.now).content }
-{
+    let Found::Bytes(kept) = found else {
+        return None;
+    };
     match &kept.statement {
         Statement::Instruction(_, _) => match kept.code {
-            Some(code) => decode_in(profile, code.opcode),
+            Some(code) => Some((kept.address, decode_in(profile, code.opcode))),
             None => None,
         },
-        Statement::Nothing | Statement::Origin(_) | Statement::Bytes(_) => None,
-        Statement::Words(_) | Statement::WordsHighFirst(_) => None,
-        Statement::Reserve(_) | Statement::Finish => None,
+        Statement::Bytes(_) | Statement::Words(_) | Statement::WordsHighFirst(_) => {
+            Some((kept.address, None))
+        }
+        Statement::Nothing | Statement::Origin(_) | Statement::Reserve(_) | Statement::Finish => {
+            None
+        }
     }
 }
 
@@ -66,55 +61,31 @@ fn most_more(mode: Mode, penalty: bool) -> u64
     }
 }
 
-/// Appends the most cycles behind the least, if they are more.
-fn push_up_to(words: &mut Vec<u8>, least: u64, most: u64) -> Result<(), AllocError>
-    ensures { OnOk result (words.new.items ≡ words.old.items ++ up_to least most) }
+/// Appends the cycles of an instruction: the least, and the most behind them if they are more.
+fn push_cycles(text: &mut Text, row: Row)
+    requires { length text.old.items ≤ 5 }
+    ensures { text.new.items ≡ text.old.items ++ cycles_words (Some row) }
 {
-    if most <= least {
-        return Ok(());
+    let least = row.cycles as u64 + least_more(row.mnemonic);
+    let most = row.cycles as u64 + most_more(row.mode, row.penalty);
+    push_bytes(text, b", ");
+    push_decimal(text, least);
+    if least < most {
+        push_bytes(text, b"-");
+        push_decimal(text, most);
     }
-    push_text(words, "-")?;
-    push_count(words, most)
-}
-
-/// Appends the cycles of an instruction, if there is one.
-fn push_cycles(words: &mut Vec<u8>, row: Option<Row>) -> Result<(), AllocError>
-    ensures { OnOk result (words.new.items ≡ words.old.items ++ cycles_words row) }
-{
-    let Some(row) = row else {
-        return Ok(());
-    };
-    let cycles = row.cycles as u64;
-    let least = cycles + least_more(row.mnemonic);
-    push_text(words, ", ")?;
-    push_count(words, least)?;
-    push_up_to(words, least, cycles + most_more(row.mode, row.penalty))?;
-    push_text(words, " cycles")
+    push_bytes(text, b" cycles");
 }
 
 /// Returns what is shown of an address and what stands there.
-fn place_words(alloc: Global, address: u32, row: Option<Row>) -> Result<Vec<u8>, AllocError>
-    ensures { IfOk result (λ words. words.items ≡ place_words address row) }
+pub fn place_words(address: u32, row: Option<Row>) -> Text
+    ensures { result.items ≡ place_words address row }
 {
-    let mut words = Vec::new(alloc);
-    push_text(&mut words, "$")?;
-    words.extend_from_slice(&address_text(address))?;
-    push_cycles(&mut words, row)?;
-    Ok(words)
-}
-
-/// Returns what is shown of a line, if it has bytes.
-pub fn hint_words(
-    alloc: Global,
-    profile: Profile,
-    kept: &KeptLine<'_>,
-) -> Result<Option<Vec<u8>>, AllocError>
-    ensures { IfOk result (λ words. option_map (λ w. w.items) words
-        ≡ hint_words profile (placed_line_of kept.now)) }
-{
-    if !has_bytes(kept) {
-        return Ok(None);
+    let mut text = Text::new();
+    push_bytes(&mut text, b"$");
+    push_bytes(&mut text, &address_text(address));
+    if let Some(row) = row {
+        push_cycles(&mut text, row);
     }
-    let words = place_words(alloc, kept.address, row_of(profile, kept))?;
-    Ok(Some(words))
+    text
 }

@@ -1,30 +1,31 @@
 //! The changes for faults.
 
-ghost use Rattle.std.specs.Prelude.{◌≡◌, ◌++◌, IfOk, OnOk, map, string_bytes};
+ghost use Rattle.std.specs.Prelude.{◌≡◌, ◌++◌, IfOk, List, string_bytes};
 ghost use Rattle.std.specs.List.{flat_map};
 ghost use Rattle.std.specs.Str.Lossy.{utf8_lossy};
-ghost use Rattle.lsp_answers.specs.Texts.{text_view};
-ghost use Rattle.lsp_hints.specs.Fixes.{AreFixes, edit_of, fix_of, fixes_between, fixes_of, is_between};
-ghost use Rattle.lsp_hints.specs.Fixes.{title_of};
+ghost use Rattle.json_values.specs.ValueLists.{HasValues};
 ghost use Rattle.json_values.specs.Values.{list_of};
+ghost use Rattle.lsp_answers.specs.Texts.{text_view};
+ghost use Rattle.lsp_hints.specs.Fixes.{AreFixes, edit_of, fix_of, fixes_between, title_of};
+ghost use Rattle.serde_json.specs.Data.{Data};
 ghost use Rattle.serde_json.specs.View.{view};
 
+use crate::hints::is_between;
 use crate::right_words::right_word;
+use crate::values::text_of;
 use bus::MapSpec;
 use json_values::{Object, ValueList};
 use lsp_answers::{Diagnostic, Text, diagnostics};
 use lsp_messages::{changes, edit};
 use serde_json::Value;
+use source_notes::concat;
 use std::alloc::{AllocError, Global};
 
 /// Returns the title of a change to a word.
 fn title_of(alloc: Global, word: &[u8]) -> Result<String, AllocError>
     ensures { IfOk result (λ title. string_bytes title ≡ utf8_lossy (title_of word.now)) }
 {
-    let mut words = Vec::new(alloc);
-    words.extend_from_slice(b"write ")?;
-    words.extend_from_slice(word)?;
-    String::from_utf8_lossy(alloc, &words)
+    text_of(alloc, concat(alloc, &[b"write ", word]))
 }
 
 /// Returns the change that puts a word in place of the bytes that a fault or a warning means.
@@ -62,51 +63,25 @@ fn fix_of(
         .build()
 }
 
-/// Returns whether the line of a fault or a warning is between two lines, counted from 0.
-fn is_between(between: (u64, u64), one: &Diagnostic) -> bool
-    ensures { result ≡ is_between between one.now }
-{
-    let row = (one.line as u64).saturating_sub(1);
-    between.0 <= row && row <= between.1
-}
-
-/// Appends the change for a fault or a warning, if its words name the right word.
-fn push_fix(
+/// Puts the change for a fault or a warning between two lines behind others, if its words name the
+/// right word.
+fn with_fix(
     alloc: Global,
-    fixes: &mut Vec<Value>,
-    uri: &str,
-    text: &Text<'_>,
-    one: &Diagnostic,
-) -> Result<(), AllocError>
-    ensures { OnOk result (map view fixes.new.items ≡ map view fixes.old.items
-        ++ fixes_of uri.now (text_view text.now) one.now) }
-{
-    match right_word(text.profile, &text.uses, &one.note.words) {
-        Some(word) => {
-            let fix = fix_of(alloc, uri, text, one, word)?;
-            fixes.push(fix)?;
-            Ok(())
-        }
-        None => Ok(()),
-    }
-}
-
-/// Appends the change for a fault or a warning between two lines.
-fn push_fix_between(
-    alloc: Global,
-    fixes: &mut Vec<Value>,
+    fixes: ValueList,
     uri: &str,
     text: &Text<'_>,
     between: (u64, u64),
     one: &Diagnostic,
-) -> Result<(), AllocError>
-    ensures { OnOk result (map view fixes.new.items ≡ map view fixes.old.items
-        ++ fixes_between uri.now (text_view text.now) between one.now) }
+) -> ValueList
+    ensures { (ds : List Data) → HasValues ds fixes → HasValues
+        (ds ++ fixes_between uri.now (text_view text.now) between one.now) result }
 {
-    if is_between(between, one) {
-        push_fix(alloc, fixes, uri, text, one)
-    } else {
-        Ok(())
+    if !is_between(between, (one.line as u64).saturating_sub(1)) {
+        return fixes;
+    }
+    match right_word(text.profile, &text.uses, &one.note.words) {
+        Some(word) => fixes.with(fix_of(alloc, uri, text, one, word)),
+        None => fixes,
     }
 }
 
@@ -121,11 +96,11 @@ fn fixes_among(
     ensures { IfOk result (λ v. view v
         ≡ list_of (flat_map (fixes_between uri.now (text_view text.now) between) found.now)) }
 {
-    let mut fixes = Vec::new(alloc);
+    let mut fixes = ValueList::new(alloc);
     for one in found {
-        push_fix_between(alloc, &mut fixes, uri, text, between, one)?;
+        fixes = with_fix(alloc, fixes, uri, text, between, one);
     }
-    Ok(Value::Array(fixes))
+    fixes.build()
 }
 
 /// Returns the changes for the faults of a document on a map, or for its warnings, from one line to
@@ -142,6 +117,5 @@ pub fn fixes_in(
         (λ v. AreFixes map.now uri.now (text_view text.now) between (view v)) }
 {
     let found = diagnostics(alloc, text.source, map)?;
-    let fixes = fixes_among(alloc, uri, text, between, &found)?;
-    Ok(fixes)
+    fixes_among(alloc, uri, text, between, &found)
 }

@@ -3,7 +3,7 @@
 ghost use Rattle.std.specs.Prelude.{◌≡◌, ◌++◌, IfOk, None, OnOk, map};
 ghost use Rattle.json_values.specs.Values.{list_of};
 ghost use Rattle.lsp_hints.specs.Folds.{all_folds, comment_folds, fold_data, folded, folds_to};
-ghost use Rattle.lsp_hints.specs.Folds.{label_folds, or_here};
+ghost use Rattle.lsp_hints.specs.Folds.{label_folds};
 ghost use Rattle.serde_json.specs.View.{view};
 ghost use Rattle.source_notes.specs.Lines.{texts_of};
 
@@ -44,12 +44,8 @@ fn push_fold(
 {
     match from {
         Some(first) if end.saturating_sub(first) > 1 => {
-            folds.push(Fold {
-                kind,
-                first,
-                last: end - 1,
-            })?;
-            Ok(())
+            let last = end - 1;
+            folds.extend_from_slice(&[Fold { kind, first, last }])
         }
         _ => Ok(()),
     }
@@ -73,18 +69,7 @@ fn push_labels<'a>(
             from = Some(index);
         }
     }
-    push_fold(folds, FoldKind::Label, from, lines.len())?;
-    Ok(())
-}
-
-/// Returns the first line of a run, which is this one where none is given.
-fn or_here(from: Option<usize>, index: usize) -> usize
-    ensures { result ≡ or_here from index }
-{
-    match from {
-        Some(first) => first,
-        None => index,
-    }
+    push_fold(folds, FoldKind::Label, from, lines.len())
 }
 
 /// Appends the folds of comments: of each run of lines with a comment alone.
@@ -95,25 +80,27 @@ fn push_comments(folds: &mut Vec<Fold>, lines: &[&[u8]]) -> Result<(), AllocErro
     let mut from = None;
     for (index, line) in lines.iter().enumerate() {
         if is_comment(line) {
-            from = Some(or_here(from, index));
+            from = Some(from.unwrap_or(index));
         } else {
             push_fold(folds, FoldKind::Comment, from, index)?;
             from = None;
         }
     }
-    push_fold(folds, FoldKind::Comment, from, lines.len())?;
-    Ok(())
+    push_fold(folds, FoldKind::Comment, from, lines.len())
 }
 
-/// Returns the folds of labels, and behind them those of comments.
-fn all_folds(alloc: Global, profile: Profile, lines: &[&[u8]]) -> Result<Vec<Fold>, AllocError>
-    ensures { IfOk result (λ folds. folds.items ≡ all_folds profile (texts_of lines.now)) }
+/// Appends the folds of labels, and behind them those of comments.
+fn push_folds(
+    alloc: Global,
+    folds: &mut Vec<Fold>,
+    profile: Profile,
+    lines: &[&[u8]],
+) -> Result<(), AllocError>
+    ensures { OnOk result (folds.new.items
+        ≡ folds.old.items ++ all_folds profile (texts_of lines.now)) }
 {
-    let mut folds = Vec::new(alloc);
-    let mut room = Vec::new(alloc);
-    push_labels(&mut folds, &mut room, profile, lines)?;
-    push_comments(&mut folds, lines)?;
-    Ok(folds)
+    push_labels(folds, &mut Vec::new(alloc), profile, lines)?;
+    push_comments(folds, lines)
 }
 
 /// Returns the value of a fold.
@@ -149,6 +136,7 @@ fn values_of(alloc: Global, folds: &[Fold]) -> Result<Value, AllocError>
 pub fn folded(alloc: Global, profile: Profile, lines: &[&[u8]]) -> Result<Value, AllocError>
     ensures { IfOk result (λ v. view v ≡ folded profile (texts_of lines.now)) }
 {
-    let folds = all_folds(alloc, profile, lines)?;
+    let mut folds = Vec::new(alloc);
+    push_folds(alloc, &mut folds, profile, lines)?;
     values_of(alloc, &folds)
 }

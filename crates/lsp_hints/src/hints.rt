@@ -1,14 +1,18 @@
 //! What stands behind the lines of a source.
 
-ghost use Rattle.std.specs.Prelude.{◌≡◌, ◌≤◌, ◌++◌, IfOk, OnOk, length, map};
-ghost use Rattle.lsp_hints.specs.Hints.{found_in, hints_at, hints_from, hints_of, is_refused, line_hints};
-ghost use Rattle.lsp_hints.specs.Hints.{width_of};
+ghost use Rattle.std.specs.Prelude.{◌≡◌, ◌≤◌, ◌++◌, IfOk, List, length};
+ghost use Rattle.json_values.specs.ValueLists.{HasValues};
+ghost use Rattle.json_values.specs.Values.{list_of};
+ghost use Rattle.lsp_hints.specs.Hints.{found_in, hints_at, hints_from, hints_of, is_between};
+ghost use Rattle.lsp_hints.specs.Hints.{is_refused, width_of};
+ghost use Rattle.serde_json.specs.Data.{Data};
 ghost use Rattle.serde_json.specs.View.{view};
 ghost use Rattle.source_faults.specs.Views.{found_all, found_view};
 ghost use Rattle.source_notes.specs.Lines.{texts_of};
 
-use crate::cycles::hint_words;
+use crate::cycles::{place_of, place_words};
 use crate::values::hint;
+use json_values::ValueList;
 use model::Profile;
 use serde_json::Value;
 use source_faults::{Found, Mending, lay_out};
@@ -41,46 +45,36 @@ fn width_of(lines: &[&[u8]], index: usize) -> usize
     }
 }
 
-/// Appends what is shown of a line, if it has bytes.
-fn push_hint(
-    alloc: Global,
-    hints: &mut Vec<Value>,
-    profile: Profile,
-    lines: &[&[u8]],
-    index: usize,
-    found: &Found<'_>,
-) -> Result<(), AllocError>
-    ensures { OnOk result (map view hints.new.items ≡ map view hints.old.items
-        ++ line_hints profile (texts_of lines.now) index (found_view found.now).place) }
+/// Returns whether a line, counted from 0, is between two lines.
+pub fn is_between(between: (u64, u64), number: u64) -> bool
+    ensures { result ≡ is_between between number }
 {
-    let Found::Bytes(kept) = found else {
-        return Ok(());
-    };
-    if let Some(words) = hint_words(alloc, profile, kept)? {
-        let text = String::from_utf8_lossy(alloc, &words)?;
-        let value = hint(alloc, text.as_str(), index, width_of(lines, index))?;
-        hints.push(value)?;
-    }
-    Ok(())
+    between.0 <= number && number <= between.1
 }
 
-/// Appends what is shown of a line between two lines, if it has bytes.
-fn push_hint_between(
+/// Puts what is shown of a line between two lines behind others, if it has bytes.
+fn with_hint(
     alloc: Global,
-    hints: &mut Vec<Value>,
+    hints: ValueList,
     profile: Profile,
     lines: &[&[u8]],
     between: (u64, u64),
     index: usize,
     found: &Found<'_>,
-) -> Result<(), AllocError>
-    ensures { OnOk result (map view hints.new.items ≡ map view hints.old.items
-        ++ hints_at profile (texts_of lines.now) between index (found_view found.now)) }
+) -> ValueList
+    ensures { (ds : List Data) → HasValues ds hints → HasValues
+        (ds ++ hints_at profile (texts_of lines.now) between index (found_view found.now)) result }
 {
-    if between.0 <= index as u64 && index as u64 <= between.1 {
-        push_hint(alloc, hints, profile, lines, index, found)
+    if is_between(between, index as u64) {
+        match place_of(profile, found) {
+            Some((address, row)) => {
+                let label = String::from_utf8_lossy(alloc, &place_words(address, row));
+                hints.with(hint(alloc, label, index, width_of(lines, index)))
+            }
+            None => hints,
+        }
     } else {
-        Ok(())
+        hints
     }
 }
 
@@ -102,18 +96,18 @@ fn hints_among(
     lines: &[&[u8]],
     between: (u64, u64),
     found: &[Found<'_>],
-) -> Result<Vec<Value>, AllocError>
-    ensures { IfOk result (λ hints. map view hints.items
-        ≡ hints_from profile (texts_of lines.now) between 0 (found_all found.now)) }
+) -> Result<Value, AllocError>
+    ensures { IfOk result (λ v. view v
+        ≡ list_of (hints_from profile (texts_of lines.now) between 0 (found_all found.now))) }
 {
-    let mut hints = Vec::new(alloc);
+    let mut hints = ValueList::new(alloc);
     for (index, one) in found.iter().enumerate() {
         if is_refused(one) {
-            return Ok(hints);
+            return hints.build();
         }
-        push_hint_between(alloc, &mut hints, profile, lines, between, index, one)?;
+        hints = with_hint(alloc, hints, profile, lines, between, index, one);
     }
-    Ok(hints)
+    hints.build()
 }
 
 /// Returns what stands behind the lines of a source from one line to another, counted from 0: of
@@ -131,9 +125,8 @@ pub fn hints_in(
         (λ v. view v ≡ hints_of profile source.now (texts_of lines.now) between) }
 {
     if source.len() > SOURCE_SIZE {
-        return Ok(Value::Array(Vec::new(alloc)));
+        return ValueList::new(alloc).build();
     }
     let found = laid_out(alloc, profile, source)?;
-    let hints = hints_among(alloc, profile, lines, between, &found)?;
-    Ok(Value::Array(hints))
+    hints_among(alloc, profile, lines, between, &found)
 }

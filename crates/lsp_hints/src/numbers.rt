@@ -2,12 +2,13 @@
 
 ghost use Rattle.std.specs.Prelude.{◌≡◌, ◌++◌, IfOk, List};
 ghost use Rattle.json_values.specs.ValueLists.{HasValues};
-ghost use Rattle.lsp_hints.specs.Painted.{counted, further, paint_counts, painted};
+ghost use Rattle.json_values.specs.Values.{list_of};
+ghost use Rattle.lsp_hints.specs.Painted.{counted, data_of, further, paint_counts, painted};
 ghost use Rattle.serde_json.specs.Data.{Data};
 ghost use Rattle.serde_json.specs.View.{view};
 ghost use Rattle.source_notes.specs.Lines.{texts_of};
 
-use crate::paint::{Paint, paints_of};
+use crate::paint::{Paint, push_lines};
 use json_values::{Object, ValueList};
 use model::Profile;
 use serde_json::Value;
@@ -30,17 +31,18 @@ fn with_paint(counts: ValueList, line: usize, start: usize, paint: &Paint) -> Va
     ensures { (ds : List Data) → HasValues ds counts
         → HasValues (ds ++ paint_counts line start paint.now) result }
 {
+    let numbers = paint.colour.numbers();
     counts
         .with(Ok(Value::from(paint.line.saturating_sub(line))))
         .with(Ok(Value::from(further(line, start, paint))))
         .with(Ok(Value::from(paint.width)))
-        .with(Ok(Value::from(paint.colour.type_number())))
-        .with(Ok(Value::from(paint.colour.modifiers())))
+        .with(Ok(Value::from(numbers.0)))
+        .with(Ok(Value::from(numbers.1)))
 }
 
 /// Returns the numbers of some parts of a text.
-fn counted(alloc: Global, paints: &[Paint]) -> ValueList
-    ensures { HasValues (counted 0 0 paints.now) result }
+fn counted(alloc: Global, paints: &[Paint]) -> Result<Value, AllocError>
+    ensures { IfOk result (λ v. view v ≡ data_of (list_of (counted 0 0 paints.now))) }
 {
     let mut counts = ValueList::new(alloc);
     let mut line = 0;
@@ -50,7 +52,7 @@ fn counted(alloc: Global, paints: &[Paint]) -> ValueList
         line = paint.line;
         start = paint.start;
     }
-    counts
+    Object::new(alloc).member("data", counts.build()).build()
 }
 
 /// Returns the colours of the lines of a source: of each token but symbols, and of each comment, in
@@ -59,7 +61,7 @@ fn counted(alloc: Global, paints: &[Paint]) -> ValueList
 pub fn painted(alloc: Global, profile: Profile, lines: &[&[u8]]) -> Result<Value, AllocError>
     ensures { IfOk result (λ v. view v ≡ painted profile (texts_of lines.now)) }
 {
-    let paints = paints_of(alloc, profile, lines)?;
-    let data = counted(alloc, &paints).build();
-    Object::new(alloc).member("data", data).build()
+    let mut paints = Vec::new(alloc);
+    push_lines(alloc, &mut paints, profile, lines)?;
+    counted(alloc, &paints)
 }

@@ -2,10 +2,9 @@
 
 ghost use Rattle.std.specs.Prelude.{◌≡◌, ◌≤◌, length};
 ghost use Rattle.std.specs.Str.{str_eq_ignore_ascii_case};
-ghost use Rattle.lsp_hints.specs.Operations.{begins_with, blanks_after, code_end, colon_of};
-ghost use Rattle.lsp_hints.specs.Operations.{directive_of, word_after};
-ghost use Rattle.lsp_hints.specs.Operations.{label_end, operation_at, operation_of, start_of};
-ghost use Rattle.lsp_hints.specs.Operations.{word_size};
+ghost use Rattle.lsp_hints.specs.Operations.{begins_with, blanks_after, colon_of};
+ghost use Rattle.lsp_hints.specs.Operations.{directive_of, first_size, operation_at, operation_of};
+ghost use Rattle.lsp_hints.specs.Operations.{start_of, word_after, word_size};
 
 use model::{Mnemonic, Profile};
 use optable::mnemonic_in;
@@ -68,26 +67,17 @@ fn colon_of(line: &[u8]) -> usize
     blanks_after(line, word_after(line, blanks_after(line, 0)))
 }
 
-/// Returns how many bytes of a line its label has with what stands before it and its `:`; 0 without
-/// a label.
-fn label_end(line: &[u8]) -> usize
-    ensures end { result ≡ label_end line.now }
-    ensures within { result ≤ length line.now }
-{
-    let colon = colon_of(line);
-    if begins_with(b':', after(line, colon)) {
-        colon + 1
-    } else {
-        0
-    }
-}
-
-/// Returns where the operation of a line starts.
+/// Returns where the operation of a line starts: behind its label, if it has one.
 fn start_of(line: &[u8]) -> usize
     ensures start { result ≡ start_of line.now }
     ensures within { result ≤ length line.now }
 {
-    blanks_after(line, label_end(line))
+    let colon = colon_of(line);
+    if begins_with(b':', after(line, colon)) {
+        blanks_after(line, colon + 1)
+    } else {
+        blanks_after(line, 0)
+    }
 }
 
 /// Returns how many bytes the word of an operation has: a `.` or a `*` belongs to it.
@@ -150,11 +140,11 @@ fn operation_of(profile: Profile, word: &[u8], behind: &[u8]) -> Option<Operatio
     }
 }
 
-/// Returns how many bytes of a line stand before its first `;`.
-fn code_end(line: &[u8]) -> usize
-    ensures { result ≡ code_end line.now }
+/// Returns how many bytes stand before the first `;` of some bytes.
+pub fn first_size(bytes: &[u8]) -> usize
+    ensures { result ≡ first_size bytes.now }
 {
-    line.iter().take_while(|byte| **byte != b';').count()
+    bytes.iter().take_while(|byte| **byte != b';').count()
 }
 
 /// Returns the operation of a line, if a column stands behind its word and before any `;`.
@@ -164,7 +154,7 @@ pub fn operation_at(profile: Profile, line: &[u8], column: usize) -> Option<Oper
     let start = start_of(line);
     let rest = after(line, start);
     let size = word_size(rest);
-    if column >= start + size && column <= code_end(line) {
+    if column >= start + size && column <= first_size(line) {
         operation_of(profile, &rest[..size], &rest[size..])
     } else {
         None

@@ -1,9 +1,9 @@
 //! Where the colours stand.
 
-ghost use Rattle.std.specs.Prelude.{◌≡◌, ◌≤◌, ◌++◌, IfOk, OnOk, Some, length};
+ghost use Rattle.std.specs.Prelude.{◌≡◌, ◌≤◌, ◌++◌, OnOk, Some, length};
 ghost use Rattle.line_parts.specs.Lexemes.{lexeme_of, lexemes};
-ghost use Rattle.lsp_hints.specs.Painted.{code_end, comment_paints, line_paints, paints_of};
-ghost use Rattle.lsp_hints.specs.Painted.{starts_definition, token_paints, tokens_paints};
+ghost use Rattle.lsp_hints.specs.Painted.{code_end, comment_paints, line_paints, paints_by};
+ghost use Rattle.lsp_hints.specs.Painted.{paints_of, starts_definition, token_paints};
 ghost use Rattle.model.specs.Token.{tokens_of};
 ghost use Rattle.source_notes.specs.Lines.{texts_of};
 
@@ -49,35 +49,14 @@ fn push_token(
         ≡ paints.old.items ++ token_paints profile line defines (lexeme_of token.now)) }
 {
     match colour_of(profile, defines, token) {
-        Some(colour) => {
-            paints.push(Paint {
-                line,
-                start: token.start,
-                width: token.text.len(),
-                colour,
-            })?;
-            Ok(())
-        }
+        Some(colour) => paints.extend_from_slice(&[Paint {
+            line,
+            start: token.start,
+            width: token.text.len(),
+            colour,
+        }]),
         None => Ok(()),
     }
-}
-
-/// Appends the tokens of a line with their colours.
-fn push_tokens(
-    paints: &mut Vec<Paint>,
-    profile: Profile,
-    line: usize,
-    tokens: &[Token<'_>],
-) -> Result<(), AllocError>
-    ensures { OnOk result (paints.new.items ≡ paints.old.items ++ tokens_paints profile line
-        (starts_definition (lexemes tokens.now)) (lexemes tokens.now)) }
-{
-    let mut defines = starts_definition(tokens);
-    for token in tokens {
-        push_token(paints, profile, line, defines, token)?;
-        defines = false;
-    }
-    Ok(())
 }
 
 /// Returns where the last of the tokens of a line ends; 0 without tokens.
@@ -108,14 +87,35 @@ fn push_comment(
     let end = code_end(text, tokens);
     let start = blanks_after(text, end);
     if start < text.len() {
-        paints.push(Paint {
+        paints.extend_from_slice(&[Paint {
             line,
             start,
             width: text.len() - start,
             colour: Colour::Comment,
-        })?;
+        }])
+    } else {
+        Ok(())
     }
-    Ok(())
+}
+
+/// Appends the tokens of a line with their colours, and its comment.
+fn push_parts(
+    paints: &mut Vec<Paint>,
+    profile: Profile,
+    line: usize,
+    text: &[u8],
+    tokens: &[Token<'_>],
+) -> Result<(), AllocError>
+    requires { tokens_of text.now ≡ Some (lexemes tokens.now) }
+    ensures { OnOk result (paints.new.items
+        ≡ paints.old.items ++ paints_by profile line text.now (Some (lexemes tokens.now))) }
+{
+    let mut defines = starts_definition(tokens);
+    for token in tokens {
+        push_token(paints, profile, line, defines, token)?;
+        defines = false;
+    }
+    push_comment(paints, line, text, tokens)
 }
 
 /// Appends what is painted of a line.
@@ -131,25 +131,26 @@ fn push_line<'a>(
         ≡ paints.old.items ++ line_paints profile line text.now) }
 {
     match tokens_into(room, text) {
-        Ok(()) => {
-            push_tokens(paints, profile, line, room)?;
-            push_comment(paints, line, text, room)
-        }
+        Ok(()) => push_parts(paints, profile, line, text, room),
         Err(LineFault::OutOfMemory) => Err(AllocError),
         Err(LineFault::Syntax) => Ok(()),
     }
 }
 
-/// Returns what is painted of the lines of a source. The only error is that a request for memory
+/// Appends what is painted of the lines of a source. The only error is that a request for memory
 /// was refused.
-pub fn paints_of(alloc: Global, profile: Profile, lines: &[&[u8]]) -> Result<Vec<Paint>, AllocError>
-    ensures { IfOk result
-        (λ paints. paints.items ≡ paints_of profile (texts_of lines.now)) }
+pub fn push_lines(
+    alloc: Global,
+    paints: &mut Vec<Paint>,
+    profile: Profile,
+    lines: &[&[u8]],
+) -> Result<(), AllocError>
+    ensures { OnOk result (paints.new.items
+        ≡ paints.old.items ++ paints_of profile (texts_of lines.now)) }
 {
-    let mut paints = Vec::new(alloc);
     let mut room = Vec::new(alloc);
     for (index, line) in lines.iter().enumerate() {
-        push_line(&mut paints, &mut room, profile, index, line)?;
+        push_line(paints, &mut room, profile, index, line)?;
     }
-    Ok(paints)
+    Ok(())
 }

@@ -4,38 +4,27 @@ ghost use Rattle.std.specs.Prelude.{◌≡◌, ◌≤◌, length};
 ghost use Rattle.std.specs.List.{list_any};
 ghost use Rattle.std.specs.Option.{option_map};
 ghost use Rattle.std.specs.Str.{bytes_eq};
-ghost use Rattle.lsp_hints.specs.RightWords.{defines, first_size, is_directive, is_named, is_right};
+ghost use Rattle.lsp_hints.specs.RightWords.{defines, is_directive, is_named, is_right};
 ghost use Rattle.lsp_hints.specs.RightWords.{is_word_or_point, named_in, right_word, second_part};
 ghost use Rattle.lsp_hints.specs.RightWords.{without_write, word_size};
 ghost use Rattle.name_uses.specs.Views.{use_view, use_views};
 
+use crate::operation::first_size;
 use model::Profile;
 use name_uses::NameUse;
 use optable::mnemonic_in;
 use source_notes::{Class, after};
 
-/// Returns how many bytes stand before the first `;` of some words.
-fn first_size(words: &[u8]) -> usize
-    ensures { result ≡ first_size words.now }
+/// Returns what stands behind the first `;` of some words and a byte behind it, without the word
+/// `write` in front.
+fn right_part(words: &[u8]) -> &[u8]
+    ensures { result.now ≡ without_write (second_part words.now) }
 {
-    words.iter().take_while(|byte| **byte != b';').count()
-}
-
-/// Returns what stands behind the first `;` of some words and a byte behind it.
-fn second_part(words: &[u8]) -> &[u8]
-    ensures { result.now ≡ second_part words.now }
-{
-    after(after(words, first_size(words)), 2)
-}
-
-/// Returns some words without the word `write` in front.
-fn without_write(words: &[u8]) -> &[u8]
-    ensures { result.now ≡ without_write words.now }
-{
-    if words.starts_with(b"write ") {
-        after(words, 6)
+    let part = after(after(words, first_size(words)), 2);
+    if part.starts_with(b"write ") {
+        after(part, 6)
     } else {
-        words
+        part
     }
 }
 
@@ -68,7 +57,7 @@ fn is_named(behind: &[u8]) -> bool
 fn named_in(words: &[u8]) -> Option<&[u8]>
     ensures { option_map (λ word. word.now) result ≡ named_in words.now }
 {
-    let rest = without_write(second_part(words));
+    let rest = right_part(words);
     let size = word_size(rest);
     if is_named(&rest[size..]) {
         Some(&rest[..size])

@@ -1,4 +1,5 @@
+use Rattle.std.proofs.lemmas.Result.{IfOk-weaker}
 use Rattle.lsp.proofs.answers.failed_in_words.Goals as goal
 
 pub returns : goal.returns
-returns c = (c.args.words.now, c.in_ok-reply.ensures)
+returns c = IfOk-weaker c.failure_reply.result _ _ (λ v h. (c.args.words.now, h)) c.failure_reply.ensures

@@ -1,4 +1,6 @@
 use Rattle.std.proofs.Common.{subst}
+use Rattle.std.proofs.lemmas.Result.{IfOk-weaker}
+use Rattle.lsp.proofs.Chained.{chained}
 use Rattle.lsp.proofs.Nothing.{view_null}
 use Rattle.lsp.specs.Answers.{IsFailure}
 use Rattle.serde_json.specs.Data.{Data}
@@ -6,4 +8,6 @@ use Rattle.serde_json.specs.View.{view}
 use Rattle.lsp.proofs.server.refused.Goals as goal
 
 pub returns : goal.returns
-returns c = (view c.in_ok-reply.reply, subst (λ (d : Data). IsFailure d c.args.failure (view c.in_ok-reply.reply)) view_null c.in_ok-reply.ensures, c.in_ok-replies.ensures)
+returns c =
+    IfOk-weaker c.one.result _ _ (λ vs h. (view h.0, subst (λ (d : Data). IsFailure d c.args.failure (view h.0)) view_null h.1, h.2))
+    (chained c.failed.result c.one.result _ _ c.failed.ensures c.one.ensures)

@@ -1,7 +1,9 @@
 use Rattle.std.proofs.Common.{◌∙◌, [], ◌∷◌, ap}
 use Rattle.std.proofs.lemmas.Result.{IfOk-weaker}
+use Rattle.lsp.proofs.Chained.{chained}
 use Rattle.serde_json.specs.Data.{Data}
 use Rattle.lsp.proofs.server.told_marks.Goals as goal
 
-pub returns : goal.returns
-returns c = IfOk-weaker c.one.result _ _ (λ vs h. h ∙ ap (λ (d : Data). d ∷ []) c.in_ok-notice.ensures) c.one.ensures
+pub returns-in-Ok : goal.returns-in-Ok
+returns-in-Ok c = rw (c.in-Ok.is) (IfOk-weaker c.one.result _ _ (λ vs h. h.2 ∙ ap (λ (d : Data). d ∷ []) h.1)
+    (chained c.notice.result c.one.result _ _ c.notice.ensures c.one.ensures))

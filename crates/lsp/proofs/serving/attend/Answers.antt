@@ -12,9 +12,9 @@ use Rattle.lsp.proofs.serving.attend.Goals as goal
 pub loop-init : goal.loop-init
 loop-init g c =
     let given = g.R.Read.remaining c.args.input.now in
-    let begun = subst (λ (s : State). IsServedSoFar (Answers c.args.map.now) given given [] start s []) (sym c.new-server.ensures) (unserved (Answers c.args.map.now) given start) in (
+    let begun = subst (λ (s : State). IsServedSoFar (Answers c.args.map.now) given given [] start s []) (sym c.requires.fresh) (unserved (Answers c.args.map.now) given start) in (
       [],
-      subst (λ (held : List ℕ). IsServedSoFar (Answers c.args.map.now) given given held start (server_view c.new-server.result) []) (sym c.new-incoming.ensures) begun,
+      subst (λ (held : List ℕ). IsServedSoFar (Answers c.args.map.now) given given held start (server_view c.args.server.now) []) (sym c.requires.empty) begun,
       Appends-nil _,
     )
 

@@ -1,4 +1,4 @@
-use Rattle.std.proofs.Common.{◌++◌, [], append_assoc, append-nil, map, subst, sym}
+use Rattle.std.proofs.Common.{◌++◌, [], append_assoc, append-nil, map, refl, subst, sym}
 use Rattle.std.proofs.KnownBytes.{Appends-nil, Appends-trans}
 use Rattle.message_stream.specs.Messages.{framed}
 use Rattle.serde_json.specs.View.{view}
@@ -24,6 +24,7 @@ pub returns : goal.returns
 returns g c =
     let inv = c.loop-value.invariant in
     let values = c.args.values.now in (
+      refl,
       inv.0,
       subst (AreWritten (map view values)) (append-nil inv.0) (inv.2 [] (written_end values c.loop-value.value-index c.loop-value-test.false)),
       inv.1,

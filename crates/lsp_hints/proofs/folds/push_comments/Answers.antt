@@ -1,4 +1,5 @@
 use Rattle.std.proofs.Common.{arith, sym, ◌∙◌}
+use Rattle.std.proofs.lemmas.Result.{IfOk-weaker}
 use Rattle.lsp_hints.proofs.FoldSteps.{comment_here, comments_end, no_comment}
 use Rattle.lsp_hints.proofs.Gathered.{gathered, gathered_last, passed}
 use Rattle.lsp_hints.proofs.folds.push_comments.Goals.{then-is_comment, else-is_comment+in_ok-push_fold}
@@ -8,7 +9,7 @@ pub loop-index-preserved : goal.loop-index-preserved
 loop-index-preserved c =
     elim c.if-is_comment.branch [
       | then-is_comment w ↦
-          rw (w.folds-is, w.from-is, w.or_here.ensures) (passed c.loop-index.folds.items _ _ _
+          rw (w.folds-is, w.from-is, w.unwrap_or.ensures) (passed c.loop-index.folds.items _ _ _
           (comment_here c.loop-index.from c.loop-index.index c.args.lines.now _ (omega (arith, c.loop-index-test.true)) (sym c.is_comment.ensures ∙ w.if-is_comment.true)) c.loop-index.invariant)
       | else-is_comment+in_ok-push_fold w ↦
           rw (w.folds-is, w.from-is) (gathered c.loop-index.folds.items _ _ _ _ _ w.in_ok-push_fold.ensures
@@ -16,5 +17,5 @@ loop-index-preserved c =
     ]
 
 pub returns : goal.returns
-returns c = gathered_last c.loop-index.folds.items _ _ _ _ c.in_ok-push_fold-2.ensures
-    (comments_end c.loop-index.from c.loop-index.index c.args.lines.now (omega (arith, c.loop-index-test.false, c.loop-index.auto.index-end))) c.loop-index.invariant
+returns c = IfOk-weaker c.push_fold-2.result _ _ (λ v put. gathered_last c.loop-index.folds.items _ _ _ _ put
+    (comments_end c.loop-index.from c.loop-index.index c.args.lines.now (omega (arith, c.loop-index-test.false, c.loop-index.auto.index-end))) c.loop-index.invariant) c.push_fold-2.ensures

@@ -1,4 +1,5 @@
 use Rattle.std.proofs.Common.{arith, sym, ◌∙◌}
+use Rattle.std.proofs.lemmas.Result.{IfOk-weaker}
 use Rattle.lsp_hints.proofs.FoldSteps.{label_here, labels_end, no_label}
 use Rattle.lsp_hints.proofs.Gathered.{gathered, gathered_last, passed}
 use Rattle.lsp_hints.proofs.folds.push_labels.Goals.{then-is_label+in_ok-push_fold, else-is_label}
@@ -16,5 +17,5 @@ loop-index-preserved c =
     ]
 
 pub returns : goal.returns
-returns c = gathered_last c.loop-index.folds.items _ _ _ _ c.in_ok-push_fold-2.ensures
-    (labels_end c.args.profile c.loop-index.from c.loop-index.index c.args.lines.now (omega (arith, c.loop-index-test.false, c.loop-index.auto.index-end))) c.loop-index.invariant
+returns c = IfOk-weaker c.push_fold-2.result _ _ (λ v put. gathered_last c.loop-index.folds.items _ _ _ _ put
+    (labels_end c.args.profile c.loop-index.from c.loop-index.index c.args.lines.now (omega (arith, c.loop-index-test.false, c.loop-index.auto.index-end))) c.loop-index.invariant) c.push_fold-2.ensures

@@ -19,5 +19,5 @@ loop-paint-preserved c =
 pub returns : goal.returns
 returns c =
     let so_far = c.loop-paint.invariant in
-    subst (λ (ds : List Data). HasValues ds c.loop-paint.counts)
-    (gathered_all so_far.0 _ _ (paints_end c.loop-paint.line c.loop-paint.start c.loop-paint.paint-index c.args.paints.now (omega (arith, c.loop-paint-test.false))) so_far.2) so_far.1
+    c.build-2.ensures _ (c.member.ensures _ _ c.new.ensures (c.build.ensures _ (subst (λ (ds : List Data). HasValues ds c.loop-paint.counts)
+    (gathered_all so_far.0 _ _ (paints_end c.loop-paint.line c.loop-paint.start c.loop-paint.paint-index c.args.paints.now (omega (arith, c.loop-paint-test.false))) so_far.2) so_far.1)))

@@ -1,4 +1,4 @@
 use Rattle.lsp_hints.proofs.values.signature.Goals as goal
 
 pub returns : goal.returns
-returns c = c.build.ensures _ (c.word.ensures _ c.new.ensures)
+returns c text has = c.build.ensures _ (c.text.ensures _ _ c.new.ensures has)

@@ -1,7 +1,7 @@
 use Rattle.std.proofs.Common.{arith}
 use Rattle.lsp_hints.proofs.Gathered.{gathered, gathered_all}
 use Rattle.lsp_hints.proofs.PaintSteps.{line_next, lines_end}
-use Rattle.lsp_hints.proofs.paint.paints_of.Goals as goal
+use Rattle.lsp_hints.proofs.paint.push_lines.Goals as goal
 
 pub loop-index-preserved : goal.loop-index-preserved
 loop-index-preserved c = gathered c.loop-index.paints.items _ _ _ _ _ c.in_ok-push_line.ensures
