@@ -1,7 +1,6 @@
--- What a refused request leaves, and what is said of it.
-use Rattle.std.proofs.Common.{◌≡◌, ◌∙◌, ℕ, Bool, List, [], ◌∷◌, ◌++◌, Option, Some, None, ap, refl}
-use Rattle.dap.specs.Adapter.{CountsIfRefused, IsRefused, StaysIfRefused, end_said}
-use Rattle.dap_messages.specs.Messages.{Said, refused}
+-- What a refused request leaves.
+use Rattle.std.proofs.Common.{Option, Some, None, refl}
+use Rattle.dap.specs.Adapter.{CountsIfRefused, StaysIfRefused}
 use Rattle.dap_messages.specs.declared.counting.Counting.{Counting}
 use Rattle.dap_session.proofs.Stays.{shows_same}
 use Rattle.dap_session.specs.declared.fault.Fault.{Fault}
@@ -15,6 +14,3 @@ stays_same f None = tt
 pub counts_same : (f : Fault) (n : Option Counting) → CountsIfRefused f n n
 counts_same (fault.Refused words) n = refl
 counts_same fault.OutOfMemory n = tt
-
-pub refused_end : (before after : List Said) (words : List ℕ) (is_end : Bool) → after ≡ before ++ end_said is_end → before ≡ refused words ∷ [] → IsRefused is_end after
-refused_end before after words is_end grown is = (words, grown ∙ ap (λ (s : List Said). s ++ end_said is_end) is)

@@ -1,20 +1,21 @@
 //! What is done with a request: which comes when, and what it does to an adapter.
 
-ghost use Rattle.std.specs.Prelude.{◌≡◌, ◌++◌, IfErr, IfOk, None, OnErr, OnOk, Some, map as each};
+ghost use Rattle.std.specs.Prelude.{◌≡◌, ◌∷◌, [], IfErr, IfOk, None, OnErr, Some, map as each};
+ghost use Rattle.std.specs.Prelude.{string_bytes};
 ghost use Rattle.dap_session.specs.declared.seat.Seat.{Seat};
-ghost use Rattle.dap_messages.specs.Messages.{said_of};
+ghost use Rattle.dap_messages.specs.Messages.{refused, said_of};
 ghost use Rattle.dap_messages.specs.Requests.{request_of};
 ghost use Rattle.dap.specs.Adapter.{Begins, CountsIfRefused, Initializes, IsRefused};
 ghost use Rattle.dap.specs.Adapter.{ObeysAdapter, ObeysBegun, ObeysFirst, ObeysLaunched};
-ghost use Rattle.dap.specs.Adapter.{Launches, RestsIfRefused, Serves, StaysIfRefused, end_said};
+ghost use Rattle.dap.specs.Adapter.{Launches, RestsIfRefused, Serves, StaysIfRefused};
 ghost use Rattle.dap.specs.Adapter.{ends, launched};
 ghost use Rattle.serde_json.specs.View.{view};
 
 use dap_messages::{Counting, Message, Request, SessionRequest, capabilities, nothing, request_of};
 use dap_session::{
-    Fault, Seat, all_done, answer, begin_session, push_terminated, put_seat, refused,
+    Fault, Seat, all_done, answer, begin_session, or_memory, put_seat, refused, with_terminated,
 };
-use dap_views::answered;
+use dap_views::{answered, with_event};
 use serde_json::Value;
 use std::alloc::{AllocError, Global};
 use std::rt::Files;
@@ -56,20 +57,15 @@ fn initialize(
     ensures { IfOk result (λ ms. Initializes (view request.now) counting.new
         (each said_of ms.items)) }
 {
-    let body = capabilities(alloc)?;
-    let messages = answered(alloc, body)?;
     *counting = Some(Counting::of(request));
-    Ok(messages)
+    answered(alloc, capabilities(alloc))
 }
 
 /// Returns the answer to a launch, after which breakpoints may be set.
 fn launched(alloc: Global) -> Result<Vec<Message>, AllocError>
     ensures { IfOk result (λ ms. each said_of ms.items ≡ launched) }
 {
-    let mut messages = all_done(alloc)?;
-    let body = nothing(alloc)?;
-    messages.push(Message::Event("initialized", body))?;
-    Ok(messages)
+    with_event(all_done(alloc), "initialized", nothing(alloc))
 }
 
 /// Begins a session, and returns the answer to its launch.
@@ -142,7 +138,7 @@ fn serve_begun<H: Files + AllocGlobal>(
             Err(refused(rt.alloc(), "this cannot be served here"))
         }
         Request::Launch => launch(rt, seat, request),
-        Request::Disconnect => Ok(all_done(rt.alloc())?),
+        Request::Disconnect => or_memory(all_done(rt.alloc())),
         Request::InSession(asked) => serve_launched(rt, seat, counting, request, asked),
     }
 }
@@ -160,7 +156,7 @@ fn serve_first(
     ensures refused { IfErr result (λ f. CountsIfRefused f counting.old counting.new) }
 {
     match asked {
-        Request::Initialize => Ok(initialize(alloc, counting, request)?),
+        Request::Initialize => or_memory(initialize(alloc, counting, request)),
         _ => Err(refused(alloc, "initialize comes first")),
     }
 }
@@ -193,26 +189,24 @@ fn ends(adapter: &Adapter, asked: Request) -> bool
     }
 }
 
-/// Appends that the session has ended, if it has.
-fn push_end(alloc: Global, messages: &mut Vec<Message>, is_end: bool) -> Result<(), AllocError>
-    ensures { OnOk result (each said_of messages.new.items
-        ≡ each said_of messages.old.items ++ end_said is_end) }
-{
-    if is_end {
-        push_terminated(alloc, messages)?;
-    }
-    Ok(())
-}
-
-/// Returns the refusal of a request, and that the session has ended, if it has.
-#[tactic(auto, using(crate::proofs::Refusals::refused_end))]
-fn refusal(alloc: Global, words: String, is_end: bool) -> Result<Vec<Message>, AllocError>
-    ensures { IfOk result (λ ms. IsRefused is_end (each said_of ms.items)) }
+/// Returns the refusal of a request.
+fn refusal(alloc: Global, words: String) -> Result<Vec<Message>, AllocError>
+    ensures { IfOk result (λ ms. each said_of ms.items ≡ refused (string_bytes words) ∷ []) }
 {
     let mut messages = Vec::new(alloc);
     messages.push(Message::Refused(words))?;
-    push_end(alloc, &mut messages, is_end)?;
     Ok(messages)
+}
+
+/// Returns the refusal of a request, and that the session has ended, if it has.
+fn ended_by(alloc: Global, words: String, is_end: bool) -> Result<Vec<Message>, AllocError>
+    ensures { IfOk result (λ ms. IsRefused is_end (each said_of ms.items)) }
+{
+    if is_end {
+        with_terminated(alloc, refusal(alloc, words))
+    } else {
+        refusal(alloc, words)
+    }
 }
 
 /// Serves a request, and returns its answer and events. The only error is a failed allocation.
@@ -227,10 +221,7 @@ pub fn serve<H: Files + AllocGlobal>(
     let asked = request_of(request);
     match serve_asked(rt, adapter, request, asked) {
         Ok(messages) => Ok(messages),
-        Err(Fault::Refused(words)) => {
-            let messages = refusal(rt.alloc(), words, ends(adapter, asked))?;
-            Ok(messages)
-        }
+        Err(Fault::Refused(words)) => ended_by(rt.alloc(), words, ends(adapter, asked)),
         Err(Fault::OutOfMemory) => Err(AllocError),
     }
 }

@@ -1,2 +1,3 @@
+mod Begun
 mod Matching
 mod Watching

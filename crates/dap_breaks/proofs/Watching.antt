@@ -1,8 +1,12 @@
 -- Watches set and cleared one after another.
 use Rattle.std.proofs.Common.{◌≡◌, ◌∙◌, ℕ, ◌+◌, ◌<◌, ◌≤◌, List, [], ◌∷◌, ◌++◌, length, get_or, drop, map, sym, ap, add-one, arith, append_assoc, append-nil, drop-cons}
 use Rattle.std.proofs.lemmas.Grind.{common_steps}
+use Rattle.std.specs.Prelude.{Err, IfErr, Ok, OnOk, Result}
 use Rattle.dap_breaks.specs.Watches.{Watched, all_unset, unset, watches_in, watches_of, with_all, with_one}
+use Rattle.model.specs.Breakpoints.{watch_cleared}
 use Rattle.model.specs.Session.{Session}
+use Rattle.model.specs.declared.session_fault.SessionFault.{SessionFault}
+use Rattle.mon_settings.specs.StopLines.{or_same}
 use Rattle.mon_stops.specs.declared.watches.Watch.{Watch}
 use Rattle.serde_json.specs.View.{view}
 use Rattle.serde_json.specs.declared.value.Value.{Value}
@@ -19,6 +23,10 @@ pub wanted_done : (all : List Value) (i : ℕ) (found whole : List Watch) → le
 wanted_done all i found whole over so_far =
     let e : drop i all ≡ [] = grind (arith, common_steps) in
     sym (append-nil found) ∙ sym (ap (λ (vs : List Value). found ++ watches_in (map view vs)) e) ∙ so_far
+
+pub unset_by : (r : Result Unit SessionFault) (address : ℕ) (old new : Session) → OnOk r (watch_cleared address old ≡ Ok new) → IfErr r (λ fault. (watch_cleared address old ≡ Err fault) × (new ≡ old)) → new ≡ unset address old
+unset_by (Ok done) address old new is failed = sym (ap (or_same old) is)
+unset_by (Err fault) address old new is failed = failed.1 ∙ sym (ap (or_same old) failed.0)
 
 pub unset_more : (addresses : List ℕ) (i : ℕ) → i < length addresses → (s : Session)
     → all_unset (drop i addresses) s ≡ all_unset (drop (i + 1) addresses) (unset (get_or addresses i 0) s)

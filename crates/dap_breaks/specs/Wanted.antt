@@ -59,4 +59,5 @@ abbrev pub addresses : List Break → List ℕ
 addresses stops = map (λ stop. stop.address) stops
 
 unfoldable pub Matches : WantedList → Type 0
-Matches list = told_addresses list.told.items ≡ addresses list.stops.items
+Matches list = (told_addresses list.told.items ≡ list.addresses.items)
+    × (addresses list.stops.items ≡ list.addresses.items)

@@ -1,12 +1,12 @@
 //! Requests that list breakpoints: each replaces those of the one before.
 
-ghost use Rattle.std.specs.Prelude.{◌≡◌, [], IfOk, List as ListOf, OnOk, codes};
+ghost use Rattle.std.specs.Prelude.{◌≡◌, IfOk, List as ListOf, OnOk, codes};
 ghost use Rattle.std.specs.Prelude.{map as each, option_map};
 ghost use Rattle.dap_breaks.specs.Answered.{IsAnswer, answer_of};
 ghost use Rattle.dap_breaks.specs.Breaks.{SetsBreaks, SetsSourceBreaks};
 ghost use Rattle.dap_desk.specs.Breaks.{KeepsEvents, place_of};
 ghost use Rattle.dap_breaks.specs.Targets.{row_in};
-ghost use Rattle.dap_breaks.specs.Wanted.{Matches, addresses};
+ghost use Rattle.dap_breaks.specs.Wanted.{Matches};
 ghost use Rattle.dap_messages.specs.Answers.{breakpoints_body};
 ghost use Rattle.dap_breaks.specs.Watches.{items_at};
 ghost use Rattle.json_values.specs.ValueLists.{HasValues};
@@ -18,10 +18,9 @@ use crate::wanted::{List, Wanted, push_at, push_why, row_from};
 use arguments::is_one_file;
 use dap_desk::{is_break, replace};
 use dap_messages::{Counting, Listed, Source, place_at};
-use json_values::{Object, ValueList, text_at};
+use json_values::{Object, ValueList, text_or};
 use mon_runs::Session;
 use mon_session::Desk;
-use mon_stops::Break;
 use serde_json::Value;
 use std::alloc::{AllocError, Global};
 use std::mem;
@@ -43,16 +42,6 @@ pub fn list_of(request: &Value) -> &[Value]
     {
         Some(list) => list.as_slice(),
         None => &[],
-    }
-}
-
-/// Returns a list without breakpoints.
-fn new_list(alloc: Global) -> List
-    ensures { Matches result }
-{
-    List {
-        told: Vec::new(alloc),
-        stops: Vec::new(alloc),
     }
 }
 
@@ -83,22 +72,6 @@ fn push_line(
     }
 }
 
-/// Returns the breakpoints of lines that a request lists.
-fn lines_listed(
-    alloc: Global,
-    desk: &Desk,
-    source: &Source<'_>,
-    request: &Value,
-) -> Result<List, AllocError>
-    ensures { IfOk result Matches }
-{
-    let mut list = new_list(alloc);
-    for wanted in list_of(request) {
-        push_line(alloc, &mut list, desk, source, wanted)?;
-    }
-    Ok(list)
-}
-
 /// Appends a breakpoint at an address.
 fn push_address(
     alloc: Global,
@@ -117,26 +90,50 @@ fn push_address(
     }
 }
 
-/// Returns the breakpoints at addresses that a request lists.
-fn addresses_listed(alloc: Global, desk: &Desk, request: &Value) -> Result<List, AllocError>
-    ensures { IfOk result Matches }
+/// Appends a breakpoint of a line of a source, if there is one, otherwise of an address.
+fn push_wanted(
+    alloc: Global,
+    list: &mut List,
+    desk: &Desk,
+    source: Option<&Source<'_>>,
+    wanted: &Value,
+) -> Result<(), AllocError>
+    ensures { OnOk result (Matches list.old → Matches list.new) }
 {
-    let mut list = new_list(alloc);
-    for wanted in list_of(request) {
-        push_address(alloc, &mut list, desk, wanted)?;
+    match source {
+        Some(source) => push_line(alloc, list, desk, source, wanted),
+        None => push_address(alloc, list, desk, wanted),
     }
-    Ok(list)
 }
 
-/// Returns the addresses of breakpoints.
-fn addresses_of(alloc: Global, stops: &[Break]) -> Result<Vec<u16>, AllocError>
-    ensures { IfOk result (λ found. found.items ≡ addresses stops.now) }
+/// Holds a request in place of the one before.
+pub fn hold(held: &mut Option<Value>, request: &Value) -> Result<(), AllocError> {
+    let copy = request.clone()?;
+    drop(mem::replace(held, Some(copy)));
+    Ok(())
+}
+
+/// Holds a request in place of the one before, and returns the breakpoints that it lists: of lines
+/// of a source, if there is one, otherwise of addresses.
+fn wanted_list(
+    alloc: Global,
+    desk: &Desk,
+    source: Option<&Source<'_>>,
+    held: &mut Option<Value>,
+    request: &Value,
+) -> Result<List, AllocError>
+    ensures { IfOk result Matches }
 {
-    let mut found = Vec::new(alloc);
-    for stop in stops {
-        found.push(stop.address)?;
+    hold(held, request)?;
+    let mut list = List {
+        told: Vec::new(alloc),
+        stops: Vec::new(alloc),
+        addresses: Vec::new(alloc),
+    };
+    for wanted in list_of(request) {
+        push_wanted(alloc, &mut list, desk, source, wanted)?;
     }
-    Ok(found)
+    Ok(list)
 }
 
 /// Returns what is answered of a breakpoint: whether it is set, if it stands at an address.
@@ -197,49 +194,30 @@ fn answers_elsewhere(alloc: Global, request: &Value) -> Result<Value, AllocError
     told_body(alloc, list)
 }
 
-/// Replaces the breakpoints at some addresses by others, whose addresses are held then.
-fn replace_held(
-    alloc: Global,
-    desk: &mut Desk,
-    held: &mut Vec<u16>,
-    stops: Vec<Break>,
-) -> Result<(), AllocError>
-    ensures sets { OnOk result
-        (SetsBreaks held.old.items held.new.items (place_of desk.old) (place_of desk.new)) }
-    ensures kept { KeepsEvents desk.old desk.new }
-    ensures held { OnOk result (held.new.items ≡ addresses stops.items) }
-{
-    let found = addresses_of(alloc, stops.as_slice())?;
-    replace(desk, held.as_slice(), stops)?;
-    *held = found;
-    Ok(())
-}
-
-/// Sets the breakpoints of a list in place of those at the addresses that are held, and returns
-/// what is answered.
+/// Sets the breakpoints of a list in place of those at the addresses that are held, if memory did
+/// not run out for it, and returns what is answered.
 fn set_list(
     alloc: Global,
     desk: &mut Desk,
     held: &mut Vec<u16>,
     counting: Counting,
-    list: List,
+    list: Result<List, AllocError>,
 ) -> Result<Value, AllocError>
-    requires { Matches list }
+    requires { IfOk list Matches }
     ensures sets { OnOk result
         (SetsBreaks held.old.items held.new.items (place_of desk.old) (place_of desk.new)) }
     ensures kept { KeepsEvents desk.old desk.new }
     ensures answer { IfOk result (IsAnswer desk.new.session counting held.new.items) }
 {
-    let List { told, stops } = list;
-    replace_held(alloc, desk, held, stops)?;
+    let list = list?;
+    let List {
+        told,
+        stops,
+        addresses,
+    } = list;
+    replace(desk, held.as_slice(), stops)?;
+    *held = addresses;
     answers(alloc, &desk.session, counting, told.as_slice())
-}
-
-/// Holds a request in place of the one before.
-pub fn hold(held: &mut Option<Value>, request: &Value) -> Result<(), AllocError> {
-    let copy = request.clone()?;
-    drop(mem::replace(held, Some(copy)));
-    Ok(())
 }
 
 /// Sets the breakpoints of the source that a request lists, in place of those before, and returns
@@ -261,8 +239,8 @@ pub fn set_lines(
     ensures answer { IfOk result (IsAnswer desk.new.session source.now.counting
         listed.new.lines.items) }
 {
-    hold(&mut listed.line_request, request)?;
-    let list = lines_listed(alloc, desk, source, request)?;
+    let held = &mut listed.line_request;
+    let list = wanted_list(alloc, desk, Some(source), held, request);
     set_list(alloc, desk, &mut listed.lines, source.counting, list)
 }
 
@@ -285,8 +263,8 @@ pub fn set_addresses(
     ensures answer { IfOk result (IsAnswer desk.new.session counting
         listed.new.addresses.items) }
 {
-    hold(&mut listed.address_request, request)?;
-    let list = addresses_listed(alloc, desk, request)?;
+    let held = &mut listed.address_request;
+    let list = wanted_list(alloc, desk, None, held, request);
     set_list(alloc, desk, &mut listed.addresses, counting, list)
 }
 
@@ -306,10 +284,11 @@ pub fn set_source<H: Files + AllocGlobal>(
     ensures kept { KeepsEvents desk.old desk.new }
     ensures addresses { listed.new.addresses ≡ listed.old.addresses }
 {
-    let path = text_at(request, "/arguments/source/path").unwrap_or("");
+    let alloc = rt.alloc();
+    let path = text_or(request, "/arguments/source/path", "");
     if is_one_file(rt, path, source.path) {
-        set_lines(rt.alloc(), desk, listed, source, request)
+        set_lines(alloc, desk, listed, source, request)
     } else {
-        answers_elsewhere(rt.alloc(), request)
+        answers_elsewhere(alloc, request)
     }
 }

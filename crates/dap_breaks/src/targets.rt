@@ -7,10 +7,10 @@ ghost use Rattle.serde_json.specs.Find.{pointer};
 ghost use Rattle.serde_json.specs.View.{view};
 
 use crate::listed::row_in;
-use crate::values::{goto_target, targets_body};
+use crate::values::targets_body;
 use arguments::is_one_file;
-use dap_messages::{Counting, Source};
-use json_values::{Object, ValueList, text_at};
+use dap_messages::{Counting, Source, address_text, reference};
+use json_values::{Object, ValueList, text_or};
 use serde_json::Value;
 use std::alloc::{AllocError, Global};
 use std::rt::Files;
@@ -32,7 +32,13 @@ fn targets_of(alloc: Global, counting: Counting, row: Option<(u32, u16)>) -> Val
     let list = ValueList::new(alloc);
     match row {
         Some((line, address)) => {
-            list.with(goto_target(alloc, address, counting.shown_line(line)))
+            let target = Object::new(alloc)
+                .count("id", address as u64)
+                .text("instructionPointerReference", reference(alloc, address))
+                .text("label", address_text(alloc, address))
+                .count("line", counting.shown_line(line))
+                .build();
+            list.with(target)
         }
         None => list,
     }
@@ -44,8 +50,7 @@ fn own_targets(alloc: Global, source: &Source<'_>, request: &Value) -> Result<Va
         (option_map (λ a. a.now) source.now.assembly) (view request.now)) }
 {
     let row = row_in(source, line_in(source.counting, request));
-    let list = targets_of(alloc, source.counting, row);
-    Object::new(alloc).member("targets", list.build()).build()
+    targets_body(alloc, targets_of(alloc, source.counting, row))
 }
 
 /// Returns the addresses at which the line that a request names can be gone to: that of the first
@@ -58,10 +63,11 @@ pub fn goto_targets<H: Files + AllocGlobal>(
     ensures { IfOk result (λ v. AreTargets source.now.counting
         (option_map (λ a. a.now) source.now.assembly) (view request.now) (view v)) }
 {
-    let path = text_at(request, "/arguments/source/path").unwrap_or("");
+    let alloc = rt.alloc();
+    let path = text_or(request, "/arguments/source/path", "");
     if is_one_file(rt, path, source.path) {
-        own_targets(rt.alloc(), source, request)
+        own_targets(alloc, source, request)
     } else {
-        targets_body(rt.alloc(), Vec::new(rt.alloc()))
+        targets_body(alloc, ValueList::new(alloc))
     }
 }

@@ -1,9 +1,11 @@
 //! The values of answers.
 
-ghost use Rattle.std.specs.Prelude.{◌≡◌, IfOk, map as each};
+ghost use Rattle.std.specs.Prelude.{◌≡◌, IfOk, List};
+ghost use Rattle.std.specs.Str.Lossy.{utf8_lossy};
 ghost use Rattle.dap_breaks.specs.Values.{breakpoint_set, breakpoint_unset, completion, data_at};
-ghost use Rattle.dap_breaks.specs.Values.{data_unwatched, data_watched, goto_target, no_data};
-ghost use Rattle.dap_breaks.specs.Values.{targets_body};
+ghost use Rattle.dap_breaks.specs.Values.{data_unwatched, no_data, targets_body};
+ghost use Rattle.json_values.specs.ValueLists.{HasValues};
+ghost use Rattle.serde_json.specs.Data.{Data};
 ghost use Rattle.serde_json.specs.View.{view};
 
 use dap_messages::{address_text, reference};
@@ -34,37 +36,24 @@ pub fn breakpoint_unset(alloc: Global, line: u64, words: &str) -> Result<Value, 
         .build()
 }
 
-/// Returns an address to go to, with its line.
-pub fn goto_target(alloc: Global, address: u16, line: u64) -> Result<Value, AllocError>
-    ensures { IfOk result (λ v. view v ≡ goto_target address line) }
-{
-    Object::new(alloc)
-        .count("id", address as u64)
-        .text("instructionPointerReference", reference(alloc, address))
-        .text("label", address_text(alloc, address))
-        .count("line", line)
-        .build()
-}
-
 /// Returns a word that can stand for so many bytes that are typed, from a column on.
-pub fn completion(alloc: Global, word: &str, start: u64, length: u64) -> Result<Value, AllocError>
-    ensures { IfOk result (λ v. view v ≡ completion word.now start length) }
+pub fn completion(alloc: Global, word: &[u8], start: u64, length: u64) -> Result<Value, AllocError>
+    ensures { IfOk result (λ v. view v ≡ completion (utf8_lossy word.now) start length) }
 {
     Object::new(alloc)
-        .word("label", word)
+        .text("label", String::from_utf8_lossy(alloc, word))
         .count("length", length)
         .count("start", start)
-        .word("text", word)
+        .text("text", String::from_utf8_lossy(alloc, word))
         .build()
 }
 
 /// Returns the answer that has some targets.
-pub fn targets_body(alloc: Global, list: Vec<Value>) -> Result<Value, AllocError>
-    ensures { IfOk result (λ v. view v ≡ targets_body (each view list.items)) }
+pub fn targets_body(alloc: Global, list: ValueList) -> Result<Value, AllocError>
+    ensures { (ds : List Data) → HasValues ds list
+        → IfOk result (λ v. view v ≡ targets_body ds) }
 {
-    Object::new(alloc)
-        .member("targets", Ok(Value::Array(list)))
-        .build()
+    Object::new(alloc).member("targets", list.build()).build()
 }
 
 /// Returns that the byte at an address can be watched.
@@ -91,13 +80,6 @@ pub fn no_data(alloc: Global, words: &str) -> Result<Value, AllocError>
         .member("dataId", Ok(Value::Null))
         .word("description", words)
         .build()
-}
-
-/// Returns that a byte is watched.
-pub fn data_watched(alloc: Global) -> Result<Value, AllocError>
-    ensures { IfOk result (λ v. view v ≡ data_watched) }
-{
-    Object::new(alloc).flag("verified", true).build()
 }
 
 /// Returns that a byte is not watched, with words of why.

@@ -1,6 +1,6 @@
 //! The breakpoints that a client wants, read from its list.
 
-ghost use Rattle.std.specs.Prelude.{◌≡◌, ◌++◌, IfOk, None, OnOk, option_map, string_bytes};
+ghost use Rattle.std.specs.Prelude.{◌≡◌, ◌++◌, OnOk, option_map};
 ghost use Rattle.assembler.specs.Assembly.{source_lines};
 ghost use Rattle.assembler.specs.Lines.{line_view};
 ghost use Rattle.dap_breaks.specs.Wanted.{Matches, break_line, condition_text, first_row};
@@ -28,11 +28,13 @@ pub struct Wanted {
     pub words: String,
 }
 
-/// A list of breakpoints that a client wants: what is told of each, and those that are set.
+/// A list of breakpoints that a client wants: what is told of each, those that are set, and the
+/// addresses of these.
 #[derive(Drop)]
 pub struct List {
     pub told: Vec<Wanted>,
     pub stops: Vec<Break>,
+    pub addresses: Vec<u16>,
 }
 
 /// Returns whether a line is at a number or behind it, and has bytes.
@@ -70,14 +72,6 @@ pub fn row_from(assembly: &Assembly, line: u32) -> Option<(u32, u16)>
     None
 }
 
-/// Appends two texts.
-fn push_both(text: &mut Vec<u8>, first: &str, second: &str) -> Result<(), AllocError>
-    ensures { OnOk result (text.new.items ≡ text.old.items ++ (first.now ++ second.now)) }
-{
-    push_text(text, first)?;
-    push_text(text, second)
-}
-
 /// Appends words and a text behind them, unless the text is empty.
 fn push_option(text: &mut Vec<u8>, words: &str, option: &str) -> Result<(), AllocError>
     ensures { OnOk result
@@ -86,69 +80,44 @@ fn push_option(text: &mut Vec<u8>, words: &str, option: &str) -> Result<(), Allo
     if option.is_empty() {
         return Ok(());
     }
-    push_both(text, words, option)
+    push_text(text, words)?;
+    push_text(text, option)
 }
 
-/// Appends the condition of a breakpoint, if it has one.
-fn push_condition(line: &mut Vec<u8>, wanted: &Value) -> Result<(), AllocError>
-    ensures { OnOk result
-        (line.new.items ≡ line.old.items ++ condition_text (view wanted.now)) }
+/// Appends the condition and the hit count of a breakpoint, each if it has one.
+fn push_options(line: &mut Vec<u8>, wanted: &Value) -> Result<(), AllocError>
+    ensures { OnOk result (line.new.items ≡ line.old.items
+        ++ (condition_text (view wanted.now) ++ hits_text (view wanted.now))) }
 {
-    push_option(line, " if ", text_or(wanted, "/condition", ""))
-}
-
-/// Appends the hit count of a breakpoint, if it has one.
-fn push_hits(line: &mut Vec<u8>, wanted: &Value) -> Result<(), AllocError>
-    ensures { OnOk result (line.new.items ≡ line.old.items ++ hits_text (view wanted.now)) }
-{
+    push_option(line, " if ", text_or(wanted, "/condition", ""))?;
     push_option(line, " times ", text_or(wanted, "/hitCondition", ""))
 }
 
-/// Returns the line of `mon` that sets a breakpoint.
-fn break_line(alloc: Global, wanted: &Value, address: u16) -> Result<Vec<u8>, AllocError>
-    ensures { IfOk result (λ line. line.items ≡ break_line (view wanted.now) address) }
+/// Appends the line of `mon` that sets a breakpoint.
+fn push_break(line: &mut Vec<u8>, wanted: &Value, address: u16) -> Result<(), AllocError>
+    ensures { OnOk result
+        (line.new.items ≡ line.old.items ++ break_line (view wanted.now) address) }
 {
-    let mut line = Vec::new(alloc);
-    push_text(&mut line, "break $")?;
-    push_address(&mut line, address)?;
-    push_condition(&mut line, wanted)?;
-    push_hits(&mut line, wanted)?;
-    Ok(line)
+    push_text(line, "break $")?;
+    push_address(line, address)?;
+    push_options(line, wanted)
 }
 
-/// Returns what is told of a breakpoint that cannot be set, for this reason.
-fn unset(alloc: Global, line: u32, words: &str) -> Result<Wanted, AllocError>
-    ensures address { IfOk result (λ wanted. wanted.address ≡ None) }
-    ensures line { IfOk result (λ wanted. wanted.line ≡ line) }
-    ensures words { IfOk result (λ wanted. string_bytes wanted.words ≡ words.now) }
-{
-    let words = String::from_str(alloc, words)?;
-    Ok(Wanted {
-        address: None,
-        line,
-        words,
-    })
-}
-
-/// Returns what is told of a breakpoint whose line of `mon` is wrong.
-fn slipped(alloc: Global, line: u32, slip: Slip<'_>) -> Result<Wanted, AllocError>
-    ensures { IfOk result (λ wanted. wanted.address ≡ None) }
-{
-    let mut text = Vec::new(alloc);
-    push_slip(&mut text, slip)?;
-    let words = String::from_utf8_lossy(alloc, text.as_slice().trim_ascii())?;
-    Ok(Wanted {
-        address: None,
-        line,
-        words,
-    })
-}
-
-/// Appends what is told of a breakpoint that cannot be set.
-fn push_unset(list: &mut List, wanted: Wanted) -> Result<(), AllocError>
-    requires { wanted.address ≡ None }
+/// Appends what is told of a breakpoint that cannot be set, if memory did not run out for words of
+/// why.
+fn push_unset(
+    list: &mut List,
+    line: u32,
+    words: Result<String, AllocError>,
+) -> Result<(), AllocError>
     ensures { OnOk result (Matches list.old → Matches list.new) }
 {
+    let words = words?;
+    let wanted = Wanted {
+        address: None,
+        line,
+        words,
+    };
     list.told.push(wanted)?;
     Ok(())
 }
@@ -157,8 +126,14 @@ fn push_unset(list: &mut List, wanted: Wanted) -> Result<(), AllocError>
 pub fn push_why(alloc: Global, list: &mut List, line: u32, words: &str) -> Result<(), AllocError>
     ensures { OnOk result (Matches list.old → Matches list.new) }
 {
-    let wanted = unset(alloc, line, words)?;
-    push_unset(list, wanted)
+    push_unset(list, line, String::from_str(alloc, words))
+}
+
+/// Returns what is wrong in a line of `mon`.
+fn slip_text(alloc: Global, slip: Slip<'_>) -> Result<String, AllocError> {
+    let mut text = Vec::new(alloc);
+    push_slip(&mut text, slip)?;
+    String::from_utf8_lossy(alloc, text.as_slice().trim_ascii())
 }
 
 /// Appends a breakpoint that can be set.
@@ -171,12 +146,13 @@ fn push_stop(alloc: Global, list: &mut List, line: u32, stop: Break) -> Result<(
         words: String::new(alloc),
     };
     list.told.push(wanted)?;
+    list.addresses.push(stop.address)?;
     list.stops.push(stop)?;
     Ok(())
 }
 
-/// Appends the breakpoint of a line of `mon`, or what is wrong in it. A line of the source has it,
-/// or none.
+/// Appends the breakpoint of a line of `mon`, or what is wrong in it: a line of more than 255 bytes
+/// is too long. A line of the source has it, or none.
 fn push_read(
     alloc: Global,
     list: &mut List,
@@ -186,6 +162,9 @@ fn push_read(
 ) -> Result<(), AllocError>
     ensures { OnOk result (Matches list.old → Matches list.new) }
 {
+    if text.len() > 255 {
+        return push_why(alloc, list, line, "the condition is too long");
+    }
     match read_line(text, &desk.places, desk.session.regs().pc) {
         Ok(
             Command::Break {
@@ -195,10 +174,7 @@ fn push_read(
             },
         ) => push_stop(alloc, list, line, Break::new(address, tests, times)),
         Ok(_) => push_why(alloc, list, line, "this is no break"),
-        Err(slip) => {
-            let wanted = slipped(alloc, line, slip)?;
-            push_unset(list, wanted)
-        }
+        Err(slip) => push_unset(list, line, slip_text(alloc, slip)),
     }
 }
 
@@ -213,9 +189,7 @@ pub fn push_at(
 ) -> Result<(), AllocError>
     ensures { OnOk result (Matches list.old → Matches list.new) }
 {
-    let text = break_line(alloc, wanted, address)?;
-    if text.len() > 255 {
-        return push_why(alloc, list, line, "the condition is too long");
-    }
+    let mut text = Vec::new(alloc);
+    push_break(&mut text, wanted, address)?;
     push_read(alloc, list, desk, line, text.as_slice())
 }

@@ -3,17 +3,17 @@
 ghost use Rattle.std.specs.Prelude.{◌≡◌, ◌++◌, ◌∷◌, [], IfOk, OnOk, map as each};
 ghost use Rattle.dap_messages.specs.Answers.{breakpoints_body};
 ghost use Rattle.dap_breaks.specs.Watches.{KeepsBreaks, SetsWatches, TellsWatches, all_unset};
-ghost use Rattle.dap_breaks.specs.Watches.{byte_watch, data_shown, has_bytes, is_watched, name_of};
-ghost use Rattle.dap_breaks.specs.Watches.{none_watched, place_if, place_of, told_of, unset};
+ghost use Rattle.dap_breaks.specs.Watches.{byte_watch, data_shown, has_bytes, is_watched};
+ghost use Rattle.dap_breaks.specs.Watches.{none_watched, place_of, told_of};
 ghost use Rattle.dap_breaks.specs.Watches.{watched_of, watches_in, watches_named, watches_of};
-ghost use Rattle.dap_breaks.specs.Watches.{with_all, with_one};
+ghost use Rattle.dap_breaks.specs.Watches.{with_all};
 ghost use Rattle.serde_json.specs.View.{view};
 
 use crate::listed::{hold, list_of, told_body};
-use crate::values::{data_at, data_unwatched, data_watched, no_data};
+use crate::values::{data_at, data_unwatched, no_data};
 use dap_messages::{Listed, place_at};
 use dap_views::place_named;
-use json_values::{ValueList, number_at, text_at, text_or};
+use json_values::{Object, ValueList, number_at, text_or};
 use mon_lines::{Stretch, WatchKind};
 use mon_runs::Session;
 use mon_session::Desk;
@@ -38,42 +38,15 @@ fn has_bytes(scope: Option<u64>) -> bool
     }
 }
 
-/// Returns the name of a request: empty if it has none.
-fn name_of(request: &Value) -> &str
-    ensures { result.now ≡ name_of (view request.now) }
-{
-    match text_at(request, "/arguments/name") {
-        Some(name) => name,
-        None => "",
-    }
-}
-
-/// Returns the address of the place that a text names, if it names one, and a byte can be there.
-fn place_if(
-    alloc: Global,
-    desk: &Desk,
-    is_byte: bool,
-    name: &str,
-) -> Result<Option<u16>, AllocError>
-    ensures { IfOk result (λ found. found ≡ place_if is_byte desk.now name.now) }
-{
-    if is_byte {
-        place_named(alloc, desk, name)
-    } else {
-        Ok(None)
-    }
-}
-
 /// Returns the address of the byte that a request names, if it names one.
 fn place_of(alloc: Global, desk: &Desk, request: &Value) -> Result<Option<u16>, AllocError>
     ensures { IfOk result (λ found. found ≡ place_of desk.now (view request.now)) }
 {
-    place_if(
-        alloc,
-        desk,
-        has_bytes(number_at(request, "/arguments/variablesReference")),
-        name_of(request),
-    )
+    if has_bytes(number_at(request, "/arguments/variablesReference")) {
+        place_named(alloc, desk, text_or(request, "/arguments/name", ""))
+    } else {
+        Ok(None)
+    }
 }
 
 /// Returns what can be watched of the byte that a request names.
@@ -86,22 +59,15 @@ pub fn data_shown(alloc: Global, desk: &Desk, request: &Value) -> Result<Value, 
     }
 }
 
-/// Returns a watch of one byte.
-fn byte_watch(address: u16, kind: WatchKind) -> Watch
-    ensures { result ≡ byte_watch address kind }
+/// Appends a watch of one byte.
+fn push_watch(list: &mut Vec<Watch>, address: u16, kind: WatchKind) -> Result<(), AllocError>
+    ensures { OnOk result (list.new.items ≡ list.old.items ++ byte_watch address kind ∷ []) }
 {
     let stretch = Stretch {
         first: address,
         last: address,
     };
-    Watch::Bytes { stretch, kind }
-}
-
-/// Appends a watch of one byte.
-fn push_watch(list: &mut Vec<Watch>, address: u16, kind: WatchKind) -> Result<(), AllocError>
-    ensures { OnOk result (list.new.items ≡ list.old.items ++ byte_watch address kind ∷ []) }
-{
-    list.push(byte_watch(address, kind))?;
+    list.push(Watch::Bytes { stretch, kind })?;
     Ok(())
 }
 
@@ -142,19 +108,12 @@ fn watches_in(alloc: Global, listed: &[Value]) -> Result<Vec<Watch>, AllocError>
     Ok(list)
 }
 
-/// Ends the watch of changes in the session at an address.
-fn unset(session: &mut Session, address: u16)
-    ensures { session.new ≡ unset address session.old }
-{
-    let _ = session.clear_watch(address);
-}
-
 /// Ends the watch of changes in the session at some addresses.
 fn unset_all(session: &mut Session, addresses: &[u16])
     ensures { session.new ≡ all_unset addresses.now session.old }
 {
     for address in addresses {
-        unset(session, *address);
+        let _ = session.clear_watch(*address);
     }
 }
 
@@ -168,23 +127,14 @@ fn clear_watches(desk: &mut Desk)
     desk.stops.changes.clear();
 }
 
-/// Sets a watch, if it can be set.
-fn set_one(desk: &mut Desk, watch: Watch) -> Result<(), AllocError>
-    ensures watched { OnOk result
-        (watched_of desk.new ≡ with_one watch (watched_of desk.old)) }
-    ensures kept { KeepsBreaks desk.old desk.new }
-{
-    set_watch(desk, watch)
-}
-
-/// Sets watches, one after another.
+/// Sets those of some watches that can be set, one after another.
 fn set_each(desk: &mut Desk, watches: &[Watch]) -> Result<(), AllocError>
     ensures watched { OnOk result
         (watched_of desk.new ≡ with_all watches.now (watched_of desk.old)) }
     ensures kept { KeepsBreaks desk.old desk.new }
 {
     for watch in watches {
-        set_one(desk, *watch)?;
+        set_watch(desk, *watch)?;
     }
     Ok(())
 }
@@ -224,7 +174,7 @@ fn told(alloc: Global, stops: &Stops, wanted: &Value) -> Result<Value, AllocErro
     match place_at(wanted, "/dataId", "/offset") {
         Some(address) => {
             if is_watched(stops, address, text_or(wanted, "/accessType", "write")) {
-                data_watched(alloc)
+                Object::new(alloc).flag("verified", true).build()
             } else {
                 data_unwatched(alloc, NOT_WATCHED)
             }
@@ -267,6 +217,5 @@ pub fn set_data(
     replace_watches(alloc, desk, wanted)?;
     desk.text.clear();
     hold(&mut listed.data_request, request)?;
-    let body = all_told(alloc, &desk.stops, wanted)?;
-    Ok(body)
+    all_told(alloc, &desk.stops, wanted)
 }

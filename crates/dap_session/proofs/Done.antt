@@ -1,5 +1,8 @@
 -- What is said of a request that is done, with more behind it.
-use Rattle.std.proofs.Common.{◌≡◌, ◌∙◌, List, [], ◌∷◌, ◌++◌, ap}
+use Rattle.std.proofs.Common.{◌≡◌, ◌∙◌, IfOk, List, [], ◌∷◌, ◌++◌, ap, refl, subst}
+use Rattle.std.proofs.lemmas.Result.{IfOk-weaker}
+use Rattle.std.specs.Prelude.{Err, Ok, Result}
+use Rattle.dap_messages.specs.Bodies.{nothing}
 use Rattle.dap_messages.specs.Messages.{Said, done}
 use Rattle.dap_session.specs.Answered.{IsDone}
 use Rattle.serde_json.specs.Data.{Data}
@@ -7,5 +10,18 @@ use Rattle.serde_json.specs.Data.{Data}
 pub done_more : (before after more : List Said) → after ≡ before ++ more → IsDone before → IsDone after
 done_more before after more grown d = (d.0, d.1 ++ more, grown ∙ ap (λ (s : List Said). s ++ more) d.2)
 
-pub done_one : (said : List Said) (body : Data) → said ≡ done body ∷ [] → IsDone said
-done_one said body is = (body, [], is)
+-- whatever was said before
+pub done_by : {V E : Type 0} (m r : Result V E) (told : V → List Said) (more : List Said)
+    → ((before : List Said) → IfOk m (λ ms. told ms ≡ before) → IfOk r (λ ms. told ms ≡ before ++ more))
+    → IfOk m (λ ms. IsDone (told ms)) → IfOk r (λ ms. IsDone (told ms))
+done_by (Ok ms) r told more grown d = IfOk-weaker r _ _ (λ ns h. done_more (told ms) (told ns) more h d) (grown (told ms) refl)
+done_by (Err e) r told more grown d =
+    IfOk-weaker r _ _ (λ ns h. done_more (done nothing ∷ []) (told ns) more h (nothing, [], refl)) (grown (done nothing ∷ []) tt)
+
+-- messages that are handed on, and what holds of each result
+pub kept : {V E F : Type 0} (m : Result V E) (r : Result V F) (P : V → Type 0) → IfOk r (λ v. m ≡ Ok v) → IfOk m P → IfOk r P
+kept m r P was holds = IfOk-weaker r _ _ (λ v is. subst (λ o. IfOk o P) is holds) was
+
+pub always : {V E : Type 0} (r : Result V E) (P : V → Type 0) → ((v : V) → P v) → IfOk r P
+always (Ok v) P holds = holds v
+always (Err e) P holds = tt

@@ -10,10 +10,10 @@ ghost use Rattle.dap_session.specs.Answered.{begun_stand};
 ghost use Rattle.serde_json.specs.View.{view};
 
 use crate::changing::{go_to, write_memory};
-use crate::console::{evaluate, push_terminated, set_variable};
-use crate::fault::{Fault, refused};
+use crate::console::{evaluate, set_variable, with_terminated};
+use crate::fault::{Fault, or_memory, refused};
 use crate::seat::{Seat, begin_again, source_of};
-use crate::stands::{all_done, push_halt};
+use crate::stands::{all_done, with_halt_at};
 use dap_breaks::{
     completions, data_shown, goto_targets, set_addresses, set_data, set_lines, set_source,
 };
@@ -28,7 +28,6 @@ use std::alloc::{AllocError, Global};
 use std::rt::Files;
 
 /// Makes a move.
-#[tactic(auto, using(crate::proofs::Done::done_one))]
 fn make(alloc: Global, seat: &mut Seat, way: Move) -> Result<Vec<Message>, AllocError>
     ensures stand { OnOk result
         (stand_of seat.new.desk ≡ moved seat.old.options.steps way seat.old.desk) }
@@ -36,10 +35,7 @@ fn make(alloc: Global, seat: &mut Seat, way: Move) -> Result<Vec<Message>, Alloc
     ensures answer { IfOk result (λ ms. IsDone (each said_of ms.items)) }
 {
     let halt = make_move(&mut seat.desk, seat.options.steps, way);
-    let body = continued(alloc)?;
-    let mut messages = answered(alloc, body)?;
-    push_halt(alloc, &mut messages, seat, halt)?;
-    Ok(messages)
+    with_halt_at(alloc, answered(alloc, continued(alloc)), seat, halt)
 }
 
 /// Runs to a stop, unless the machine is to stand before the first instruction.
@@ -54,16 +50,13 @@ fn begin_run(seat: &mut Seat) -> Halt
 }
 
 /// Begins the run, or stands before the first instruction.
-#[tactic(auto, using(crate::proofs::Done::done_one))]
 fn configured(alloc: Global, seat: &mut Seat) -> Result<Vec<Message>, AllocError>
     ensures stand { OnOk result (stand_of seat.new.desk ≡ begun_stand seat.old) }
     ensures watches { OnOk result (KeepsWatches seat.old.desk seat.new.desk) }
     ensures answer { IfOk result (λ ms. IsDone (each said_of ms.items)) }
 {
     let halt = begin_run(seat);
-    let mut messages = all_done(alloc)?;
-    push_halt(alloc, &mut messages, seat, halt)?;
-    Ok(messages)
+    with_halt_at(alloc, all_done(alloc), seat, halt)
 }
 
 /// Sets the breakpoints of a kind that a request lists, and returns what is told of them.
@@ -102,7 +95,7 @@ fn set<H: Files + AllocGlobal>(
         (λ ms. Sets kind (view request.now) seat.old seat.new (each said_of ms.items)) }
 {
     let body = set_listed(rt, seat, counting, request, kind)?;
-    answered(rt.alloc(), body)
+    answered(rt.alloc(), Ok(body))
 }
 
 /// Lets go of what is told. The only error is that memory ran out.
@@ -196,17 +189,14 @@ fn restart<H: Files + AllocGlobal>(
 {
     let begun = begun_again(rt, seat, counting)?;
     seat.replace(begun);
-    let messages = configured(rt.alloc(), seat)?;
-    Ok(messages)
+    or_memory(configured(rt.alloc(), seat))
 }
 
 /// Answers a request, and says that the program has ended.
 fn terminate(alloc: Global) -> Result<Vec<Message>, AllocError>
     ensures { IfOk result (λ ms. Terminates (each said_of ms.items)) }
 {
-    let mut messages = all_done(alloc)?;
-    push_terminated(alloc, &mut messages)?;
-    Ok(messages)
+    with_terminated(alloc, all_done(alloc))
 }
 
 /// Returns what is shown of a session.
@@ -249,7 +239,7 @@ fn show<H: Files + AllocGlobal>(
         (λ ms. Shows query (view request.now) counting seat.now (each said_of ms.items)) }
 {
     let body = shown(rt, seat, counting, request, query)?;
-    answered(rt.alloc(), body)
+    answered(rt.alloc(), Ok(body))
 }
 
 /// Does what a request of a session asks for, and returns the messages to the client.
@@ -269,18 +259,18 @@ pub fn answer<H: Files + AllocGlobal>(
 {
     let alloc = rt.alloc();
     match asked {
-        SessionRequest::Moves(way) => Ok(make(alloc, seat, way)?),
-        SessionRequest::Sets(kind) => Ok(set(rt, seat, counting, request, kind)?),
-        SessionRequest::Changes(Change::Evaluate) => Ok(evaluate(alloc, seat, request)?),
+        SessionRequest::Moves(way) => or_memory(make(alloc, seat, way)),
+        SessionRequest::Sets(kind) => or_memory(set(rt, seat, counting, request, kind)),
+        SessionRequest::Changes(Change::Evaluate) => evaluate(alloc, seat, request),
         SessionRequest::Changes(Change::SetVariable) => {
-            Ok(set_variable(alloc, &mut seat.desk, request)?)
+            set_variable(alloc, &mut seat.desk, request)
         }
-        SessionRequest::Changes(Change::Goto) => Ok(go_to(alloc, seat, request)?),
+        SessionRequest::Changes(Change::Goto) => go_to(alloc, seat, request),
         SessionRequest::Changes(Change::WriteMemory) => write_memory(alloc, seat, request),
-        SessionRequest::Shows(query) => Ok(show(rt, seat, counting, request, query)?),
-        SessionRequest::ConfigurationDone => Ok(configured(alloc, seat)?),
-        SessionRequest::Restart => Ok(restart(rt, seat, counting)?),
-        SessionRequest::Terminate => Ok(terminate(alloc)?),
+        SessionRequest::Shows(query) => or_memory(show(rt, seat, counting, request, query)),
+        SessionRequest::ConfigurationDone => or_memory(configured(alloc, seat)),
+        SessionRequest::Restart => restart(rt, seat, counting),
+        SessionRequest::Terminate => or_memory(terminate(alloc)),
         SessionRequest::Other => Err(refused(alloc, "this request is not served")),
     }
 }

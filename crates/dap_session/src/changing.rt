@@ -13,13 +13,13 @@ ghost use Rattle.mon_settings.specs.ByteLines.{bytes_put};
 ghost use Rattle.serde_json.specs.View.{view};
 
 use crate::console::happen;
-use crate::fault::{Fault, refused};
+use crate::fault::{Fault, or_memory, refused};
 use crate::seat::Seat;
-use crate::stands::{all_done, push_halt};
+use crate::stands::{all_done, with_halt_at};
 use base64::DecodeAllocError;
 use base64::engine::general_purpose::STANDARD;
 use dap_messages::{Message, Reason, place_at, stand_by, written_body};
-use dap_views::{answered, tell_unmoved};
+use dap_views::{answered, with_unmoved};
 use json_values::{number_at, text_or};
 use model::Setting;
 use mon_runs::{Event, Session};
@@ -39,17 +39,15 @@ fn target_at(request: &Value) -> Option<u16>
 }
 
 /// Makes the instruction at an address the next, and says that the machine stands there.
-#[tactic(auto, using(crate::proofs::Done::done_one, crate::proofs::Stays::shows_same))]
+#[tactic(auto, using(crate::proofs::Stays::shows_same))]
 fn go_at(alloc: Global, seat: &mut Seat, address: u16) -> Result<Vec<Message>, Fault>
     ensures done { OnOk result (HasGone address seat.old.desk seat.new.desk) }
     ensures answer { IfOk result (λ ms. IsDone (each said_of ms.items)) }
     ensures refused { IfErr result (λ f. ShowsIfRefused f seat.old.desk seat.new.desk) }
 {
     happen(alloc, &mut seat.desk, Event::Set(Setting::Pc(address)))?;
-    let mut messages = all_done(alloc)?;
     let halt = stand_by(Reason::Goto, "gone to another line");
-    push_halt(alloc, &mut messages, seat, halt)?;
-    Ok(messages)
+    or_memory(with_halt_at(alloc, all_done(alloc), seat, halt))
 }
 
 /// Makes the instruction at the address that a request names the next, and says that the machine
@@ -126,10 +124,7 @@ fn put_all(desk: &mut Desk, address: u16, bytes: &[u8]) -> Result<(), AllocError
 fn written(alloc: Global, count: u64) -> Result<Vec<Message>, AllocError>
     ensures { IfOk result (λ ms. each said_of ms.items ≡ written_said count) }
 {
-    let body = written_body(alloc, count)?;
-    let mut messages = answered(alloc, body)?;
-    tell_unmoved(alloc, &mut messages)?;
-    Ok(messages)
+    with_unmoved(alloc, answered(alloc, written_body(alloc, count)))
 }
 
 /// Writes bytes to memory from an address on, an event for each, up to the first that is rejected.
@@ -149,8 +144,7 @@ fn write_at(
     let bytes = bytes_in(alloc, request)?;
     put_all(desk, address, bytes.as_slice())?;
     let count = count_there(&desk.session, address, bytes.as_slice());
-    let messages = written(alloc, count)?;
-    Ok(messages)
+    or_memory(written(alloc, count))
 }
 
 /// Writes bytes to memory, an event for each, up to the first that is rejected. Nothing is written

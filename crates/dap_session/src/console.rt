@@ -3,20 +3,21 @@
 ghost use Rattle.std.specs.Prelude.{◌≡◌, ◌∷◌, ◌++◌, [], ℕ, Bool, IfErr, IfOk, List, OnOk, map as each};
 ghost use Rattle.std.specs.Prelude.{codes, option_map, string_bytes};
 ghost use Rattle.dap_breaks.specs.Watches.{items_at};
-ghost use Rattle.dap_messages.specs.Messages.{said_of};
+ghost use Rattle.dap_messages.specs.Messages.{Said, done, said_of};
 ghost use Rattle.dap_session.specs.Answered.{IsDone};
 ghost use Rattle.dap_session.specs.Changes.{HasChanged, TellsValue, is_named, value_of, value_shown};
 ghost use Rattle.dap_session.specs.Console.{Evaluates, Looks, ServesConsole, ShowsIfRefused};
 ghost use Rattle.dap_session.specs.Console.{expression_of, is_console, over};
 ghost use Rattle.dap_session.specs.Stands.{KeepsProgram, KeepsSession};
 ghost use Rattle.mon_session.specs.Course.{KeepsStops, course_of, happened};
+ghost use Rattle.serde_json.specs.Data.{Data};
 ghost use Rattle.serde_json.specs.View.{items_view, view};
 
-use crate::fault::{Fault, refused, refused_by};
+use crate::fault::{Fault, or_memory, refused, refused_by};
 use crate::seat::Seat;
-use crate::stands::push_halt;
+use crate::stands::with_halt_at;
 use dap_messages::{Message, Reason, evaluated, nothing, stand_by, value_set};
-use dap_views::{answered, look_at, tell_unmoved, variables_shown};
+use dap_views::{answered, look_at, variables_shown, with_event, with_unmoved};
 use json_values::{number_at, text_at, text_or};
 use mon_dispatch::serve;
 use mon_lines::{Command, Flag, Slip, read_line};
@@ -39,54 +40,55 @@ fn serve_line(alloc: Global, desk: &mut Desk, line: &[u8]) -> Result<(String, bo
     Ok((said, is_over))
 }
 
-/// Appends that the machine stands, if a line has moved it, or that values may have changed.
-#[tactic(auto, using(crate::proofs::Done::done_more))]
-fn push_moved(
+/// Returns messages and, behind them, that the machine stands, if a line has moved it, or that
+/// values may have changed.
+fn with_moved(
     alloc: Global,
-    messages: &mut Vec<Message>,
+    messages: Result<Vec<Message>, AllocError>,
     seat: &mut Seat,
     is_moved: bool,
-) -> Result<(), AllocError>
-    ensures answer { OnOk result
-        (IsDone (each said_of messages.old.items) → IsDone (each said_of messages.new.items)) }
+) -> Result<Vec<Message>, AllocError>
+    ensures answer { (body : Data) (rest : List Said)
+        → IfOk messages (λ ms. each said_of ms.items ≡ done body ∷ rest)
+        → IfOk result (λ ms. IsDone (each said_of ms.items)) }
     ensures kept { KeepsSession seat.old seat.new }
 {
     if is_moved {
-        push_halt(
-            alloc,
-            messages,
-            seat,
-            stand_by(Reason::Step, "a line of the console"),
-        )
+        let halt = stand_by(Reason::Step, "a line of the console");
+        with_halt_at(alloc, messages, seat, halt)
     } else {
-        tell_unmoved(alloc, messages)
+        with_unmoved(alloc, messages)
     }
 }
 
-/// Appends that the session has ended.
-pub fn push_terminated(alloc: Global, messages: &mut Vec<Message>) -> Result<(), AllocError>
-    ensures { OnOk result
-        (each said_of messages.new.items ≡ each said_of messages.old.items ++ over ∷ []) }
+/// Returns messages and, behind them, that the session has ended.
+pub fn with_terminated(
+    alloc: Global,
+    messages: Result<Vec<Message>, AllocError>,
+) -> Result<Vec<Message>, AllocError>
+    ensures { (before : List Said) → IfOk messages (λ ms. each said_of ms.items ≡ before)
+        → IfOk result (λ ms. each said_of ms.items ≡ before ++ over ∷ []) }
 {
-    let body = nothing(alloc)?;
-    messages.push(Message::Event("terminated", body))?;
-    Ok(())
+    with_event(messages, "terminated", nothing(alloc))
 }
 
-/// Appends that the session has ended, if it has.
-#[tactic(auto, using(crate::proofs::Done::done_more))]
-fn push_over(alloc: Global, messages: &mut Vec<Message>, is_over: bool) -> Result<(), AllocError>
-    ensures answer { OnOk result
-        (IsDone (each said_of messages.old.items) → IsDone (each said_of messages.new.items)) }
+/// Returns messages and, behind them, that the session has ended, if it has.
+fn with_over(
+    alloc: Global,
+    messages: Result<Vec<Message>, AllocError>,
+    is_over: bool,
+) -> Result<Vec<Message>, AllocError>
+    ensures { IfOk messages (λ ms. IsDone (each said_of ms.items))
+        → IfOk result (λ ms. IsDone (each said_of ms.items)) }
 {
     if is_over {
-        push_terminated(alloc, messages)?;
+        with_terminated(alloc, messages)
+    } else {
+        messages
     }
-    Ok(())
 }
 
 /// Serves a line of the console.
-#[tactic(auto, using(crate::proofs::Done::done_one))]
 fn console(alloc: Global, seat: &mut Seat, line: &str) -> Result<Vec<Message>, AllocError>
     ensures desk { IfOk result (λ _. (over : Bool) × (said : List ℕ)
         × ServesConsole line.now over seat.old.desk seat.new.desk said) }
@@ -97,23 +99,17 @@ fn console(alloc: Global, seat: &mut Seat, line: &str) -> Result<Vec<Message>, A
     let cycles = seat.desk.session.cycles();
     let (said, is_over) = serve_line(alloc, &mut seat.desk, line.as_bytes())?;
     let is_moved = seat.desk.session.regs() != regs || seat.desk.session.cycles() != cycles;
-    let body = evaluated(alloc, said.as_str())?;
-    let mut messages = answered(alloc, body)?;
-    push_moved(alloc, &mut messages, seat, is_moved)?;
-    push_over(alloc, &mut messages, is_over)?;
-    Ok(messages)
+    let answer = answered(alloc, evaluated(alloc, said.as_str()));
+    let told = with_moved(alloc, answer, seat, is_moved);
+    with_over(alloc, told, is_over)
 }
 
 /// Shows a register, or the byte at a place.
-#[tactic(auto, using(crate::proofs::Done::done_one))]
 fn look(alloc: Global, desk: &Desk, text: &str) -> Result<Vec<Message>, Fault>
     ensures { IfOk result (λ ms. Looks desk.now text.now (each said_of ms.items)) }
 {
     match look_at(alloc, desk, text)? {
-        Some(body) => {
-            let messages = answered(alloc, body)?;
-            Ok(messages)
-        }
+        Some(body) => or_memory(answered(alloc, Ok(body))),
         None => Err(refused(alloc, "this is neither a register nor a place")),
     }
 }
@@ -147,8 +143,7 @@ pub fn evaluate(alloc: Global, seat: &mut Seat, request: &Value) -> Result<Vec<M
 {
     let text = expression_of(request);
     if is_console(request) {
-        let messages = console(alloc, seat, text)?;
-        Ok(messages)
+        or_memory(console(alloc, seat, text))
     } else {
         look(alloc, &seat.desk, text)
     }
@@ -308,10 +303,9 @@ fn tell_value(alloc: Global, desk: &Desk, request: &Value) -> Result<Vec<Message
     ensures { IfOk result (λ ms. TellsValue (view request.now) desk.now (each said_of ms.items)) }
 {
     let shown = variables_shown(alloc, desk, request)?;
-    let body = value_set(alloc, value_shown(request, variables_in(&shown)))?;
-    let mut messages = answered(alloc, body)?;
-    tell_unmoved(alloc, &mut messages)?;
-    Ok(messages)
+    let body = value_set(alloc, value_shown(request, variables_in(&shown)));
+    drop(shown);
+    with_unmoved(alloc, answered(alloc, body))
 }
 
 /// Sets a variable, and says which value it has then.
@@ -326,6 +320,5 @@ pub fn set_variable(alloc: Global, desk: &mut Desk, request: &Value) -> Result<V
 {
     let line = setting_line(alloc, request)?;
     change(alloc, desk, line.as_bytes())?;
-    let messages = tell_value(alloc, desk, request)?;
-    Ok(messages)
+    or_memory(tell_value(alloc, desk, request))
 }

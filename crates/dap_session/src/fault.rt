@@ -1,10 +1,11 @@
 //! Why a request is not done.
 
-ghost use Rattle.std.specs.Prelude.{ℕ, List};
+ghost use Rattle.std.specs.Prelude.{◌≡◌, ℕ, IfErr, IfOk, List, Ok};
 ghost use Rattle.std.specs.Str.{IsTrimAscii};
 ghost use Rattle.std.specs.Str.Lossy.{utf8_lossy};
 ghost use Rattle.dap_session.specs.Console.{IsRefusal};
 
+use dap_messages::Message;
 use std::alloc::{AllocError, Global};
 
 /// Why a request is not done.
@@ -24,6 +25,17 @@ impl From<AllocError> for Fault {
 
     fn from(_: AllocError) -> Fault {
         Fault::OutOfMemory
+    }
+}
+
+/// Returns messages, or that an allocation failed.
+pub fn or_memory(made: Result<Vec<Message>, AllocError>) -> Result<Vec<Message>, Fault>
+    ensures made { IfOk result (λ ms. made ≡ Ok ms) }
+    ensures memory { IfErr result (λ f. f ≡ Fault.OutOfMemory) }
+{
+    match made {
+        Ok(messages) => Ok(messages),
+        Err(_) => Err(Fault::OutOfMemory),
     }
 }
 

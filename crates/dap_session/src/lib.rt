@@ -21,9 +21,9 @@ mod seat;
 mod stands;
 
 pub use answering::answer;
-pub use console::push_terminated;
+pub use console::with_terminated;
 pub use dap_desk::NO_STOP;
-pub use fault::{Fault, refused};
+pub use fault::{Fault, or_memory, refused};
 pub use options::Options;
 pub use seat::{Seat, begin_session, put_seat};
 pub use stands::all_done;

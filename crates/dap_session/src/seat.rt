@@ -214,7 +214,9 @@ fn begin<H: Files + AllocGlobal>(rt: &H, options: Options) -> Result<Seat, Fault
 
 /// Begins the session that a launch asks for.
 ///
-/// Errors: those of `options_of` and `begin`.
+/// Errors: `Refused` if the launch names no program, if an option has a value that it cannot have,
+/// or if a file is not loaded, with what `loading` says of it; `OutOfMemory` if an allocation
+/// fails.
 pub fn begin_session<H: Files + AllocGlobal>(rt: &H, request: &Value) -> Result<Seat, Fault>
     ensures { IfOk result (IsLaunched (view request.now)) }
 {
@@ -224,7 +226,8 @@ pub fn begin_session<H: Files + AllocGlobal>(rt: &H, request: &Value) -> Result<
 
 /// Begins a session on the file of another, with its options.
 ///
-/// Errors: those of `begin`.
+/// Errors: `Refused` if a file is not loaded, with what `loading` says of it; `OutOfMemory` if an
+/// allocation fails.
 pub fn begin_again<H: Files + AllocGlobal>(rt: &H, seat: &Seat) -> Result<Seat, Fault>
     ensures { IfOk result (λ begun. (options : Options) × IsAgain seat.now.options options
         × IsBegun options begun) }

@@ -1,21 +1,21 @@
 //! That the machine stands.
 
-ghost use Rattle.std.specs.Prelude.{◌≡◌, IfOk, OnOk, map as each};
-ghost use Rattle.dap_messages.specs.Messages.{said_of};
+ghost use Rattle.std.specs.Prelude.{◌≡◌, ◌∷◌, IfOk, List, map as each};
+ghost use Rattle.dap_messages.specs.Messages.{Said, done, said_of};
 ghost use Rattle.dap_session.specs.Answered.{IsDone, all_done};
 ghost use Rattle.dap_session.specs.Stands.{IsToldHalt, KeepsSession, is_at, reason_at};
+ghost use Rattle.serde_json.specs.Data.{Data};
 
 use crate::seat::Seat;
 use dap_messages::{Halt, Listed, Message, Reason, nothing};
-use dap_views::{answered, tell_halt};
+use dap_views::{answered, with_halt};
 use std::alloc::{AllocError, Global};
 
 /// Returns that a request is done.
 pub fn all_done(alloc: Global) -> Result<Vec<Message>, AllocError>
     ensures { IfOk result (λ ms. each said_of ms.items ≡ all_done) }
 {
-    let body = nothing(alloc)?;
-    answered(alloc, body)
+    answered(alloc, nothing(alloc))
 }
 
 /// Returns whether an address is one of some.
@@ -42,19 +42,21 @@ fn reason_at(listed: &Listed, pc: u16, reason: Reason) -> Reason
     }
 }
 
-/// Appends what the client is told of a halt: what the program put out, a remark if the machine is
-/// before the first instruction or at its oldest state, and that the machine stands.
-#[tactic(auto, using(crate::proofs::Done::done_more))]
-pub fn push_halt(
+/// Returns messages and, behind them, what the client is told of a halt: what the program put out,
+/// a remark if the machine is before the first instruction or at its oldest state, and that the
+/// machine stands.
+pub fn with_halt_at(
     alloc: Global,
-    messages: &mut Vec<Message>,
+    messages: Result<Vec<Message>, AllocError>,
     seat: &mut Seat,
     halt: Halt,
-) -> Result<(), AllocError>
-    ensures told { OnOk result (IsToldHalt seat.old halt seat.new
-        (each said_of messages.old.items) (each said_of messages.new.items)) }
-    ensures answer { OnOk result
-        (IsDone (each said_of messages.old.items) → IsDone (each said_of messages.new.items)) }
+) -> Result<Vec<Message>, AllocError>
+    ensures told { (before : List Said) → IfOk messages (λ ms. each said_of ms.items ≡ before)
+        → IfOk result
+        (λ ms. IsToldHalt seat.old halt seat.new before (each said_of ms.items)) }
+    ensures answer { (body : Data) (rest : List Said)
+        → IfOk messages (λ ms. each said_of ms.items ≡ done body ∷ rest)
+        → IfOk result (λ ms. IsDone (each said_of ms.items)) }
     ensures kept { KeepsSession seat.old seat.new }
 {
     let halt = Halt {
@@ -62,5 +64,5 @@ pub fn push_halt(
         words: halt.words,
         fault: halt.fault,
     };
-    tell_halt(alloc, messages, &seat.desk, &mut seat.told, halt)
+    with_halt(alloc, messages, &seat.desk, &mut seat.told, halt)
 }

@@ -1,14 +1,12 @@
 -- Rows one after another.
-use Rattle.std.proofs.Common.{◌≡◌, ◌∙◌, ℕ, zero, suc, ◌+◌, ◌-◌, ◌<◌, ◌≤◌, if◌then◌else◌, List, [], ◌∷◌, ◌++◌, map, sym, ap, arith, refl, append_assoc, append-nil}
+use Rattle.std.proofs.Common.{◌≡◌, ◌∙◌, ℕ, zero, suc, ◌+◌, ◌-◌, ◌<◌, ◌≤◌, Bool, true, false, if◌then◌else◌, List, [], ◌∷◌, ◌++◌, sym, ap, arith, refl, append_assoc, append-nil}
 use Rattle.std.proofs.lemmas.Bool.{le-ltb, lt-ltb}
-use Rattle.std.proofs.lemmas.List.{map-append}
-use Rattle.std.specs.Prelude.{min}
+use Rattle.std.specs.Prelude.{min, nat_lt}
 use Rattle.dap_messages.specs.declared.counting.Counting.{Counting}
-use Rattle.dap_views.specs.Rows.{first, found, next_row, row_at, rows, rows_around, rows_on, rows_to}
+use Rattle.dap_views.specs.Rows.{first, found, next_row, row_at, row_len, row_of, row_shown, rows, rows_around, rows_on, rows_to}
+use Rattle.dap_views.specs.Values.{no_instruction}
 use Rattle.mon_session.specs.declared.desk.Desk.{Desk}
 use Rattle.serde_json.specs.Data.{Data}
-use Rattle.serde_json.specs.View.{view}
-use Rattle.serde_json.specs.declared.value.Value.{Value}
 
 -- ---- where a row begins that is some rows on
 
@@ -47,17 +45,22 @@ to_done desk end n at count whole e so_far =
 
 -- ---- rows
 
-pub rows_more : (desk : Desk) (path : List ℕ) (counting : Counting) (end n m at next : ℕ) (found new : List Value) (v : Value) (whole : List Data) → n ≡ suc m → next ≡ next_row desk end at → view v ≡ row_at desk path counting end at → new ≡ found ++ v ∷ []
-    → map view found ++ rows desk path counting end n at ≡ whole → map view new ++ rows desk path counting end m next ≡ whole
+picked : (b : Bool) (f : ℕ → Data) (d : Data) (at len whole : ℕ) → at + len ≡ (if b then at + whole else at) → (if b then f len else d) ≡ (if b then f whole else d)
+picked true f d at len whole e = let same : len ≡ whole = omega (arith, e) in ap f same
+picked false f d at len whole e = refl
+
+-- a row has as many bytes as there are to the next
+pub row_here : (desk : Desk) (path : List ℕ) (counting : Counting) (end at len : ℕ) → at + len ≡ next_row desk end at → row_of desk path counting at len ≡ row_at desk path counting end at
+row_here desk path counting end at len e = picked (nat_lt at 65536) (λ (n : ℕ). row_shown desk path counting at n) no_instruction at len (row_len desk end at) e
+
+pub rows_more : (desk : Desk) (path : List ℕ) (counting : Counting) (end n m at next : ℕ) (found whole : List Data) (d : Data) → n ≡ suc m → next ≡ next_row desk end at → d ≡ row_at desk path counting end at
+    → found ++ rows desk path counting end n at ≡ whole → (found ++ d ∷ []) ++ rows desk path counting end m next ≡ whole
 unfolding rows
-rows_more desk path counting end n m at next found new v whole e is shown put so_far =
+rows_more desk path counting end n m at next found whole d e is shown so_far =
     let rest = rows desk path counting end m next in
     let step : rows desk path counting end n at ≡ row_at desk path counting end at ∷ rest
     = ap (λ k. rows desk path counting end k at) e ∙ ap (λ a. row_at desk path counting end at ∷ rows desk path counting end m a) (sym is) in
-    ap (λ (ds : List Data). ds ++ rest) (ap (map view) put ∙ map-append view found (v ∷ []))
-    ∙ append_assoc (map view found) (view v ∷ []) rest
-    ∙ ap (λ (d : Data). map view found ++ d ∷ rest) shown
-    ∙ sym (ap (λ (ds : List Data). map view found ++ ds) step) ∙ so_far
+    append_assoc found (d ∷ []) rest ∙ ap (λ (x : Data). found ++ x ∷ rest) shown ∙ sym (ap (λ (ds : List Data). found ++ ds) step) ∙ so_far
 
 pub rows_done : (desk : Desk) (path : List ℕ) (counting : Counting) (end n at : ℕ) (found whole : List Data) → n ≡ 0 → found ++ rows desk path counting end n at ≡ whole → found ≡ whole
 unfolding rows
@@ -66,13 +69,12 @@ rows_done desk path counting end n at found whole e so_far =
 
 -- ---- rows in front of the memory, and the rows behind them
 
-pub around : (desk : Desk) (path : List ℕ) (counting : Counting) (end back on count steps_back steps_on lacking begun less left : ℕ) (m m1 : List Data) → steps_back ≡ back → steps_on ≡ on
+pub around : (desk : Desk) (path : List ℕ) (counting : Counting) (end back on count steps_back steps_on lacking begun less left : ℕ) → steps_back ≡ back → steps_on ≡ on
     → lacking ≡ steps_back - found desk end steps_back → begun ≡ first desk end steps_back steps_on → less ≡ min lacking count → left ≡ count - lacking
-    → m1 ≡ m ++ rows desk path counting end less 65536 → m1 ++ rows desk path counting end left begun ≡ m ++ rows_around desk path counting end back on count
-around desk path counting end back on count steps_back steps_on lacking begun less left m m1 is_back is_on is_lacking is_begun is_less is_left put =
+    → rows desk path counting end less 65536 ++ rows desk path counting end left begun ≡ rows_around desk path counting end back on count
+around desk path counting end back on count steps_back steps_on lacking begun less left is_back is_on is_lacking is_begun is_less is_left =
     let none : lacking ≡ back - found desk end back = is_lacking ∙ ap (λ b. b - found desk end b) is_back in
     let start : begun ≡ first desk end back on = is_begun ∙ (λ i. first desk end (is_back i) (is_on i)) in
     let few : less ≡ min (back - found desk end back) count = is_less ∙ ap (λ k. min k count) none in
     let many : left ≡ count - (back - found desk end back) = is_left ∙ ap (λ k. count - k) none in
-    ap (λ (ds : List Data). ds ++ rows desk path counting end left begun) put ∙ append_assoc m (rows desk path counting end less 65536) (rows desk path counting end left begun)
-    ∙ (λ i. m ++ (rows desk path counting end (few i) 65536 ++ rows desk path counting end (many i) (start i)))
+    λ i. rows desk path counting end (few i) 65536 ++ rows desk path counting end (many i) (start i)

@@ -1,5 +1,7 @@
 mod Cells
 mod Following
+mod Framed
+mod Joined
 mod Lossy
 mod Shown
 mod Symbols

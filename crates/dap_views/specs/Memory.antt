@@ -17,10 +17,14 @@ count_at path request = min 65536 (unwrap_or (number_at path request) 0)
 abbrev pub most : ℕ → ℕ → ℕ
 most first count = min count (65536 - first)
 
+-- So many bytes from an address on, in Base64.
+abbrev pub bytes_text : List ℕ → ℕ → ℕ → List ℕ
+bytes_text memory first count = encode_of standard (bytes_from memory first count)
+
 -- Those that there are, and how many more were asked for.
 abbrev pub bytes_shown : List ℕ → ℕ → ℕ → Data
 bytes_shown memory first count = memory_body first
-    (encode_of standard (bytes_from memory first (most first count))) (count - most first count)
+    (bytes_text memory first (most first count)) (count - most first count)
 
 -- What is answered; no byte is there where no address is named.
 abbrev pub memory_at : List ℕ → ℕ → Option ℕ → Data

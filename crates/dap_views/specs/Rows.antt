@@ -78,9 +78,13 @@ row_shown desk path counting address len = row_on path counting address
     (utf8_lossy (row_text desk address len)) (line_at desk.places.lines address)
 
 -- Where no memory is, a row says so.
+abbrev pub row_of : Desk → List ℕ → Counting → ℕ → ℕ → Data
+row_of desk path counting address len = if nat_lt address 65536
+    then row_shown desk path counting address len else no_instruction
+
 abbrev pub row_at : Desk → List ℕ → Counting → ℕ → ℕ → Data
-row_at desk path counting end address = if nat_lt address 65536
-    then row_shown desk path counting address (row_len desk end address) else no_instruction
+row_at desk path counting end address
+    = row_of desk path counting address (row_len desk end address)
 
 -- So many rows from an address on.
 unfoldable pub rows : Desk → List ℕ → Counting → ℕ → ℕ → ℕ → List Data

@@ -1,29 +1,12 @@
-//! Bodies that have no lists.
+//! The bodies of events.
 
 ghost use Rattle.std.specs.Prelude.{◌≡◌, ℕ, IfOk, List, string_bytes};
 ghost use Rattle.serde_json.specs.View.{view};
-ghost use Rattle.dap_views.specs.Values.{invalidated_body, memory_body, output_body, stopped_body};
+ghost use Rattle.dap_views.specs.Values.{invalidated_body, output_body, stopped_body};
 
-use dap_messages::reference;
 use json_values::{Object, ValueList};
 use serde_json::Value;
 use std::alloc::{AllocError, Global};
-
-/// Returns bytes of memory, in Base64, from an address on, with how many more were asked for.
-pub fn memory_body(
-    alloc: Global,
-    address: u16,
-    text: &str,
-    unread: u64,
-) -> Result<Value, AllocError>
-    ensures { IfOk result (λ v. view v ≡ memory_body address text.now unread) }
-{
-    Object::new(alloc)
-        .text("address", reference(alloc, address))
-        .word("data", text)
-        .count("unreadableBytes", unread)
-        .build()
-}
 
 /// Returns what the event says that the machine has stopped: the reason, and words of why.
 pub fn stopped_body(alloc: Global, reason: &str, words: &str) -> Result<Value, AllocError>

@@ -1,16 +1,13 @@
 //! A register, or the byte at a place.
 
-ghost use Rattle.std.specs.Prelude.{◌≡◌, IfOk, option_map, slice_index, string_bytes};
-ghost use Rattle.dap_views.specs.Values.{looked_at_body};
-ghost use Rattle.dap_views.specs.Variables.{byte_text};
-ghost use Rattle.dap_views.specs.Looks.{first_in, look_at, place_named, place_on, place_shown};
-ghost use Rattle.dap_views.specs.Looks.{register_byte, register_shown};
-ghost use Rattle.mon_lines.specs.Lines.{command_view};
+ghost use Rattle.std.specs.Prelude.{◌≡◌, ℕ, IfOk, List, Some, option_map, string_bytes};
+ghost use Rattle.dap_messages.specs.Answers.{evaluated_body};
+ghost use Rattle.dap_views.specs.Looks.{byte_at, look_at, place_named, place_on, place_shown};
+ghost use Rattle.dap_views.specs.Looks.{register_byte};
 ghost use Rattle.serde_json.specs.View.{view};
 
 use crate::texts::byte_text;
 use dap_messages::{address_text, evaluated, reference};
-use formatting::push_text;
 use json_values::Object;
 use model::Regs;
 use mon_lines::{Command, read_line};
@@ -34,32 +31,17 @@ fn register_byte(regs: Regs, name: &str) -> Option<u8>
     }
 }
 
-/// Returns the value of the register of a name, if there is one.
-fn register_shown(alloc: Global, regs: Regs, name: &str) -> Result<Option<String>, AllocError>
-    ensures { IfOk result
-        (λ shown. option_map string_bytes shown ≡ register_shown regs name.now) }
+/// Returns what a register is answered by, if memory did not run out for its value.
+fn register_shown(
+    alloc: Global,
+    text: Result<String, AllocError>,
+) -> Result<Option<Value>, AllocError>
+    ensures { (bytes : List ℕ) → IfOk text (λ s. string_bytes s ≡ bytes)
+        → IfOk result (λ found. option_map view found ≡ Some (evaluated_body bytes)) }
 {
-    if name == "PC" {
-        let text = address_text(alloc, regs.pc)?;
-        return Ok(Some(text));
-    }
-    match register_byte(regs, name) {
-        Some(byte) => {
-            let text = byte_text(alloc, byte)?;
-            Ok(Some(text))
-        }
-        None => Ok(None),
-    }
-}
-
-/// Returns the first address that a command shows, if it shows some.
-fn first_in(command: Command<'_>) -> Option<u16>
-    ensures { result ≡ first_in (command_view command.entry) }
-{
-    match command {
-        Command::Mem(stretch) => Some(stretch.first),
-        _ => None,
-    }
+    let text = text?;
+    let value = evaluated(alloc, text.as_str())?;
+    Ok(Some(value))
 }
 
 /// Returns the first address that a line shows, if it has at most 255 bytes, and shows some.
@@ -70,8 +52,8 @@ fn place_on(line: &[u8], places: &Places, pc: u16) -> Option<u16>
         return None;
     }
     match read_line(line, places, pc) {
-        Ok(command) => first_in(command),
-        Err(_) => None,
+        Ok(Command::Mem(stretch)) => Some(stretch.first),
+        _ => None,
     }
 }
 
@@ -82,22 +64,21 @@ pub fn place_named(alloc: Global, desk: &Desk, text: &str) -> Result<Option<u16>
     ensures { IfOk result (λ found. found
         ≡ place_named desk.now.places.names desk.now.session.current.regs.pc text.now) }
 {
-    let mut line = Vec::new(alloc);
-    push_text(&mut line, "mem ")?;
-    push_text(&mut line, text)?;
-    Ok(place_on(line.as_slice(), &desk.places, desk.session.regs().pc))
+    let line = format!(in alloc; "mem {text}")?;
+    Ok(place_on(line.as_bytes(), &desk.places, desk.session.regs().pc))
 }
 
 /// Returns the byte at an address.
-fn byte_shown(alloc: Global, session: &Session, address: u16) -> Result<Value, AllocError>
-    ensures { IfOk result (λ v. view v ≡ looked_at_body address
-        (byte_text (slice_index session.now.current.bus.memory address))) }
+fn byte_shown(alloc: Global, session: &Session, address: u16) -> Result<Option<Value>, AllocError>
+    ensures { IfOk result (λ found. option_map view found
+        ≡ byte_at session.now.current.bus.memory (Some address)) }
 {
-    Object::new(alloc)
+    let value = Object::new(alloc)
         .text("memoryReference", reference(alloc, address))
         .text("result", byte_text(alloc, session.peek(address)))
         .count("variablesReference", 0)
-        .build()
+        .build()?;
+    Ok(Some(value))
 }
 
 /// Returns the byte at the place that a text names, if it names one.
@@ -106,10 +87,7 @@ fn place_shown(alloc: Global, desk: &Desk, text: &str) -> Result<Option<Value>, 
         ≡ place_shown desk.now.session.current desk.now.places.names text.now) }
 {
     match place_named(alloc, desk, text)? {
-        Some(address) => {
-            let value = byte_shown(alloc, &desk.session, address)?;
-            Ok(Some(value))
-        }
+        Some(address) => byte_shown(alloc, &desk.session, address),
         None => Ok(None),
     }
 }
@@ -120,11 +98,12 @@ pub fn look_at(alloc: Global, desk: &Desk, text: &str) -> Result<Option<Value>, 
     ensures { IfOk result (λ found. option_map view found
         ≡ look_at desk.now.session.current desk.now.places.names text.now) }
 {
-    match register_shown(alloc, desk.session.regs(), text)? {
-        Some(shown) => {
-            let value = evaluated(alloc, shown.as_str())?;
-            Ok(Some(value))
-        }
+    let regs = desk.session.regs();
+    if text == "PC" {
+        return register_shown(alloc, address_text(alloc, regs.pc));
+    }
+    match register_byte(regs, text) {
+        Some(byte) => register_shown(alloc, byte_text(alloc, byte)),
         None => place_shown(alloc, desk, text),
     }
 }

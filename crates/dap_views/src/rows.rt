@@ -1,23 +1,20 @@
 //! The rows of a disassembly.
 
-ghost use Rattle.std.specs.Prelude.{◌≡◌, ◌≤◌, ◌++◌, ◌-◌, [], IfOk, OnOk, codes, map as each};
-ghost use Rattle.std.specs.Prelude.{List as ListOf, string_bytes, ℕ};
-ghost use Rattle.std.specs.List.{flat_map};
-ghost use Rattle.std.specs.Str.Lossy.{utf8_lossy};
-ghost use Rattle.dap_views.specs.Rows.{ahead, behind, disassembled, first, found, further};
-ghost use Rattle.dap_views.specs.Rows.{is_instruction};
-ghost use Rattle.dap_views.specs.Rows.{joined, next_row, row_at, row_bytes, row_len};
-ghost use Rattle.dap_views.specs.Rows.{row_on, row_shown, row_text, rows, rows_around, rows_at};
-ghost use Rattle.dap_views.specs.Rows.{rows_on, rows_to, up_to};
+ghost use Rattle.std.specs.Prelude.{◌≡◌, ◌+◌, ◌≤◌, ◌++◌, ◌-◌, ℕ, IfOk, List, OnOk, string_bytes};
+ghost use Rattle.dap_views.specs.Rows.{ahead, behind, disassembled, first, found, joined, next_row};
+ghost use Rattle.dap_views.specs.Rows.{row_bytes, row_of, row_on, row_shown, row_text, rows};
+ghost use Rattle.dap_views.specs.Rows.{rows_around, rows_at, rows_on, rows_to, up_to};
+ghost use Rattle.json_values.specs.ValueLists.{HasValues};
 ghost use Rattle.mon_instructions.specs.Instructions.{bytes_at};
+ghost use Rattle.serde_json.specs.Data.{Data};
 ghost use Rattle.serde_json.specs.View.{view};
 
 use crate::memory::count_at;
-use crate::row_values::{instruction_at_line, instruction_row, instructions_body, no_instruction};
 use crate::texts::as_text;
-use dap_messages::{Source, offset_at, place_at};
+use dap_messages::{Source, offset_at, place_at, reference};
 use disasm::line_in;
 use formatting::{push_byte, push_text};
+use json_values::{Object, ValueList};
 use mon_instructions::{push_instruction, push_listed};
 use mon_runs::Session;
 use mon_session::Desk;
@@ -42,27 +39,18 @@ fn up_to(until: u32, address: u32, len: u8) -> u8
     }
 }
 
-/// Returns how many bytes the row at an address has, up to an end.
-fn row_len(alloc: Global, desk: &Desk, until: u32, address: u16) -> Result<u8, AllocError>
-    ensures { IfOk result (λ len. len ≡ row_len desk.now until address) }
-{
-    let mut text = Vec::new(alloc);
-    let len = push_listed(&mut text, &desk.session, &desk.places, address)?;
-    Ok(up_to(until, u32::from(address), len))
-}
-
-/// Returns where the row behind one begins.
-fn next_row(alloc: Global, desk: &Desk, until: u32, address: u32) -> Result<u32, AllocError>
+/// Returns how many bytes the row at an address has, up to an end: none behind the memory.
+fn row_len(alloc: Global, desk: &Desk, until: u32, address: u32) -> Result<u8, AllocError>
     requires { address ≤ 65790 }
-    ensures value { IfOk result (λ next. next ≡ next_row desk.now until address) }
-    ensures within { IfOk result (λ next. next ≤ 65790) }
+    ensures next { IfOk result (λ len. address + len ≡ next_row desk.now until address) }
+    ensures within { IfOk result (λ len. address + len ≤ 65790) }
 {
-    if address < BEHIND {
-        let len = row_len(alloc, desk, until, address as u16)?;
-        Ok(address + u32::from(len))
-    } else {
-        Ok(address)
+    if address >= BEHIND {
+        return Ok(0);
     }
+    let mut text = Vec::new(alloc);
+    let len = push_listed(&mut text, &desk.session, &desk.places, address as u16)?;
+    Ok(up_to(until, address, len))
 }
 
 /// Returns where the row begins that is `count` rows on.
@@ -73,7 +61,8 @@ fn rows_on(alloc: Global, desk: &Desk, until: u32, count: u32, from: u32) -> Res
 {
     let mut address = from;
     for _ in 0..count {
-        address = next_row(alloc, desk, until, address)?;
+        let len = row_len(alloc, desk, until, address)?;
+        address += u32::from(len);
     }
     Ok(address)
 }
@@ -90,7 +79,8 @@ fn rows_to(alloc: Global, desk: &Desk, until: u32, from: u32) -> Result<u32, All
         if address >= until {
             return Ok(count);
         }
-        address = next_row(alloc, desk, until, address)?;
+        let len = row_len(alloc, desk, until, address)?;
+        address += u32::from(len);
         count += 1;
     }
     Ok(count)
@@ -107,39 +97,7 @@ fn bytes_at(session: &Session, address: u16) -> [u8; 3]
     ]
 }
 
-/// Appends bytes in hex, with words in front of each.
-fn push_further(text: &mut Vec<u8>, between: &str, bytes: &[u8]) -> Result<(), AllocError>
-    ensures { OnOk result
-        (text.new.items ≡ text.old.items ++ flat_map (further between.now) bytes.now) }
-{
-    for byte in bytes {
-        push_text(text, between)?;
-        push_byte(text, *byte)?;
-    }
-    Ok(())
-}
-
-/// Appends bytes in hex, with words in front of the first and between them.
-fn push_joined(
-    text: &mut Vec<u8>,
-    front: &str,
-    between: &str,
-    bytes: &[u8],
-) -> Result<(), AllocError>
-    ensures { OnOk result
-        (text.new.items ≡ text.old.items ++ joined front.now between.now bytes.now) }
-{
-    match bytes.split_first() {
-        Some((first, others)) => {
-            push_text(text, front)?;
-            push_byte(text, *first)?;
-            push_further(text, between, others)
-        }
-        None => Ok(()),
-    }
-}
-
-/// Appends the bytes of a row, with words in front of the first and between them.
+/// Appends the bytes of a row in hex, with words in front of the first and between them.
 fn push_row_bytes(
     text: &mut Vec<u8>,
     front: &str,
@@ -152,47 +110,28 @@ fn push_row_bytes(
         ≡ text.old.items ++ joined front.now between.now (row_bytes desk.now address len)) }
 {
     let bytes = bytes_at(&desk.session, address);
-    push_joined(text, front, between, &bytes[..usize::from(len.min(3))])
-}
-
-/// Returns whether a row is an instruction.
-fn is_instruction(desk: &Desk, address: u16, len: u8) -> bool
-    ensures { result ≡ is_instruction desk.now address len }
-{
-    let bytes = bytes_at(&desk.session, address);
-    line_in(desk.session.profile(), &bytes, address).len == len
-        && desk.places.data_left(address) == 0
+    let shown = &bytes[..usize::from(len.min(3))];
+    let mut words = front;
+    for byte in shown {
+        push_text(text, words)?;
+        push_byte(text, *byte)?;
+        words = between;
+    }
+    Ok(())
 }
 
 /// Appends the text of a row: an instruction, or data.
 fn push_row_text(text: &mut Vec<u8>, desk: &Desk, address: u16, len: u8) -> Result<(), AllocError>
     ensures { OnOk result (text.new.items ≡ text.old.items ++ row_text desk.now address len) }
 {
-    if is_instruction(desk, address, len) {
+    let bytes = bytes_at(&desk.session, address);
+    if line_in(desk.session.profile(), &bytes, address).len == len
+        && desk.places.data_left(address) == 0
+    {
         push_instruction(text, &desk.session, &desk.places, address)
     } else {
         push_row_bytes(text, ".BYTE $", ",$", desk, address, len)
     }
-}
-
-/// Returns the bytes of a row, in hex.
-fn bytes_shown(alloc: Global, desk: &Desk, address: u16, len: u8) -> Result<String, AllocError>
-    ensures { IfOk result (λ text. string_bytes text
-        ≡ utf8_lossy (joined [] (codes " ") (row_bytes desk.now address len))) }
-{
-    let mut text = Vec::new(alloc);
-    let grown = push_row_bytes(&mut text, "", " ", desk, address, len);
-    as_text(alloc, text, grown)
-}
-
-/// Returns the text of a row.
-fn text_shown(alloc: Global, desk: &Desk, address: u16, len: u8) -> Result<String, AllocError>
-    ensures { IfOk result
-        (λ text. string_bytes text ≡ utf8_lossy (row_text desk.now address len)) }
-{
-    let mut text = Vec::new(alloc);
-    let grown = push_row_text(&mut text, desk, address, len);
-    as_text(alloc, text, grown)
 }
 
 /// Returns a row of bytes and a text, if memory did not run out for them. It may begin a line of
@@ -205,17 +144,23 @@ fn row_on(
     text: Result<String, AllocError>,
     line: Option<u32>,
 ) -> Result<Value, AllocError>
-    ensures { (b t : ListOf ℕ) → IfOk bytes (λ s. string_bytes s ≡ b)
+    ensures { (b t : List ℕ) → IfOk bytes (λ s. string_bytes s ≡ b)
         → IfOk text (λ s. string_bytes s ≡ t)
         → IfOk result (λ v. view v
         ≡ row_on source.now.path.now source.now.counting address b t line) }
 {
+    let row = Object::new(alloc)
+        .text("address", reference(alloc, address))
+        .text("instruction", text)
+        .text("instructionBytes", bytes);
     match line {
         Some(line) => {
-            let line = source.counting.shown_line(line);
-            instruction_at_line(alloc, address, bytes, text, line, source.path)
+            let place = Object::new(alloc).word("path", source.path).build();
+            row.count("line", source.counting.shown_line(line))
+                .member("location", place)
+                .build()
         }
-        None => instruction_row(alloc, address, bytes, text),
+        None => row.build(),
     }
 }
 
@@ -230,58 +175,60 @@ fn row_shown(
     ensures { IfOk result (λ v. view v ≡ row_shown desk.now source.now.path.now
         source.now.counting address len) }
 {
-    let bytes = bytes_shown(alloc, desk, address, len);
-    let text = text_shown(alloc, desk, address, len);
-    row_on(
-        alloc,
-        source,
-        address,
-        bytes,
-        text,
-        desk.places.line_at(address),
-    )
+    let mut column = Vec::new(alloc);
+    let shown = push_row_bytes(&mut column, "", " ", desk, address, len);
+    let bytes = as_text(alloc, column, shown);
+    let mut words = Vec::new(alloc);
+    let grown = push_row_text(&mut words, desk, address, len);
+    let text = as_text(alloc, words, grown);
+    let line = desk.places.line_at(address);
+    row_on(alloc, source, address, bytes, text, line)
 }
 
-/// Returns the row at an address. Where no memory is, it says so.
-fn row_at(
+/// Returns the row of some bytes at an address. Where no memory is, it says so.
+fn row_of(
     alloc: Global,
     desk: &Desk,
     source: &Source<'_>,
-    until: u32,
     address: u32,
+    len: u8,
 ) -> Result<Value, AllocError>
-    ensures { IfOk result (λ v. view v ≡ row_at desk.now source.now.path.now
-        source.now.counting until address) }
+    ensures { IfOk result (λ v. view v ≡ row_of desk.now source.now.path.now
+        source.now.counting address len) }
 {
     if address < BEHIND {
-        let len = row_len(alloc, desk, until, address as u16)?;
         row_shown(alloc, desk, source, address as u16, len)
     } else {
-        no_instruction(alloc)
+        Object::new(alloc)
+            .word("address", "0xFFFF")
+            .word("instruction", "")
+            .word("presentationHint", "invalid")
+            .build()
     }
 }
 
-/// Appends so many rows from an address on.
-fn push_rows(
+/// Returns a list with so many rows from an address on behind its values.
+fn with_rows(
     alloc: Global,
-    list: &mut Vec<Value>,
+    values: ValueList,
     desk: &Desk,
     source: &Source<'_>,
     until: u32,
     count: u32,
     from: u32,
-) -> Result<(), AllocError>
+) -> Result<ValueList, AllocError>
     requires { from ≤ 65790 }
-    ensures { OnOk result (each view list.new.items ≡ each view list.old.items
-        ++ rows desk.now source.now.path.now source.now.counting until count from) }
+    ensures { (ds : List Data) → HasValues ds values → IfOk result (HasValues (ds
+        ++ rows desk.now source.now.path.now source.now.counting until count from)) }
 {
+    let mut list = values;
     let mut address = from;
     for _ in 0..count {
-        let value = row_at(alloc, desk, source, until, address)?;
-        list.push(value)?;
-        address = next_row(alloc, desk, until, address)?;
+        let len = row_len(alloc, desk, until, address)?;
+        list = list.with(row_of(alloc, desk, source, address, len));
+        address += u32::from(len);
     }
-    Ok(())
+    Ok(list)
 }
 
 /// Returns how many rows ahead the first one is.
@@ -333,44 +280,42 @@ fn first_row(
     Ok((first, back.saturating_sub(found)))
 }
 
-/// Appends so many rows, of which the first is some rows before an address or behind it.
-fn push_around(
+/// Returns so many rows, of which the first is some rows before an address or behind it.
+fn rows_around(
     alloc: Global,
-    list: &mut Vec<Value>,
     desk: &Desk,
     source: &Source<'_>,
     until: u16,
     offset: i64,
     count: u32,
-) -> Result<(), AllocError>
-    ensures { OnOk result (each view list.new.items ≡ each view list.old.items
-        ++ rows_around desk.now source.now.path.now source.now.counting until (behind offset)
-        (ahead offset) count) }
+) -> Result<ValueList, AllocError>
+    ensures { IfOk result (HasValues (rows_around desk.now source.now.path.now
+        source.now.counting until (behind offset) (ahead offset) count)) }
 {
     let until = u32::from(until);
     let (first, lacking) = first_row(alloc, desk, until, behind(offset), ahead(offset))?;
-    push_rows(alloc, list, desk, source, until, lacking.min(count), BEHIND)?;
+    let none = ValueList::new(alloc);
+    let front = with_rows(alloc, none, desk, source, until, lacking.min(count), BEHIND)?;
     let left = count.saturating_sub(lacking);
-    push_rows(alloc, list, desk, source, until, left, first)
+    with_rows(alloc, front, desk, source, until, left, first)
 }
 
-/// Appends so many rows, of which the first is some rows before an address or behind it, if there
+/// Returns so many rows, of which the first is some rows before an address or behind it, if there
 /// is an address.
-fn push_rows_at(
+fn rows_at(
     alloc: Global,
-    list: &mut Vec<Value>,
     desk: &Desk,
     source: &Source<'_>,
     offset: i64,
     count: u32,
     until: Option<u16>,
-) -> Result<(), AllocError>
-    ensures { OnOk result (each view list.new.items ≡ each view list.old.items
-        ++ rows_at desk.now source.now.path.now source.now.counting offset count until) }
+) -> Result<ValueList, AllocError>
+    ensures { IfOk result (HasValues (rows_at desk.now source.now.path.now source.now.counting
+        offset count until)) }
 {
     match until {
-        Some(until) => push_around(alloc, list, desk, source, until, offset, count),
-        None => push_rows(alloc, list, desk, source, 0, count, BEHIND),
+        Some(until) => rows_around(alloc, desk, source, until, offset, count),
+        None => with_rows(alloc, ValueList::new(alloc), desk, source, 0, count, BEHIND),
     }
 }
 
@@ -389,7 +334,8 @@ pub fn disassembled(
     let until = place_at(request, "/arguments/memoryReference", "/arguments/offset");
     let offset = offset_at(request, "/arguments/instructionOffset");
     let count = count_at(request, "/arguments/instructionCount");
-    let mut list = Vec::new(alloc);
-    push_rows_at(alloc, &mut list, desk, source, offset, count, until)?;
-    instructions_body(alloc, list)
+    let list = rows_at(alloc, desk, source, offset, count, until)?;
+    Object::new(alloc)
+        .member("instructions", list.build())
+        .build()
 }

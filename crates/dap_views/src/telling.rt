@@ -3,7 +3,7 @@
 ghost use Rattle.std.specs.Prelude.{◌≡◌, ◌++◌, ◌∷◌, ◌-◌, ◌<◌, ◌≤◌, [], ℕ, IfOk, OnOk};
 ghost use Rattle.std.specs.Prelude.{List, codes, decimal, drop, length, map as each, string_bytes};
 ghost use Rattle.dap_views.specs.declared.wording.TheConstants.{LESS_BEFORE, LESS_BEHIND};
-ghost use Rattle.dap_messages.specs.Messages.{done, event, said_of};
+ghost use Rattle.dap_messages.specs.Messages.{Said, done, event, said_of};
 ghost use Rattle.dap_views.specs.Told.{characters, console_said, fault_shown, halt_shown};
 ghost use Rattle.dap_views.specs.Told.{less_text, line_of, output_said, remark_said, stopped_said};
 ghost use Rattle.dap_views.specs.Told.{told_of, unmoved_said};
@@ -36,33 +36,37 @@ fn output_since(alloc: Global, session: &Session, from: u32) -> Result<String, A
     Ok(text)
 }
 
-/// Appends an event of a name, with this body.
-fn push_event(
-    messages: &mut Vec<Message>,
+/// Returns messages with an event of a name and a body behind them, if memory did not run out for
+/// either.
+pub fn with_event(
+    messages: Result<Vec<Message>, AllocError>,
     name: &'static str,
     body: Result<Value, AllocError>,
-) -> Result<(), AllocError>
-    ensures { (d : Data) → IfOk body (λ v. view v ≡ d)
-        → OnOk result (each said_of messages.new.items
-        ≡ each said_of messages.old.items ++ event name.now d ∷ []) }
+) -> Result<Vec<Message>, AllocError>
+    ensures { (before : List Said) (d : Data)
+        → IfOk messages (λ ms. each said_of ms.items ≡ before) → IfOk body (λ v. view v ≡ d)
+        → IfOk result (λ ms. each said_of ms.items ≡ before ++ event name.now d ∷ []) }
 {
-    let body = body?;
-    messages.push(Message::Event(name, body))?;
-    Ok(())
+    let mut messages = messages?;
+    messages.push(Message::Event(name, body?))?;
+    Ok(messages)
 }
 
-/// Appends an event with a text, if memory did not run out for it.
-fn push_output(
+/// Returns messages with an event that has a text behind them, if memory did not run out for
+/// either.
+fn with_output(
     alloc: Global,
-    messages: &mut Vec<Message>,
+    messages: Result<Vec<Message>, AllocError>,
     category: &str,
     text: Result<String, AllocError>,
-) -> Result<(), AllocError>
-    ensures { (bytes : List ℕ) → IfOk text (λ s. string_bytes s ≡ bytes)
-        → OnOk result (each said_of messages.new.items
-        ≡ each said_of messages.old.items ++ output_said category.now bytes ∷ []) }
+) -> Result<Vec<Message>, AllocError>
+    ensures { (before : List Said) (bytes : List ℕ)
+        → IfOk messages (λ ms. each said_of ms.items ≡ before)
+        → IfOk text (λ s. string_bytes s ≡ bytes)
+        → IfOk result
+        (λ ms. each said_of ms.items ≡ before ++ output_said category.now bytes ∷ []) }
 {
-    push_event(messages, "output", output_body(alloc, category, text))
+    with_event(messages, "output", output_body(alloc, category, text))
 }
 
 /// Appends that so many bytes were taken back.
@@ -84,41 +88,43 @@ fn less_text(alloc: Global, count: u32) -> Result<String, AllocError>
     as_text(alloc, text, grown)
 }
 
-/// Appends that bytes were taken back, since the client was told more than there are.
-fn push_less(
+/// Returns messages and, behind them, that bytes were taken back, since the client was told more
+/// than there are.
+fn with_less(
     alloc: Global,
-    messages: &mut Vec<Message>,
+    messages: Result<Vec<Message>, AllocError>,
     session: &Session,
     told: u32,
-) -> Result<(), AllocError>
+) -> Result<Vec<Message>, AllocError>
     requires { length session.now.current.bus.out < told }
-    ensures { OnOk result (each said_of messages.new.items ≡ each said_of messages.old.items
-        ++ output_said (codes "console")
+    ensures { (before : List Said) → IfOk messages (λ ms. each said_of ms.items ≡ before)
+        → IfOk result (λ ms. each said_of ms.items ≡ before ++ output_said (codes "console")
         (less_text (told - length session.now.current.bus.out)) ∷ []) }
 {
     let text = less_text(alloc, told - session.output_len());
-    push_output(alloc, messages, "console", text)
+    with_output(alloc, messages, "console", text)
 }
 
-/// Appends what the program put out since the client was told so many bytes, or that bytes were
-/// taken back.
-fn push_console(
+/// Returns messages and, behind them, what the program put out since the client was told so many
+/// bytes, or that bytes were taken back.
+fn with_console(
     alloc: Global,
-    messages: &mut Vec<Message>,
+    messages: Result<Vec<Message>, AllocError>,
     session: &Session,
     told: u32,
-) -> Result<(), AllocError>
-    ensures { OnOk result (each said_of messages.new.items ≡ each said_of messages.old.items
-        ++ console_said told session.now.current.bus.out) }
+) -> Result<Vec<Message>, AllocError>
+    ensures { (before : List Said) → IfOk messages (λ ms. each said_of ms.items ≡ before)
+        → IfOk result (λ ms. each said_of ms.items
+        ≡ before ++ console_said told session.now.current.bus.out) }
 {
     let count = session.output_len();
     if told < count {
         let text = output_since(alloc, session, told);
-        push_output(alloc, messages, "stdout", text)
+        with_output(alloc, messages, "stdout", text)
     } else if count < told {
-        push_less(alloc, messages, session, told)
+        with_less(alloc, messages, session, told)
     } else {
-        Ok(())
+        messages
     }
 }
 
@@ -131,24 +137,21 @@ fn line_of(alloc: Global, words: &str) -> Result<String, AllocError>
     Ok(text)
 }
 
-/// Appends words as a remark.
-fn push_words(alloc: Global, messages: &mut Vec<Message>, words: &str) -> Result<(), AllocError>
-    ensures { OnOk result (each said_of messages.new.items ≡ each said_of messages.old.items
-        ++ output_said (codes "console") (line_of words.now) ∷ []) }
-{
-    push_output(alloc, messages, "console", line_of(alloc, words))
-}
-
-/// Appends why the machine stands as a remark, if it is before the first instruction or at its
-/// oldest state.
-fn push_remark(alloc: Global, messages: &mut Vec<Message>, halt: Halt) -> Result<(), AllocError>
-    ensures { OnOk result (each said_of messages.new.items
-        ≡ each said_of messages.old.items ++ remark_said halt.reason halt.words.now) }
+/// Returns messages and, behind them, why the machine stands as a remark, if it is before the
+/// first instruction or at its oldest state.
+fn with_remark(
+    alloc: Global,
+    messages: Result<Vec<Message>, AllocError>,
+    halt: Halt,
+) -> Result<Vec<Message>, AllocError>
+    ensures { (before : List Said) → IfOk messages (λ ms. each said_of ms.items ≡ before)
+        → IfOk result
+        (λ ms. each said_of ms.items ≡ before ++ remark_said halt.reason halt.words.now) }
 {
     match halt.reason {
-        Reason::Entry => push_words(alloc, messages, halt.words),
-        Reason::Step | Reason::Breakpoint | Reason::InstructionBreakpoint => Ok(()),
-        Reason::DataBreakpoint | Reason::Exception | Reason::Goto | Reason::Pause => Ok(()),
+        Reason::Entry => with_output(alloc, messages, "console", line_of(alloc, halt.words)),
+        Reason::Step | Reason::Breakpoint | Reason::InstructionBreakpoint => messages,
+        Reason::DataBreakpoint | Reason::Exception | Reason::Goto | Reason::Pause => messages,
     }
 }
 
@@ -172,61 +175,65 @@ fn halt_shown(alloc: Global, places: &Places, halt: Halt) -> Result<String, Allo
     }
 }
 
-/// Appends that the machine stands.
-fn push_stopped(
+/// Returns messages and, behind them, that the machine stands.
+fn with_stop(
     alloc: Global,
-    messages: &mut Vec<Message>,
+    messages: Result<Vec<Message>, AllocError>,
     reason: Reason,
     words: &str,
-) -> Result<(), AllocError>
-    ensures { OnOk result (each said_of messages.new.items
-        ≡ each said_of messages.old.items ++ stopped_said reason words.now ∷ []) }
+) -> Result<Vec<Message>, AllocError>
+    ensures { (before : List Said) → IfOk messages (λ ms. each said_of ms.items ≡ before)
+        → IfOk result
+        (λ ms. each said_of ms.items ≡ before ++ stopped_said reason words.now ∷ []) }
 {
-    push_event(
-        messages,
-        "stopped",
-        stopped_body(alloc, reason.word(), words),
-    )
+    let body = stopped_body(alloc, reason.word(), words);
+    with_event(messages, "stopped", body)
 }
 
-/// Appends what the program put out, a remark if the machine is before the first instruction or at
-/// its oldest state, and that the machine stands. Notes what was told.
-pub fn tell_halt(
+/// Returns messages and, behind them, what the program put out, a remark if the machine is before
+/// the first instruction or at its oldest state, and that the machine stands. Notes what is told.
+pub fn with_halt(
     alloc: Global,
-    messages: &mut Vec<Message>,
+    messages: Result<Vec<Message>, AllocError>,
     desk: &Desk,
     told: &mut Told,
     halt: Halt,
-) -> Result<(), AllocError>
-    ensures messages { OnOk result (each said_of messages.new.items
-        ≡ each said_of messages.old.items ++ told_of desk.now told.old.count halt) }
+) -> Result<Vec<Message>, AllocError>
+    ensures messages { (before : List Said)
+        → IfOk messages (λ ms. each said_of ms.items ≡ before)
+        → IfOk result
+        (λ ms. each said_of ms.items ≡ before ++ told_of desk.now told.old.count halt) }
     ensures count { OnOk result
         (told.new.count ≡ length desk.now.session.current.bus.out) }
     ensures words { OnOk result (string_bytes told.new.words
         ≡ halt_shown desk.now.places.names halt.words.now halt.fault) }
 {
-    push_console(alloc, messages, &desk.session, told.count)?;
-    push_remark(alloc, messages, halt)?;
     let words = halt_shown(alloc, &desk.places, halt)?;
-    push_stopped(alloc, messages, halt.reason, words.as_str())?;
+    let console = with_console(alloc, messages, &desk.session, told.count);
+    let remark = with_remark(alloc, console, halt);
+    let all = with_stop(alloc, remark, halt.reason, words.as_str());
     told.count = desk.session.output_len();
     told.words = words;
-    Ok(())
+    all
 }
 
-/// Appends that what the client shows may have changed.
-pub fn tell_unmoved(alloc: Global, messages: &mut Vec<Message>) -> Result<(), AllocError>
-    ensures { OnOk result (each said_of messages.new.items
-        ≡ each said_of messages.old.items ++ unmoved_said ∷ []) }
+/// Returns messages and, behind them, that what the client shows may have changed.
+pub fn with_unmoved(
+    alloc: Global,
+    messages: Result<Vec<Message>, AllocError>,
+) -> Result<Vec<Message>, AllocError>
+    ensures { (before : List Said) → IfOk messages (λ ms. each said_of ms.items ≡ before)
+        → IfOk result (λ ms. each said_of ms.items ≡ before ++ unmoved_said ∷ []) }
 {
-    push_event(messages, "invalidated", invalidated(alloc))
+    with_event(messages, "invalidated", invalidated(alloc))
 }
 
-/// Returns an answer with a body.
-pub fn answered(alloc: Global, body: Value) -> Result<Vec<Message>, AllocError>
-    ensures { IfOk result (λ ms. each said_of ms.items ≡ done (view body) ∷ []) }
+/// Returns an answer with a body, if memory did not run out for it.
+pub fn answered(alloc: Global, body: Result<Value, AllocError>) -> Result<Vec<Message>, AllocError>
+    ensures { (d : Data) → IfOk body (λ v. view v ≡ d)
+        → IfOk result (λ ms. each said_of ms.items ≡ done d ∷ []) }
 {
     let mut messages = Vec::new(alloc);
-    messages.push(Message::Done(body))?;
+    messages.push(Message::Done(body?))?;
     Ok(messages)
 }

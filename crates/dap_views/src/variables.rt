@@ -2,8 +2,7 @@
 
 ghost use Rattle.std.specs.Prelude.{◌≡◌, ◌-◌, ℕ, IfOk, List, map as each, slice_index};
 ghost use Rattle.std.specs.Prelude.{string_bytes};
-ghost use Rattle.std.specs.Str.Lossy.{utf8_lossy};
-ghost use Rattle.dap_views.specs.Scopes.{cell, cells, listed, machine_shown, scope_at};
+ghost use Rattle.dap_views.specs.Scopes.{cells, listed, machine_shown, scope_at};
 ghost use Rattle.dap_views.specs.Scopes.{symbols_shown, variables_shown};
 ghost use Rattle.dap_views.specs.Variables.{byte_variable, flag_variable, flags_shown};
 ghost use Rattle.dap_views.specs.Variables.{number_variable, registers_shown, variable};
@@ -11,7 +10,7 @@ ghost use Rattle.json_values.specs.Values.{list_of};
 ghost use Rattle.serde_json.specs.View.{view};
 ghost use Rattle.source_map.specs.Names.{named};
 
-use crate::texts::{byte_text, number_text};
+use crate::texts::byte_text;
 use dap_messages::address_text;
 use json_values::{Object, ValueList, number_at};
 use model::{Flags, Regs};
@@ -90,7 +89,7 @@ fn flag_variable(alloc: Global, name: &str, is_set: bool) -> Result<Value, Alloc
 fn number_variable(alloc: Global, name: &str, number: u64) -> Result<Value, AllocError>
     ensures { IfOk result (λ v. view v ≡ number_variable name.now number) }
 {
-    variable(alloc, name, number_text(alloc, number))
+    variable(alloc, name, format!(in alloc; "{number}"))
 }
 
 /// Returns the registers. The status register is shown with B clear.
@@ -121,13 +120,19 @@ fn flags(alloc: Global, flags: Flags) -> Result<Value, AllocError>
         .build()
 }
 
-/// Returns the byte at a name, under the name.
-fn symbol(alloc: Global, session: &Session, name: &Name) -> Result<Value, AllocError>
-    ensures { IfOk result (λ v. view v ≡ byte_variable (utf8_lossy (named name.now).text)
-        (slice_index session.now.current.bus.memory (named name.now).address)) }
+/// Returns the byte at an address, under a name, if memory did not run out for that.
+fn byte_named(
+    alloc: Global,
+    session: &Session,
+    name: Result<String, AllocError>,
+    address: u16,
+) -> Result<Value, AllocError>
+    ensures { (bytes : List ℕ) → IfOk name (λ s. string_bytes s ≡ bytes)
+        → IfOk result (λ v. view v ≡ byte_variable bytes
+        (slice_index session.now.current.bus.memory address)) }
 {
-    let text = String::from_utf8_lossy(alloc, name.text.as_slice())?;
-    byte_variable(alloc, text.as_str(), session.peek(name.address))
+    let name = name?;
+    byte_variable(alloc, name.as_str(), session.peek(address))
 }
 
 /// Returns the bytes at names, each under its name.
@@ -137,17 +142,10 @@ fn symbols(alloc: Global, session: &Session, names: &[Name]) -> Result<Value, Al
 {
     let mut list = ValueList::new(alloc);
     for name in names {
-        list = list.with(symbol(alloc, session, name));
+        let text = String::from_utf8_lossy(alloc, name.text.as_slice());
+        list = list.with(byte_named(alloc, session, text, name.address));
     }
     list.build()
-}
-
-/// Returns the byte at an address, under its address.
-fn cell(alloc: Global, session: &Session, address: u16) -> Result<Value, AllocError>
-    ensures { IfOk result (λ v. view v ≡ cell session.now.current.bus.memory address) }
-{
-    let name = address_text(alloc, address)?;
-    byte_variable(alloc, name.as_str(), session.peek(address))
 }
 
 /// Returns the bytes from an address up to another, each under its address.
@@ -157,7 +155,8 @@ fn cells(alloc: Global, session: &Session, from: u16, to: u16) -> Result<Value, 
 {
     let mut list = ValueList::new(alloc);
     for address in from..to {
-        list = list.with(cell(alloc, session, address));
+        let name = address_text(alloc, address);
+        list = list.with(byte_named(alloc, session, name, address));
     }
     list.build()
 }

@@ -7,5 +7,4 @@ pub returns : goal.returns
 returns c =
     let counting = c.args.source.now.counting in
     let row = c.row_in-row.ensures ∙ ap (λ (line : ℕ). row_in line (option_map (λ a. a.now) c.args.source.now.assembly)) c.line_in.ensures in
-    let list = subst (λ (r : Option (ℕ × ℕ)). HasValues (targets_of counting r) c.targets_of-list.result) row c.targets_of-list.ensures in
-    c.build-2.ensures _ (c.member.ensures _ _ c.new.ensures (c.build.ensures _ list))
+    c.targets_body.ensures _ (subst (λ (r : Option (ℕ × ℕ)). HasValues (targets_of counting r) c.targets_of.result) row c.targets_of.ensures)

@@ -8,11 +8,12 @@ loop-watch-preserved c =
     let i = c.loop-watch.watch-index in
     let watches = c.args.watches.now in
     let inv = c.loop-watch.invariant in
-    let kept = c.set_one.ensures.kept in
+    let kept = c.set_watch.ensures in
+    let set = c.in_ok-set_watch.ensures in
     record {
       watched = inv.watched ∙ each_more watches i _ (omega (arith, c.loop-watch-test.true)) (watched_of c.loop-watch.desk)
-          ∙ ap (with_all (drop (i + 1) watches)) (sym c.in_ok-set_one.ensures.watched);
-      kept = (kept.0 ∙ inv.kept.0, kept.1 ∙ inv.kept.1, kept.2 ∙ inv.kept.2, kept.3 ∙ inv.kept.3);
+          ∙ ap (with_all (drop (i + 1) watches)) (sym (λ i. (set.session i, set.watches i, set.changes i)));
+      kept = (kept.events ∙ inv.kept.0, kept.breaks ∙ inv.kept.1, kept.places ∙ inv.kept.2, kept.displays ∙ inv.kept.3);
     }
 
 pub returns-clause-watched : goal.returns-clause-watched

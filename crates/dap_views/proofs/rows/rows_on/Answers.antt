@@ -1,12 +1,12 @@
-use Rattle.std.proofs.Common.{◌+◌, ◌-◌, arith}
+use Rattle.std.proofs.Common.{◌∙◌, ◌+◌, ◌-◌, ap, arith}
 use Rattle.dap_views.proofs.Following.{on_done, on_more}
 use Rattle.dap_views.proofs.rows.rows_on.Goals as goal
 
 pub loop-preserved : goal.loop-preserved
 loop-preserved c = record {
-  at = on_more c.args.desk.now c.args.until (c.args.count - c.loop.counter) (c.args.count - (c.loop.counter + 1)) c.loop.address c.in_ok-address.address _
-      (omega (arith, c.loop-test.true)) c.in_ok-address.ensures.value c.loop.invariant.at;
-  within = c.in_ok-address.ensures.within;
+  at = on_more c.args.desk.now c.args.until (c.args.count - c.loop.counter) (c.args.count - (c.loop.counter + 1)) c.loop.address _ _
+      (omega (arith, c.loop-test.true)) (ap (λ n. c.loop.address + n) c.from-address.ensures ∙ c.in_ok-len.ensures.next) c.loop.invariant.at;
+  within = omega (arith, c.in_ok-len.ensures.within, c.from-address.ensures);
 }
 
 pub returns-clause-value : goal.returns-clause-value

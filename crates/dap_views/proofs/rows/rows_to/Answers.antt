@@ -1,4 +1,4 @@
-use Rattle.std.proofs.Common.{◌+◌, ◌-◌, arith}
+use Rattle.std.proofs.Common.{◌∙◌, ◌+◌, ◌-◌, ap, arith}
 use Rattle.dap_views.proofs.Following.{to_done, to_end, to_more}
 use Rattle.dap_views.proofs.rows.rows_to.Goals as goal
 
@@ -8,10 +8,10 @@ returns-then-address-until-clause-value c = to_end c.args.desk.now c.args.until 
 
 pub loop-preserved : goal.loop-preserved
 loop-preserved c = record {
-  count = to_more c.args.desk.now c.args.until (c.saturating_sub-end.result - c.loop.counter) (c.saturating_sub-end.result - (c.loop.counter + 1)) c.loop.address c.in_ok-address.address c.loop.count _
-      (omega (arith, c.loop-test.true)) (omega (arith, c.if-address-until.false)) c.in_ok-address.ensures.value c.loop.invariant.count;
+  count = to_more c.args.desk.now c.args.until (c.saturating_sub-end.result - c.loop.counter) (c.saturating_sub-end.result - (c.loop.counter + 1)) c.loop.address _ c.loop.count _
+      (omega (arith, c.loop-test.true)) (omega (arith, c.if-address-until.false)) (ap (λ n. c.loop.address + n) c.from-address.ensures ∙ c.in_ok-len.ensures.next) c.loop.invariant.count;
   most = omega (arith, c.loop.invariant.most);
-  within = c.in_ok-address.ensures.within;
+  within = omega (arith, c.in_ok-len.ensures.within, c.from-address.ensures);
 }
 
 pub returns-clause-value : goal.returns-clause-value

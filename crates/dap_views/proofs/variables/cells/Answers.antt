@@ -16,7 +16,7 @@ pub loop-address-preserved : goal.loop-address-preserved
 loop-address-preserved c =
     let inv = c.loop-address.invariant in
     record {
-      cells = cells_more c.args.session.now.current.bus.memory c.args.from c.loop-address.address _ inv.behind (c.with-list.ensures _ _ inv.cells c.cell.ensures);
+      cells = cells_more c.args.session.now.current.bus.memory c.args.from c.loop-address.address _ inv.behind (c.with-list.ensures _ _ inv.cells (c.byte_named.ensures _ c.address_text-name.ensures));
       behind = omega (arith, inv.behind);
       within = omega (arith, inv.behind, c.loop-address-test.true);
     }

@@ -1,4 +1,5 @@
+use Rattle.std.specs.Prelude.{decimal}
 use Rattle.dap_views.proofs.variables.number_variable.Goals as goal
 
 pub returns : goal.returns
-returns c = c.variable.ensures _ c.number_text.ensures
+returns c = c.variable.ensures (decimal c.args.number) c.format.ensures.ok

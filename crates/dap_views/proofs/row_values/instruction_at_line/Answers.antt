@@ -1,4 +1,0 @@
-use Rattle.dap_views.proofs.row_values.instruction_at_line.Goals as goal
-
-pub returns : goal.returns
-returns c = λ b t is_b is_t. c.build.ensures _ (c.member.ensures _ _ (c.count.ensures _ (c.text-3.ensures _ b (c.text-2.ensures _ t (c.text.ensures _ _ c.new.ensures c.reference.ensures) is_t) is_b)) c.at_path.ensures)
