@@ -31,18 +31,11 @@ pub fn number_at(message: &Value, path: &str) -> Option<u64>
     message.pointer(path).and_then(Value::as_u64)
 }
 
-/// Returns the flag at a path of a message, if there is one.
-fn flag_at(message: &Value, path: &str) -> Option<bool>
-    ensures { result ≡ flag_at path.now (view message.now) }
-{
-    message.pointer(path).and_then(Value::as_bool)
-}
-
 /// Returns the flag at a path of a message: another if there is none.
 pub fn flag_or(message: &Value, path: &str, other: bool) -> bool
     ensures { result ≡ unwrap_or (flag_at path.now (view message.now)) other }
 {
-    match flag_at(message, path) {
+    match message.pointer(path).and_then(Value::as_bool) {
         Some(flag) => flag,
         None => other,
     }

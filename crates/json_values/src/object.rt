@@ -26,17 +26,6 @@ fn with_member(
     Ok(map)
 }
 
-/// Returns a text as a value, if there is one.
-fn text_value(text: Result<String, AllocError>) -> Result<Value, AllocError>
-    ensures { (bytes : List ℕ) → IfOk text (λ s. string_bytes s ≡ bytes)
-        → IfOk result (λ v. view v ≡ word bytes) }
-{
-    match text {
-        Ok(text) => Ok(Value::String(text)),
-        Err(error) => Err(error),
-    }
-}
-
 /// An object, or that memory ran out on the way.
 #[derive(Drop)]
 pub struct Object {
@@ -87,7 +76,10 @@ impl Object {
             → IfOk text (λ s. string_bytes s ≡ bytes)
             → IsObject (with name.now (word bytes) ms) result }
     {
-        self.member(name, text_value(text))
+        match text {
+            Ok(text) => self.member(name, Ok(Value::String(text))),
+            Err(error) => self.member(name, Err(error)),
+        }
     }
 
     /// Puts a number at a name. If memory runs out, there is no object.

@@ -1,10 +1,19 @@
 -- A column of a line, one byte after another.
-use Rattle.std.proofs.Common.{◌≡◌, ℕ, suc, ◌+◌, ◌-◌, ◌<◌, ◌≤◌, true, false, List, ◌∷◌, length, drop, get_or, refl, add-one, arith, drop-cons}
+use Rattle.std.proofs.Common.{◌≡◌, ◌⊎◌, ◌==◌, inl, inr, ℕ, suc, ◌+◌, ◌-◌, ◌<◌, ◌≤◌, true, false, List, ◌∷◌, length, drop, get_or, refl, add-one, arith, drop-cons, rules, tests}
 use Rattle.std.proofs.lemmas.List.{drop_all}
 use Rattle.lsp_messages.specs.Columns.{column_of, is_reached, units_of}
 
 cut : (line : List ℕ) (i : ℕ) → i < length line → drop i line ≡ get_or line i 0 ∷ drop (i + 1) line
 cut line i within = rw (add-one, drop-cons line i 0) refl
+
+pub here : (left units b : ℕ) → left ≡ 0 → 0 < units → units ≡ units_of b → is_reached left b ≡ true
+here left units b none some is = rw (none, ← is) (search (rules, tests, some))
+
+pub not_here : (left units b : ℕ) → (left ≡ 0 × units ≤ 0) ⊎ (left ≡ 0 → ⊥) → units ≡ units_of b → is_reached left b ≡ false
+not_here left units b (inl within) is = rw (within.0, ← is) (search (rules, tests, within.1))
+not_here left units b (inr some) is =
+    let past : (left == 0) ≡ false = search (rules, tests, some) in
+    rw past refl
 
 pub reached : (left : ℕ) (line : List ℕ) (i whole : ℕ) → i < length line → is_reached left (get_or line i 0) ≡ true → whole ≡ i + column_of left (drop i line) → i ≡ whole
 unfolding column_of

@@ -1,16 +1,15 @@
 //! The messages of the Language Server Protocol: what a message asks for, and the values that an
 //! answer is made of.
 //!
-//! `requests` reads a message, by its method and by what `fields` finds in it; `asked` has what it
-//! asks for. `columns` counts columns in units of UTF-16, `places` has ranges and locations,
-//! `pieces` what stands in an answer, `replies` the envelopes.
+//! `requests` reads a message, by its method and by what stands in it; `asked` has what it asks
+//! for. `columns` counts columns in units of UTF-16, `places` has ranges and locations, `pieces`
+//! what stands in an answer, `replies` the envelopes.
 //! `specs/Requests.antt` says what each message asks for, `specs/Values.antt` and
 //! `specs/Replies.antt` which value each answer is.
 #![tactic(auto)]
 
 mod asked;
 mod columns;
-mod fields;
 mod pieces;
 mod places;
 mod replies;

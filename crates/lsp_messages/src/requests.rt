@@ -3,35 +3,40 @@
 ghost use Rattle.std.specs.Prelude.{◌≡◌};
 ghost use Rattle.std.specs.Option.{option_map};
 ghost use Rattle.serde_json.specs.View.{view};
-ghost use Rattle.lsp_messages.specs.Requests.{asked_at, asked_of, asked_within, by_method};
-ghost use Rattle.lsp_messages.specs.Requests.{close_by, of_lines, of_position, open_by};
-ghost use Rattle.lsp_messages.specs.Requests.{question_by_method, references_of, rename_by};
-ghost use Rattle.lsp_messages.specs.Requests.{rename_of, request_of};
+ghost use Rattle.lsp_messages.specs.Fields.{changed_text, uri_of};
+ghost use Rattle.lsp_messages.specs.Requests.{asked_at, asked_of, asked_within, open_by};
+ghost use Rattle.lsp_messages.specs.Requests.{question_by_method, rename_of, request_of};
 ghost use Rattle.lsp_messages.specs.Views.{request_view};
 
 use crate::asked::{At, Question, Request, Whole, Within};
-use crate::fields::{changed_text, lines_of, position_of, uri_of};
-use json_values::{flag_or, text_at};
+use json_values::{flag_or, number_at, text_at};
 use serde_json::Value;
 
-/// Returns the notice of the whole text of a document, if both are given.
-fn open_by<'a>(uri: Option<&'a str>, text: Option<&'a str>) -> Request<'a>
-    ensures { request_view result
-        ≡ open_by (option_map (λ s. s.now) uri.entry) (option_map (λ s. s.now) text.entry) }
+/// The path of the name of the document that a message is about.
+const URI: &str = "/params/textDocument/uri";
+
+/// Returns the whole text of a change, if the message has one change, of the whole text.
+#[tactic(auto, unfolding(crate::specs::Fields::has))]
+fn changed_text(message: &Value) -> Option<&str>
+    ensures { option_map (λ s. s.now) result ≡ changed_text (view message.now) }
 {
-    match (uri, text) {
-        (Some(uri), Some(text)) => Request::Open { uri, text },
-        _ => Request::Invalid,
+    if let Some(_) = message.pointer("/params/contentChanges/1") {
+        return None;
     }
+    if let Some(_) = message.pointer("/params/contentChanges/0/range") {
+        return None;
+    }
+    text_at(message, "/params/contentChanges/0/text")
 }
 
-/// Returns the notice that a document is closed, if it is given.
-fn close_by(uri: Option<&str>) -> Request<'_>
-    ensures { request_view result ≡ close_by (option_map (λ s. s.now) uri.entry) }
+/// Reads the notice of the whole text of a document, if the text is given.
+fn open_by<'a>(message: &'a Value, text: Option<&'a str>) -> Request<'a>
+    ensures { request_view result
+        ≡ open_by (uri_of (view message.now)) (option_map (λ s. s.now) text.entry) }
 {
-    match uri {
-        Some(uri) => Request::Close { uri },
-        None => Request::Invalid,
+    match (text_at(message, URI), text) {
+        (Some(uri), Some(text)) => Request::Open { uri, text },
+        _ => Request::Invalid,
     }
 }
 
@@ -39,7 +44,7 @@ fn close_by(uri: Option<&str>) -> Request<'_>
 fn asked_of(what: Whole, message: &Value) -> Request<'_>
     ensures { request_view result ≡ asked_of what (view message.now) }
 {
-    match uri_of(message) {
+    match text_at(message, URI) {
         Some(uri) => Request::Question {
             uri,
             question: Question::Whole(what),
@@ -48,85 +53,70 @@ fn asked_of(what: Whole, message: &Value) -> Request<'_>
     }
 }
 
-/// Returns a question about a position, if a document and a position are given.
-fn of_position(what: At, uri: Option<&str>, position: Option<(u64, u64)>) -> Request<'_>
-    ensures { request_view result
-        ≡ of_position what (option_map (λ s. s.now) uri.entry) position }
-{
-    match (uri, position) {
-        (Some(uri), Some((line, character))) => Request::Question {
-            uri,
-            question: Question::At {
-                what,
-                line,
-                character,
-            },
-        },
-        _ => Request::Invalid,
-    }
-}
-
 /// Reads a question about a position.
 fn asked_at(what: At, message: &Value) -> Request<'_>
     ensures { request_view result ≡ asked_at what (view message.now) }
 {
-    of_position(what, uri_of(message), position_of(message))
-}
-
-/// Reads `textDocument/references`.
-fn references_of(message: &Value) -> Request<'_>
-    ensures { request_view result ≡ references_of (view message.now) }
-{
-    let declares = flag_or(message, "/params/context/includeDeclaration", false);
-    asked_at(At::References { declares }, message)
-}
-
-/// Returns a question about some lines, if a document and lines are given.
-fn of_lines(what: Within, uri: Option<&str>, lines: Option<(u64, u64)>) -> Request<'_>
-    ensures { request_view result ≡ of_lines what (option_map (λ s. s.now) uri.entry) lines }
-{
-    match (uri, lines) {
-        (Some(uri), Some((from, to))) => Request::Question {
-            uri,
-            question: Question::Within { what, from, to },
+    let Some(uri) = text_at(message, URI) else {
+        return Request::Invalid;
+    };
+    let Some(line) = number_at(message, "/params/position/line") else {
+        return Request::Invalid;
+    };
+    let Some(character) = number_at(message, "/params/position/character") else {
+        return Request::Invalid;
+    };
+    Request::Question {
+        uri,
+        question: Question::At {
+            what,
+            line,
+            character,
         },
-        _ => Request::Invalid,
     }
 }
 
-/// Reads a question about some lines.
+/// Reads a question about some lines: those in which the range of the message begins and ends.
 fn asked_within(what: Within, message: &Value) -> Request<'_>
     ensures { request_view result ≡ asked_within what (view message.now) }
 {
-    of_lines(what, uri_of(message), lines_of(message))
-}
-
-/// Returns the request for another name, if a document, a position and a name are given.
-fn rename_by<'a>(
-    uri: Option<&'a str>,
-    position: Option<(u64, u64)>,
-    name: Option<&'a str>,
-) -> Request<'a>
-    ensures { request_view result ≡ rename_by (option_map (λ s. s.now) uri.entry) position
-        (option_map (λ s. s.now) name.entry) }
-{
-    match (uri, position, name) {
-        (Some(uri), Some((line, character)), Some(name)) => Request::Rename {
-            uri,
-            line,
-            character,
-            name,
-        },
-        _ => Request::Invalid,
+    let Some(uri) = text_at(message, URI) else {
+        return Request::Invalid;
+    };
+    let Some(from) = number_at(message, "/params/range/start/line") else {
+        return Request::Invalid;
+    };
+    let Some(to) = number_at(message, "/params/range/end/line") else {
+        return Request::Invalid;
+    };
+    Request::Question {
+        uri,
+        question: Question::Within { what, from, to },
     }
 }
 
-/// Reads `textDocument/rename`.
+/// Reads `textDocument/rename`: another name for the name at a position.
 fn rename_of(message: &Value) -> Request<'_>
     ensures { request_view result ≡ rename_of (view message.now) }
 {
-    let name = text_at(message, "/params/newName");
-    rename_by(uri_of(message), position_of(message), name)
+    let Some(uri) = text_at(message, URI) else {
+        return Request::Invalid;
+    };
+    let Some(line) = number_at(message, "/params/position/line") else {
+        return Request::Invalid;
+    };
+    let Some(character) = number_at(message, "/params/position/character") else {
+        return Request::Invalid;
+    };
+    let Some(name) = text_at(message, "/params/newName") else {
+        return Request::Invalid;
+    };
+    Request::Rename {
+        uri,
+        line,
+        character,
+        name,
+    }
 }
 
 /// Reads a message that asks something of a document.
@@ -141,7 +131,10 @@ fn question_by_method<'a>(method: &str, message: &'a Value) -> Request<'a>
         "textDocument/foldingRange" => asked_of(Whole::Folds, message),
         "textDocument/hover" => asked_at(At::Hover, message),
         "textDocument/definition" => asked_at(At::Definition, message),
-        "textDocument/references" => references_of(message),
+        "textDocument/references" => {
+            let declares = flag_or(message, "/params/context/includeDeclaration", false);
+            asked_at(At::References { declares }, message)
+        }
         "textDocument/signatureHelp" => asked_at(At::Signatures, message),
         "textDocument/inlayHint" => asked_within(Within::Hints, message),
         "textDocument/codeAction" => asked_within(Within::Fixes, message),
@@ -150,31 +143,26 @@ fn question_by_method<'a>(method: &str, message: &'a Value) -> Request<'a>
     }
 }
 
-/// Reads a message of a method.
-fn by_method<'a>(method: &str, message: &'a Value) -> Request<'a>
-    ensures { request_view result ≡ by_method method.now (view message.now) }
-{
-    match method {
-        "initialize" => Request::Initialize,
-        "shutdown" => Request::Shutdown,
-        "exit" => Request::Exit,
-        "textDocument/didOpen" => open_by(
-            uri_of(message),
-            text_at(message, "/params/textDocument/text"),
-        ),
-        "textDocument/didChange" => open_by(uri_of(message), changed_text(message)),
-        "textDocument/didClose" => close_by(uri_of(message)),
-        method => question_by_method(method, message),
-    }
-}
-
 /// Returns what a message asks for, by its method, and by what stands in it. Source: Language
 /// Server Protocol 3.17.
 pub fn read_request(message: &Value) -> Request<'_>
     ensures { request_view result ≡ request_of (view message.now) }
 {
-    match text_at(message, "/method") {
-        Some(method) => by_method(method, message),
-        None => Request::NoMethod,
+    let Some(method) = text_at(message, "/method") else {
+        return Request::NoMethod;
+    };
+    match method {
+        "initialize" => Request::Initialize,
+        "shutdown" => Request::Shutdown,
+        "exit" => Request::Exit,
+        "textDocument/didOpen" => {
+            open_by(message, text_at(message, "/params/textDocument/text"))
+        }
+        "textDocument/didChange" => open_by(message, changed_text(message)),
+        "textDocument/didClose" => match text_at(message, URI) {
+            Some(uri) => Request::Close { uri },
+            None => Request::Invalid,
+        },
+        method => question_by_method(method, message),
     }
 }

@@ -13,5 +13,5 @@ untaken bytes left fault.Write h = h
 untaken bytes left fault.OutOfMemory h = h
 
 -- More bytes stand behind those that were read so far.
-pub grown : (first held kept new told more : List ℕ) → held ≡ first ++ told → kept ≡ held → new ≡ kept ++ more → new ≡ first ++ (told ++ more)
-grown first held kept new told more so_far same read = read ∙ ap (λ (bytes : List ℕ). bytes ++ more) (same ∙ so_far) ∙ append_assoc first told more
+pub grown : (first held new told more : List ℕ) → held ≡ first ++ told → new ≡ held ++ more → new ≡ first ++ (told ++ more)
+grown first held new told more so_far read = read ∙ ap (λ (bytes : List ℕ). bytes ++ more) so_far ∙ append_assoc first told more

@@ -48,8 +48,8 @@ impl Incoming {
         !self.held.is_empty() || self.count < come
     }
 
-    /// Takes the message in front, whose body has the bytes from `start` up to `end`. Nothing is
-    /// changed if memory ran out.
+    /// Takes the message in front, whose body has the bytes from `start` up to `end`, and returns
+    /// the body. Nothing is changed if memory ran out.
     fn take(&mut self, alloc: Global, start: usize, end: usize) -> Result<Vec<u8>, AllocError>
         requires { front_of self.old ≡ Message start end }
         ensures taken { IfOk result (λ body. IsFront self.old body.items self.new) }
@@ -58,38 +58,6 @@ impl Incoming {
         let body = Vec::from_slice(alloc, &self.held[start..end])?;
         self.held = Vec::from_slice(alloc, &self.held[end..])?;
         Ok(body)
-    }
-
-    /// Takes the message in front and returns its body, or why none is taken. Returns nothing if
-    /// no whole message stands in front so far.
-    fn take_front(&mut self, alloc: Global) -> Option<Result<Option<Vec<u8>>, StreamFault>>
-        ensures more { result ≡ None → (front_of self.old ≡ Open) × (self.new ≡ self.old) }
-        ensures taken { (left : Option (List ℕ)) → IfSome result (λ taken. MatchResult taken
-            (λ found. MatchOption found (IsOver self.old left)
-            (λ body. IsFront self.old body.items self.new)) (IsUntaken self.old left)) }
-    {
-        match front_of(self.held.as_slice()) {
-            Front::Message { start, end } => match self.take(alloc, start, end) {
-                Ok(body) => Some(Ok(Some(body))),
-                Err(_) => Some(Err(StreamFault::OutOfMemory)),
-            },
-            Front::Open => None,
-            Front::NoLength => Some(Err(StreamFault::NoLength)),
-            Front::LongHeader => Some(Err(StreamFault::LongHeader)),
-        }
-    }
-
-    /// Returns no message where the stream ends, or that it ends within one.
-    fn ended(&self) -> Result<Option<Vec<u8>>, StreamFault>
-        requires { front_of self.now ≡ Open }
-        ensures { (left : Option (List ℕ)) → IsAtEnd left → MatchResult result
-            (λ found. MatchOption found (IsOver self.now left)
-            (λ body. IsFront self.now body.items self.now)) (IsUntaken self.now left) }
-    {
-        if self.held.is_empty() {
-            return Ok(None);
-        }
-        Err(StreamFault::Cut)
     }
 
     /// Reads some bytes, and returns whether there were any.
@@ -138,13 +106,21 @@ impl Incoming {
             (IsUntaken (self.old ++ told) (R.remaining reader.new)) }
     {
         for _ in 0..u64::MAX {
-            match self.take_front(alloc) {
-                Some(taken) => return taken,
-                None => {}
+            match front_of(self.held.as_slice()) {
+                Front::Message { start, end } => {
+                    return match self.take(alloc, start, end) {
+                        Ok(body) => Ok(Some(body)),
+                        Err(_) => Err(StreamFault::OutOfMemory),
+                    };
+                }
+                Front::NoLength => return Err(StreamFault::NoLength),
+                Front::LongHeader => return Err(StreamFault::LongHeader),
+                Front::Open => {}
             }
             match self.fill(reader) {
                 Ok(true) => {}
-                Ok(false) => return self.ended(),
+                Ok(false) if self.held.is_empty() => return Ok(None),
+                Ok(false) => return Err(StreamFault::Cut),
                 Err(fault) => return Err(fault),
             }
         }

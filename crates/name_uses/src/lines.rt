@@ -16,33 +16,26 @@ use line_parts::{Line, LineError, Statement, Token, next_line};
 use model::{LineFault, Profile};
 use std::alloc::{AllocError, Global};
 
-/// Returns whether a line defines the name with which it begins.
-fn defines_first(line: &Line<'_>) -> bool
-    ensures { result ≡ defines_first (line_view line.now) }
-{
-    match line {
-        Line::Labelled(label, _) => label.is_some(),
-        Line::Definition(_, _) => true,
-    }
-}
-
-/// Returns whether a line is the last one that is read.
-fn ends(line: &Line<'_>) -> bool
-    ensures { result ≡ ends_line (line_view line.now) }
-{
-    match line {
-        Line::Labelled(_, Statement::Finish) => true,
-        Line::Labelled(_, _) | Line::Definition(_, _) => false,
-    }
-}
-
 /// Returns whether a line defines the name with which it begins, and whether it is the last one
 /// that is read.
-fn defines_and_ends(line: Line<'_>) -> (bool, bool)
+fn defines_and_ends(line: &Line<'_>) -> (bool, bool)
+    ensures defines { result.0 ≡ defines_first (line_view line.now) }
+    ensures end { result.1 ≡ ends_line (line_view line.now) }
+{
+    match line {
+        Line::Labelled(label, Statement::Finish) => (label.is_some(), true),
+        Line::Labelled(label, _) => (label.is_some(), false),
+        Line::Definition(_, _) => (true, false),
+    }
+}
+
+/// Drops a line, and returns whether it defines the name with which it begins, and whether it is
+/// the last one that is read.
+fn taken_from(line: Line<'_>) -> (bool, bool)
     ensures defines { result.0 ≡ defines_first (line_view line.entry) }
     ensures end { result.1 ≡ ends_line (line_view line.entry) }
 {
-    let found = (defines_first(&line), ends(&line));
+    let found = defines_and_ends(&line);
     drop(line);
     found
 }
@@ -89,7 +82,7 @@ fn push_line<'a>(
     ensures end { IfOk result (λ ended. ended ≡ is_end (read_line profile text.now)) }
 {
     let (defines, ended) = match read_line_with(alloc, profile, room, text) {
-        Ok(line) => defines_and_ends(line),
+        Ok(line) => taken_from(line),
         Err(LineError::Kind(_)) => return Ok(false),
         Err(LineError::Memory) => return Err(AllocError),
     };

@@ -2,7 +2,7 @@
 
 ghost use Rattle.std.specs.Prelude.{◌≡◌, IfOk};
 ghost use Rattle.std.specs.List.{filter};
-ghost use Rattle.name_uses.specs.Picked.{is_part, is_picked, picked};
+ghost use Rattle.name_uses.specs.Picked.{is_picked, picked};
 ghost use Rattle.name_uses.specs.Views.{use_view, use_views};
 
 use crate::name_use::NameUse;
@@ -19,22 +19,16 @@ pub enum Part {
     Others,
 }
 
-/// Returns whether a use is among those that are meant.
-fn is_part(part: Part, one: &NameUse<'_>) -> bool
-    ensures { result ≡ is_part part (use_view one.now) }
-{
-    match part {
-        Part::All => true,
-        Part::Definitions => one.defines,
-        Part::Others => !one.defines,
-    }
-}
-
 /// Returns whether a use is of a name, and among those that are meant.
 fn is_picked(part: Part, name: &[u8], one: &NameUse<'_>) -> bool
     ensures { result ≡ is_picked part name.now (use_view one.now) }
 {
-    one.text == name && is_part(part, one)
+    one.text == name
+        && match part {
+            Part::All => true,
+            Part::Definitions => one.defines,
+            Part::Others => !one.defines,
+        }
 }
 
 /// Returns those of some uses that are of a name and are meant, in their order. The only error is

@@ -1,9 +1,9 @@
 //! Words that are names.
 
 ghost use Rattle.std.specs.Prelude.{◌≡◌, IfOk};
-ghost use Rattle.line_parts.specs.Lexemes.{lexeme_of, lexemes};
+ghost use Rattle.line_parts.specs.Lexemes.{lexeme_of};
 ghost use Rattle.model.specs.SourceLine.{is_reserved};
-ghost use Rattle.name_uses.specs.Uses.{is_name, is_name_alone, is_name_token};
+ghost use Rattle.name_uses.specs.Uses.{is_name, is_name_token};
 ghost use Rattle.name_uses.specs.Registers.{is_register};
 
 use lexer::tokens;
@@ -47,16 +47,6 @@ pub fn is_name_token(profile: Profile, token: &Token<'_>) -> bool
     }
 }
 
-/// Returns whether some tokens of a text are one that is a name and all of the text.
-fn is_name_alone(profile: Profile, tokens: &[Token<'_>], text: &[u8]) -> bool
-    ensures { result ≡ is_name_alone profile text.now (lexemes tokens.now) }
-{
-    match tokens {
-        [token] => is_name_token(profile, token) && token.text == text,
-        _ => false,
-    }
-}
-
 /// Returns whether a text is a name: one word of at most 31 bytes that begins with a letter and is
 /// not reserved in the profile. The only error is that a request for memory was refused. Source:
 /// mos65.
@@ -65,7 +55,10 @@ pub fn is_name(alloc: Global, profile: Profile, text: &[u8]) -> Result<bool, All
     ensures { IfOk result (λ named. named ≡ is_name profile text.now) }
 {
     match tokens(alloc, text) {
-        Ok(found) => Ok(is_name_alone(profile, &found, text)),
+        Ok(found) => match found.as_slice() {
+            [token] => Ok(is_name_token(profile, token) && token.text == text),
+            _ => Ok(false),
+        },
         Err(LineFault::OutOfMemory) => Err(AllocError),
         Err(LineFault::Syntax) => Ok(false),
     }

@@ -1,6 +1,6 @@
 //! A name changed to another one.
 
-ghost use Rattle.std.specs.Prelude.{◌≡◌, ◌==◌, ◌≤◌, ℕ, IfErr, IfOk, List, Option, [], length, true};
+ghost use Rattle.std.specs.Prelude.{◌≡◌, ◌≤◌, ℕ, IfErr, IfOk, List, Option, [], length, true};
 ghost use Rattle.model.specs.Source.{Denotes};
 ghost use Rattle.name_uses.specs.Uses.{is_name};
 ghost use Rattle.name_uses.specs.Views.{use_views};
@@ -20,13 +20,6 @@ pub struct Renaming<'a> {
     pub uses: Vec<NameUse<'a>>,
     /// The source with the new name there.
     pub text: Vec<u8>,
-}
-
-/// Returns whether there are no uses.
-fn are_none(uses: &[NameUse<'_>]) -> bool
-    ensures { result ≡ (length uses.now == 0) }
-{
-    uses.is_empty()
 }
 
 /// Returns where a name stands in a source, and the source with another name there: the same text
@@ -62,14 +55,14 @@ pub fn rename<'a>(
         return Err(RenameFault::NoName);
     }
     let all = name_uses(alloc, profile, source)?;
-    let taken = picked(alloc, &all, new, Part::All)?;
-    if !are_none(&taken) {
+    if !picked(alloc, &all, new, Part::All)?.as_slice().is_empty() {
         return Err(RenameFault::Taken);
     }
     let uses = picked(alloc, &all, old, Part::All)?;
     let text = replaced(alloc, source, &uses, new)?;
-    if !keeps_image(alloc, map, source, &text)? {
-        return Err(RenameFault::Changed);
+    match keeps_image(alloc, map, source, &text) {
+        Ok(true) => Ok(Renaming { uses, text }),
+        Ok(false) => Err(RenameFault::Changed),
+        Err(_) => Err(RenameFault::OutOfMemory),
     }
-    Ok(Renaming { uses, text })
 }

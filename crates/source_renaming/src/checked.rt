@@ -8,21 +8,13 @@ use assembler::{AsmFaultKind, assemble};
 use bus::{Image, MapSpec};
 use std::alloc::{AllocError, Global};
 
-/// Whether two cells are the same.
-fn is_same_cell(cell: Option<u8>, other: Option<u8>) -> bool
-    ensures same { result ≡ true → cell ≡ other }
-    ensures apart { result ≡ false → cell ≡ other → ⊥ }
-{
-    cell == other
-}
-
 /// Whether two images are the same.
 fn is_same(image: &Image, other: &Image) -> bool
     ensures same { result ≡ true → image.now ≡ other.now }
     ensures apart { result ≡ false → image.now ≡ other.now → ⊥ }
 {
     for address in 0..65536u32 {
-        if !is_same_cell(image.get(address as u16), other.get(address as u16)) {
+        if image.get(address as u16) != other.get(address as u16) {
             return false;
         }
     }

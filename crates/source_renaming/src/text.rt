@@ -1,9 +1,8 @@
 //! A text with another word at some places.
 
-ghost use Rattle.std.specs.Prelude.{◌≡◌, ◌++◌, ◌<◌, ◌≤◌, IfOk, OnOk, drop, length};
-ghost use Rattle.name_uses.specs.Views.{use_view, use_views};
-ghost use Rattle.source_renaming.specs.Renaming.{column_after, is_at, left_at, left_of, line_after, piece};
-ghost use Rattle.source_renaming.specs.Renaming.{piece_at, replaced, rest_at, rest_of};
+ghost use Rattle.std.specs.Prelude.{◌≡◌, ◌++◌, ◌≤◌, IfOk, OnOk, drop, length};
+ghost use Rattle.name_uses.specs.Views.{use_views};
+ghost use Rattle.source_renaming.specs.Renaming.{left_at, piece_at, replaced, rest_at};
 
 use name_uses::NameUse;
 use std::alloc::{AllocError, Global};
@@ -15,71 +14,10 @@ struct Place {
     column: usize,
 }
 
-impl Place {
-    /// Returns the place behind a byte that stands here.
-    fn after(self, byte: u8) -> Place
-        requires line { self.line < 4294967295 }
-        requires column { self.column < 4294967295 }
-        ensures line { result.line ≡ line_after byte self.line }
-        ensures column { result.column ≡ column_after byte self.column }
-    {
-        if byte == b'\n' {
-            Place {
-                line: self.line + 1,
-                column: 0,
-            }
-        } else {
-            Place {
-                line: self.line,
-                column: self.column + 1,
-            }
-        }
-    }
-
-    /// Returns whether a name stands here.
-    fn is_of(self, one: &NameUse<'_>) -> bool
-        ensures { result ≡ is_at self.line self.column (use_view one.now) }
-    {
-        if one.line == self.line {
-            one.start == self.column
-        } else {
-            false
-        }
-    }
-}
-
-/// Appends what stands in place of a byte: the word where the first of some uses begins, and
-/// otherwise the byte. Returns how many bytes behind it are left out, and how many uses were met.
-fn push_piece(
-    text: &mut Vec<u8>,
-    word: &[u8],
-    place: Place,
-    uses: &[NameUse<'_>],
-    byte: u8,
-) -> Result<(usize, usize), AllocError>
-    ensures text { OnOk result (text.new.items
-        ≡ text.old.items ++ piece word.now place.line place.column (use_views uses.now) byte) }
-    ensures left { IfOk result
-        (λ p. p.0 ≡ left_of place.line place.column (use_views uses.now)) }
-    ensures rest { IfOk result (λ p. drop p.1 (use_views uses.now)
-        ≡ rest_of place.line place.column (use_views uses.now)) }
-    ensures within { IfOk result (λ p. p.1 ≤ length uses.now) }
-{
-    let Some((first, _)) = uses.split_first() else {
-        text.push(byte)?;
-        return Ok((0, 0));
-    };
-    if place.is_of(first) {
-        text.extend_from_slice(word)?;
-        return Ok((first.text.len().saturating_sub(1), 1));
-    }
-    text.push(byte)?;
-    Ok((0, 0))
-}
-
 /// Appends what stands in place of a byte: nothing where so many bytes still belong to the use
-/// before. Returns how many bytes behind it are left out, and how many uses were met.
-fn push_step(
+/// before, the word where the first of some uses begins, and otherwise the byte. Returns how many
+/// bytes behind it are left out, and how many uses were met.
+fn push_piece(
     text: &mut Vec<u8>,
     word: &[u8],
     place: Place,
@@ -98,7 +36,16 @@ fn push_step(
     if left > 0 {
         return Ok((left - 1, 0));
     }
-    push_piece(text, word, place, uses, byte)
+    match uses {
+        [first, ..] if first.line == place.line && first.start == place.column => {
+            text.extend_from_slice(word)?;
+            Ok((first.text.len().saturating_sub(1), 1))
+        }
+        _ => {
+            text.push(byte)?;
+            Ok((0, 0))
+        }
+    }
 }
 
 /// Returns a text with a word in place of each of some uses of a name. The only error is that a
@@ -118,10 +65,15 @@ pub fn replaced(
     let mut place = Place { line: 1, column: 0 };
     let mut left = 0usize;
     for byte in source {
-        let (more, met) = push_step(&mut text, word, place, left, &uses[next..], *byte)?;
+        let (more, met) = push_piece(&mut text, word, place, left, &uses[next..], *byte)?;
         left = more;
         next += met;
-        place = place.after(*byte);
+        if *byte == b'\n' {
+            place.line += 1;
+            place.column = 0;
+        } else {
+            place.column += 1;
+        }
     }
     Ok(text)
 }

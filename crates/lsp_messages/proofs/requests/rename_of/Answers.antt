@@ -1,4 +1,4 @@
 use Rattle.lsp_messages.proofs.requests.rename_of.Goals as goal
 
 pub returns : goal.returns
-returns c = rw (← c.uri_of.ensures, ← c.position_of.ensures, ← c.text_at-name.ensures) c.rename_by.ensures
+returns c = rw (← c.in-Some.ensures, ← c.in-Some-number_at.ensures, ← c.in-Some-number_at-2.ensures, ← c.in-Some-text_at.ensures)

@@ -1,6 +1,8 @@
-use Rattle.std.proofs.Common.{◌≡◌, ◌∙◌, ◌++◌, ap}
+use Rattle.std.proofs.Common.{◌≡◌, ◌∙◌, ◌++◌, [], ap, length, rules, sym}
 use Rattle.std.proofs.KnownBytes.{Consumes-trans}
+use Rattle.std.proofs.lemmas.List.{nil_from_length}
 use Rattle.message_stream.specs.Messages.{front_of}
+use Rattle.message_stream.specs.declared.front.Front.TheVariants.{LongHeader, NoLength, Open}
 use Rattle.message_stream.proofs.Taking.{grown, untaken}
 use Rattle.message_stream.proofs.incoming.Incoming.next.Goals as goal
 
@@ -10,43 +12,61 @@ loop-preserved g c =
     let read = c.in-Ok-true.ensures.read in (
       inv.0 ++ read.0,
       Consumes-trans _ _ _ inv.0 read.0 inv.1 read.1,
-      grown _ _ _ _ _ _ inv.2 (c.take_front.ensures.more c.in-None.is).1 read.2,
+      grown _ _ _ _ _ inv.2 read.2,
     )
 
-pub returns-in-Some : goal.returns-in-Some
-returns-in-Some g c =
+pub returns-in-Ok : goal.returns-in-Ok
+returns-in-Ok g c =
     let inv = c.loop.invariant in
     record {
-      taken = (inv.0, inv.1, rw (← inv.2) (c.in-Some.ensures.taken _));
+      taken = (inv.0, inv.1, rw (← inv.2) c.in-Ok.ensures.taken);
     }
 
-pub ended-requires : goal.ended-requires
-ended-requires g c =
-    let front = c.take_front.ensures.more c.in-None.is in
-    let end = c.in-Ok-false.ensures.end c.in-Ok-false.field-0-test in
-    ap front_of (end.0 ∙ front.1) ∙ front.0
+pub returns-in-Err : goal.returns-in-Err
+returns-in-Err g c = let inv = c.loop.invariant in record { taken = (inv.0, inv.1, tt) }
+
+pub returns-in-NoLength : goal.returns-in-NoLength
+returns-in-NoLength g c =
+    let inv = c.loop.invariant in
+    let front : front_of (c.args.self.now ++ inv.0) ≡ NoLength = cc in
+    record { taken = (inv.0, inv.1, front) }
+
+pub returns-in-LongHeader : goal.returns-in-LongHeader
+returns-in-LongHeader g c =
+    let inv = c.loop.invariant in
+    let front : front_of (c.args.self.now ++ inv.0) ≡ LongHeader = cc in
+    record { taken = (inv.0, inv.1, front) }
 
 pub returns-in-Ok-false : goal.returns-in-Ok-false
 returns-in-Ok-false g c =
     let inv = c.loop.invariant in
     let read = c.in-Ok-false.ensures.read in
     let end = c.in-Ok-false.ensures.end c.in-Ok-false.field-0-test in
-    let all : c.fill.new.self ≡ c.args.self.now ++ (inv.0 ++ read.0) = grown _ _ _ _ _ _ inv.2 (c.take_front.ensures.more c.in-None.is).1 read.2 in
+    let few : length c.self-in-loop.inside.held.items ≡ 0 = search rules in
+    let empty : c.fill.new.self ≡ [] = sym c.self-in-loop.view_is ∙ nil_from_length c.self-in-loop.inside.held.items few in
+    let none : c.args.self.now ++ (inv.0 ++ read.0) ≡ [] = sym (grown _ _ _ _ _ inv.2 read.2) ∙ empty in
     record {
-      taken = (inv.0 ++ read.0, Consumes-trans _ _ _ inv.0 read.0 inv.1 read.1, rw (← all) (c.ended.ensures _ end.1));
+      taken = (inv.0 ++ read.0, Consumes-trans _ _ _ inv.0 read.0 inv.1 read.1, (none, end.1));
     }
 
-pub returns-in-Err : goal.returns-in-Err
-returns-in-Err g c =
+pub returns-in-Ok-false-2 : goal.returns-in-Ok-false-2
+returns-in-Ok-false-2 g c =
     let inv = c.loop.invariant in
-    let read = c.in-Err.ensures.read in
+    let read = c.in-Ok-false.ensures.read in
+    let end = c.in-Ok-false.ensures.end c.in-Ok-false.field-0-test in
+    let before : front_of c.loop.self ≡ Open = cc in
+    let all : front_of (c.args.self.now ++ (inv.0 ++ read.0)) ≡ Open = ap front_of (sym (grown _ _ _ _ _ inv.2 read.2) ∙ end.0) ∙ before in
     record {
-      taken = (inv.0 ++ read.0, Consumes-trans _ _ _ inv.0 read.0 inv.1 read.1, untaken _ _ _ c.in-Err.ensures.fault);
+      taken = (inv.0 ++ read.0, Consumes-trans _ _ _ inv.0 read.0 inv.1 read.1, (all, end.1));
+    }
+
+pub returns-in-Err-fill : goal.returns-in-Err-fill
+returns-in-Err-fill g c =
+    let inv = c.loop.invariant in
+    let read = c.in-Err-fill.ensures.read in
+    record {
+      taken = (inv.0 ++ read.0, Consumes-trans _ _ _ inv.0 read.0 inv.1 read.1, untaken _ _ _ c.in-Err-fill.ensures.fault);
     }
 
 pub returns : goal.returns
-returns g c =
-    let inv = c.loop.invariant in
-    record {
-      taken = (inv.0, inv.1, tt);
-    }
+returns g c = let inv = c.loop.invariant in record { taken = (inv.0, inv.1, tt) }
