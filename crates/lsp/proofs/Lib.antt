@@ -3,5 +3,4 @@ pub mod Filtered
 pub mod Nothing
 pub mod Refused
 pub mod Small
-pub mod Turning
 pub mod Written

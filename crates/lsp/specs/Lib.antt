@@ -5,5 +5,4 @@ pub mod Messages
 pub mod Sessions
 pub mod Shown
 pub mod State
-pub mod Turns
 pub mod Writing

@@ -1,39 +1,21 @@
 //! What is answered to requests.
 
-ghost use Rattle.std.specs.Prelude.{◌≡◌, IfOk, IsErr, MatchResult};
-ghost use Rattle.lsp.specs.Answers.{IsFailure, IsFresh, IsReplyIn, IsRunning};
+ghost use Rattle.std.specs.Prelude.{IfOk};
+ghost use Rattle.lsp.specs.Answers.{IsFailure, IsReplyIn, IsRunning};
 ghost use Rattle.lsp.specs.State.{documents_view};
-ghost use Rattle.lsp_messages.specs.Replies.{result_data};
 ghost use Rattle.lsp_messages.specs.Requests.{asks, renames};
 ghost use Rattle.lsp_messages.specs.Views.{request_view};
 ghost use Rattle.serde_json.specs.View.{view};
 
 use crate::capabilities::capabilities;
 use crate::documents::Documents;
-use crate::phase::{Phase, is_initialize};
+use crate::phase::Phase;
 use crate::questions::answer_to;
-use crate::texts::text_on;
 use bus::MapSpec;
-use lsp_answers::rename;
+use lsp_answers::{Text, rename};
 use lsp_messages::{Failure, Question, Request, failure_reply, result_reply};
 use serde_json::Value;
 use std::alloc::{AllocError, Global};
-
-/// Answers with a result, if memory did not run out for it.
-fn answered(
-    alloc: Global,
-    id: &Value,
-    given: Result<Value, AllocError>,
-) -> Result<Value, AllocError>
-    ensures { MatchResult given
-        (λ g. IfOk result (λ v. view v ≡ result_data (view id.now) (view g)))
-        (λ e. IsErr result) }
-{
-    match given {
-        Ok(given) => result_reply(alloc, id, given),
-        Err(error) => Err(error),
-    }
-}
 
 /// Answers a question about a document.
 fn question_reply(
@@ -47,8 +29,13 @@ fn question_reply(
     ensures { IfOk result (λ v. IsRunning map.now (documents_view documents.now) (view id.now)
         (asks uri.now question) (view v)) }
 {
-    let text = text_on(alloc, map, documents, uri)?;
-    answered(alloc, id, answer_to(alloc, map, uri, &text, question))
+    let Ok(text) = Text::read(alloc, map.profile(), documents.source_of(uri)) else {
+        return Err(AllocError);
+    };
+    match answer_to(alloc, map, uri, &text, question) {
+        Ok(given) => result_reply(alloc, id, given),
+        Err(error) => Err(error),
+    }
 }
 
 /// Answers a request for another name for the name at a position: with the changes, or with the
@@ -66,10 +53,12 @@ fn rename_reply(
     ensures { IfOk result (λ v. IsRunning map.now (documents_view documents.now) (view id.now)
         (renames uri.now line character name.now) (view v)) }
 {
-    let text = text_on(alloc, map, documents, uri)?;
+    let Ok(text) = Text::read(alloc, map.profile(), documents.source_of(uri)) else {
+        return Err(AllocError);
+    };
     match rename(alloc, map, uri, &text, line, character, name) {
         Ok(Ok(changes)) => result_reply(alloc, id, changes),
-        Ok(Err(words)) => failed_in_words(alloc, id, Failure::Refused, words),
+        Ok(Err(words)) => failure_reply(alloc, id, Failure::Refused, words),
         Err(error) => Err(error),
     }
 }
@@ -86,23 +75,11 @@ fn words_of(failure: Failure) -> &'static str {
     }
 }
 
-/// Answers a request that fails.
-fn failed_in_words(
-    alloc: Global,
-    id: &Value,
-    failure: Failure,
-    words: &str,
-) -> Result<Value, AllocError>
-    ensures { IfOk result (λ v. IsFailure (view id.now) failure (view v)) }
-{
-    failure_reply(alloc, id, failure, words)
-}
-
 /// Answers a request that fails, in the words of its failure.
 pub fn failed(alloc: Global, id: &Value, failure: Failure) -> Result<Value, AllocError>
     ensures { IfOk result (λ v. IsFailure (view id.now) failure (view v)) }
 {
-    failed_in_words(alloc, id, failure, words_of(failure))
+    failure_reply(alloc, id, failure, words_of(failure))
 }
 
 /// Answers a request of a running client.
@@ -129,21 +106,11 @@ fn running_reply(
         Request::Shutdown => result_reply(alloc, id, Value::Null),
         Request::Invalid => failed(alloc, id, Failure::WrongParameters),
         Request::Unknown => failed(alloc, id, Failure::UnknownMethod),
-        Request::Initialize | Request::Exit | Request::NoMethod => {
-            failed(alloc, id, Failure::NoRequest)
-        }
-        Request::Open { .. } | Request::Close { .. } => failed(alloc, id, Failure::NoRequest),
-    }
-}
-
-/// Answers the first request of a client, whether it is `initialize`.
-fn fresh_reply(alloc: Global, id: &Value, begins: bool) -> Result<Value, AllocError>
-    ensures { IfOk result (λ v. IsFresh (view id.now) begins (view v)) }
-{
-    if begins {
-        answered(alloc, id, capabilities(alloc))
-    } else {
-        failed(alloc, id, Failure::NotInitialized)
+        Request::Initialize
+        | Request::Exit
+        | Request::Open { .. }
+        | Request::Close { .. }
+        | Request::NoMethod => failed(alloc, id, Failure::NoRequest),
     }
 }
 
@@ -160,7 +127,13 @@ pub fn reply(
         (view id.now) (request_view request.entry) (view v)) }
 {
     match phase {
-        Phase::Fresh => fresh_reply(alloc, id, is_initialize(request)),
+        Phase::Fresh => match request {
+            Request::Initialize => match capabilities(alloc) {
+                Ok(given) => result_reply(alloc, id, given),
+                Err(error) => Err(error),
+            },
+            _ => failed(alloc, id, Failure::NotInitialized),
+        },
         Phase::Running => running_reply(alloc, map, documents, id, request),
         Phase::ShutDown => failed(alloc, id, Failure::NoRequest),
     }

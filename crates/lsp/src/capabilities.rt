@@ -1,7 +1,7 @@
 //! What the server can do.
 
 ghost use Rattle.std.specs.Prelude.{◌≡◌, IfOk, map as each};
-ghost use Rattle.lsp.specs.Capabilities.{capabilities, colours, fixes, served, signatures, sync};
+ghost use Rattle.lsp.specs.Capabilities.{capabilities, colours, served};
 ghost use Rattle.json_values.specs.Values.{list_of, word};
 ghost use Rattle.serde_json.specs.View.{view};
 
@@ -39,40 +39,24 @@ fn colours(alloc: Global) -> Result<Value, AllocError>
         .build()
 }
 
-/// Returns what the server can do about faults: changes that mend them.
-fn fixes(alloc: Global) -> Result<Value, AllocError>
-    ensures { IfOk result (λ v. view v ≡ fixes) }
-{
-    Object::new(alloc)
-        .member("codeActionKinds", words(alloc, &["quickfix"]))
-        .build()
-}
-
-/// Returns what the server can do about operations: their forms, for which a blank or a comma asks.
-fn signatures(alloc: Global) -> Result<Value, AllocError>
-    ensures { IfOk result (λ v. view v ≡ signatures) }
-{
-    Object::new(alloc)
-        .member("triggerCharacters", words(alloc, &[" ", ","]))
-        .build()
-}
-
-/// Returns how documents come: they are opened and closed, and a change has the whole text.
-fn sync(alloc: Global) -> Result<Value, AllocError>
-    ensures { IfOk result (λ v. view v ≡ sync) }
-{
-    Object::new(alloc)
-        .count("change", 1)
-        .flag("openClose", true)
-        .build()
-}
-
-/// Returns what the server provides.
+/// Returns what the server provides: changes that mend faults; the forms of operations, for which a
+/// blank or a comma asks; the colours; and documents that are opened and closed, where a change has
+/// the whole text.
 fn served(alloc: Global) -> Result<Value, AllocError>
     ensures { IfOk result (λ v. view v ≡ served) }
 {
+    let fixes = Object::new(alloc)
+        .member("codeActionKinds", words(alloc, &["quickfix"]))
+        .build();
+    let signatures = Object::new(alloc)
+        .member("triggerCharacters", words(alloc, &[" ", ","]))
+        .build();
+    let sync = Object::new(alloc)
+        .count("change", 1)
+        .flag("openClose", true)
+        .build();
     Object::new(alloc)
-        .member("codeActionProvider", fixes(alloc))
+        .member("codeActionProvider", fixes)
         .member("completionProvider", Object::new(alloc).build())
         .flag("definitionProvider", true)
         .flag("documentSymbolProvider", true)
@@ -83,8 +67,8 @@ fn served(alloc: Global) -> Result<Value, AllocError>
         .flag("referencesProvider", true)
         .flag("renameProvider", true)
         .member("semanticTokensProvider", colours(alloc))
-        .member("signatureHelpProvider", signatures(alloc))
-        .member("textDocumentSync", sync(alloc))
+        .member("signatureHelpProvider", signatures)
+        .member("textDocumentSync", sync)
         .build()
 }
 

@@ -1,9 +1,7 @@
 //! The documents that are open.
 
-ghost use Rattle.std.specs.Prelude.{◌≡◌, [], OnErr, OnOk};
-ghost use Rattle.std.specs.List.{find};
-ghost use Rattle.std.specs.Option.{option_map};
-ghost use Rattle.lsp.specs.State.{closed, document_view, documents_view, is_named, opened, text_in};
+ghost use Rattle.std.specs.Prelude.{◌≡◌, OnErr, OnOk};
+ghost use Rattle.lsp.specs.State.{closed, documents_view, opened, source_in};
 
 use std::alloc::{AllocError, Global};
 
@@ -14,15 +12,6 @@ pub struct Document {
     pub text: String,
 }
 
-impl Document {
-    /// Returns whether this is the document's name.
-    fn is_named(&self, uri: &str) -> bool
-        ensures { result ≡ is_named uri.now (document_view self.now) }
-    {
-        self.uri.as_str() == uri
-    }
-}
-
 /// The documents that are open, each name once.
 #[derive(Drop)]
 pub struct Documents {
@@ -30,20 +19,11 @@ pub struct Documents {
 }
 
 impl Documents {
-    /// Makes a list without documents.
-    pub fn new(alloc: Global) -> Documents
-        ensures { documents_view result ≡ [] }
-    {
-        Documents {
-            all: Vec::new(alloc),
-        }
-    }
-
     /// Closes a document. One that is not open stays so.
     pub fn close(&mut self, uri: &str)
         ensures { documents_view self.new ≡ closed uri.now (documents_view self.old) }
     {
-        self.all.retain(|document| !document.is_named(uri));
+        self.all.retain(|document| document.uri.as_str() != uri);
     }
 
     /// Opens a document with a text, or gives it another one.
@@ -56,33 +36,25 @@ impl Documents {
             (documents_view self.new ≡ closed uri.now (documents_view self.old)) }
     {
         self.close(uri);
-        let uri = String::from_str(alloc, uri)?;
-        let text = String::from_str(alloc, text)?;
+        let Ok(uri) = String::from_str(alloc, uri) else {
+            return Err(AllocError);
+        };
+        let Ok(text) = String::from_str(alloc, text) else {
+            return Err(AllocError);
+        };
         self.all.push(Document { uri, text })?;
         Ok(())
     }
 
-    /// Returns a document by its name, if it is open.
-    fn document_of(&self, uri: &str) -> Option<&Document>
-        ensures { option_map (λ d. document_view d.now) result
-            ≡ find (is_named uri.now) (documents_view self.now) }
+    /// Returns the source of a document; an empty one where it is not open.
+    pub fn source_of(&self, uri: &str) -> &[u8]
+        ensures { result.now ≡ source_in (documents_view self.now) uri.now }
     {
         for document in &self.all {
-            if document.is_named(uri) {
-                return Some(document);
+            if document.uri.as_str() == uri {
+                return document.text.as_bytes();
             }
         }
-        None
-    }
-
-    /// Returns the text of a document, if it is open.
-    pub fn text_of(&self, uri: &str) -> Option<&str>
-        ensures { option_map (λ text. text.now) result
-            ≡ text_in (documents_view self.now) uri.now }
-    {
-        match self.document_of(uri) {
-            Some(document) => Some(document.text.as_str()),
-            None => None,
-        }
+        &[]
     }
 }

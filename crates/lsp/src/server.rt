@@ -2,22 +2,16 @@
 
 ghost use Rattle.std.specs.Prelude.{◌≡◌, ◌∷◌, [], IfOk, IsErr, MatchResult, OnOk, is_some};
 ghost use Rattle.std.specs.Prelude.{map as each};
-ghost use Rattle.lsp.specs.Messages.{AreAnswers, AreRefused, AreReplies, AreTold, AreToldIn};
-ghost use Rattle.lsp.specs.Messages.{documents_after, documents_in, end_of, is_answer, published};
-ghost use Rattle.lsp.specs.Messages.{state_after};
+ghost use Rattle.lsp.specs.Messages.{AreAnswers, AreRefused, AreToldIn, documents_in, end_of};
+ghost use Rattle.lsp.specs.Messages.{is_answer, published, state_after};
 ghost use Rattle.lsp.specs.State.{documents_view, server_view, start};
-ghost use Rattle.lsp_answers.specs.Marks.{AreMarks};
-ghost use Rattle.lsp_answers.specs.Texts.{text_of};
 ghost use Rattle.lsp_messages.specs.Views.{request_view};
-ghost use Rattle.json_values.specs.Values.{list_of};
-ghost use Rattle.lsp_messages.specs.Values.{marks_data};
-ghost use Rattle.serde_json.specs.Data.{Data};
 ghost use Rattle.serde_json.specs.Find.{get};
 ghost use Rattle.serde_json.specs.View.{view};
 
 use crate::answers::{failed, reply};
 use crate::documents::Documents;
-use crate::phase::{Phase, is_exit};
+use crate::phase::Phase;
 use bus::MapSpec;
 use json_values::ValueList;
 use lsp_answers::{Text, published};
@@ -39,7 +33,9 @@ impl Server {
     {
         Server {
             phase: Phase::Fresh,
-            documents: Documents::new(alloc),
+            documents: Documents {
+                all: Vec::new(alloc),
+            },
         }
     }
 }
@@ -49,7 +45,9 @@ fn one(alloc: Global, reply: Result<Value, AllocError>) -> Result<Vec<Value>, Al
     ensures { MatchResult reply (λ v. IfOk result (λ vs. each view vs.items ≡ view v ∷ []))
         (λ e. IsErr result) }
 {
-    let reply = reply?;
+    let Ok(reply) = reply else {
+        return Err(AllocError);
+    };
     let mut replies = Vec::new(alloc);
     replies.push(reply)?;
     Ok(replies)
@@ -70,55 +68,9 @@ fn told_marks(alloc: Global, marks: Result<Value, AllocError>) -> Result<Vec<Val
     }
 }
 
-/// Returns the notice of the marks of a document with this text.
-fn marks_told(alloc: Global, map: &MapSpec, uri: &str, text: &str) -> Result<Vec<Value>, AllocError>
-    ensures { IfOk result (λ vs. (marks : Data)
-        × AreMarks map.now uri.now (text_of map.now.profile text.now) marks
-        × (each view vs.items ≡ published marks ∷ [])) }
-{
-    let text = Text::read(alloc, map.profile(), text.as_bytes())?;
-    told_marks(alloc, published(alloc, map, uri, &text))
-}
-
-/// Returns the notice that a document has no marks.
-fn no_marks_told(alloc: Global, uri: &str) -> Result<Vec<Value>, AllocError>
-    ensures { IfOk result
-        (λ vs. each view vs.items ≡ published (marks_data uri.now (list_of [])) ∷ []) }
-{
-    told_marks(alloc, marks(alloc, uri, ValueList::new(alloc).build()))
-}
-
-/// Does what a notice about a document asks for, and returns what is told then. The only error is
-/// that a request for memory was refused.
-fn note(
-    alloc: Global,
-    map: &MapSpec,
-    documents: &mut Documents,
-    request: Request<'_>,
-) -> Result<Vec<Value>, AllocError>
-    ensures documents { OnOk result (documents_view documents.new
-        ≡ documents_after (documents_view documents.old) (request_view request.entry)) }
-    ensures told { IfOk result
-        (λ vs. AreTold map.now (request_view request.entry) (each view vs.items)) }
-{
-    match request {
-        Request::Open { uri, text } => {
-            documents.open(alloc, uri, text)?;
-            marks_told(alloc, map, uri, text)
-        }
-        Request::Close { uri } => {
-            documents.close(uri);
-            no_marks_told(alloc, uri)
-        }
-        Request::Initialize | Request::Shutdown | Request::Exit => Ok(Vec::new(alloc)),
-        Request::Question { .. } | Request::Rename { .. } => Ok(Vec::new(alloc)),
-        Request::Invalid | Request::Unknown | Request::NoMethod => Ok(Vec::new(alloc)),
-    }
-}
-
 /// Does what a notice asks for in a phase, and returns what is told then. The only error is that a
 /// request for memory was refused.
-fn note_in(
+fn note(
     alloc: Global,
     map: &MapSpec,
     phase: Phase,
@@ -131,8 +83,22 @@ fn note_in(
         (λ vs. AreToldIn map.now phase (request_view request.entry) (each view vs.items)) }
 {
     match phase {
-        Phase::Running => note(alloc, map, documents, request),
-        Phase::Fresh | Phase::ShutDown => Ok(Vec::new(alloc)),
+        Phase::Running => {}
+        Phase::Fresh | Phase::ShutDown => return Ok(Vec::new(alloc)),
+    }
+    match request {
+        Request::Open { uri, text } => {
+            documents.open(alloc, uri, text)?;
+            let Ok(text) = Text::read(alloc, map.profile(), text.as_bytes()) else {
+                return Err(AllocError);
+            };
+            told_marks(alloc, published(alloc, map, uri, &text))
+        }
+        Request::Close { uri } => {
+            documents.close(uri);
+            told_marks(alloc, marks(alloc, uri, ValueList::new(alloc).build()))
+        }
+        _ => Ok(Vec::new(alloc)),
     }
 }
 
@@ -160,27 +126,6 @@ fn is_answer(message: &Value) -> bool
     !has(message, "method") && (has(message, "result") || has(message, "error"))
 }
 
-/// Returns the answers to a message with this number: one, and none if it is an answer itself.
-fn replies(
-    alloc: Global,
-    map: &MapSpec,
-    phase: Phase,
-    documents: &Documents,
-    id: &Value,
-    request: Request<'_>,
-    is_answer: bool,
-) -> Result<Vec<Value>, AllocError>
-    ensures { IfOk result (λ vs. AreReplies is_answer map.now
-        (record { phase = phase; documents = documents_view documents.now })
-        (view id.now) (request_view request.entry) (each view vs.items)) }
-{
-    if is_answer {
-        Ok(Vec::new(alloc))
-    } else {
-        one(alloc, reply(alloc, map, phase, documents, id, request))
-    }
-}
-
 /// Does what a message asks for, and returns what is to be told then: one answer to a request, and
 /// the marks of a document after its text was told. The only error is that a request for memory was
 /// refused.
@@ -200,11 +145,17 @@ pub fn serve(
         Some(id) => {
             let phase = server.phase;
             server.phase = phase.after(request);
-            let answers = is_answer(message);
-            replies(alloc, map, phase, &server.documents, id, request, answers)
+            if is_answer(message) {
+                Ok(Vec::new(alloc))
+            } else {
+                one(
+                    alloc,
+                    reply(alloc, map, phase, &server.documents, id, request),
+                )
+            }
         }
         None => {
-            let told = note_in(alloc, map, server.phase, &mut server.documents, request)?;
+            let told = note(alloc, map, server.phase, &mut server.documents, request)?;
             if has(message, "method") {
                 Ok(told)
             } else {
@@ -219,9 +170,11 @@ pub fn serve(
 pub fn asks_for_end(server: &Server, message: &Value) -> Option<u8>
     ensures { result ≡ end_of (server_view server.now) (view message.now) }
 {
-    if is_exit(read_request(message)) {
-        Some(server.phase.status())
-    } else {
-        None
+    match read_request(message) {
+        Request::Exit => match server.phase {
+            Phase::ShutDown => Some(0),
+            Phase::Fresh | Phase::Running => Some(1),
+        },
+        _ => None,
     }
 }

@@ -1,18 +1,13 @@
 //! Messages taken from the input, one after another, and answered.
 
-ghost use Rattle.std.specs.Prelude.{◌≡◌, ◌≤◌, ◌++◌, [], ℕ, IfOk, IsErr, List};
+ghost use Rattle.std.specs.Prelude.{◌≡◌, ◌≤◌, [], ℕ, IfOk, IsErr, List};
 ghost use Rattle.std.specs.Prelude.{MatchResult, None, Some, map as each};
-ghost use Rattle.std.specs.Io.KnownBytes.{Appends, Consumes};
+ghost use Rattle.std.specs.Io.KnownBytes.{Appends};
 ghost use Rattle.arguments.specs.Words.{Fits, Refuses, texts};
 ghost use Rattle.lsp.specs.CommandLine.{LspAsked, lsp_app, lsp_asked, lsp_view};
-ghost use Rattle.lsp.specs.Messages.{Does};
 ghost use Rattle.lsp.specs.Sessions.{Answers, IsSession, map_for};
 ghost use Rattle.lsp.specs.State.{server_view, start};
-ghost use Rattle.lsp.specs.Turns.{Comes, EndsBy};
 ghost use Rattle.lsp.specs.Writing.{AreWritten};
-ghost use Rattle.lsp.specs.declared.phase.Phase.TheVariants.{ShutDown};
-ghost use Rattle.lsp.specs.declared.serving.Turn.TheVariants.{Served};
-ghost use Rattle.serde_json.specs.Data.{Data};
 ghost use Rattle.serde_json.specs.View.{view};
 
 use crate::phase::Phase;
@@ -27,130 +22,57 @@ use serde_json::Value;
 use std::alloc::{AllocError, Global};
 use std::io::{Read, Write};
 
-/// What came of a turn.
-#[derive(Clone, Copy)]
-enum Turn {
-    /// A message was served.
-    Served,
-    /// A message asked for the end, with this exit status.
-    Ended(u8),
-    /// The input has ended behind a message.
-    Over,
-}
-
-/// Writes values as messages, and flushes the output behind each. A message is served then.
-///
-/// Errors: `Write` if the output fails; `OutOfMemory` if an allocation fails.
-fn tell<O: Write>(alloc: Global, values: &[Value], output: &mut O) -> Result<Turn, StreamFault>
-    ensures { IfOk result (λ turn. (turn ≡ Served) × (written : List ℕ)
-        × AreWritten (each view values.now) written
-        × Appends (O.contents output.old) (O.contents output.new) written) }
-{
-    for value in values {
-        write_value(alloc, output, value)?;
-    }
-    Ok(Turn::Served)
-}
-
-/// Writes what is told after a message, if memory did not run out for it. The message is served
-/// then.
+/// Writes what is told after a message as messages, if memory did not run out for it, and flushes
+/// the output behind each. Returns no exit status: the session goes on.
 ///
 /// Errors: `Write` if the output fails; `OutOfMemory` if an allocation fails, before or here.
 fn told<O: Write>(
     alloc: Global,
     values: Result<Vec<Value>, AllocError>,
     output: &mut O,
-) -> Result<Turn, StreamFault>
+) -> Result<Option<u8>, StreamFault>
     ensures { MatchResult values
-        (λ vs. IfOk result (λ turn. (turn ≡ Served) × (written : List ℕ)
+        (λ vs. IfOk result (λ end. (end ≡ None) × (written : List ℕ)
         × AreWritten (each view vs.items) written
         × Appends (O.contents output.old) (O.contents output.new) written))
         (λ e. IsErr result) }
 {
-    match values {
-        Ok(values) => tell(alloc, &values, output),
-        Err(_) => Err(StreamFault::OutOfMemory),
+    let Ok(values) = values else {
+        return Err(StreamFault::OutOfMemory);
+    };
+    for value in &values {
+        match write_value(alloc, output, value) {
+            Ok(()) => {}
+            Err(fault) => return Err(fault),
+        }
     }
+    Ok(None)
 }
 
-/// Does what a message asks for, and writes what is told then.
-///
-/// Errors: `Write` if the output fails; `OutOfMemory` if an allocation fails.
-fn obey<O: Write>(
-    alloc: Global,
-    map: &MapSpec,
-    server: &mut Server,
-    message: &Value,
-    output: &mut O,
-) -> Result<Turn, StreamFault>
-    ensures { IfOk result (λ turn. (vs : List Data) × (written : List ℕ)
-        × EndsBy (λ end. Does map.now (server_view server.old) (Some (view message.now))
-        (server_view server.new) vs end) turn × AreWritten vs written
-        × Appends (O.contents output.old) (O.contents output.new) written) }
-{
-    match asks_for_end(server, message) {
-        Some(status) => Ok(Turn::Ended(status)),
-        None => told(alloc, serve(alloc, map, server, message), output),
-    }
-}
-
-/// Does what the body of a message asks for, and writes what is told then.
+/// Does what the body of a message asks for, and writes what is told then. Returns the exit status
+/// if the message asks for the end.
 ///
 /// Errors: `Write` if the output fails; `OutOfMemory` if an allocation fails.
 fn answer<O: Write>(
     alloc: Global,
     map: &MapSpec,
     server: &mut Server,
-    body: &[u8],
+    body: Vec<u8>,
     output: &mut O,
-) -> Result<Turn, StreamFault>
-    ensures { IfOk result (λ turn. (written : List ℕ)
-        × EndsBy (λ end. Answers map.now body.now (server_view server.old)
-        (server_view server.new) end written) turn
+) -> Result<Option<u8>, StreamFault>
+    ensures { IfOk result (λ end. (written : List ℕ)
+        × Answers map.now body.items (server_view server.old) (server_view server.new) end written
         × Appends (O.contents output.old) (O.contents output.new) written) }
 {
-    match value_of(alloc, body) {
-        Ok(Some(message)) => obey(alloc, map, server, &message, output),
+    let message = value_of(alloc, &body);
+    drop(body);
+    match message {
+        Ok(Some(message)) => match asks_for_end(server, &message) {
+            Some(status) => Ok(Some(status)),
+            None => told(alloc, serve(alloc, map, server, &message), output),
+        },
         Ok(None) => told(alloc, refused(alloc, Failure::NotJson), output),
         Err(_) => Err(StreamFault::OutOfMemory),
-    }
-}
-
-/// Takes the next message of the input and serves it: it is answered, and the answer flushed, when
-/// this returns.
-///
-/// Errors: those of `Incoming::next`; `Write` if the output fails; `OutOfMemory` if an allocation
-/// fails.
-fn take_turn<R: Read, O: Write>(
-    alloc: Global,
-    map: &MapSpec,
-    incoming: &mut Incoming,
-    server: &mut Server,
-    input: &mut R,
-    output: &mut O,
-) -> Result<Turn, StreamFault>
-    ensures { IfOk result (λ turn. (told : List ℕ)
-        × Consumes (R.remaining input.old) (R.remaining input.new) told × (written : List ℕ)
-        × Comes map.now (incoming.old ++ told) (R.remaining input.new) incoming.new
-        (server_view server.old) (server_view server.new) written turn
-        × Appends (O.contents output.old) (O.contents output.new) written) }
-{
-    match incoming.next(alloc, input) {
-        Ok(Some(body)) => answer(alloc, map, server, &body, output),
-        Ok(None) => Ok(Turn::Over),
-        Err(fault) => Err(fault),
-    }
-}
-
-/// Returns the exit status of a server whose input has ended: 0 after `shutdown`.
-///
-/// Errors: `Cut` before `shutdown`.
-fn status_at_end(server: &Server) -> Result<u8, StreamFault>
-    ensures { IfOk result (λ status. (status ≡ 0) × (server.now.phase ≡ ShutDown)) }
-{
-    match server.phase {
-        Phase::ShutDown => Ok(0),
-        Phase::Fresh | Phase::Running => Err(StreamFault::Cut),
     }
 }
 
@@ -175,43 +97,20 @@ fn attend<R: Read, O: Write>(
     ensures small { IfOk result (λ status. status ≤ 1) }
 {
     for _ in 0..u64::MAX {
-        match take_turn(alloc, map, incoming, server, input, output)? {
-            Turn::Served => {}
-            Turn::Ended(status) => return Ok(status),
-            Turn::Over => return status_at_end(server),
+        match incoming.next(alloc, input) {
+            Ok(Some(body)) => match answer(alloc, map, server, body, output) {
+                Ok(None) => {}
+                Ok(Some(status)) => return Ok(status),
+                Err(fault) => return Err(fault),
+            },
+            Ok(None) => match server.phase {
+                Phase::ShutDown => return Ok(0),
+                Phase::Fresh | Phase::Running => return Err(StreamFault::Cut),
+            },
+            Err(fault) => return Err(fault),
         }
     }
     Err(StreamFault::Read)
-}
-
-/// Serves a session from its first message on, and returns the exit status.
-///
-/// Errors: those of `attend`.
-fn session<R: Read, O: Write>(
-    alloc: Global,
-    map: &MapSpec,
-    input: &mut R,
-    output: &mut O,
-) -> Result<u8, StreamFault>
-    ensures session { IfOk result (λ status. IsSession map.now (R.remaining input.old)
-        (R.remaining input.new) status (O.contents output.old) (O.contents output.new)) }
-    ensures small { IfOk result (λ status. status ≤ 1) }
-{
-    let mut incoming = Incoming::new(alloc);
-    let mut server = Server::new(alloc);
-    attend(alloc, map, &mut incoming, &mut server, input, output)
-}
-
-/// Returns why a session ends before its end is asked for, in words.
-fn reason(fault: StreamFault) -> &'static str {
-    match fault {
-        StreamFault::NoLength => "a header of the input gives no length of a message",
-        StreamFault::LongHeader => "a header of the input has more than 4096 bytes",
-        StreamFault::Cut => "the input ends before exit",
-        StreamFault::Read => "the input cannot be read",
-        StreamFault::Write => "the output cannot be written",
-        StreamFault::OutOfMemory => "memory ran out",
-    }
 }
 
 /// Tells why a session ends before its end is asked for, and returns the exit status.
@@ -219,13 +118,16 @@ fn cut_off<E: Write>(fault: StreamFault, errors: &mut E) -> u8
     ensures least { 3 ≤ result }
     ensures most { result ≤ 4 }
 {
-    match fault {
-        StreamFault::OutOfMemory => refuse(Refusal::OutOfMemory, errors),
-        fault => {
-            put_all(&[b"mos65: ", reason(fault).as_bytes(), b"\n"], errors);
-            4
-        }
-    }
+    let reason = match fault {
+        StreamFault::NoLength => "a header of the input gives no length of a message",
+        StreamFault::LongHeader => "a header of the input has more than 4096 bytes",
+        StreamFault::Cut => "the input ends before exit",
+        StreamFault::Read => "the input cannot be read",
+        StreamFault::Write => "the output cannot be written",
+        StreamFault::OutOfMemory => return refuse(Refusal::OutOfMemory, errors),
+    };
+    put_all(&[b"mos65: ", reason.as_bytes(), b"\n"], errors);
+    4
 }
 
 /// Serves a session on the map of the words, and returns the exit status.
@@ -248,7 +150,9 @@ fn done<R: Read, O: Write, E: Write>(
         Ok(map) => map,
         Err(fault) => return refuse(Refusal::from(fault), errors),
     };
-    match session(alloc, &map, input, output) {
+    let mut incoming = Incoming::new(alloc);
+    let mut server = Server::new(alloc);
+    match attend(alloc, &map, &mut incoming, &mut server, input, output) {
         Ok(status) => status,
         Err(fault) => cut_off(fault, errors),
     }

@@ -1,10 +1,10 @@
 //! The words of `lsp`.
 
-ghost use Rattle.std.specs.Prelude.{◌≡◌, IfErr, IfOk, None, Some, false, option_map};
+ghost use Rattle.std.specs.Prelude.{◌≡◌, IfErr, IfOk, None, Some, false};
 ghost use Rattle.arguments.specs.Words.{Fits, IsRefusalOf, texts};
-ghost use Rattle.clap.specs.Words.{app_of, first_value, found_of, kind_of};
+ghost use Rattle.clap.specs.Words.{app_of, kind_of};
 ghost use Rattle.clap.specs.declared.builder.command.Command.TheViews.{out-Command};
-ghost use Rattle.lsp.specs.CommandLine.{lsp_app, lsp_asked, lsp_by, lsp_view};
+ghost use Rattle.lsp.specs.CommandLine.{lsp_app, lsp_asked, lsp_view};
 
 use arguments::{
     WordsFault, begin, let_go, matched, port, port_asked, profile, profile_asked, value_fault,
@@ -48,15 +48,6 @@ pub fn lsp_command<'a>(alloc: Global) -> Result<Command<'a>, Error>
     Ok(command)
 }
 
-/// Returns what the values that were found ask for, or `None` if a value is wrong.
-fn asked(matches: &ArgMatches<'_>) -> Option<LspWords>
-    ensures { option_map lsp_view result ≡ lsp_by (first_value (found_of matches.now)) }
-{
-    let port = port_asked(matches.get_str("port"))?;
-    let profile = profile_asked(matches.get_str("profile"))?;
-    Some(LspWords { port, profile })
-}
-
 /// Reads the words of `lsp`, its own name left out.
 ///
 /// # Errors
@@ -70,12 +61,14 @@ pub fn read_words(alloc: Global, words: &[&str]) -> Result<LspWords, WordsFault>
         (IsRefusalOf lsp_app (texts words.entry.now) (lsp_asked (texts words.entry.now) ≡ None)) }
 {
     let matches = matched(lsp_command(alloc)?, words)?;
-    match asked(&matches) {
-        Some(words) => {
+    let port = port_asked(matches.get_str("port"));
+    let profile = profile_asked(matches.get_str("profile"));
+    match (port, profile) {
+        (Some(port), Some(profile)) => {
             let_go(matches);
-            Ok(words)
+            Ok(LspWords { port, profile })
         }
-        None => {
+        _ => {
             let fault = value_fault(&matches);
             let_go(matches);
             Err(fault)

@@ -1,22 +1,18 @@
 -- What an editor marks in a source. Source: mos65; what is found and which bytes are meant is that
 -- of `check`.
-use Rattle.std.specs.Prelude.{◌≡◌, ⊤, ℕ, List, [], ◌∷◌, ◌++◌, map, Option, Some, None, Result, Ok, Vec}
+use Rattle.std.specs.Prelude.{◌≡◌, ⊤, ℕ, List, [], ◌∷◌, ◌++◌, Result, Ok, Vec}
 use Rattle.std.specs.declared.alloc.AllocError.{AllocError}
 use Rattle.std.specs.declared.alloc.Global.{Global}
 use Rattle.warning_notes.specs.Blocks.{warning_blocks}
-use Rattle.fault_notes.specs.Blocks.{Meaning, fault_blocks, means_first, means_in, shown_lines}
-use Rattle.fault_notes.specs.Marks.{IsMeant, Known}
-use Rattle.model.specs.Names.{Definitions}
+use Rattle.fault_notes.specs.Blocks.{fault_blocks, means_in, shown_lines}
 use Rattle.model.specs.State.{Map}
 use Rattle.model.specs.TextLines.{lines_of}
-use Rattle.model.specs.declared.instruction.Profile.{Profile}
 use Rattle.model.specs.declared.source_fault.AsmFault.{AsmFault}
 use Rattle.lsp_answers.specs.declared.kinds.Diagnostic.{Diagnostic}
 use Rattle.lsp_answers.specs.declared.kinds.DiagnosticKind.{DiagnosticKind}
 use Rattle.lsp_answers.specs.declared.kinds.DiagnosticKind.TheVariants as kinds
 use Rattle.source_notes.specs.Blocks.{BlockKind}
-use Rattle.source_notes.specs.Lines.{line_of, line_or_none, name_view, names_of}
-use Rattle.source_notes.specs.declared.lines.Name.{Name}
+use Rattle.source_notes.specs.Lines.{line_of, line_or_none, names_of}
 use Rattle.source_notes.specs.declared.note.Note.{Note}
 use Rattle.warnings.specs.Warnings.{warnings_of}
 use Rattle.warnings.specs.declared.kinds.Warning.{Warning}
@@ -52,23 +48,6 @@ pub record IsPut (found : Result (Vec Diagnostic Global) AllocError) (line : ℕ
   pub had : found ≡ Ok before
   pub noted : note ≡ Ok said
   pub all : ds ≡ before.items ++ record { line = line; kind = kind; note = said } ∷ []
-
--- Which bytes are meant, by what is known of a source. Nothing is known of one that is too long.
-abbrev pub means_of : Option Known → Meaning
-means_of None = means_first
-means_of (Some known) = IsMeant known
-
--- The diagnostics of faults of a source by its names, where memory did not run out for these.
-pub record AreNamedMarked (profile : Profile) (lines : List (List ℕ))
-    (names : Result (Vec Name Global) AllocError) (numbers : Definitions) (faults : List AsmFault)
-    (ds : List Diagnostic) : Type 0 where
-  pub read : Vec Name Global
-  pub had : names ≡ Ok read
-  pub marked : AreMarked (fault_blocks (IsMeant (record {
-    profile = profile;
-    names = map name_view read.items;
-    numbers = numbers;
-  }))) fault_kind lines faults ds
 
 -- The diagnostics of a source that has these faults: of each fault, or of each warning where there
 -- is no fault.

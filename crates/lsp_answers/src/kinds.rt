@@ -1,13 +1,11 @@
 //! A fault or a warning.
 
-ghost use Rattle.std.specs.Prelude.{◌≡◌, IfOk};
+ghost use Rattle.std.specs.Prelude.{IfOk};
 ghost use Rattle.lsp_answers.specs.Diagnostics.{IsPut};
-ghost use Rattle.lsp_answers.specs.Kinds.{is_fault, name_of};
 
 use model::AsmFaultKind;
 use source_notes::Note;
 use std::alloc::AllocError;
-use warning_notes::kind_name;
 use warnings::WarningKind;
 
 /// What kind of fault or warning it is.
@@ -17,28 +15,6 @@ pub enum DiagnosticKind {
     Fault(AsmFaultKind),
     /// What may be meant otherwise, in a source without a fault.
     Warning(WarningKind),
-}
-
-impl DiagnosticKind {
-    /// Returns its name, as `check` writes it.
-    pub fn name(self) -> &'static str
-        ensures { result.now ≡ name_of self }
-    {
-        match self {
-            DiagnosticKind::Fault(kind) => kind.name(),
-            DiagnosticKind::Warning(kind) => kind_name(kind),
-        }
-    }
-
-    /// Returns whether it is a fault.
-    pub fn is_fault(self) -> bool
-        ensures { result ≡ is_fault self }
-    {
-        match self {
-            DiagnosticKind::Fault(_) => true,
-            DiagnosticKind::Warning(_) => false,
-        }
-    }
 }
 
 /// A fault or a warning of a source.

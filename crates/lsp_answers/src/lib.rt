@@ -8,14 +8,12 @@
 //!
 //! `diagnostics` (`finding`) is what is marked, and finds the same as `check`: all faults
 //! (`fault_marks`), and the warnings (`warning_marks`) where there is none. `Diagnostics.antt` says
-//! which these are, and which bytes each means. `laid` is what the layout finds of a source, for
-//! its faults and for what is meant at a place.
+//! which these are, and which bytes each means.
 #![tactic(auto)]
 
 mod fault_marks;
 mod finding;
 mod kinds;
-mod laid;
 mod lists;
 mod marks;
 mod meanings;

@@ -1,47 +1,32 @@
 //! The marks of a source.
 
-ghost use Rattle.std.specs.Prelude.{◌≡◌, IfOk, map};
-ghost use Rattle.lsp_answers.specs.Marks.{AreMarks, mark_of, severity_of};
+ghost use Rattle.std.specs.Prelude.{◌≡◌, IfOk};
+ghost use Rattle.lsp_answers.specs.Marks.{AreMarks, mark_of};
 ghost use Rattle.lsp_answers.specs.Texts.{text_view};
-ghost use Rattle.json_values.specs.Values.{list_of};
 ghost use Rattle.serde_json.specs.View.{view};
 
 use crate::finding::diagnostics;
-use crate::kinds::Diagnostic;
+use crate::kinds::{Diagnostic, DiagnosticKind};
 use crate::source_text::Text;
 use bus::MapSpec;
 use json_values::ValueList;
 use lsp_messages::{mark, marks};
 use serde_json::Value;
 use std::alloc::{AllocError, Global};
-
-/// Returns how grave a fault or a warning is, as the protocol counts it.
-fn severity_of(one: &Diagnostic) -> u64
-    ensures { result ≡ severity_of one.now.kind }
-{
-    if one.kind.is_fault() { 1 } else { 2 }
-}
+use warning_notes::kind_name;
 
 /// Returns the value of a fault or a warning. One of no line stands at the first line.
 fn mark_of(alloc: Global, text: &Text<'_>, one: &Diagnostic) -> Result<Value, AllocError>
     ensures { IfOk result (λ v. view v ≡ mark_of (text_view text.now) one.now) }
 {
+    let (severity, name) = match one.kind {
+        DiagnosticKind::Fault(kind) => (1, kind.name()),
+        DiagnosticKind::Warning(kind) => (2, kind_name(kind)),
+    };
     let number = one.line.max(1);
     let range = text.range(alloc, number, one.note.start, one.note.width);
     let words = String::from_utf8_lossy(alloc, &one.note.words);
-    mark(alloc, severity_of(one), one.kind.name(), words, range)
-}
-
-/// Returns the marks of some faults or warnings.
-fn marks_of(alloc: Global, text: &Text<'_>, found: &[Diagnostic]) -> Result<Value, AllocError>
-    ensures { IfOk result
-        (λ v. view v ≡ list_of (map (mark_of (text_view text.now)) found.now)) }
-{
-    let mut values = ValueList::new(alloc);
-    for one in found {
-        values = values.with(mark_of(alloc, text, one));
-    }
-    values.build()
+    mark(alloc, severity, name, words, range)
 }
 
 /// Returns the marks of a document: of each fault of its source on a map, or of each warning where
@@ -54,8 +39,12 @@ pub fn published(
 ) -> Result<Value, AllocError>
     ensures { IfOk result (λ v. AreMarks map.now uri.now (text_view text.now) (view v)) }
 {
-    match diagnostics(alloc, text.source, map) {
-        Ok(found) => marks(alloc, uri, marks_of(alloc, text, &found)),
-        Err(error) => Err(error),
+    let Ok(found) = diagnostics(alloc, text.source, map) else {
+        return Err(AllocError);
+    };
+    let mut values = ValueList::new(alloc);
+    for one in &found {
+        values = values.with(mark_of(alloc, text, one));
     }
+    marks(alloc, uri, values.build())
 }

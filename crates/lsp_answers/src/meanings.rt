@@ -1,61 +1,27 @@
 //! What is meant at a place.
 
-ghost use Rattle.std.specs.Prelude.{◌≡◌, ◌++◌, ℕ, IfOk, List, string_bytes};
-ghost use Rattle.std.specs.List.{find};
+ghost use Rattle.std.specs.Prelude.{◌≡◌, IfOk};
 ghost use Rattle.std.specs.Option.{option_map};
-ghost use Rattle.std.specs.Str.Lossy.{utf8_lossy};
-ghost use Rattle.line_parts.specs.Lexemes.{lexeme_of, lexemes};
-ghost use Rattle.lsp_answers.specs.Meanings.{IsMeaning, IsOfLine, IsOfName, IsOfPlace};
-ghost use Rattle.lsp_answers.specs.Meanings.{IsOfToken, IsSaid};
-ghost use Rattle.lsp_answers.specs.Meanings.{found_in, is_mnemonic_on, opcode_of};
-ghost use Rattle.lsp_answers.specs.Meanings.{row_of, row_on, tokens_or_none};
-ghost use Rattle.lsp_answers.specs.Texts.{name_at, text_view};
-ghost use Rattle.model.specs.Token.{tokens_of};
-ghost use Rattle.name_uses.specs.Views.{use_view};
+ghost use Rattle.line_parts.specs.Lexemes.{lexeme_of};
+ghost use Rattle.lsp_answers.specs.Meanings.{IsMeaning, IsOfLine, IsSaid};
+ghost use Rattle.lsp_answers.specs.Meanings.{found_in, mnemonic_on, row_on};
+ghost use Rattle.lsp_answers.specs.Texts.{text_view};
 ghost use Rattle.serde_json.specs.Data.{Data};
 ghost use Rattle.serde_json.specs.View.{view};
-ghost use Rattle.source_faults.specs.Views.{found_all, found_view};
+ghost use Rattle.source_faults.specs.Views.{found_all};
 
-use crate::laid::laid_of;
 use crate::source_text::{SOURCE_SIZE, Text};
 use crate::wording::{instruction_tail, name_tail};
 use lexer::tokens;
 use line_parts::{Statement, Token};
 use lsp_messages::{column_of, hover as said_of};
 use model::{LineFault, Profile, Row};
-use name_uses::NameUse;
 use optable::{decode_in, letters_of, mnemonic_in};
 use serde_json::Value;
-use source_faults::Found;
+use source_faults::{Found, Mending, lay_out};
 use source_notes::concat;
 use std::alloc::{AllocError, Global};
 use symbols::Symbols;
-
-/// An instruction in its place.
-#[derive(Clone, Copy)]
-pub struct Placed {
-    pub row: Row,
-    pub opcode: u8,
-    pub address: u32,
-}
-
-/// Returns words and others behind them, as text.
-fn joined(
-    alloc: Global,
-    front: &[u8],
-    rest: Result<Vec<u8>, AllocError>,
-) -> Result<String, AllocError>
-    ensures { (bytes : List ℕ) → IfOk rest (λ words. words.items ≡ bytes)
-        → IfOk result (λ text. string_bytes text ≡ utf8_lossy (front.now ++ bytes)) }
-{
-    let Ok(rest) = rest else {
-        return Err(AllocError);
-    };
-    match concat(alloc, &[front, &rest]) {
-        Ok(words) => String::from_utf8_lossy(alloc, &words),
-        Err(error) => Err(error),
-    }
-}
 
 /// Returns what is said at a place, in these words and behind them others, with the range that it
 /// is said of.
@@ -68,121 +34,62 @@ fn said(
     ensures { (r : Data) → IfOk range (λ v. view v ≡ r)
         → IfOk result (λ v. IsSaid front.now r (view v)) }
 {
-    said_of(alloc, joined(alloc, front, rest), range)
+    let words = match rest {
+        Ok(rest) => match concat(alloc, &[front, &rest]) {
+            Ok(words) => String::from_utf8_lossy(alloc, &words),
+            Err(error) => Err(error),
+        },
+        Err(error) => Err(error),
+    };
+    said_of(alloc, words, range)
 }
 
-/// Returns what is said of a name.
-fn name_said(
+/// Returns the first token of a line that is a mnemonic, and has a column or ends there. A line
+/// that is not made of tokens has none.
+fn mnemonic_on<'a>(
     alloc: Global,
-    text: &Text<'_>,
-    symbols: &Symbols,
-    one: &NameUse<'_>,
-) -> Result<Value, AllocError>
-    ensures { IfOk result (λ v. IsOfName (text_view text.now) (use_view one.now) (view v)) }
+    profile: Profile,
+    column: usize,
+    line: &'a [u8],
+) -> Result<Option<Token<'a>>, AllocError>
+    ensures { IfOk result
+        (λ token. option_map lexeme_of token ≡ mnemonic_on profile column line.now) }
 {
-    let rest = name_tail(alloc, &text.uses, symbols, one.text);
-    said(alloc, one.text, rest, text.range_of(alloc, one))
-}
-
-/// Returns the tokens of a line; none of a line that is not made of tokens.
-fn tokens_or_none<'a>(alloc: Global, line: &'a [u8]) -> Result<Vec<Token<'a>>, AllocError>
-    ensures { IfOk result (λ ts. lexemes ts.items ≡ tokens_or_none (tokens_of line.now)) }
-{
-    match tokens(alloc, line) {
-        Ok(found) => Ok(found),
-        Err(LineFault::OutOfMemory) => Err(AllocError),
-        Err(LineFault::Syntax) => Ok(Vec::new(alloc)),
-    }
-}
-
-/// Returns whether a token is a mnemonic, and has a column or ends there.
-fn is_mnemonic_on(profile: Profile, column: usize, token: &Token<'_>) -> bool
-    ensures { result ≡ is_mnemonic_on profile column (lexeme_of token.now) }
-{
-    token.start <= column
-        && column - token.start <= token.text.len()
-        && mnemonic_in(profile, token.text).is_some()
-}
-
-/// Returns the first of some tokens that is a mnemonic at a column.
-fn mnemonic_among<'a>(profile: Profile, column: usize, tokens: &[Token<'a>]) -> Option<Token<'a>>
-    ensures { option_map lexeme_of result
-        ≡ find (is_mnemonic_on profile column) (lexemes tokens.now) }
-{
-    for token in tokens {
-        if is_mnemonic_on(profile, column, token) {
-            return Some(*token);
+    let found = match tokens(alloc, line) {
+        Ok(found) => found,
+        Err(LineFault::OutOfMemory) => return Err(AllocError),
+        Err(LineFault::Syntax) => return Ok(None),
+    };
+    for token in &found {
+        if token.start <= column
+            && column - token.start <= token.text.len()
+            && mnemonic_in(profile, token.text).is_some()
+        {
+            return Ok(Some(*token));
         }
     }
-    None
+    Ok(None)
 }
 
-/// Returns the opcode of what is found of a line, with its address, if it is an instruction.
-fn opcode_of(found: &Found<'_>) -> Option<(u8, u32)>
-    ensures { option_map (λ p. p.0) result ≡ opcode_of (found_view found.now).place.content }
+/// Returns the row, the opcode and the address of the instruction of a line by its number, if it
+/// has one.
+fn row_on(profile: Profile, found: &[Found<'_>], number: u32) -> Option<(Row, u8, u32)>
+    ensures { option_map (λ p. p.0) result ≡ row_on profile (found_all found.now) number }
 {
-    let Found::Bytes(kept) = found else {
+    let Some(Found::Bytes(kept)) = found.get((number as usize).saturating_sub(1)) else {
         return None;
     };
     match (&kept.statement, kept.code) {
-        (Statement::Instruction(_, _), Some(code)) => Some((code.opcode, kept.address)),
+        (Statement::Instruction(_, _), Some(code)) => match decode_in(profile, code.opcode) {
+            Some(row) => Some((row, code.opcode, kept.address)),
+            None => None,
+        },
         _ => None,
     }
 }
 
-/// Returns the row of what is found of a line, with its address, if it is an instruction.
-fn row_of(profile: Profile, found: &Found<'_>) -> Option<Placed>
-    ensures { option_map (λ p. p.row) result ≡ row_of profile (found_view found.now) }
-{
-    let Some((opcode, address)) = opcode_of(found) else {
-        return None;
-    };
-    match decode_in(profile, opcode) {
-        Some(row) => Some(Placed {
-            row,
-            opcode,
-            address,
-        }),
-        None => None,
-    }
-}
-
-/// Returns the row of the instruction of a line by its number, with its address, if it has one.
-fn row_on(profile: Profile, found: &[Found<'_>], number: u32) -> Option<Placed>
-    ensures { option_map (λ p. p.row) result ≡ row_on profile (found_all found.now) number }
-{
-    match found.get((number as usize).saturating_sub(1)) {
-        Some(one) => row_of(profile, one),
-        None => None,
-    }
-}
-
-/// Returns what is said of a mnemonic of a line: of its instruction. It is `null` if the line has
-/// none, or where no mnemonic is.
-fn token_said(
-    alloc: Global,
-    text: &Text<'_>,
-    found: &[Found<'_>],
-    number: u32,
-    token: Option<Token<'_>>,
-) -> Result<Value, AllocError>
-    requires { found_all found.now ≡ found_in (text_view text.now) }
-    ensures { IfOk result (λ v. IsOfToken (text_view text.now) number
-        (option_map lexeme_of token.entry) (view v)) }
-{
-    match (token, row_on(text.profile, found, number)) {
-        (Some(token), Some(placed)) => {
-            let letters = letters_of(placed.row.mnemonic);
-            let rest = instruction_tail(alloc, &placed);
-            let range = text.range(alloc, number, token.start, token.text.len());
-            said(alloc, &letters, rest, range)
-        }
-        _ => Ok(Value::Null),
-    }
-}
-
-/// Returns what is said at a column of a line by its number, where no name stands; `null` where
-/// there is no such line.
+/// Returns what is said of the instruction of a line by its number, where a mnemonic is at a
+/// column; `null` if none is there, and where there is no such line or no instruction in it.
 fn line_said(
     alloc: Global,
     text: &Text<'_>,
@@ -197,31 +104,17 @@ fn line_said(
         return Ok(Value::Null);
     };
     let line = text.line(number);
-    match tokens_or_none(alloc, line) {
-        Ok(tokens) => {
-            let token = mnemonic_among(text.profile, column_of(line, character), &tokens);
-            token_said(alloc, text, found, number, token)
+    let Ok(token) = mnemonic_on(alloc, text.profile, column_of(line, character), line) else {
+        return Err(AllocError);
+    };
+    match (token, row_on(text.profile, found, number)) {
+        (Some(token), Some((row, opcode, address))) => {
+            let letters = letters_of(row.mnemonic);
+            let rest = instruction_tail(alloc, &row, opcode, address);
+            let range = text.range(alloc, number, token.start, token.text.len());
+            said(alloc, &letters, rest, range)
         }
-        Err(error) => Err(error),
-    }
-}
-
-/// Returns what is said at a place: of a name, or else of a mnemonic; `null` where neither stands.
-fn place_said(
-    alloc: Global,
-    text: &Text<'_>,
-    found: &[Found<'_>],
-    symbols: &Symbols,
-    line: u64,
-    character: u64,
-) -> Result<Value, AllocError>
-    requires { found_all found.now ≡ found_in (text_view text.now) }
-    ensures { IfOk result (λ v. IsOfPlace (text_view text.now) line character
-        (name_at (text_view text.now) line character) (view v)) }
-{
-    match text.name_at(line, character) {
-        Some(one) => name_said(alloc, text, symbols, &one),
-        None => line_said(alloc, text, found, text.number(line), character),
+        _ => Ok(Value::Null),
     }
 }
 
@@ -234,8 +127,16 @@ pub fn hover(alloc: Global, text: &Text<'_>, line: u64, character: u64) -> Resul
     if text.source.len() > SOURCE_SIZE {
         return Ok(Value::Null);
     }
-    match laid_of(alloc, text.profile, text.source) {
-        Ok(laid) => place_said(alloc, text, &laid.found, &laid.symbols, line, character),
-        Err(error) => Err(error),
+    let mut symbols = Symbols::new(alloc);
+    let smallest = Mending::Smallest;
+    let Ok(found) = lay_out(alloc, text.profile, smallest, &mut symbols, text.source) else {
+        return Err(AllocError);
+    };
+    match text.name_at(line, character) {
+        Some(one) => {
+            let rest = name_tail(alloc, &text.uses, &symbols, one.text);
+            said(alloc, one.text, rest, text.range_of(alloc, &one))
+        }
+        None => line_said(alloc, text, &found, text.number(line), character),
     }
 }

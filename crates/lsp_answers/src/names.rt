@@ -1,38 +1,16 @@
 //! Where a name stands.
 
-ghost use Rattle.std.specs.Prelude.{◌≡◌, IfOk, List};
-ghost use Rattle.lsp_answers.specs.Names.{definition_at, locations_by, locations_of, references_at};
+ghost use Rattle.std.specs.Prelude.{◌≡◌, IfOk};
+ghost use Rattle.lsp_answers.specs.Names.{definition_at, locations_by, references_at};
 ghost use Rattle.lsp_answers.specs.Texts.{name_at, text_view};
-ghost use Rattle.name_uses.specs.Uses.{Use};
-ghost use Rattle.name_uses.specs.Views.{use_views};
 ghost use Rattle.serde_json.specs.View.{view};
 
 use crate::source_text::Text;
 use json_values::ValueList;
 use lsp_messages::location;
-use name_uses::{NameUse, Part, picked};
+use name_uses::{Part, picked};
 use serde_json::Value;
 use std::alloc::{AllocError, Global};
-
-/// Returns the locations of some uses. The only error is that memory ran out, before or here.
-fn locations(
-    alloc: Global,
-    uri: &str,
-    text: &Text<'_>,
-    uses: Result<Vec<NameUse<'_>>, AllocError>,
-) -> Result<Value, AllocError>
-    ensures { (us : List Use) → IfOk uses.entry (λ found. use_views found.items ≡ us)
-        → IfOk result (λ v. view v ≡ locations_of uri.now (text_view text.now) us) }
-{
-    let Ok(uses) = uses else {
-        return Err(AllocError);
-    };
-    let mut found = ValueList::new(alloc);
-    for one in &uses {
-        found = found.with(location(alloc, uri, text.range_of(alloc, one)));
-    }
-    found.build()
-}
 
 /// Returns where those uses of the name at a place stand that are meant; `null` where no name is.
 fn found_at(
@@ -46,13 +24,17 @@ fn found_at(
     ensures { IfOk result (λ v. view v ≡ locations_by uri.now (text_view text.now) part
         (name_at (text_view text.now) line character)) }
 {
-    match text.name_at(line, character) {
-        Some(one) => {
-            let uses = picked(alloc, &text.uses, one.text, part);
-            locations(alloc, uri, text, uses)
-        }
-        None => Ok(Value::Null),
+    let Some(name) = text.name_at(line, character) else {
+        return Ok(Value::Null);
+    };
+    let Ok(uses) = picked(alloc, &text.uses, name.text, part) else {
+        return Err(AllocError);
+    };
+    let mut found = ValueList::new(alloc);
+    for one in &uses {
+        found = found.with(location(alloc, uri, text.range_of(alloc, one)));
     }
+    found.build()
 }
 
 /// Returns where the name at a place is defined; `null` where no name is. The only error is that a

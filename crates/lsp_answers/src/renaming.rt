@@ -1,7 +1,7 @@
 //! A name changed.
 
-ghost use Rattle.std.specs.Prelude.{◌≡◌, IfErr, IfOk, IsErr, IsOk};
-ghost use Rattle.lsp_answers.specs.Renames.{IsKept, IsKeptAt, IsRename, IsRenameAt, IsTold, edits_of};
+ghost use Rattle.std.specs.Prelude.{◌≡◌, IfErr, IfOk, IsOk};
+ghost use Rattle.lsp_answers.specs.Renames.{IsKeptAt, IsRenameAt, edits_of};
 ghost use Rattle.lsp_answers.specs.Texts.{name_at, text_view};
 ghost use Rattle.lsp_messages.specs.Values.{changes_data};
 ghost use Rattle.name_uses.specs.Views.{use_views};
@@ -38,45 +38,6 @@ fn changed(
     }
 }
 
-/// Returns why a name is not changed, in words. The only error is that memory ran out.
-fn refusal(fault: RenameFault) -> Result<Result<Value, &'static str>, AllocError>
-    ensures told { IfOk result (λ r. IfErr r (λ words. IsTold fault)) }
-    ensures kept { IfOk result (λ r. IsErr r) }
-{
-    match fault {
-        RenameFault::NoName => Ok(Err(
-            "a name begins with a letter, has letters, digits and _, at most 31, and is no \
-            mnemonic, A, X or Y",
-        )),
-        RenameFault::Taken => Ok(Err("the source has this name already")),
-        RenameFault::Changed => Ok(Err("a line or the source would be too long")),
-        RenameFault::OutOfMemory => Err(AllocError),
-    }
-}
-
-/// Returns the changes that give a name another one, or why there are none.
-fn rename_of(
-    alloc: Global,
-    map: &MapSpec,
-    uri: &str,
-    text: &Text<'_>,
-    old: &[u8],
-    name: &str,
-) -> Result<Result<Value, &'static str>, AllocError>
-    ensures changed { IfOk result (λ r. IfOk r (λ v.
-        IsRename map.now uri.now (text_view text.now) old.now name.now (view v))) }
-    ensures kept { IfOk result (λ r. IfErr r (λ words.
-        IsKept map.now (text_view text.now) old.now name.now)) }
-{
-    if text.source.len() > SOURCE_SIZE {
-        return Ok(Err("a source has at most 1048576 bytes"));
-    }
-    match renamed(alloc, map, text.source, old, name.as_bytes()) {
-        Ok(renaming) => changed(alloc, uri, text, &renaming.uses, name),
-        Err(fault) => refusal(fault),
-    }
-}
-
 /// Returns the changes that give the name at a place another name, or why there are none. The only
 /// error is that a request for memory was refused.
 pub fn rename(
@@ -95,8 +56,20 @@ pub fn rename(
     ensures kept { IfOk result (λ r. IfErr r (λ words. IsKeptAt map.now (text_view text.now)
         (name_at (text_view text.now) line character) name.now)) }
 {
-    match text.name_at(line, character) {
-        Some(one) => rename_of(alloc, map, uri, text, one.text, name),
-        None => Ok(Err("no name stands here")),
+    let Some(one) = text.name_at(line, character) else {
+        return Ok(Err("no name stands here"));
+    };
+    if text.source.len() > SOURCE_SIZE {
+        return Ok(Err("a source has at most 1048576 bytes"));
+    }
+    match renamed(alloc, map, text.source, one.text, name.as_bytes()) {
+        Ok(renaming) => changed(alloc, uri, text, &renaming.uses, name),
+        Err(RenameFault::NoName) => Ok(Err(
+            "a name begins with a letter, has letters, digits and _, at most 31, and is no \
+            mnemonic, A, X or Y",
+        )),
+        Err(RenameFault::Taken) => Ok(Err("the source has this name already")),
+        Err(RenameFault::Changed) => Ok(Err("a line or the source would be too long")),
+        Err(RenameFault::OutOfMemory) => Err(AllocError),
     }
 }

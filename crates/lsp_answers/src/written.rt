@@ -6,16 +6,24 @@ ghost use Rattle.model.specs.Mnemonics.{mnemonics};
 use model::{Mnemonic, Profile};
 
 /// What each directive does.
-pub const BYTE_EFFECT: &str =
-    ".BYTE item, ..: a byte for each expression, or the bytes of a string";
+const BYTE_EFFECT: &str = ".BYTE item, ..: a byte for each expression, or the bytes of a string";
 
-pub const WORD_EFFECT: &str = ".WORD expression, ..: two bytes for each, the low one first";
+const WORD_EFFECT: &str = ".WORD expression, ..: two bytes for each, the low one first";
 
-pub const DBYTE_EFFECT: &str = ".DBYTE expression, ..: two bytes for each, the high one first";
+const DBYTE_EFFECT: &str = ".DBYTE expression, ..: two bytes for each, the high one first";
 
-pub const RES_EFFECT: &str = ".RES expression: so many bytes are left free";
+const RES_EFFECT: &str = ".RES expression: so many bytes are left free";
 
-pub const END_EFFECT: &str = ".END: no line behind it is read";
+const END_EFFECT: &str = ".END: no line behind it is read";
+
+/// The directives, each with what it does.
+pub const DIRECTIVES: [(&str, &str); 5] = [
+    (".BYTE", BYTE_EFFECT),
+    (".WORD", WORD_EFFECT),
+    (".DBYTE", DBYTE_EFFECT),
+    (".RES", RES_EFFECT),
+    (".END", END_EFFECT),
+];
 
 /// All mnemonics, first those of profile N.
 const MNEMONICS: [Mnemonic; 62] = [

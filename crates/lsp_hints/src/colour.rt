@@ -2,7 +2,7 @@
 
 ghost use Rattle.std.specs.Prelude.{◌≡◌};
 ghost use Rattle.line_parts.specs.Lexemes.{lexeme_of};
-ghost use Rattle.lsp_hints.specs.Colours.{colour_of, modifiers_of, type_of, word_colour};
+ghost use Rattle.lsp_hints.specs.Colours.{colour_of, modifiers_of, type_of};
 
 use line_parts::Token;
 use model::{Profile, TokenKind};
@@ -44,25 +44,14 @@ impl Colour {
     }
 }
 
-/// Returns the colour of a word, which its line defines, or not.
-fn word_colour(profile: Profile, defines: bool, text: &[u8]) -> Colour
-    ensures { result ≡ word_colour profile defines text.now }
-{
-    if is_reserved(profile, text) {
-        Colour::Reserved
-    } else if defines {
-        Colour::Defined
-    } else {
-        Colour::Named
-    }
-}
-
 /// Returns the colour of a token, which its line defines, or not. A symbol has none.
 pub fn colour_of(profile: Profile, defines: bool, token: &Token<'_>) -> Option<Colour>
     ensures { result ≡ colour_of profile defines (lexeme_of token.now) }
 {
     match token.kind {
-        TokenKind::Word => Some(word_colour(profile, defines, token.text)),
+        TokenKind::Word if is_reserved(profile, token.text) => Some(Colour::Reserved),
+        TokenKind::Word if defines => Some(Colour::Defined),
+        TokenKind::Word => Some(Colour::Named),
         TokenKind::Directive => Some(Colour::Directive),
         TokenKind::Number => Some(Colour::Number),
         TokenKind::Char | TokenKind::Str => Some(Colour::Quoted),

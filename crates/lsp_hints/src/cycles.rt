@@ -1,9 +1,8 @@
 //! What is shown of an address and an instruction.
 
-ghost use Rattle.std.specs.Prelude.{◌≡◌, ◌≤◌, ◌++◌, Some, length};
+ghost use Rattle.std.specs.Prelude.{◌≡◌, ◌≤◌};
 ghost use Rattle.std.specs.Option.{option_map};
-ghost use Rattle.lsp_hints.specs.Hints.{cycles_words, hint_words, least_more, most_more};
-ghost use Rattle.lsp_hints.specs.Hints.{place_words};
+ghost use Rattle.lsp_hints.specs.Hints.{hint_words, least_more, most_more, place_words};
 ghost use Rattle.source_faults.specs.Views.{found_view};
 
 use formatting::{Text, address_text, push_bytes, push_decimal};
@@ -61,31 +60,25 @@ fn most_more(mode: Mode, penalty: bool) -> u64
     }
 }
 
-/// Appends the cycles of an instruction: the least, and the most behind them if they are more.
-fn push_cycles(text: &mut Text, row: Row)
-    requires { length text.old.items ≤ 5 }
-    ensures { text.new.items ≡ text.old.items ++ cycles_words (Some row) }
-{
-    let least = row.cycles as u64 + least_more(row.mnemonic);
-    let most = row.cycles as u64 + most_more(row.mode, row.penalty);
-    push_bytes(text, b", ");
-    push_decimal(text, least);
-    if least < most {
-        push_bytes(text, b"-");
-        push_decimal(text, most);
-    }
-    push_bytes(text, b" cycles");
-}
-
-/// Returns what is shown of an address and what stands there.
+/// Returns what is shown of an address and what stands there: of an instruction the least cycles,
+/// and the most behind them if they are more.
 pub fn place_words(address: u32, row: Option<Row>) -> Text
     ensures { result.items ≡ place_words address row }
 {
     let mut text = Text::new();
     push_bytes(&mut text, b"$");
     push_bytes(&mut text, &address_text(address));
-    if let Some(row) = row {
-        push_cycles(&mut text, row);
+    let Some(row) = row else {
+        return text;
+    };
+    let least = row.cycles as u64 + least_more(row.mnemonic);
+    let most = row.cycles as u64 + most_more(row.mode, row.penalty);
+    push_bytes(&mut text, b", ");
+    push_decimal(&mut text, least);
+    if least < most {
+        push_bytes(&mut text, b"-");
+        push_decimal(&mut text, most);
     }
+    push_bytes(&mut text, b" cycles");
     text
 }

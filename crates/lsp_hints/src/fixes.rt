@@ -1,12 +1,9 @@
 //! The changes for faults.
 
-ghost use Rattle.std.specs.Prelude.{◌≡◌, ◌++◌, IfOk, List, string_bytes};
-ghost use Rattle.std.specs.List.{flat_map};
-ghost use Rattle.std.specs.Str.Lossy.{utf8_lossy};
+ghost use Rattle.std.specs.Prelude.{◌≡◌, ◌++◌, IfOk, List};
 ghost use Rattle.json_values.specs.ValueLists.{HasValues};
-ghost use Rattle.json_values.specs.Values.{list_of};
 ghost use Rattle.lsp_answers.specs.Texts.{text_view};
-ghost use Rattle.lsp_hints.specs.Fixes.{AreFixes, edit_of, fix_of, fixes_between, title_of};
+ghost use Rattle.lsp_hints.specs.Fixes.{AreFixes, fix_of, fixes_between};
 ghost use Rattle.serde_json.specs.Data.{Data};
 ghost use Rattle.serde_json.specs.View.{view};
 
@@ -21,28 +18,8 @@ use serde_json::Value;
 use source_notes::concat;
 use std::alloc::{AllocError, Global};
 
-/// Returns the title of a change to a word.
-fn title_of(alloc: Global, word: &[u8]) -> Result<String, AllocError>
-    ensures { IfOk result (λ title. string_bytes title ≡ utf8_lossy (title_of word.now)) }
-{
-    text_of(alloc, concat(alloc, &[b"write ", word]))
-}
-
-/// Returns the change that puts a word in place of the bytes that a fault or a warning means.
-fn edit_of(
-    alloc: Global,
-    text: &Text<'_>,
-    one: &Diagnostic,
-    word: &[u8],
-) -> Result<Value, AllocError>
-    ensures { IfOk result (λ v. view v ≡ edit_of (text_view text.now) one.now word.now) }
-{
-    let written = String::from_utf8_lossy(alloc, word)?;
-    let range = text.range(alloc, one.line.max(1), one.note.start, one.note.width);
-    edit(alloc, written.as_str(), range)
-}
-
-/// Returns the same as the change of a document, with its title.
+/// Returns the change of a document that puts a word in place of the bytes that a fault or a
+/// warning means, with its title.
 fn fix_of(
     alloc: Global,
     uri: &str,
@@ -53,13 +30,18 @@ fn fix_of(
     ensures { IfOk result
         (λ v. view v ≡ fix_of uri.now (text_view text.now) one.now word.now) }
 {
+    let Ok(written) = String::from_utf8_lossy(alloc, word) else {
+        return Err(AllocError);
+    };
+    let range = text.range(alloc, one.line.max(1), one.note.start, one.note.width);
     let edits = ValueList::new(alloc)
-        .with(edit_of(alloc, text, one, word))
+        .with(edit(alloc, written.as_str(), range))
         .build();
+    let title = text_of(alloc, concat(alloc, &[b"write ", word]));
     Object::new(alloc)
         .member("edit", changes(alloc, uri, edits))
         .word("kind", "quickfix")
-        .text("title", title_of(alloc, word))
+        .text("title", title)
         .build()
 }
 
@@ -85,24 +67,6 @@ fn with_fix(
     }
 }
 
-/// Returns the changes for some faults or warnings.
-fn fixes_among(
-    alloc: Global,
-    uri: &str,
-    text: &Text<'_>,
-    between: (u64, u64),
-    found: &[Diagnostic],
-) -> Result<Value, AllocError>
-    ensures { IfOk result (λ v. view v
-        ≡ list_of (flat_map (fixes_between uri.now (text_view text.now) between) found.now)) }
-{
-    let mut fixes = ValueList::new(alloc);
-    for one in found {
-        fixes = with_fix(alloc, fixes, uri, text, between, one);
-    }
-    fixes.build()
-}
-
 /// Returns the changes for the faults of a document on a map, or for its warnings, from one line to
 /// another, counted from 0: for each of which `check` names the right word, that word in place of
 /// the bytes that it means. The only error is that a request for memory was refused.
@@ -116,6 +80,12 @@ pub fn fixes_in(
     ensures { IfOk result
         (λ v. AreFixes map.now uri.now (text_view text.now) between (view v)) }
 {
-    let found = diagnostics(alloc, text.source, map)?;
-    fixes_among(alloc, uri, text, between, &found)
+    let Ok(found) = diagnostics(alloc, text.source, map) else {
+        return Err(AllocError);
+    };
+    let mut fixes = ValueList::new(alloc);
+    for one in &found {
+        fixes = with_fix(alloc, fixes, uri, text, between, one);
+    }
+    fixes.build()
 }

@@ -1,17 +1,18 @@
 //! What can be folded.
 
-ghost use Rattle.std.specs.Prelude.{◌≡◌, ◌++◌, IfOk, None, OnOk, map};
-ghost use Rattle.json_values.specs.Values.{list_of};
-ghost use Rattle.lsp_hints.specs.Folds.{all_folds, comment_folds, fold_data, folded, folds_to};
+ghost use Rattle.std.specs.Prelude.{◌≡◌, ◌++◌, IfOk, None, OnOk};
+ghost use Rattle.lsp_hints.specs.Folds.{comment_folds, fold_data, folded, folds_to};
 ghost use Rattle.lsp_hints.specs.Folds.{label_folds};
 ghost use Rattle.serde_json.specs.View.{view};
 ghost use Rattle.source_notes.specs.Lines.{texts_of};
 
-use crate::labels::{is_comment, is_label_line};
+use crate::labels::is_label_line;
+use crate::operation::begins_with;
 use json_values::{Object, ValueList};
 use line_parts::Token;
 use model::Profile;
 use serde_json::Value;
+use source_notes::{after, blank_run};
 use std::alloc::{AllocError, Global};
 
 /// What is folded.
@@ -79,7 +80,7 @@ fn push_comments(folds: &mut Vec<Fold>, lines: &[&[u8]]) -> Result<(), AllocErro
 {
     let mut from = None;
     for (index, line) in lines.iter().enumerate() {
-        if is_comment(line) {
+        if begins_with(b';', after(line, blank_run(line))) {
             from = Some(from.unwrap_or(index));
         } else {
             push_fold(folds, FoldKind::Comment, from, index)?;
@@ -87,20 +88,6 @@ fn push_comments(folds: &mut Vec<Fold>, lines: &[&[u8]]) -> Result<(), AllocErro
         }
     }
     push_fold(folds, FoldKind::Comment, from, lines.len())
-}
-
-/// Appends the folds of labels, and behind them those of comments.
-fn push_folds(
-    alloc: Global,
-    folds: &mut Vec<Fold>,
-    profile: Profile,
-    lines: &[&[u8]],
-) -> Result<(), AllocError>
-    ensures { OnOk result (folds.new.items
-        ≡ folds.old.items ++ all_folds profile (texts_of lines.now)) }
-{
-    push_labels(folds, &mut Vec::new(alloc), profile, lines)?;
-    push_comments(folds, lines)
 }
 
 /// Returns the value of a fold.
@@ -120,23 +107,17 @@ fn fold_data(alloc: Global, one: &Fold) -> Result<Value, AllocError>
     }
 }
 
-/// Returns the values of folds.
-fn values_of(alloc: Global, folds: &[Fold]) -> Result<Value, AllocError>
-    ensures { IfOk result (λ v. view v ≡ list_of (map fold_data folds.now)) }
-{
-    let mut values = ValueList::new(alloc);
-    for one in folds {
-        values = values.with(fold_data(alloc, one));
-    }
-    values.build()
-}
-
 /// Returns what can be folded of the lines of a source: those from each label to the next, and the
 /// runs of comments. The only error is that a request for memory was refused.
 pub fn folded(alloc: Global, profile: Profile, lines: &[&[u8]]) -> Result<Value, AllocError>
     ensures { IfOk result (λ v. view v ≡ folded profile (texts_of lines.now)) }
 {
     let mut folds = Vec::new(alloc);
-    push_folds(alloc, &mut folds, profile, lines)?;
-    values_of(alloc, &folds)
+    push_labels(&mut folds, &mut Vec::new(alloc), profile, lines)?;
+    push_comments(&mut folds, lines)?;
+    let mut values = ValueList::new(alloc);
+    for fold in &folds {
+        values = values.with(fold_data(alloc, fold));
+    }
+    values.build()
 }

@@ -1,18 +1,16 @@
 //! What stands behind the lines of a source.
 
-ghost use Rattle.std.specs.Prelude.{◌≡◌, ◌≤◌, ◌++◌, IfOk, List, length};
+ghost use Rattle.std.specs.Prelude.{◌≡◌, ◌++◌, IfOk, List};
 ghost use Rattle.json_values.specs.ValueLists.{HasValues};
-ghost use Rattle.json_values.specs.Values.{list_of};
-ghost use Rattle.lsp_hints.specs.Hints.{found_in, hints_at, hints_from, hints_of, is_between};
-ghost use Rattle.lsp_hints.specs.Hints.{is_refused, width_of};
+ghost use Rattle.lsp_hints.specs.Hints.{hints_at, hints_of, is_between, is_refused, width_of};
 ghost use Rattle.serde_json.specs.Data.{Data};
 ghost use Rattle.serde_json.specs.View.{view};
-ghost use Rattle.source_faults.specs.Views.{found_all, found_view};
+ghost use Rattle.source_faults.specs.Views.{found_view};
 ghost use Rattle.source_notes.specs.Lines.{texts_of};
 
 use crate::cycles::{place_of, place_words};
-use crate::values::hint;
-use json_values::ValueList;
+use json_values::{Object, ValueList};
+use lsp_messages::position;
 use model::Profile;
 use serde_json::Value;
 use source_faults::{Found, Mending, lay_out};
@@ -21,19 +19,6 @@ use symbols::Symbols;
 
 /// The most bytes that a source has (mos65).
 const SOURCE_SIZE: usize = 1_048_576;
-
-/// Finds where the lines of a source stand.
-fn laid_out<'a>(
-    alloc: Global,
-    profile: Profile,
-    source: &'a [u8],
-) -> Result<Vec<Found<'a>>, AllocError>
-    requires { length source.now ≤ 1048576 }
-    ensures { IfOk result (λ found. found_all found.items ≡ found_in profile source.now) }
-{
-    let mut symbols = Symbols::new(alloc);
-    lay_out(alloc, profile, Mending::Smallest, &mut symbols, source)
-}
 
 /// Returns how many bytes a line has, by its index; 0 where there is none.
 fn width_of(lines: &[&[u8]], index: usize) -> usize
@@ -69,7 +54,13 @@ fn with_hint(
         match place_of(profile, found) {
             Some((address, row)) => {
                 let label = String::from_utf8_lossy(alloc, &place_words(address, row));
-                hints.with(hint(alloc, label, index, width_of(lines, index)))
+                let width = width_of(lines, index);
+                let hint = Object::new(alloc)
+                    .text("label", label)
+                    .flag("paddingLeft", true)
+                    .member("position", position(alloc, index as u64, width as u64))
+                    .build();
+                hints.with(hint)
             }
             None => hints,
         }
@@ -86,28 +77,6 @@ fn is_refused(found: &Found<'_>) -> bool
         Found::Refused { .. } => true,
         Found::Plain { .. } | Found::Bytes(_) => false,
     }
-}
-
-/// Returns what is shown of the lines between two lines, up to the first that has a fault of the
-/// layout.
-fn hints_among(
-    alloc: Global,
-    profile: Profile,
-    lines: &[&[u8]],
-    between: (u64, u64),
-    found: &[Found<'_>],
-) -> Result<Value, AllocError>
-    ensures { IfOk result (λ v. view v
-        ≡ list_of (hints_from profile (texts_of lines.now) between 0 (found_all found.now))) }
-{
-    let mut hints = ValueList::new(alloc);
-    for (index, one) in found.iter().enumerate() {
-        if is_refused(one) {
-            return hints.build();
-        }
-        hints = with_hint(alloc, hints, profile, lines, between, index, one);
-    }
-    hints.build()
 }
 
 /// Returns what stands behind the lines of a source from one line to another, counted from 0: of
@@ -127,6 +96,16 @@ pub fn hints_in(
     if source.len() > SOURCE_SIZE {
         return ValueList::new(alloc).build();
     }
-    let found = laid_out(alloc, profile, source)?;
-    hints_among(alloc, profile, lines, between, &found)
+    let mut symbols = Symbols::new(alloc);
+    let Ok(found) = lay_out(alloc, profile, Mending::Smallest, &mut symbols, source) else {
+        return Err(AllocError);
+    };
+    let mut hints = ValueList::new(alloc);
+    for (index, one) in found.iter().enumerate() {
+        if is_refused(one) {
+            return hints.build();
+        }
+        hints = with_hint(alloc, hints, profile, lines, between, index, one);
+    }
+    hints.build()
 }

@@ -1,15 +1,14 @@
-//! Lines with a label, and lines with nothing but a comment.
+//! Lines with a label.
 
 ghost use Rattle.std.specs.Prelude.{◌≡◌, IfOk};
 ghost use Rattle.line_parts.specs.Lexemes.{lexemes};
-ghost use Rattle.lsp_hints.specs.Folds.{is_comment, is_label, is_label_line};
+ghost use Rattle.lsp_hints.specs.Folds.{is_label, is_label_line};
 
-use crate::operation::begins_with;
 use lexer::tokens_into;
 use line_parts::Token;
 use model::{LineFault, Profile};
 use name_uses::is_name_token;
-use source_notes::{after, blank_run, is_symbol};
+use source_notes::is_symbol;
 use std::alloc::AllocError;
 
 /// Returns whether tokens begin with a label.
@@ -35,11 +34,4 @@ pub fn is_label_line<'a>(
         Err(LineFault::OutOfMemory) => Err(AllocError),
         Err(LineFault::Syntax) => Ok(false),
     }
-}
-
-/// Returns whether a line has a comment alone.
-pub fn is_comment(line: &[u8]) -> bool
-    ensures { result ≡ is_comment line.now }
-{
-    begins_with(b';', after(line, blank_run(line)))
 }

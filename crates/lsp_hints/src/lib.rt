@@ -9,8 +9,8 @@
 //! `Fixes.antt`.
 //!
 //! `painted` has the colours as the protocol counts them: `colour` gives each token one, `paint`
-//! finds where they stand, `numbers` counts from one to the next. `folded` has the folds, of lines
-//! that `labels` knows. The definitions are `Colours.antt`, `Painted.antt` and `Folds.antt`.
+//! finds where they stand, `numbers` counts from one to the next. `folded` has the folds; `labels`
+//! knows a line with a label. The definitions are `Colours.antt`, `Painted.antt` and `Folds.antt`.
 #![tactic(auto)]
 
 mod colour;

@@ -2,8 +2,7 @@
 
 ghost use Rattle.std.specs.Prelude.{◌≡◌, ◌++◌, IfOk, List};
 ghost use Rattle.json_values.specs.ValueLists.{HasValues};
-ghost use Rattle.json_values.specs.Values.{list_of};
-ghost use Rattle.lsp_hints.specs.Painted.{counted, data_of, further, paint_counts, painted};
+ghost use Rattle.lsp_hints.specs.Painted.{paint_counts, painted};
 ghost use Rattle.serde_json.specs.Data.{Data};
 ghost use Rattle.serde_json.specs.View.{view};
 ghost use Rattle.source_notes.specs.Lines.{texts_of};
@@ -14,45 +13,24 @@ use model::Profile;
 use serde_json::Value;
 use std::alloc::{AllocError, Global};
 
-/// Returns how far behind a start in a line another part of a text starts, which is in its own line
-/// the start itself.
-fn further(line: usize, start: usize, paint: &Paint) -> usize
-    ensures { result ≡ further line start paint.now }
-{
-    if paint.line == line {
-        paint.start.saturating_sub(start)
-    } else {
-        paint.start
-    }
-}
-
-/// Puts the five numbers of a part of a text that comes after a start in a line behind others.
+/// Puts the five numbers of a part of a text that comes after a start in a line behind others. In
+/// its own line it is as far behind as it starts there.
 fn with_paint(counts: ValueList, line: usize, start: usize, paint: &Paint) -> ValueList
     ensures { (ds : List Data) → HasValues ds counts
         → HasValues (ds ++ paint_counts line start paint.now) result }
 {
+    let further = if paint.line == line {
+        paint.start.saturating_sub(start)
+    } else {
+        paint.start
+    };
     let numbers = paint.colour.numbers();
     counts
         .with(Ok(Value::from(paint.line.saturating_sub(line))))
-        .with(Ok(Value::from(further(line, start, paint))))
+        .with(Ok(Value::from(further)))
         .with(Ok(Value::from(paint.width)))
         .with(Ok(Value::from(numbers.0)))
         .with(Ok(Value::from(numbers.1)))
-}
-
-/// Returns the numbers of some parts of a text.
-fn counted(alloc: Global, paints: &[Paint]) -> Result<Value, AllocError>
-    ensures { IfOk result (λ v. view v ≡ data_of (list_of (counted 0 0 paints.now))) }
-{
-    let mut counts = ValueList::new(alloc);
-    let mut line = 0;
-    let mut start = 0;
-    for paint in paints {
-        counts = with_paint(counts, line, start, paint);
-        line = paint.line;
-        start = paint.start;
-    }
-    Object::new(alloc).member("data", counts.build()).build()
 }
 
 /// Returns the colours of the lines of a source: of each token but symbols, and of each comment, in
@@ -63,5 +41,13 @@ pub fn painted(alloc: Global, profile: Profile, lines: &[&[u8]]) -> Result<Value
 {
     let mut paints = Vec::new(alloc);
     push_lines(alloc, &mut paints, profile, lines)?;
-    counted(alloc, &paints)
+    let mut counts = ValueList::new(alloc);
+    let mut line = 0;
+    let mut start = 0;
+    for paint in &paints {
+        counts = with_paint(counts, line, start, paint);
+        line = paint.line;
+        start = paint.start;
+    }
+    Object::new(alloc).member("data", counts.build()).build()
 }

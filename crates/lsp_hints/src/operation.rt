@@ -1,8 +1,7 @@
 //! The operation that is written in a line.
 
 ghost use Rattle.std.specs.Prelude.{◌≡◌, ◌≤◌, length};
-ghost use Rattle.std.specs.Str.{str_eq_ignore_ascii_case};
-ghost use Rattle.lsp_hints.specs.Operations.{begins_with, blanks_after, colon_of};
+ghost use Rattle.lsp_hints.specs.Operations.{begins_with, blanks_after};
 ghost use Rattle.lsp_hints.specs.Operations.{directive_of, first_size, operation_at, operation_of};
 ghost use Rattle.lsp_hints.specs.Operations.{start_of, word_after, word_size};
 
@@ -59,24 +58,17 @@ fn word_after(line: &[u8], place: usize) -> usize
     place + word_run(after(line, place))
 }
 
-/// Returns where the word that a line begins with and the blanks behind it end.
-fn colon_of(line: &[u8]) -> usize
-    ensures place { result ≡ colon_of line.now }
-    ensures within { result ≤ length line.now }
-{
-    blanks_after(line, word_after(line, blanks_after(line, 0)))
-}
-
 /// Returns where the operation of a line starts: behind its label, if it has one.
 fn start_of(line: &[u8]) -> usize
     ensures start { result ≡ start_of line.now }
     ensures within { result ≤ length line.now }
 {
-    let colon = colon_of(line);
+    let first = blanks_after(line, 0);
+    let colon = blanks_after(line, word_after(line, first));
     if begins_with(b':', after(line, colon)) {
         blanks_after(line, colon + 1)
     } else {
-        blanks_after(line, 0)
+        first
     }
 }
 
@@ -94,30 +86,23 @@ fn word_size(bytes: &[u8]) -> usize
     }
 }
 
-/// Returns whether a text is this one, in either letter case.
-fn is_written(text: &[u8], name: &[u8]) -> bool
-    ensures { result ≡ str_eq_ignore_ascii_case text.now name.now }
-{
-    text.eq_ignore_ascii_case(name)
-}
-
-/// Returns the directive of a name, if there is one.
+/// Returns the directive of a name in either letter case, if there is one.
 fn directive_of(name: &[u8]) -> Option<Operation>
     ensures { result ≡ directive_of name.now }
 {
-    if is_written(name, b".BYTE") {
+    if name.eq_ignore_ascii_case(b".BYTE") {
         return Some(Operation::Bytes);
     }
-    if is_written(name, b".WORD") {
+    if name.eq_ignore_ascii_case(b".WORD") {
         return Some(Operation::Words);
     }
-    if is_written(name, b".DBYTE") {
+    if name.eq_ignore_ascii_case(b".DBYTE") {
         return Some(Operation::WordsHighFirst);
     }
-    if is_written(name, b".RES") {
+    if name.eq_ignore_ascii_case(b".RES") {
         return Some(Operation::Reserve);
     }
-    if is_written(name, b".END") {
+    if name.eq_ignore_ascii_case(b".END") {
         return Some(Operation::Finish);
     }
     None
@@ -144,7 +129,14 @@ fn operation_of(profile: Profile, word: &[u8], behind: &[u8]) -> Option<Operatio
 pub fn first_size(bytes: &[u8]) -> usize
     ensures { result ≡ first_size bytes.now }
 {
-    bytes.iter().take_while(|byte| **byte != b';').count()
+    let mut size = 0;
+    for byte in bytes {
+        if *byte == b';' {
+            return size;
+        }
+        size += 1;
+    }
+    size
 }
 
 /// Returns the operation of a line, if a column stands behind its word and before any `;`.

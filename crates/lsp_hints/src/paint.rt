@@ -2,7 +2,7 @@
 
 ghost use Rattle.std.specs.Prelude.{◌≡◌, ◌≤◌, ◌++◌, OnOk, Some, length};
 ghost use Rattle.line_parts.specs.Lexemes.{lexeme_of, lexemes};
-ghost use Rattle.lsp_hints.specs.Painted.{code_end, comment_paints, line_paints, paints_by};
+ghost use Rattle.lsp_hints.specs.Painted.{comment_paints, line_paints, paints_by};
 ghost use Rattle.lsp_hints.specs.Painted.{paints_of, starts_definition, token_paints};
 ghost use Rattle.model.specs.Token.{tokens_of};
 ghost use Rattle.source_notes.specs.Lines.{texts_of};
@@ -59,32 +59,17 @@ fn push_token(
     }
 }
 
-/// Returns where the last of the tokens of a line ends; 0 without tokens.
-fn code_end(text: &[u8], tokens: &[Token<'_>]) -> usize
-    requires { tokens_of text.now ≡ Some (lexemes tokens.now) }
-    ensures end { result ≡ code_end 0 (lexemes tokens.now) }
-    ensures within { result ≤ length text.now }
-{
-    tokens_are_slices();
-    let mut end = 0;
-    for token in tokens {
-        end = token.start + token.text.len();
-    }
-    end
-}
-
-/// Appends the comment of a line, if it has one.
+/// Appends the comment of a line behind the end of its last token, if it has one.
 fn push_comment(
     paints: &mut Vec<Paint>,
     line: usize,
     text: &[u8],
-    tokens: &[Token<'_>],
+    end: usize,
 ) -> Result<(), AllocError>
-    requires { tokens_of text.now ≡ Some (lexemes tokens.now) }
-    ensures { OnOk result (paints.new.items
-        ≡ paints.old.items ++ comment_paints line text.now (code_end 0 (lexemes tokens.now))) }
+    requires { end ≤ length text.now }
+    ensures { OnOk result
+        (paints.new.items ≡ paints.old.items ++ comment_paints line text.now end) }
 {
-    let end = code_end(text, tokens);
     let start = blanks_after(text, end);
     if start < text.len() {
         paints.extend_from_slice(&[Paint {
@@ -110,12 +95,15 @@ fn push_parts(
     ensures { OnOk result (paints.new.items
         ≡ paints.old.items ++ paints_by profile line text.now (Some (lexemes tokens.now))) }
 {
+    tokens_are_slices();
     let mut defines = starts_definition(tokens);
+    let mut end = 0;
     for token in tokens {
         push_token(paints, profile, line, defines, token)?;
         defines = false;
+        end = token.start + token.text.len();
     }
-    push_comment(paints, line, text, tokens)
+    push_comment(paints, line, text, end)
 }
 
 /// Appends what is painted of a line.

@@ -1,13 +1,11 @@
 //! The right word, in what `check` says of a fault.
 
 ghost use Rattle.std.specs.Prelude.{◌≡◌, ◌≤◌, length};
-ghost use Rattle.std.specs.List.{list_any};
 ghost use Rattle.std.specs.Option.{option_map};
 ghost use Rattle.std.specs.Str.{bytes_eq};
-ghost use Rattle.lsp_hints.specs.RightWords.{defines, is_directive, is_named, is_right};
-ghost use Rattle.lsp_hints.specs.RightWords.{is_word_or_point, named_in, right_word, second_part};
-ghost use Rattle.lsp_hints.specs.RightWords.{without_write, word_size};
-ghost use Rattle.name_uses.specs.Views.{use_view, use_views};
+ghost use Rattle.lsp_hints.specs.RightWords.{is_directive, is_right, named_in};
+ghost use Rattle.lsp_hints.specs.RightWords.{right_word, second_part, without_write, word_size};
+ghost use Rattle.name_uses.specs.Views.{use_views};
 
 use crate::operation::first_size;
 use model::Profile;
@@ -28,38 +26,30 @@ fn right_part(words: &[u8]) -> &[u8]
     }
 }
 
-/// Returns whether a byte is a letter, a digit, `_` or a point.
-fn is_word_or_point(byte: u8) -> bool
-    ensures { result ≡ is_word_or_point byte }
-{
-    Class::Word.has(byte) || byte == b'.'
-}
-
 /// Returns how many letters, digits, `_` and points some words begin with.
 fn word_size(words: &[u8]) -> usize
     ensures size { result ≡ word_size words.now }
     ensures within { result ≤ length words.now }
 {
-    words
-        .iter()
-        .take_while(|byte| is_word_or_point(**byte))
-        .count()
+    let mut size = 0;
+    for byte in words {
+        if !Class::Word.has(*byte) && *byte != b'.' {
+            return size;
+        }
+        size += 1;
+    }
+    size
 }
 
-/// Returns whether the words behind a word say that it is the right one.
-fn is_named(behind: &[u8]) -> bool
-    ensures { result ≡ is_named behind.now }
-{
-    behind.is_empty() || behind.starts_with(b" is")
-}
-
-/// Returns the word that some words name as the right one, if they do.
+/// Returns the word that some words name as the right one, if they do: nothing else is said behind
+/// it, or that it is.
 fn named_in(words: &[u8]) -> Option<&[u8]>
     ensures { option_map (λ word. word.now) result ≡ named_in words.now }
 {
     let rest = right_part(words);
     let size = word_size(rest);
-    if is_named(&rest[size..]) {
+    let behind = &rest[size..];
+    if behind.is_empty() || behind.starts_with(b" is") {
         Some(&rest[..size])
     } else {
         None
@@ -84,30 +74,19 @@ fn is_directive(word: &[u8]) -> bool
         || is_same(word, b".END")
 }
 
-/// Returns whether a line defines this name where it stands.
-fn defines(word: &[u8], one: &NameUse<'_>) -> bool
-    ensures { result ≡ defines word.now (use_view one.now) }
-{
-    one.defines && one.text == word
-}
-
-/// Returns whether a line defines a name.
-fn is_defined(uses: &[NameUse<'_>], word: &[u8]) -> bool
-    ensures { result ≡ list_any (defines word.now) (use_views uses.now) }
-{
-    for one in uses {
-        if defines(word, one) {
-            return true;
-        }
-    }
-    false
-}
-
 /// Returns whether a word can be right: a mnemonic, a directive, or a name of the source.
 fn is_right(profile: Profile, uses: &[NameUse<'_>], word: &[u8]) -> bool
     ensures { result ≡ is_right profile (use_views uses.now) word.now }
 {
-    mnemonic_in(profile, word).is_some() || is_directive(word) || is_defined(uses, word)
+    if mnemonic_in(profile, word).is_some() || is_directive(word) {
+        return true;
+    }
+    for one in uses {
+        if one.defines && one.text == word {
+            return true;
+        }
+    }
+    false
 }
 
 /// Returns the right word that some words name, if they do and it can be right.

@@ -10,11 +10,11 @@ ghost use Rattle.serde_json.specs.Data.{Data};
 ghost use Rattle.serde_json.specs.View.{view};
 
 use crate::operation::{Operation, operation_at};
-use crate::values::{help, signature, text_of};
+use crate::values::{signature, text_of};
 use crate::wording::{
     BYTE_FORM, DBYTE_FORM, DEFINITION_FORM, END_FORM, OPERANDS, ORIGIN_FORM, RES_FORM, WORD_FORM,
 };
-use json_values::ValueList;
+use json_values::{Object, ValueList};
 use lsp_messages::column_of;
 use model::{Mnemonic, Mode, Profile};
 use optable::{encode_in, letters_of};
@@ -101,7 +101,10 @@ pub fn signatures_at(
     ensures { IfOk result (λ v. view v ≡ signatures_of profile line.now character) }
 {
     match operation_at(profile, line, column_of(line, character)) {
-        Some(operation) => help(alloc, forms_of(alloc, profile, operation)),
+        Some(operation) => Object::new(alloc)
+            .count("activeSignature", 0)
+            .member("signatures", forms_of(alloc, profile, operation))
+            .build(),
         None => Ok(Value::Null),
     }
 }

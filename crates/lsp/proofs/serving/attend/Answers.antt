@@ -1,9 +1,7 @@
-use Rattle.std.proofs.Common.{◌∙◌, ◌++◌, [], ap, append-nil, inl, inr, List, ℕ, subst, sym}
+use Rattle.std.proofs.Common.{◌++◌, [], inl, inr, List, ℕ, refl, subst, sym}
 use Rattle.std.proofs.KnownBytes.{Appends-nil, Appends-trans}
-use Rattle.std.proofs.lemmas.Result.{IfOk-weaker}
 use Rattle.lsp.specs.Sessions.{Answers}
 use Rattle.lsp.specs.State.{State, server_view, start}
-use Rattle.lsp.specs.Turns.{Comes}
 use Rattle.message_stream.specs.Sessions.{IsServedSoFar}
 use Rattle.message_stream.proofs.Sessions.{served_last, served_on, served_whole, unserved}
 use Rattle.lsp.proofs.Small.{small_status}
@@ -18,45 +16,37 @@ loop-init g c =
       Appends-nil _,
     )
 
-pub returns-in-Ended-clause-session : goal.returns-in-Ended-clause-session
-returns-in-Ended-clause-session g c =
+pub returns-in-Ok-Some-answer-clause-session : goal.returns-in-Ok-Some-answer-clause-session
+returns-in-Ok-Some-answer-clause-session g c =
     let inv = c.loop.invariant in
-    let turn = c.in_ok-take_turn.ensures in
-    let came = subst (Comes c.args.map.now (c.loop.incoming ++ turn.0) (g.R.Read.remaining c.take_turn.new.input) c.take_turn.new.incoming (server_view c.loop.server) (server_view c.take_turn.new.server) turn.2) c.in-Ended.is turn.3 in (
-      inv.0 ++ turn.2,
-      inl (served_last (Answers c.args.map.now) _ _ _ c.loop.incoming turn.0 came.0 c.take_turn.new.incoming start (server_view c.loop.server) (server_view c.take_turn.new.server) c.in-Ended.status inv.0 turn.2 inv.1 turn.1 came.1 came.2),
-      Appends-trans _ _ _ inv.0 turn.2 inv.2 turn.4,
+    let came = c.in-Ok-Some.ensures.taken in
+    let front = rw (c.in-Ok-Some.field-0-is) at came.2 in
+    let turn = rw (c.in-Ok-Some-answer.field-0-is) at c.in-Ok-Some-answer.ensures in (
+      inv.0 ++ turn.0,
+      inl (served_last (Answers c.args.map.now) _ _ _ c.loop.incoming came.0 c.in-Ok-Some.body.items c.next.new.self start (server_view c.loop.server) (server_view c.answer.new.server) c.in-Ok-Some-answer.status inv.0 turn.0 inv.1 came.1 front turn.1),
+      Appends-trans _ _ _ inv.0 turn.0 inv.2 turn.2,
     )
 
-pub returns-in-Ended-clause-small : goal.returns-in-Ended-clause-small
-returns-in-Ended-clause-small g c =
-    let turn = c.in_ok-take_turn.ensures in
-    let came = subst (Comes c.args.map.now (c.loop.incoming ++ turn.0) (g.R.Read.remaining c.take_turn.new.input) c.take_turn.new.incoming (server_view c.loop.server) (server_view c.take_turn.new.server) turn.2) c.in-Ended.is turn.3 in
-    small_status c.args.map.now came.0 (server_view c.loop.server) (server_view c.take_turn.new.server) c.in-Ended.status turn.2 came.2
+pub returns-in-Ok-Some-answer-clause-small : goal.returns-in-Ok-Some-answer-clause-small
+returns-in-Ok-Some-answer-clause-small g c =
+    let turn = rw (c.in-Ok-Some-answer.field-0-is) at c.in-Ok-Some-answer.ensures in
+    small_status c.args.map.now c.in-Ok-Some.body.items (server_view c.loop.server) (server_view c.answer.new.server) c.in-Ok-Some-answer.status turn.0 turn.1
 
-pub returns-in-Over-clause-session : goal.returns-in-Over-clause-session
-returns-in-Over-clause-session g c =
+pub returns-in-ShutDown-clause-session : goal.returns-in-ShutDown-clause-session
+returns-in-ShutDown-clause-session g c =
     let inv = c.loop.invariant in
-    let turn = c.in_ok-take_turn.ensures in
-    let given = g.R.Read.remaining c.args.input.now in
-    let left = g.R.Read.remaining c.take_turn.new.input in
-    let came = subst (Comes c.args.map.now (c.loop.incoming ++ turn.0) left c.take_turn.new.incoming (server_view c.loop.server) (server_view c.take_turn.new.server) turn.2) c.in-Over.is turn.3 in
-    let whole = served_whole (Answers c.args.map.now) given _ left c.loop.incoming turn.0 start (server_view c.loop.server) inv.0 inv.1 turn.1 came.0.0 in
-    let written = subst (λ (w : List ℕ). IsServedSoFar (Answers c.args.map.now) given left [] start (server_view c.loop.server) w) (sym (ap (λ (w : List ℕ). inv.0 ++ w) came.2 ∙ append-nil inv.0)) whole in
-    let served = subst (λ (s : State). IsServedSoFar (Answers c.args.map.now) given left [] start s (inv.0 ++ turn.2)) (sym came.1) written in
-    IfOk-weaker c.status_at_end.result _ _
-    (λ status h. (
-      inv.0 ++ turn.2,
-      inr (server_view c.take_turn.new.server, served, came.0.1, h.1, h.0),
-      Appends-trans _ _ _ inv.0 turn.2 inv.2 turn.4,
-    )) c.status_at_end.ensures
+    let came = c.in-Ok-None.ensures.taken in
+    let over = rw (c.in-Ok-None.field-0-is) at came.2 in
+    let served = served_whole (Answers c.args.map.now) _ _ _ c.loop.incoming came.0 start (server_view c.loop.server) inv.0 inv.1 came.1 over.0 in
+    (inv.0, inr (server_view c.loop.server, served, over.1, c.in-ShutDown.is, refl), inv.2)
 
 pub loop-preserved : goal.loop-preserved
 loop-preserved g c =
     let inv = c.loop.invariant in
-    let turn = c.in_ok-take_turn.ensures in
-    let came = subst (Comes c.args.map.now (c.loop.incoming ++ turn.0) (g.R.Read.remaining c.take_turn.new.input) c.take_turn.new.incoming (server_view c.loop.server) (server_view c.take_turn.new.server) turn.2) c.in-Served.is turn.3 in (
-      inv.0 ++ turn.2,
-      served_on (Answers c.args.map.now) _ _ _ c.loop.incoming turn.0 came.0 c.take_turn.new.incoming start (server_view c.loop.server) (server_view c.take_turn.new.server) inv.0 turn.2 inv.1 turn.1 came.1 came.2,
-      Appends-trans _ _ _ inv.0 turn.2 inv.2 turn.4,
+    let came = c.in-Ok-Some.ensures.taken in
+    let front = rw (c.in-Ok-Some.field-0-is) at came.2 in
+    let turn = rw (c.in-Ok-None-answer.field-0-is) at c.in-Ok-None-answer.ensures in (
+      inv.0 ++ turn.0,
+      served_on (Answers c.args.map.now) _ _ _ c.loop.incoming came.0 c.in-Ok-Some.body.items c.next.new.self start (server_view c.loop.server) (server_view c.answer.new.server) inv.0 turn.0 inv.1 came.1 front turn.1,
+      Appends-trans _ _ _ inv.0 turn.0 inv.2 turn.2,
     )

@@ -1,10 +1,11 @@
-use Rattle.std.proofs.Common.{List, ap}
-use Rattle.lsp.specs.State.{Opened, State}
+use Rattle.std.proofs.Common.{List, ap, map}
+use Rattle.lsp.specs.State.{State, document_view}
+use Rattle.lsp.specs.declared.documents.Document.{Document}
 use Rattle.lsp.specs.declared.phase.Phase.TheVariants.{Fresh}
 use Rattle.lsp.proofs.server.Server.new.Goals as goal
 
-abbrev fresh : List Opened → State
-fresh ds = record { phase = Fresh; documents = ds }
+abbrev fresh : List Document → State
+fresh ds = record { phase = Fresh; documents = map document_view ds }
 
 pub returns : goal.returns
-returns c = ap fresh c.new.ensures
+returns c = ap fresh c.new.ensures.items

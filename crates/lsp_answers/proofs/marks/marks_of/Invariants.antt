@@ -1,8 +1,0 @@
-use Rattle.std.proofs.Common.{map, take}
-use Rattle.lsp_answers.specs.Marks.{mark_of}
-use Rattle.lsp_answers.specs.Texts.{text_view}
-use Rattle.json_values.specs.ValueLists.{HasValues}
-use Rattle.lsp_answers.proofs.marks.marks_of.Given as goal
-
-abbrev pub invariant-loop-one : goal.invariant-loop-one
-invariant-loop-one l = HasValues (map (mark_of (text_view l.text)) (take l.one-index l.found)) l.values
