@@ -1,21 +1,20 @@
 //! What is done with a request: which comes when, and what it does to an adapter.
 
-ghost use Rattle.std.specs.Prelude.{◌≡◌, ◌∷◌, [], IfErr, IfOk, None, OnErr, Some, map as each};
+ghost use Rattle.std.specs.Prelude.{◌≡◌, ◌∷◌, [], IfErr, IfOk, OnErr, Some, map as each};
 ghost use Rattle.std.specs.Prelude.{string_bytes};
 ghost use Rattle.dap_session.specs.declared.seat.Seat.{Seat};
 ghost use Rattle.dap_messages.specs.Messages.{refused, said_of};
 ghost use Rattle.dap_messages.specs.Requests.{request_of};
-ghost use Rattle.dap.specs.Adapter.{Begins, CountsIfRefused, Initializes, IsRefused};
-ghost use Rattle.dap.specs.Adapter.{ObeysAdapter, ObeysBegun, ObeysFirst, ObeysLaunched};
-ghost use Rattle.dap.specs.Adapter.{Launches, RestsIfRefused, Serves, StaysIfRefused};
-ghost use Rattle.dap.specs.Adapter.{ends, launched};
+ghost use Rattle.dap.specs.Adapter.{Begins, CountsIfRefused, IsRefused, Launches, ObeysAdapter};
+ghost use Rattle.dap.specs.Adapter.{ObeysBegun, ObeysFirst, RestsIfRefused, Serves};
+ghost use Rattle.dap.specs.Adapter.{StaysIfRefused, launched};
 ghost use Rattle.serde_json.specs.View.{view};
 
-use dap_messages::{Counting, Message, Request, SessionRequest, capabilities, nothing, request_of};
+use dap_messages::{Counting, Message, Request, capabilities, nothing, request_of};
 use dap_session::{
-    Fault, Seat, all_done, answer, begin_session, or_memory, put_seat, refused, with_terminated,
+    Fault, Seat, all_done, answer, answered, begin_session, or_memory, put_seat, refused,
+    with_event, with_terminated,
 };
-use dap_views::{answered, with_event};
 use serde_json::Value;
 use std::alloc::{AllocError, Global};
 use std::rt::Files;
@@ -25,40 +24,6 @@ use std::rt::Files;
 pub struct Adapter {
     pub counting: Option<Counting>,
     pub seat: Option<Seat>,
-}
-
-impl Adapter {
-    /// Makes an adapter of which nothing was asked.
-    pub fn new() -> Adapter
-        ensures counting { result.counting ≡ None }
-        ensures seat { result.seat ≡ None }
-    {
-        Adapter {
-            counting: None,
-            seat: None,
-        }
-    }
-
-    /// Ends the session, if one has begun.
-    pub fn end(self) {
-        match self.seat {
-            Some(seat) => seat.end(),
-            None => {}
-        }
-    }
-}
-
-/// Notes how a client counts, and answers what the adapter can do.
-fn initialize(
-    alloc: Global,
-    counting: &mut Option<Counting>,
-    request: &Value,
-) -> Result<Vec<Message>, AllocError>
-    ensures { IfOk result (λ ms. Initializes (view request.now) counting.new
-        (each said_of ms.items)) }
-{
-    *counting = Some(Counting::of(request));
-    answered(alloc, capabilities(alloc))
 }
 
 /// Returns the answer to a launch, after which breakpoints may be set.
@@ -101,25 +66,6 @@ fn launch<H: Files + AllocGlobal>(
     begin_first(rt, seat, request)
 }
 
-/// Serves a request of a session, if one has begun.
-#[tactic(auto, using(crate::proofs::Refusals::stays_same))]
-fn serve_launched<H: Files + AllocGlobal>(
-    rt: &H,
-    seat: &mut Option<Seat>,
-    counting: Counting,
-    request: &Value,
-    asked: SessionRequest,
-) -> Result<Vec<Message>, Fault>
-    ensures done { IfOk result (λ ms. ObeysLaunched asked (view request.now) counting seat.old
-        seat.new (each said_of ms.items)) }
-    ensures refused { IfErr result (λ f. StaysIfRefused f seat.old seat.new) }
-{
-    match seat {
-        Some(seat) => answer(rt, seat, counting, request, asked),
-        None => Err(refused(rt.alloc(), "no program was launched")),
-    }
-}
-
 /// Serves a request of a client that has said how it counts.
 #[tactic(auto, using(crate::proofs::Refusals::stays_same))]
 fn serve_begun<H: Files + AllocGlobal>(
@@ -139,11 +85,15 @@ fn serve_begun<H: Files + AllocGlobal>(
         }
         Request::Launch => launch(rt, seat, request),
         Request::Disconnect => or_memory(all_done(rt.alloc())),
-        Request::InSession(asked) => serve_launched(rt, seat, counting, request, asked),
+        Request::InSession(asked) => match seat {
+            Some(seat) => answer(rt, seat, counting, request, asked),
+            None => Err(refused(rt.alloc(), "no program was launched")),
+        },
     }
 }
 
-/// Serves a request of a client that has not said how it counts.
+/// Serves a request of a client that has not said how it counts: notes how it does, and answers
+/// what the adapter can do.
 #[tactic(auto, using(crate::proofs::Refusals::counts_same))]
 fn serve_first(
     alloc: Global,
@@ -156,7 +106,10 @@ fn serve_first(
     ensures refused { IfErr result (λ f. CountsIfRefused f counting.old counting.new) }
 {
     match asked {
-        Request::Initialize => or_memory(initialize(alloc, counting, request)),
+        Request::Initialize => {
+            *counting = Some(Counting::of(request));
+            or_memory(answered(alloc, capabilities(alloc)))
+        }
         _ => Err(refused(alloc, "initialize comes first")),
     }
 }
@@ -176,16 +129,6 @@ fn serve_asked<H: Files + AllocGlobal>(
     match adapter.counting {
         Some(counting) => serve_begun(rt, &mut adapter.seat, counting, request, asked),
         None => serve_first(rt.alloc(), &mut adapter.counting, request, asked),
-    }
-}
-
-/// Returns whether a refused request leaves a client without a session that it asked for.
-fn ends(adapter: &Adapter, asked: Request) -> bool
-    ensures { result ≡ ends asked adapter.now.seat }
-{
-    match asked {
-        Request::Launch => adapter.seat.is_none(),
-        _ => false,
     }
 }
 
@@ -221,7 +164,10 @@ pub fn serve<H: Files + AllocGlobal>(
     let asked = request_of(request);
     match serve_asked(rt, adapter, request, asked) {
         Ok(messages) => Ok(messages),
-        Err(Fault::Refused(words)) => ended_by(rt.alloc(), words, ends(adapter, asked)),
+        Err(Fault::Refused(words)) => {
+            let is_end = matches!(asked, Request::Launch) && adapter.seat.is_none();
+            ended_by(rt.alloc(), words, is_end)
+        }
         Err(Fault::OutOfMemory) => Err(AllocError),
     }
 }

@@ -7,7 +7,6 @@ ghost use Rattle.arguments.specs.Words.{texts};
 ghost use Rattle.dap.specs.Attended.{IsAttended, Turns};
 ghost use Rattle.dap.specs.CommandLine.{seen_in};
 ghost use Rattle.dap.specs.Served.{Answers, IsNotJson, ServesBody, ServesMessage};
-ghost use Rattle.dap.specs.Served.{is_end};
 ghost use Rattle.dap_messages.specs.Messages.{said_of};
 ghost use Rattle.message_stream.specs.Messages.{IsFront};
 ghost use Rattle.message_stream.specs.Sessions.{IsEndedBy};
@@ -52,17 +51,6 @@ fn refusal(alloc: Global) -> Result<Served, AllocError>
     })
 }
 
-/// Returns whether a request asks for the end.
-fn is_end(asked: Request) -> bool
-    ensures { result ≡ is_end asked }
-{
-    match asked {
-        Request::Disconnect => true,
-        Request::Initialize | Request::Launch => false,
-        Request::InSession(_) | Request::NoRequest => false,
-    }
-}
-
 /// Returns what is answered to a message. The only error is that a request for memory was refused.
 fn obeyed<H: Files + AllocGlobal>(
     rt: &H,
@@ -73,7 +61,7 @@ fn obeyed<H: Files + AllocGlobal>(
         (view s.request) (each said_of s.messages.items) s.is_end) }
 {
     let messages = serve(rt, adapter, &request)?;
-    let is_end = is_end(request_of(&request));
+    let is_end = matches!(request_of(&request), Request::Disconnect);
     Ok(Served {
         request,
         messages,
@@ -193,27 +181,6 @@ fn take_turns<H: Files + AllocGlobal, R: Read, O: Write>(
     Err(StreamFault::Read)
 }
 
-/// Serves a session: messages up to `disconnect`.
-///
-/// Errors: those of `Incoming::next`; `Cut` if the input ends before `disconnect`; `Write` if the
-/// output fails; `OutOfMemory` if an allocation fails.
-fn attend<H: Files + AllocGlobal, R: Read, O: Write>(
-    rt: &H,
-    seen: Option<&str>,
-    input: &mut R,
-    output: &mut O,
-) -> Result<(), StreamFault>
-    ensures { OnOk result ((written : List ℕ)
-        × IsAttended (option_map (λ s. s.now) seen.entry) (R.remaining input.old)
-        (R.remaining input.new) written
-        × Appends (O.contents output.old) (O.contents output.new) written) }
-{
-    let mut adapter = Adapter::new();
-    let attended = take_turns(rt, seen, &mut adapter, input, output);
-    adapter.end();
-    attended
-}
-
 /// Returns why a session ends before its end is asked for, in words.
 fn reason(fault: StreamFault) -> &'static str {
     match fault {
@@ -240,7 +207,7 @@ fn cut_off<E: Write>(fault: StreamFault, errors: &mut E) -> u8
     }
 }
 
-/// Serves a session, and returns the exit status.
+/// Serves a session: messages up to `disconnect`. Returns the exit status.
 fn done<H: Files + AllocGlobal, R: Read, O: Write, E: Write>(
     rt: &H,
     seen: Option<&str>,
@@ -256,7 +223,13 @@ fn done<H: Files + AllocGlobal, R: Read, O: Write, E: Write>(
         (R.remaining input.new) written
         × Appends (O.contents output.old) (O.contents output.new) written }
 {
-    match attend(rt, seen, input, output) {
+    let mut adapter = Adapter {
+        counting: None,
+        seat: None,
+    };
+    let attended = take_turns(rt, seen, &mut adapter, input, output);
+    drop(adapter);
+    match attended {
         Ok(()) => 0,
         Err(fault) => cut_off(fault, errors),
     }

@@ -3,9 +3,7 @@
 ghost use Rattle.std.specs.Prelude.{◌≡◌, [], ℕ, false, IfOk, List, drop, map as each};
 ghost use Rattle.std.specs.Prelude.{option_map, true};
 ghost use Rattle.std.specs.Io.KnownBytes.{Appends};
-ghost use Rattle.std.specs.List.{list_any};
-ghost use Rattle.dap.specs.Slices.{GoesOn, MayRunOn, RunsOn, but_last, is_open, is_run, lets_run};
-ghost use Rattle.dap.specs.Slices.{says_no_stop};
+ghost use Rattle.dap.specs.Slices.{GoesOn, MayRunOn, RunsOn, is_open, says_no_stop};
 ghost use Rattle.dap_messages.specs.Messages.{Said, said_of};
 ghost use Rattle.dap_messages.specs.Requests.{request_of};
 ghost use Rattle.dap.specs.Adapter.{Serves};
@@ -18,31 +16,10 @@ use dap_session::NO_STOP;
 use json_values::text_at;
 use message_stream::{Incoming, StreamFault};
 use serde_json::Value;
-use std::alloc::{AllocError, Global};
+use std::alloc::AllocError;
 use std::fs;
 use std::io::Write;
 use std::rt::Files;
-
-/// Returns whether a request of a session is `continue`, or `configurationDone`.
-fn lets_run(asked: SessionRequest) -> bool
-    ensures { result ≡ lets_run asked }
-{
-    match asked {
-        SessionRequest::Moves(Move::Go) => true,
-        SessionRequest::ConfigurationDone => true,
-        _ => false,
-    }
-}
-
-/// Returns whether a request lets the machine run: `continue`, or `configurationDone`.
-fn is_run(asked: Request) -> bool
-    ensures { result ≡ is_run asked }
-{
-    match asked {
-        Request::InSession(asked) => lets_run(asked),
-        _ => false,
-    }
-}
 
 /// Returns whether a message says that all steps of a run were made, and nothing stopped it.
 fn says_no_stop(message: &Message) -> bool
@@ -57,24 +34,23 @@ fn says_no_stop(message: &Message) -> bool
     }
 }
 
-/// Returns whether one of some messages says so.
+/// Returns whether a request lets the machine run, as `continue` and `configurationDone` do, and
+/// nothing has stopped it, by what is said.
 #[tactic(auto, using(crate::proofs::Runs::any_more, crate::proofs::Runs::any_end))]
-fn one_says_no_stop(messages: &[Message]) -> bool
-    ensures { result ≡ list_any says_no_stop (each said_of messages.now) }
+fn is_open(request: &Value, messages: &[Message]) -> bool
+    ensures { result ≡ is_open (view request.now) (each said_of messages.now) }
 {
+    match request_of(request) {
+        Request::InSession(SessionRequest::Moves(Move::Go)) => {}
+        Request::InSession(SessionRequest::ConfigurationDone) => {}
+        _ => return false,
+    }
     for message in messages {
         if says_no_stop(message) {
             return true;
         }
     }
     false
-}
-
-/// Returns whether a request lets the machine run and nothing has stopped it, by what is said.
-fn is_open(request: &Value, messages: &[Message]) -> bool
-    ensures { result ≡ is_open (view request.now) (each said_of messages.now) }
-{
-    is_run(request_of(request)) && one_says_no_stop(messages)
 }
 
 /// Returns whether bytes of the client wait, or may wait: some are held, the file that they are
@@ -93,25 +69,6 @@ fn waits<H: Files>(rt: &H, seen: Option<&str>, incoming: &Incoming) -> bool
     }
 }
 
-/// Takes the message away that is the last.
-fn take_last(messages: &mut Vec<Message>)
-    ensures { each said_of messages.new.items ≡ but_last (each said_of messages.old.items) }
-{
-    match messages.pop() {
-        Some(message) => drop(message),
-        None => {}
-    }
-}
-
-/// Takes the message away that is the first.
-fn take_first(messages: &mut Vec<Message>)
-    ensures { each said_of messages.new.items ≡ drop 1 (each said_of messages.old.items) }
-{
-    if !messages.is_empty() {
-        drop(messages.remove(0));
-    }
-}
-
 /// Serves a request, and returns what is said but for the answer.
 fn served_again<H: Files + AllocGlobal>(
     rt: &H,
@@ -123,7 +80,9 @@ fn served_again<H: Files + AllocGlobal>(
         × (each said_of ms.items ≡ drop 1 all)) }
 {
     let mut messages = serve(rt, adapter, request)?;
-    take_first(&mut messages);
+    if !messages.is_empty() {
+        drop(messages.remove(0));
+    }
     Ok(messages)
 }
 
@@ -146,7 +105,7 @@ fn go_on<H: Files + AllocGlobal, O: Write>(
         (each said_of messages.new.items) adapter.new total written
         × Appends (O.contents output.old) (O.contents output.new) written) }
 {
-    take_last(messages);
+    drop(messages.pop());
     let total = send(rt.alloc(), sent, request, messages, output)?;
     let Ok(more) = served_again(rt, adapter, request) else {
         return Err(StreamFault::OutOfMemory);

@@ -1,8 +1,10 @@
 -- Breakpoints one after another.
-use Rattle.std.proofs.Common.{◌≡◌, ◌∙◌, ℕ, suc, ◌+◌, ◌<◌, ◌≤◌, Bool, true, false, add-one, List, length, drop, drop-cons, nat_eq, sym, ap}
+use Rattle.std.proofs.Common.{◌≡◌, ◌∙◌, ℕ, suc, ◌+◌, ◌<◌, ◌≤◌, Bool, true, false, eqb, Option, Some, None, refl, arith, add-one, List, length, drop, drop-cons, nat_eq, sym, ap}
 use Rattle.std.proofs.Math.ListN.{drop_of_length-le}
 use Rattle.std.proofs.lemmas.Option.{slice_get-get_or}
+use Rattle.std.proofs.lemmas.Bool.Decides.{nat_tests}
 use Rattle.std.specs.List.{list_any}
+use Rattle.std.specs.Option.{option_eq}
 use Rattle.std.specs.Prelude.{◌||◌, slice_get}
 use Rattle.mon_steps.specs.BackTexts.{is_this}
 
@@ -11,17 +13,23 @@ here : (a : ℕ) (xs : List ℕ) (i : ℕ) → i < length xs → list_any (nat_e
 here a xs i h = ap (list_any (nat_eq a)) (drop-cons xs i 0 h)
     ∙ ap (λ o. is_this a o || list_any (nat_eq a) (drop (suc i) xs)) (sym (slice_get-get_or xs i 0 h))
 
-pub found : (a : ℕ) (xs : List ℕ) (i : ℕ) (b whole : Bool)
-    → whole ≡ list_any (nat_eq a) (drop i xs) → i < length xs → b ≡ is_this a (slice_get xs i)
-    → b ≡ true → true ≡ whole
-found a xs i b whole so_far h is met = sym (so_far ∙ here a xs i h
-    ∙ ap (λ x. x || list_any (nat_eq a) (drop (suc i) xs)) (sym is ∙ met))
+-- whether the breakpoint of an index is at an address
+same : (a : ℕ) (o : Option ℕ) → option_eq eqb o (Some a) ≡ is_this a o
+same a None = refl
+same a (Some at) = grind (arith, nat_tests)
 
-pub not_here : (a : ℕ) (xs : List ℕ) (i : ℕ) (b whole : Bool)
-    → whole ≡ list_any (nat_eq a) (drop i xs) → i < length xs → b ≡ is_this a (slice_get xs i)
-    → b ≡ false → whole ≡ list_any (nat_eq a) (drop (i + 1) xs)
-not_here a xs i b whole so_far h is unmet = rw add-one (so_far ∙ here a xs i h
-    ∙ ap (λ x. x || list_any (nat_eq a) (drop (suc i) xs)) (sym is ∙ unmet))
+pub found : (a : ℕ) (xs : List ℕ) (i : ℕ) (whole : Bool)
+    → whole ≡ list_any (nat_eq a) (drop i xs) → i < length xs
+    → option_eq eqb (slice_get xs i) (Some a) ≡ true → true ≡ whole
+found a xs i whole so_far h met = sym (so_far ∙ here a xs i h
+    ∙ ap (λ x. x || list_any (nat_eq a) (drop (suc i) xs)) (sym (same a (slice_get xs i)) ∙ met))
+
+pub not_here : (a : ℕ) (xs : List ℕ) (i : ℕ) (whole : Bool)
+    → whole ≡ list_any (nat_eq a) (drop i xs) → i < length xs
+    → option_eq eqb (slice_get xs i) (Some a) ≡ false
+    → whole ≡ list_any (nat_eq a) (drop (i + 1) xs)
+not_here a xs i whole so_far h unmet = rw add-one (so_far ∙ here a xs i h
+    ∙ ap (λ x. x || list_any (nat_eq a) (drop (suc i) xs)) (sym (same a (slice_get xs i)) ∙ unmet))
 
 pub nowhere : (a : ℕ) (xs : List ℕ) (i : ℕ) (whole : Bool)
     → whole ≡ list_any (nat_eq a) (drop i xs) → length xs ≤ i → false ≡ whole

@@ -1,33 +1,12 @@
 //! Breakpoints set and cleared.
 
 ghost use Rattle.std.specs.Prelude.{◌≡◌, OnOk};
-ghost use Rattle.dap_desk.specs.Breaks.{KeepsEvents, all_cleared, all_set, cleared_at, place_of};
-ghost use Rattle.dap_desk.specs.Breaks.{set_at};
+ghost use Rattle.dap_desk.specs.Breaks.{KeepsEvents, all_cleared, all_set, place_of, set_at};
 
 use mon_runs::SessionFault;
 use mon_session::Desk;
 use mon_stops::Break;
 use std::alloc::AllocError;
-
-/// Clears the breakpoint at an address, if there is one.
-#[tactic(auto, unfolding(mon_runs::specs::Goals::without_break))]
-fn clear(desk: &mut Desk, address: u16)
-    ensures place { place_of desk.new ≡ cleared_at address (place_of desk.old) }
-    ensures kept { KeepsEvents desk.old desk.new }
-{
-    let _ = desk.session.clear_break(address);
-    let _ = desk.stops.forget_break(address);
-}
-
-/// Clears the breakpoints at some addresses.
-fn clear_all(desk: &mut Desk, addresses: &[u16])
-    ensures place { place_of desk.new ≡ all_cleared addresses.now (place_of desk.old) }
-    ensures kept { KeepsEvents desk.old desk.new }
-{
-    for address in addresses {
-        clear(desk, *address);
-    }
-}
 
 /// Sets a breakpoint, in place of the one at its address. Does nothing if the session has 256
 /// others.
@@ -42,28 +21,23 @@ fn set(desk: &mut Desk, stop: Break) -> Result<(), AllocError>
     }
 }
 
-/// Sets breakpoints, one after another.
-fn set_all(desk: &mut Desk, stops: Vec<Break>) -> Result<(), AllocError>
-    ensures place { OnOk result
-        (place_of desk.new ≡ all_set stops.items (place_of desk.old)) }
-    ensures kept { KeepsEvents desk.old desk.new }
-{
-    for stop in stops {
-        set(desk, stop)?;
-    }
-    Ok(())
-}
-
 /// Replaces the breakpoints at some addresses by others. Those that the session has no room for are
 /// not set.
 ///
 /// Errors: `AllocError` if an allocation fails; the old ones are cleared then, and some of the new
 /// ones may be set.
+#[tactic(auto, unfolding(mon_runs::specs::Goals::without_break))]
 pub fn replace(desk: &mut Desk, old: &[u16], stops: Vec<Break>) -> Result<(), AllocError>
     ensures place { OnOk result (place_of desk.new
         ≡ all_set stops.items (all_cleared old.now (place_of desk.old))) }
     ensures kept { KeepsEvents desk.old desk.new }
 {
-    clear_all(desk, old);
-    set_all(desk, stops)
+    for address in old {
+        let _ = desk.session.clear_break(*address);
+        let _ = desk.stops.forget_break(*address);
+    }
+    for stop in stops {
+        set(desk, stop)?;
+    }
+    Ok(())
 }

@@ -1,19 +1,17 @@
 //! Why the machine stands.
 
-ghost use Rattle.std.specs.Prelude.{◌≡◌, None, nat_eq, slice_get};
+ghost use Rattle.std.specs.Prelude.{◌≡◌, None, if◌then◌else◌, nat_eq};
 ghost use Rattle.std.specs.List.{list_any};
 ghost use Rattle.dap_desk.specs.Halts.{back_reason, fault_of, reason_of, run_reason};
 ghost use Rattle.dap_desk.specs.Halts.{stop_reason};
-ghost use Rattle.mon_steps.specs.BackTexts.{is_this};
 
 use dap_messages::{Halt, Reason, stand_by};
 use mon_runs::{EndWhy, Session, Why};
-use mon_session::Desk;
 use mon_steps::wording::{NO_HANDLER, NO_STOP, RETURNED, STUCK, WAITS};
 
-/// Returns why steps have ended.
-pub fn step_halt(why: EndWhy) -> Halt
-    ensures reason { result.reason ≡ reason_of why }
+/// Returns why steps have ended, or a run to a stop.
+pub fn end_halt(why: EndWhy, to_stop: bool) -> Halt
+    ensures reason { result.reason ≡ if to_stop then run_reason why else reason_of why }
     ensures fault { result.fault ≡ fault_of why }
 {
     match why {
@@ -22,6 +20,7 @@ pub fn step_halt(why: EndWhy) -> Halt
         EndWhy::Stopped(Why::Watch(_)) => {
             stand_by(Reason::DataBreakpoint, "a watched byte has changed")
         }
+        EndWhy::Stopped(Why::Limit) if to_stop => stand_by(Reason::Pause, NO_STOP),
         EndWhy::Stopped(Why::Limit) => stand_by(Reason::Step, "step"),
         EndWhy::Stopped(Why::Refused(fault)) => Halt {
             reason: Reason::Exception,
@@ -38,70 +37,32 @@ pub fn step_halt(why: EndWhy) -> Halt
     }
 }
 
-/// Returns why a run to a stop has ended.
-pub fn run_halt(why: EndWhy) -> Halt
-    ensures reason { result.reason ≡ run_reason why }
-    ensures fault { result.fault ≡ fault_of why }
-{
-    match why {
-        EndWhy::Stopped(Why::Limit) => stand_by(Reason::Pause, NO_STOP),
-        why => step_halt(why),
-    }
-}
-
-/// Returns that the machine is at the oldest state.
-fn oldest() -> Halt
-    ensures reason { result.reason ≡ Reason.Entry }
-    ensures fault { result.fault ≡ None }
-{
-    stand_by(
-        Reason::Entry,
-        "the oldest state that is held: nothing before it can be undone",
-    )
-}
-
-/// Returns why the machine stands once events are undone.
-pub fn back_halt(desk: &Desk) -> Halt
-    ensures reason { result.reason ≡ back_reason desk.now.session }
-    ensures fault { result.fault ≡ None }
-{
-    if desk.session.held() == 0 {
-        oldest()
-    } else {
-        stand_by(Reason::Step, "back")
-    }
-}
-
-/// Returns whether the breakpoint of an index is at an address.
-fn is_this(session: &Session, index: u32, address: u16) -> bool
-    ensures { result ≡ is_this address (slice_get session.now.breaks index) }
-{
-    match session.break_at(index) {
-        Some(at) => at == address,
-        None => false,
-    }
-}
-
 /// Returns whether a breakpoint of the session is at an address.
 pub fn is_break(session: &Session, address: u16) -> bool
     ensures { result ≡ list_any (nat_eq address) session.now.breaks }
 {
     for index in 0..session.break_count() {
-        if is_this(session, index, address) {
+        if session.break_at(index) == Some(address) {
             return true;
         }
     }
     false
 }
 
-/// Returns why the machine stands once it has gone back to a stop.
-pub fn stop_halt(desk: &Desk) -> Halt
-    ensures reason { result.reason ≡ stop_reason desk.now.session }
+/// Returns why the machine stands once events are undone, or once it has gone back to a stop.
+pub fn back_halt(session: &Session, to_stop: bool) -> Halt
+    ensures reason { result.reason
+        ≡ if to_stop then stop_reason session.now else back_reason session.now }
     ensures fault { result.fault ≡ None }
 {
-    if desk.session.held() == 0 {
-        oldest()
-    } else if is_break(&desk.session, desk.session.regs().pc) {
+    if session.held() == 0 {
+        stand_by(
+            Reason::Entry,
+            "the oldest state that is held: nothing before it can be undone",
+        )
+    } else if !to_stop {
+        stand_by(Reason::Step, "back")
+    } else if is_break(session, session.regs().pc) {
         stand_by(Reason::Breakpoint, "back at a break")
     } else {
         stand_by(Reason::DataBreakpoint, "back before a change at a watch")

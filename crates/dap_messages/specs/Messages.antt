@@ -4,7 +4,7 @@ use Rattle.dap_messages.specs.Requests.{command_of, number_of}
 use Rattle.dap_messages.specs.declared.message.Message.{Message}
 use Rattle.dap_messages.specs.declared.message.Message.TheVariants.{Done, Refused, Event}
 use Rattle.json_values.specs.Values.{count, flag, object_of, word}
-use Rattle.serde_json.specs.Data.{Data}
+use Rattle.serde_json.specs.Data.{Data, Members, no_members, put}
 use Rattle.serde_json.specs.View.{view}
 
 -- ---- what is said
@@ -29,6 +29,12 @@ response_data n command request body = object_of ((codes "body", body)
     ∷ (codes "command", word command) ∷ (codes "request_seq", count request)
     ∷ (codes "seq", count n)
     ∷ (codes "success", flag true) ∷ (codes "type", word (codes "response")) ∷ [])
+
+-- What every response has: the command and the number of the request that it answers.
+abbrev pub response_members : Data → Members
+response_members request = put (codes "type") (word (codes "response"))
+    (put (codes "request_seq") (count (number_of request))
+    (put (codes "command") (word (command_of request)) no_members))
 
 abbrev pub refusal_data : ℕ → List ℕ → ℕ → List ℕ → Data
 refusal_data n command request words = object_of ((codes "command", word command)

@@ -20,7 +20,6 @@ mod message;
 mod references;
 mod request;
 mod requests;
-mod source;
 mod texts;
 
 pub use answers::{evaluated, exception, value_set, written_body};
@@ -32,5 +31,4 @@ pub use message::{Message, message_value, next_number};
 pub use references::{offset_at, place_at};
 pub use request::{Breakpoints, Change, Move, Query, Request, SessionRequest};
 pub use requests::{command_of, number_of, request_of};
-pub use source::Source;
 pub use texts::{address_text, reference};

@@ -1,9 +1,9 @@
 //! Messages to the client.
 
 ghost use Rattle.std.specs.Prelude.{◌≡◌, IfOk};
+ghost use Rattle.dap_messages.specs.Messages.{data_of, next_number, response_members, said_of};
+ghost use Rattle.json_values.specs.Objects.{IsObject};
 ghost use Rattle.serde_json.specs.View.{view};
-ghost use Rattle.dap_messages.specs.Messages.{data_of, event_data, next_number, refusal_data, response_data};
-ghost use Rattle.dap_messages.specs.Messages.{said_of};
 
 use crate::requests::{command_of, number_of};
 use json_values::Object;
@@ -28,57 +28,14 @@ pub fn next_number(sent: u64) -> u64
     if sent == u64::MAX { sent } else { sent + 1 }
 }
 
-/// Returns the response to a request that is done, of a command and a number.
-fn response(
-    alloc: Global,
-    number: u64,
-    command: &str,
-    request: u64,
-    body: &Value,
-) -> Result<Value, AllocError>
-    ensures { IfOk result
-        (λ v. view v ≡ response_data number command.now request (view body.now)) }
+/// Begins the response to a request.
+fn response(alloc: Global, request: &Value) -> Object
+    ensures { IsObject (response_members (view request.now)) result }
 {
     Object::new(alloc)
-        .member("body", body.clone())
-        .word("command", command)
-        .count("request_seq", request)
-        .count("seq", number)
-        .flag("success", true)
+        .word("command", command_of(request))
+        .count("request_seq", number_of(request))
         .word("type", "response")
-        .build()
-}
-
-/// Returns the response to a request that is refused, of a command and a number.
-fn refusal(
-    alloc: Global,
-    number: u64,
-    command: &str,
-    request: u64,
-    words: &str,
-) -> Result<Value, AllocError>
-    ensures { IfOk result (λ v. view v ≡ refusal_data number command.now request words.now) }
-{
-    Object::new(alloc)
-        .word("command", command)
-        .word("message", words)
-        .count("request_seq", request)
-        .count("seq", number)
-        .flag("success", false)
-        .word("type", "response")
-        .build()
-}
-
-/// Returns an event.
-fn event(alloc: Global, number: u64, name: &str, body: &Value) -> Result<Value, AllocError>
-    ensures { IfOk result (λ v. view v ≡ event_data number name.now (view body.now)) }
-{
-    Object::new(alloc)
-        .member("body", body.clone())
-        .word("event", name)
-        .count("seq", number)
-        .word("type", "event")
-        .build()
 }
 
 /// Returns a message with its number, as an answer to a request.
@@ -91,10 +48,22 @@ pub fn message_value(
     ensures { IfOk result
         (λ v. view v ≡ data_of number (view request.now) (said_of message.now)) }
 {
-    let (command, answered) = (command_of(request), number_of(request));
     match message {
-        Message::Done(body) => response(alloc, number, command, answered, body),
-        Message::Refused(words) => refusal(alloc, number, command, answered, words.as_str()),
-        Message::Event(name, body) => event(alloc, number, name, body),
+        Message::Done(body) => response(alloc, request)
+            .member("body", body.clone())
+            .count("seq", number)
+            .flag("success", true)
+            .build(),
+        Message::Refused(words) => response(alloc, request)
+            .word("message", words.as_str())
+            .count("seq", number)
+            .flag("success", false)
+            .build(),
+        Message::Event(name, body) => Object::new(alloc)
+            .member("body", body.clone())
+            .word("event", name)
+            .count("seq", number)
+            .word("type", "event")
+            .build(),
     }
 }

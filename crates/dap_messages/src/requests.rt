@@ -1,11 +1,10 @@
 //! A message read.
 
 ghost use Rattle.std.specs.Prelude.{◌≡◌, map as each};
+ghost use Rattle.dap_messages.specs.Requests.{command_of, find, is_text, moves_by_instructions};
+ghost use Rattle.dap_messages.specs.Requests.{number_of, request_of, requests, row_view};
+ghost use Rattle.json_values.specs.Fields.{text_at};
 ghost use Rattle.serde_json.specs.View.{view};
-ghost use Rattle.std.specs.Option.{option_map};
-ghost use Rattle.dap_messages.specs.Requests.{by_instructions, command_of, find, is_request};
-ghost use Rattle.dap_messages.specs.Requests.{is_text, moves_by_instructions, number_of};
-ghost use Rattle.dap_messages.specs.Requests.{request_named, request_of, requests, row_view};
 
 use crate::request::{Breakpoints, Change, Move, Query, Request, SessionRequest};
 use json_values::{number_at, text_at};
@@ -164,51 +163,32 @@ fn find(none: Request, name: &str, rows: &[(&str, Request)]) -> Request
     none
 }
 
-/// Returns what a name asks for. A move by instructions is told apart.
-fn request_named(by_instructions: bool, name: &str) -> Request
-    ensures { result ≡ request_named by_instructions name.now }
+/// Returns whether a text is at a path of a message, and is this.
+fn is_text(message: &Value, path: &str, text: &str) -> bool
+    ensures { result ≡ is_text text.now (text_at path.now (view message.now)) }
 {
-    let asked = find(Request::InSession(SessionRequest::Other), name, requests());
-    if by_instructions {
-        find(asked, name, moves_by_instructions())
-    } else {
-        asked
-    }
-}
-
-/// Returns whether a text is there, and is this.
-fn is_text(text: &str, found: Option<&str>) -> bool
-    ensures { result ≡ is_text text.now (option_map (λ s. s.now) found.entry) }
-{
-    match found {
+    match text_at(message, path) {
         Some(found) => found == text,
         None => false,
     }
 }
 
-/// Returns whether a message asks for a move by instructions.
-fn by_instructions(message: &Value) -> bool
-    ensures { result ≡ by_instructions (view message.now) }
-{
-    is_text("instruction", text_at(message, "/arguments/granularity"))
-}
-
-/// Returns whether a message is a request.
-fn is_request(message: &Value) -> bool
-    ensures { result ≡ is_request (view message.now) }
-{
-    is_text("request", text_at(message, "/type"))
-}
-
-/// Returns what a message asks for, by its command.
+/// Returns what a message asks for, by its command. A move by instructions is told apart.
 pub fn request_of(message: &Value) -> Request
     ensures { result ≡ request_of (view message.now) }
 {
-    if !is_request(message) {
+    if !is_text(message, "/type", "request") {
         return Request::NoRequest;
     }
     match text_at(message, "/command") {
-        Some(name) => request_named(by_instructions(message), name),
+        Some(name) => {
+            let asked = find(Request::InSession(SessionRequest::Other), name, requests());
+            if is_text(message, "/arguments/granularity", "instruction") {
+                find(asked, name, moves_by_instructions())
+            } else {
+                asked
+            }
+        }
         None => Request::NoRequest,
     }
 }

@@ -1,2 +1,4 @@
-mod Done
+mod Begun
+pub mod Done
+mod Outputs
 pub mod Stays

@@ -1,9 +1,9 @@
 -- What a request does to a session, and what is answered. Source: Debug Adapter Protocol 1.65; mos65.
 use Rattle.std.specs.Prelude.{◌≡◌, if◌then◌else◌, List, [], ◌∷◌, codes, string_bytes}
-use Rattle.dap_breaks.specs.Breaks.{SetsBreaks, SetsSourceBreaks}
-use Rattle.dap_breaks.specs.Completions.{completions}
-use Rattle.dap_breaks.specs.Targets.{AreTargets}
-use Rattle.dap_breaks.specs.Watches.{KeepsBreaks, SetsWatches, TellsWatches, data_shown}
+use Rattle.dap_views.specs.Breaks.{SetsBreaks, SetsSourceBreaks}
+use Rattle.dap_session.specs.Completions.{completions}
+use Rattle.dap_views.specs.Targets.{AreTargets}
+use Rattle.dap_views.specs.Watches.{KeepsBreaks, SetsWatches, TellsWatches, data_shown}
 use Rattle.dap_messages.specs.Bodies.{nothing, scopes, threads}
 use Rattle.dap_messages.specs.Messages.{Said, done, event}
 use Rattle.dap_messages.specs.declared.request.Breakpoints.{Breakpoints}
@@ -14,13 +14,12 @@ use Rattle.dap_messages.specs.declared.request.Query.{Query}
 use Rattle.dap_messages.specs.declared.request.Query.TheVariants as query
 use Rattle.dap_messages.specs.declared.request.SessionRequest.{SessionRequest}
 use Rattle.dap_messages.specs.declared.request.SessionRequest.TheVariants as to
-use Rattle.dap_session.specs.Begun.{IsBegun}
+use Rattle.dap_session.specs.Begun.{IsLaunched}
 use Rattle.dap_session.specs.Changes.{Goes, HasChanged, TellsValue, Writes}
 use Rattle.dap_session.specs.Console.{Evaluates, is_console}
 use Rattle.dap_desk.specs.Breaks.{KeepsEvents, place_of}
 use Rattle.dap_desk.specs.Moves.{KeepsWatches, Stand, moved, stand_of}
-use Rattle.dap_session.specs.Options.{IsAgain}
-use Rattle.dap_session.specs.declared.options.Options.{Options}
+use Rattle.dap_session.specs.Options.{program_of, steps_of, stops_on_entry}
 use Rattle.dap_session.specs.declared.seat.Seat.{Seat}
 use Rattle.dap_messages.specs.Answers.{breakpoints_body, exception_body}
 use Rattle.dap_messages.specs.declared.counting.Counting.{Counting}
@@ -30,6 +29,7 @@ use Rattle.dap_views.specs.Rows.{disassembled}
 use Rattle.dap_views.specs.Scopes.{variables_shown}
 use Rattle.mon_session.specs.declared.desk.Desk.{Desk}
 use Rattle.serde_json.specs.Data.{Data}
+use Rattle.serde_json.specs.View.{view}
 
 -- A request is done, and nothing more is said.
 abbrev pub all_done : List Said
@@ -46,15 +46,15 @@ abbrev pub KeepsMade : Desk → Desk → Type 0
 KeepsMade old new = (new.events ≡ old.events) × (new.places ≡ old.places)
     × (new.displays ≡ old.displays)
 
--- It begins from the file of another, and has the breakpoints and the watches that are listed.
+-- It begins by the launch of another, and has the breakpoints and the watches that are listed.
 abbrev pub BeginsAgain : Seat → Seat → Type 0
-BeginsAgain old new = (options : Options) × IsAgain old.options options × (begun : Seat)
-    × IsBegun options begun × KeepsMade begun.desk new.desk × (new.options ≡ options)
+BeginsAgain old new = (begun : Seat) × IsLaunched (view old.launch) begun
+    × KeepsMade begun.desk new.desk × (new.launch ≡ begun.launch)
 
 -- The machine stands before the first instruction, or has run to a stop.
 abbrev pub begun_stand : Seat → Stand
-begun_stand seat = if seat.options.stops_on_entry then stand_of seat.desk
-    else moved seat.options.steps move.Go seat.desk
+begun_stand seat = if stops_on_entry (view seat.launch) then stand_of seat.desk
+    else moved (steps_of (view seat.launch)) move.Go seat.desk
 
 -- So it does where a session has begun again.
 abbrev pub Restarts : Seat → Seat → Type 0
@@ -66,14 +66,14 @@ Restarts old new = (begun : Seat) × BeginsAgain old begun × (stand_of new.desk
 abbrev pub IsShown : Query → Data → Counting → Seat → Data → Type 0
 IsShown query.Threads request counting seat v = v ≡ threads
 IsShown query.StackTrace request counting seat v = AreFrames (wants_first request)
-    seat.desk.places (string_bytes seat.options.file) counting seat.desk.session.current.regs.pc v
+    seat.desk.places (program_of (view seat.launch)) counting seat.desk.session.current.regs.pc v
 IsShown query.Scopes request counting seat v = v ≡ scopes
 IsShown query.Variables request counting seat v
     = v ≡ variables_shown seat.desk.session seat.desk.places.names request
 IsShown query.ReadMemory request counting seat v
     = v ≡ memory_shown seat.desk.session.current.bus.memory request
 IsShown query.Disassemble request counting seat v
-    = v ≡ disassembled seat.desk (string_bytes seat.options.file) counting request
+    = v ≡ disassembled seat.desk (program_of (view seat.launch)) counting request
 IsShown query.GotoTargets request counting seat v = AreTargets counting seat.assembly request v
 IsShown query.DataBreakpointInfo request counting seat v = v ≡ data_shown seat.desk request
 IsShown query.Completions request counting seat v
@@ -111,7 +111,7 @@ Terminates said = said ≡ done nothing ∷ event (codes "terminated") nothing �
 
 unfoldable pub AreAnswers : SessionRequest → Data → Counting → Seat → Seat → List Said → Type 0
 AreAnswers (to.Moves way) request counting old new said
-    = (stand_of new.desk ≡ moved old.options.steps way old.desk)
+    = (stand_of new.desk ≡ moved (steps_of (view old.launch)) way old.desk)
     × KeepsWatches old.desk new.desk × IsDone said
 AreAnswers to.ConfigurationDone request counting old new said
     = (stand_of new.desk ≡ begun_stand old) × KeepsWatches old.desk new.desk × IsDone said

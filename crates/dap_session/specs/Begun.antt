@@ -1,15 +1,14 @@
 -- A session at which no request was served. Source: mos65.
-use Rattle.std.specs.Prelude.{ℕ, ◌≡◌, List, [], ◌++◌, string_bytes, Option, Some, None, codes, option_map}
+use Rattle.std.specs.Prelude.{ℕ, ◌≡◌, List, [], ◌++◌, Option, Some, None}
 use Rattle.arguments.specs.Asked.{FileAsked, map_of}
 use Rattle.assembler.specs.Assembly.{AssemblyView, IsAssembled}
-use Rattle.dap_session.specs.Options.{AreOptions, file_of}
-use Rattle.dap_session.specs.declared.options.Options.{Options}
+use Rattle.dap_session.specs.Options.{file_at, history_of, symbols_at}
 use Rattle.dap_session.specs.declared.seat.Seat.{Seat}
-use Rattle.json_values.specs.Fields.{text_at}
 use Rattle.loading.specs.Loads.{IsLoaded}
 use Rattle.model.specs.Event.{start}
 use Rattle.model.specs.Session.{Session, new_session}
 use Rattle.serde_json.specs.Data.{Data}
+use Rattle.serde_json.specs.View.{view}
 use Rattle.source_map.specs.Lines.{PlacesView, places_of}
 use Rattle.source_map.specs.Names.{names_in}
 
@@ -32,14 +31,15 @@ AddsNames (Some path) file old new = (names : AssemblyView) × IsAssembled (map_
 
 -- ---- sessions
 
--- A seat with this session, at which no event was made, no stop is set, and nothing was told.
-pub record IsSeated (asked : Options) (begun : Session) (read : Option AssemblyView)
+-- A seat with this launch and this session, at which no event was made, no stop is set, and nothing
+-- was told.
+pub record IsSeated (asked : Data) (begun : Session) (read : Option AssemblyView)
     (known : PlacesView) (seat : Seat) : Type 0 where
-  pub options : seat.options ≡ asked
+  pub launch : view seat.launch ≡ asked
   pub session : seat.desk.session ≡ begun
   pub assembly : seat.assembly ≡ read
   pub places : seat.desk.places ≡ known
-  pub events : seat.desk.events ≡ record { made = []; undone = []; room = asked.history }
+  pub events : seat.desk.events ≡ record { made = []; undone = []; room = history_of asked }
   pub breaks : seat.desk.stops.breaks.items ≡ []
   pub watches : seat.desk.stops.watches.items ≡ []
   pub changes : seat.desk.stops.changes.items ≡ []
@@ -49,18 +49,16 @@ pub record IsSeated (asked : Options) (begun : Session) (read : Option AssemblyV
   pub addresses : seat.listed.addresses.items ≡ []
   pub told : seat.told.count ≡ 0
 
--- A seat at the start of an image that the program's file can have, with the names and lines of its
--- source and the names of a file of names.
-abbrev pub IsBegun : Options → Seat → Type 0
-IsBegun options seat = (image : List (Option ℕ)) × (assembly : Option AssemblyView)
-    × IsLoaded (file_of options) image assembly × (known : PlacesView)
-    × AddsNames (option_map string_bytes options.symbols) (file_of options)
-    (places_in (string_bytes options.file) assembly) known
-    × IsSeated options (new_session options.history (start (map_of (file_of options)) image))
-    assembly known seat
+-- A seat at the start of an image that a file can have, with the names and lines of its source and
+-- the names of the file of names that the launch names.
+abbrev pub IsBegun : FileAsked → Data → Seat → Type 0
+IsBegun file request seat = (image : List (Option ℕ)) × (assembly : Option AssemblyView)
+    × IsLoaded file image assembly × (known : PlacesView)
+    × AddsNames (symbols_at request) file (places_in file.file assembly) known
+    × IsSeated request (new_session (history_of request) (start (map_of file) image)) assembly known
+    seat
 
 -- A seat at the start of the program that a launch names.
 unfoldable pub IsLaunched : Data → Seat → Type 0
-IsLaunched request seat = (options : Options) × (file : List ℕ)
-    × (text_at (codes "/arguments/program") request ≡ Some file)
-    × AreOptions file request options × IsBegun options seat
+IsLaunched request seat
+    = (file : FileAsked) × (file_at request ≡ Some file) × IsBegun file request seat

@@ -5,13 +5,13 @@ use Rattle.std.specs.Option.{option_map_or}
 use Rattle.std.specs.Str.{bytes_eq}
 use Rattle.base64.specs.Engines.{standard}
 use Rattle.base64.specs.GeneralPurpose.{decode_of}
-use Rattle.dap_breaks.specs.Watches.{items_at}
+use Rattle.dap_views.specs.Watches.{items_at}
 use Rattle.dap_messages.specs.Answers.{value_set_body, written_body}
 use Rattle.json_values.specs.Fields.{number_at, text_at}
 use Rattle.dap_messages.specs.Messages.{Said, done}
 use Rattle.dap_messages.specs.References.{place_at}
 use Rattle.dap_views.specs.Scopes.{variables_shown}
-use Rattle.dap_views.specs.Told.{unmoved_said}
+use Rattle.dap_session.specs.Told.{unmoved_said}
 use Rattle.mon_session.specs.Course.{KeepsStops, course_of, happened}
 use Rattle.mon_session.specs.declared.desk.Desk.{Desk}
 use Rattle.mon_settings.specs.ByteLines.{bytes_put}

@@ -1,5 +1,5 @@
 -- Lines of the console. Source: Debug Adapter Protocol 1.65, "Evaluate Request"; mos65.
-use Rattle.std.specs.Prelude.{ℕ, ◌≡◌, ◌<◌, ◌≤◌, ⊤, Bool, true, false, List, [], ◌∷◌, codes, length, string_bytes, Option, Some, None, unwrap_or}
+use Rattle.std.specs.Prelude.{ℕ, ◌≡◌, ◌<◌, ◌≤◌, ⊤, Bool, true, false, List, [], ◌∷◌, codes, length, string_bytes, Some, unwrap_or}
 use Rattle.std.specs.Str.{bytes_eq}
 use Rattle.std.specs.Str.Lossy.{utf8_lossy}
 use Rattle.dap_messages.specs.Bodies.{nothing}
@@ -39,12 +39,10 @@ Looks desk text said = (v : Data)
 
 -- ---- which of them is asked for
 
-abbrev pub is_repl : Option (List ℕ) → Bool
-is_repl None = true
-is_repl (Some context) = bytes_eq context (codes "repl")
-
+-- A request that names no context is one of the console.
 abbrev pub is_console : Data → Bool
-is_console request = is_repl (text_at (codes "/arguments/context") request)
+is_console request = bytes_eq
+    (unwrap_or (text_at (codes "/arguments/context") request) (codes "repl")) (codes "repl")
 
 -- The text that a request asks of: empty if there is none.
 abbrev pub expression_of : Data → List ℕ

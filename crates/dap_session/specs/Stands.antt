@@ -4,7 +4,7 @@ use Rattle.std.specs.List.{list_any}
 pub use Rattle.dap_desk.specs.Moves.{NO_STOP}
 use Rattle.dap_messages.specs.Messages.{Said}
 use Rattle.dap_session.specs.declared.seat.Seat.{Seat}
-use Rattle.dap_views.specs.Told.{told_of}
+use Rattle.dap_session.specs.Told.{told_of}
 use Rattle.dap_messages.specs.declared.halt.Halt.{Halt}
 use Rattle.dap_messages.specs.declared.halt.Reason.{Reason}
 use Rattle.dap_messages.specs.declared.halt.Reason.TheVariants.{Breakpoint, InstructionBreakpoint}
@@ -25,9 +25,9 @@ halt_at seat halt = record halt {
       seat.desk.session.current.regs.pc halt.reason;
 }
 
--- The program, and the breakpoints that are listed, are what they were.
+-- The launch, the program, and the breakpoints that are listed, are what they were.
 abbrev pub KeepsProgram : Seat → Seat → Type 0
-KeepsProgram old new = (new.options ≡ old.options) × (new.assembly ≡ old.assembly)
+KeepsProgram old new = (new.launch ≡ old.launch) × (new.assembly ≡ old.assembly)
     × (new.listed ≡ old.listed)
 
 -- So is the machine. More may be told.

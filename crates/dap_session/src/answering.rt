@@ -2,60 +2,58 @@
 
 ghost use Rattle.std.specs.Prelude.{◌≡◌, IfErr, IfOk, OnOk, map as each};
 ghost use Rattle.dap_messages.specs.Messages.{said_of};
-ghost use Rattle.dap_session.specs.Answered.{AreAnswers, BeginsAgain, IsDone, IsShown, KeepsMade, Restarts};
-ghost use Rattle.dap_session.specs.Answered.{Sets, SetsListed, Shows, Terminates};
+ghost use Rattle.dap_session.specs.Answered.{AreAnswers, IsDone, IsShown, KeepsMade, Restarts};
+ghost use Rattle.dap_session.specs.Answered.{SetsListed, begun_stand};
 ghost use Rattle.dap_session.specs.Console.{ShowsIfRefused};
 ghost use Rattle.dap_desk.specs.Moves.{KeepsWatches, moved, stand_of};
-ghost use Rattle.dap_session.specs.Answered.{begun_stand};
+ghost use Rattle.dap_session.specs.Options.{steps_of};
 ghost use Rattle.serde_json.specs.View.{view};
 
 use crate::changing::{go_to, write_memory};
+use crate::completion::completions;
 use crate::console::{evaluate, set_variable, with_terminated};
 use crate::fault::{Fault, or_memory, refused};
-use crate::seat::{Seat, begin_again, source_of};
+use crate::launching::steps_of;
+use crate::seat::{Seat, begin_session, source_of};
 use crate::stands::{all_done, with_halt_at};
-use dap_breaks::{
-    completions, data_shown, goto_targets, set_addresses, set_data, set_lines, set_source,
-};
+use crate::telling::answered;
 use dap_desk::make_move;
 use dap_messages::{
-    Breakpoints, Change, Counting, Halt, Listed, Message, Move, Query, Reason, SessionRequest,
+    Breakpoints, Change, Counting, Listed, Message, Move, Query, Reason, SessionRequest,
     breakpoints_body, continued, exception, nothing, scopes, stand_by, threads,
 };
-use dap_views::{answered, disassembled, frames_shown, memory_shown, variables_shown};
+use dap_views::{
+    data_shown, disassembled, frames_shown, goto_targets, memory_shown, set_addresses, set_data,
+    set_lines, set_source, variables_shown,
+};
+use json_values::flag_or;
 use serde_json::Value;
 use std::alloc::{AllocError, Global};
+use std::mem;
 use std::rt::Files;
 
 /// Makes a move.
 fn make(alloc: Global, seat: &mut Seat, way: Move) -> Result<Vec<Message>, AllocError>
     ensures stand { OnOk result
-        (stand_of seat.new.desk ≡ moved seat.old.options.steps way seat.old.desk) }
+        (stand_of seat.new.desk ≡ moved (steps_of (view seat.old.launch)) way seat.old.desk) }
     ensures watches { OnOk result (KeepsWatches seat.old.desk seat.new.desk) }
     ensures answer { IfOk result (λ ms. IsDone (each said_of ms.items)) }
 {
-    let halt = make_move(&mut seat.desk, seat.options.steps, way);
+    let halt = make_move(&mut seat.desk, steps_of(&seat.launch), way);
     with_halt_at(alloc, answered(alloc, continued(alloc)), seat, halt)
 }
 
 /// Runs to a stop, unless the machine is to stand before the first instruction.
-fn begin_run(seat: &mut Seat) -> Halt
-    ensures stand { stand_of seat.new.desk ≡ begun_stand seat.old }
-    ensures watches { KeepsWatches seat.old.desk seat.new.desk }
-{
-    if seat.options.stops_on_entry {
-        return stand_by(Reason::Entry, "before the first instruction");
-    }
-    make_move(&mut seat.desk, seat.options.steps, Move::Go)
-}
-
-/// Begins the run, or stands before the first instruction.
 fn configured(alloc: Global, seat: &mut Seat) -> Result<Vec<Message>, AllocError>
     ensures stand { OnOk result (stand_of seat.new.desk ≡ begun_stand seat.old) }
     ensures watches { OnOk result (KeepsWatches seat.old.desk seat.new.desk) }
     ensures answer { IfOk result (λ ms. IsDone (each said_of ms.items)) }
 {
-    let halt = begin_run(seat);
+    let halt = if flag_or(&seat.launch, "/arguments/stopOnEntry", true) {
+        stand_by(Reason::Entry, "before the first instruction")
+    } else {
+        make_move(&mut seat.desk, steps_of(&seat.launch), Move::Go)
+    };
     with_halt_at(alloc, all_done(alloc), seat, halt)
 }
 
@@ -73,7 +71,7 @@ fn set_listed<H: Files + AllocGlobal>(
     let alloc = rt.alloc();
     match kind {
         Breakpoints::Source => {
-            let source = source_of(&seat.options, &seat.assembly, counting);
+            let source = source_of(&seat.launch, &seat.assembly, counting);
             set_source(rt, &mut seat.desk, &mut seat.listed, &source, request)
         }
         Breakpoints::Instruction => {
@@ -81,21 +79,6 @@ fn set_listed<H: Files + AllocGlobal>(
         }
         Breakpoints::Data => set_data(alloc, &mut seat.desk, &mut seat.listed, request),
     }
-}
-
-/// Sets the breakpoints of a kind that a request lists.
-fn set<H: Files + AllocGlobal>(
-    rt: &H,
-    seat: &mut Seat,
-    counting: Counting,
-    request: &Value,
-    kind: Breakpoints,
-) -> Result<Vec<Message>, AllocError>
-    ensures { IfOk result
-        (λ ms. Sets kind (view request.now) seat.old seat.new (each said_of ms.items)) }
-{
-    let body = set_listed(rt, seat, counting, request, kind)?;
-    answered(rt.alloc(), Ok(body))
 }
 
 /// Lets go of what is told. The only error is that memory ran out.
@@ -113,14 +96,14 @@ fn set_again(
     kind: Breakpoints,
 ) -> Result<(), AllocError>
     ensures kept { KeepsMade seat.old.desk seat.new.desk }
-    ensures options { seat.new.options ≡ seat.old.options }
+    ensures launch { seat.new.launch ≡ seat.old.launch }
 {
     let Some(request) = request else {
         return Ok(());
     };
     match kind {
         Breakpoints::Source => {
-            let source = source_of(&seat.options, &seat.assembly, counting);
+            let source = source_of(&seat.launch, &seat.assembly, counting);
             let_go(set_lines(alloc, &mut seat.desk, &mut seat.listed, &source, request))
         }
         Breakpoints::Instruction => {
@@ -138,7 +121,7 @@ fn set_all_again(
     old: &Listed,
 ) -> Result<(), AllocError>
     ensures kept { OnOk result (KeepsMade seat.old.desk seat.new.desk) }
-    ensures options { seat.new.options ≡ seat.old.options }
+    ensures launch { seat.new.launch ≡ seat.old.launch }
 {
     set_again(
         alloc,
@@ -154,29 +137,10 @@ fn set_all_again(
         &old.address_request,
         Breakpoints::Instruction,
     )?;
-    set_again(alloc, seat, counting, &old.data_request, Breakpoints::Data)?;
-    Ok(())
+    set_again(alloc, seat, counting, &old.data_request, Breakpoints::Data)
 }
 
-/// Returns a session that begins again from the file of one, with the breakpoints that it has.
-fn begun_again<H: Files + AllocGlobal>(
-    rt: &H,
-    seat: &Seat,
-    counting: Counting,
-) -> Result<Seat, Fault>
-    ensures { IfOk result (BeginsAgain seat.now) }
-{
-    let mut begun = begin_again(rt, seat)?;
-    match set_all_again(rt.alloc(), &mut begun, counting, &seat.listed) {
-        Ok(()) => Ok(begun),
-        Err(_) => {
-            begun.end();
-            Err(Fault::OutOfMemory)
-        }
-    }
-}
-
-/// Begins the session again from its file, with the breakpoints that it has.
+/// Begins the session again by its launch, with the breakpoints that it has.
 #[tactic(auto, using(crate::proofs::Stays::shows_same))]
 fn restart<H: Files + AllocGlobal>(
     rt: &H,
@@ -187,16 +151,14 @@ fn restart<H: Files + AllocGlobal>(
     ensures answer { IfOk result (λ ms. IsDone (each said_of ms.items)) }
     ensures refused { IfErr result (λ f. ShowsIfRefused f seat.old.desk seat.new.desk) }
 {
-    let begun = begun_again(rt, seat, counting)?;
-    seat.replace(begun);
-    or_memory(configured(rt.alloc(), seat))
-}
-
-/// Answers a request, and says that the program has ended.
-fn terminate(alloc: Global) -> Result<Vec<Message>, AllocError>
-    ensures { IfOk result (λ ms. Terminates (each said_of ms.items)) }
-{
-    with_terminated(alloc, all_done(alloc))
+    let mut old = begin_session(rt, &seat.launch)?;
+    mem::swap(seat, &mut old);
+    let set = set_all_again(rt.alloc(), seat, counting, &old.listed);
+    drop(old);
+    match set {
+        Ok(()) => or_memory(configured(rt.alloc(), seat)),
+        Err(_) => Err(Fault::OutOfMemory),
+    }
 }
 
 /// Returns what is shown of a session.
@@ -210,7 +172,7 @@ fn shown<H: Files + AllocGlobal>(
     ensures { IfOk result (λ v. IsShown query (view request.now) counting seat.now (view v)) }
 {
     let alloc = rt.alloc();
-    let source = source_of(&seat.options, &seat.assembly, counting);
+    let source = source_of(&seat.launch, &seat.assembly, counting);
     match query {
         Query::Threads => threads(alloc),
         Query::StackTrace => frames_shown(alloc, &seat.desk, &source, request),
@@ -225,21 +187,6 @@ fn shown<H: Files + AllocGlobal>(
         Query::SetExceptionBreakpoints => breakpoints_body(alloc, Vec::new(alloc)),
         Query::Pause => nothing(alloc),
     }
-}
-
-/// Answers a request of a session that changes nothing.
-fn show<H: Files + AllocGlobal>(
-    rt: &H,
-    seat: &Seat,
-    counting: Counting,
-    request: &Value,
-    query: Query,
-) -> Result<Vec<Message>, AllocError>
-    ensures { IfOk result
-        (λ ms. Shows query (view request.now) counting seat.now (each said_of ms.items)) }
-{
-    let body = shown(rt, seat, counting, request, query)?;
-    answered(rt.alloc(), Ok(body))
 }
 
 /// Does what a request of a session asks for, and returns the messages to the client.
@@ -260,17 +207,23 @@ pub fn answer<H: Files + AllocGlobal>(
     let alloc = rt.alloc();
     match asked {
         SessionRequest::Moves(way) => or_memory(make(alloc, seat, way)),
-        SessionRequest::Sets(kind) => or_memory(set(rt, seat, counting, request, kind)),
+        SessionRequest::Sets(kind) => {
+            let told = set_listed(rt, seat, counting, request, kind);
+            or_memory(answered(alloc, told))
+        }
         SessionRequest::Changes(Change::Evaluate) => evaluate(alloc, seat, request),
         SessionRequest::Changes(Change::SetVariable) => {
             set_variable(alloc, &mut seat.desk, request)
         }
         SessionRequest::Changes(Change::Goto) => go_to(alloc, seat, request),
         SessionRequest::Changes(Change::WriteMemory) => write_memory(alloc, seat, request),
-        SessionRequest::Shows(query) => or_memory(show(rt, seat, counting, request, query)),
+        SessionRequest::Shows(query) => {
+            let told = shown(rt, seat, counting, request, query);
+            or_memory(answered(alloc, told))
+        }
         SessionRequest::ConfigurationDone => or_memory(configured(alloc, seat)),
         SessionRequest::Restart => restart(rt, seat, counting),
-        SessionRequest::Terminate => or_memory(terminate(alloc)),
+        SessionRequest::Terminate => or_memory(with_terminated(alloc, all_done(alloc))),
         SessionRequest::Other => Err(refused(alloc, "this request is not served")),
     }
 }

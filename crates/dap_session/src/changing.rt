@@ -5,28 +5,25 @@ ghost use Rattle.base64.specs.Engines.{standard};
 ghost use Rattle.base64.specs.GeneralPurpose.{decode_of};
 ghost use Rattle.dap_messages.specs.Messages.{said_of};
 ghost use Rattle.dap_session.specs.Answered.{IsDone};
-ghost use Rattle.dap_session.specs.Changes.{Goes, HasGone, HasWritten, Writes, count_there, data_of};
-ghost use Rattle.dap_session.specs.Changes.{is_there, target_at, written_said};
+ghost use Rattle.dap_session.specs.Changes.{Goes, Writes, count_there, data_of};
+ghost use Rattle.dap_session.specs.Changes.{is_there, target_at};
 ghost use Rattle.dap_session.specs.Console.{ShowsIfRefused};
-ghost use Rattle.mon_session.specs.Course.{KeepsStops, course_of};
-ghost use Rattle.mon_settings.specs.ByteLines.{bytes_put};
 ghost use Rattle.serde_json.specs.View.{view};
 
 use crate::console::happen;
 use crate::fault::{Fault, or_memory, refused};
 use crate::seat::Seat;
 use crate::stands::{all_done, with_halt_at};
+use crate::telling::{answered, with_unmoved};
 use base64::DecodeAllocError;
 use base64::engine::general_purpose::STANDARD;
 use dap_messages::{Message, Reason, place_at, stand_by, written_body};
-use dap_views::{answered, with_unmoved};
 use json_values::{number_at, text_or};
 use model::Setting;
 use mon_runs::{Event, Session};
-use mon_session::Desk;
 use mon_settings::put;
 use serde_json::Value;
-use std::alloc::{AllocError, Global};
+use std::alloc::Global;
 
 /// Returns the address that a request goes to, if it names one.
 fn target_at(request: &Value) -> Option<u16>
@@ -38,39 +35,22 @@ fn target_at(request: &Value) -> Option<u16>
     }
 }
 
-/// Makes the instruction at an address the next, and says that the machine stands there.
-#[tactic(auto, using(crate::proofs::Stays::shows_same))]
-fn go_at(alloc: Global, seat: &mut Seat, address: u16) -> Result<Vec<Message>, Fault>
-    ensures done { OnOk result (HasGone address seat.old.desk seat.new.desk) }
-    ensures answer { IfOk result (λ ms. IsDone (each said_of ms.items)) }
-    ensures refused { IfErr result (λ f. ShowsIfRefused f seat.old.desk seat.new.desk) }
-{
-    happen(alloc, &mut seat.desk, Event::Set(Setting::Pc(address)))?;
-    let halt = stand_by(Reason::Goto, "gone to another line");
-    or_memory(with_halt_at(alloc, all_done(alloc), seat, halt))
-}
-
 /// Makes the instruction at the address that a request names the next, and says that the machine
 /// stands there.
 ///
-/// Errors: `Refused` if the request names no address.
+/// Errors: `Refused` if the request names no address, or the machine does not go there.
 #[tactic(auto, using(crate::proofs::Stays::shows_same))]
 pub fn go_to(alloc: Global, seat: &mut Seat, request: &Value) -> Result<Vec<Message>, Fault>
     ensures done { OnOk result (Goes (view request.now) seat.old.desk seat.new.desk) }
     ensures answer { IfOk result (λ ms. IsDone (each said_of ms.items)) }
     ensures refused { IfErr result (λ f. ShowsIfRefused f seat.old.desk seat.new.desk) }
 {
-    match target_at(request) {
-        Some(address) => go_at(alloc, seat, address),
-        None => Err(refused(alloc, "this is no address to go to")),
-    }
-}
-
-/// Returns the text of the bytes that a request writes: empty if it has none.
-fn data_of(request: &Value) -> &str
-    ensures { result.now ≡ data_of (view request.now) }
-{
-    text_or(request, "/arguments/data", "")
+    let Some(address) = target_at(request) else {
+        return Err(refused(alloc, "this is no address to go to"));
+    };
+    happen(alloc, &mut seat.desk, Event::Set(Setting::Pc(address)))?;
+    let halt = stand_by(Reason::Goto, "gone to another line");
+    or_memory(with_halt_at(alloc, all_done(alloc), seat, halt))
 }
 
 /// Returns the bytes that a request writes.
@@ -80,7 +60,8 @@ fn bytes_in(alloc: Global, request: &Value) -> Result<Vec<u8>, Fault>
     ensures { IfOk result
         (λ bytes. decode_of standard (data_of (view request.now)) ≡ Ok bytes.items) }
 {
-    match STANDARD.decode(alloc, data_of(request).as_bytes()) {
+    let text = text_or(request, "/arguments/data", "");
+    match STANDARD.decode(alloc, text.as_bytes()) {
         Ok(bytes) => Ok(bytes),
         Err(DecodeAllocError::OutOfMemory) => Err(Fault::OutOfMemory),
         Err(_) => Err(refused(alloc, "the bytes are not in Base64")),
@@ -109,44 +90,6 @@ fn count_there(session: &Session, address: u16, bytes: &[u8]) -> u64
     count
 }
 
-/// Puts bytes into memory.
-fn put_all(desk: &mut Desk, address: u16, bytes: &[u8]) -> Result<(), AllocError>
-    ensures course { course_of desk.new ≡ bytes_put address bytes.now (course_of desk.old) }
-    ensures stops { KeepsStops desk.old desk.new }
-{
-    desk.text.clear();
-    let done = put(desk, address, bytes);
-    desk.text.clear();
-    done
-}
-
-/// Says how many bytes were written, and that memory has changed.
-fn written(alloc: Global, count: u64) -> Result<Vec<Message>, AllocError>
-    ensures { IfOk result (λ ms. each said_of ms.items ≡ written_said count) }
-{
-    with_unmoved(alloc, answered(alloc, written_body(alloc, count)))
-}
-
-/// Writes bytes to memory from an address on, an event for each, up to the first that is rejected.
-///
-/// Errors: `Refused` if the bytes are not written in Base64.
-#[tactic(auto, using(crate::proofs::Stays::shows_same))]
-fn write_at(
-    alloc: Global,
-    desk: &mut Desk,
-    address: u16,
-    request: &Value,
-) -> Result<Vec<Message>, Fault>
-    ensures done { IfOk result (λ ms. HasWritten address (view request.now) desk.old desk.new
-        (each said_of ms.items)) }
-    ensures refused { IfErr result (λ f. ShowsIfRefused f desk.old desk.new) }
-{
-    let bytes = bytes_in(alloc, request)?;
-    put_all(desk, address, bytes.as_slice())?;
-    let count = count_there(&desk.session, address, bytes.as_slice());
-    or_memory(written(alloc, count))
-}
-
 /// Writes bytes to memory, an event for each, up to the first that is rejected. Nothing is written
 /// if they go past FFFF.
 ///
@@ -157,8 +100,14 @@ pub fn write_memory(alloc: Global, seat: &mut Seat, request: &Value) -> Result<V
         (each said_of ms.items)) }
     ensures refused { IfErr result (λ f. ShowsIfRefused f seat.old.desk seat.new.desk) }
 {
-    match place_at(request, "/arguments/memoryReference", "/arguments/offset") {
-        Some(address) => write_at(alloc, &mut seat.desk, address, request),
-        None => Err(refused(alloc, "this is no address to write to")),
-    }
+    let Some(address) = place_at(request, "/arguments/memoryReference", "/arguments/offset") else {
+        return Err(refused(alloc, "this is no address to write to"));
+    };
+    let bytes = bytes_in(alloc, request)?;
+    seat.desk.text.clear();
+    let done = put(&mut seat.desk, address, bytes.as_slice());
+    seat.desk.text.clear();
+    done?;
+    let count = count_there(&seat.desk.session, address, bytes.as_slice());
+    or_memory(with_unmoved(alloc, answered(alloc, written_body(alloc, count))))
 }

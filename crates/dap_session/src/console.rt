@@ -2,25 +2,26 @@
 
 ghost use Rattle.std.specs.Prelude.{◌≡◌, ◌∷◌, ◌++◌, [], ℕ, Bool, IfErr, IfOk, List, OnOk, map as each};
 ghost use Rattle.std.specs.Prelude.{codes, option_map, string_bytes};
-ghost use Rattle.dap_breaks.specs.Watches.{items_at};
+ghost use Rattle.dap_views.specs.Watches.{items_at};
 ghost use Rattle.dap_messages.specs.Messages.{Said, done, said_of};
 ghost use Rattle.dap_session.specs.Answered.{IsDone};
-ghost use Rattle.dap_session.specs.Changes.{HasChanged, TellsValue, is_named, value_of, value_shown};
-ghost use Rattle.dap_session.specs.Console.{Evaluates, Looks, ServesConsole, ShowsIfRefused};
-ghost use Rattle.dap_session.specs.Console.{expression_of, is_console, over};
+ghost use Rattle.dap_session.specs.Changes.{HasChanged, TellsValue, value_of};
+ghost use Rattle.dap_session.specs.Console.{Evaluates, ServesConsole, ShowsIfRefused};
+ghost use Rattle.dap_session.specs.Console.{is_console, over};
 ghost use Rattle.dap_session.specs.Stands.{KeepsProgram, KeepsSession};
 ghost use Rattle.mon_session.specs.Course.{KeepsStops, course_of, happened};
 ghost use Rattle.serde_json.specs.Data.{Data};
-ghost use Rattle.serde_json.specs.View.{items_view, view};
+ghost use Rattle.serde_json.specs.View.{items_of, view};
 
 use crate::fault::{Fault, or_memory, refused, refused_by};
 use crate::seat::Seat;
 use crate::stands::with_halt_at;
+use crate::telling::{answered, with_event, with_unmoved};
 use dap_messages::{Message, Reason, evaluated, nothing, stand_by, value_set};
-use dap_views::{answered, look_at, variables_shown, with_event, with_unmoved};
+use dap_views::{look_at, variables_shown};
 use json_values::{number_at, text_at, text_or};
 use mon_dispatch::serve;
-use mon_lines::{Command, Flag, Slip, read_line};
+use mon_lines::{Command, read_line};
 use mon_runs::Event;
 use mon_session::Desk;
 use mon_settings::set_flag;
@@ -104,33 +105,6 @@ fn console(alloc: Global, seat: &mut Seat, line: &str) -> Result<Vec<Message>, A
     with_over(alloc, told, is_over)
 }
 
-/// Shows a register, or the byte at a place.
-fn look(alloc: Global, desk: &Desk, text: &str) -> Result<Vec<Message>, Fault>
-    ensures { IfOk result (λ ms. Looks desk.now text.now (each said_of ms.items)) }
-{
-    match look_at(alloc, desk, text)? {
-        Some(body) => or_memory(answered(alloc, Ok(body))),
-        None => Err(refused(alloc, "this is neither a register nor a place")),
-    }
-}
-
-/// Returns whether a request has a line of the console.
-fn is_console(request: &Value) -> bool
-    ensures { result ≡ is_console (view request.now) }
-{
-    match text_at(request, "/arguments/context") {
-        Some(context) => context == "repl",
-        None => true,
-    }
-}
-
-/// Returns the expression of a request: empty if it has none.
-fn expression_of(request: &Value) -> &str
-    ensures { result.now ≡ expression_of (view request.now) }
-{
-    text_or(request, "/arguments/expression", "")
-}
-
 /// Serves a line of the console, or shows a register or the byte at a place.
 ///
 /// Errors: `Refused` if something else is to be shown.
@@ -141,11 +115,13 @@ pub fn evaluate(alloc: Global, seat: &mut Seat, request: &Value) -> Result<Vec<M
     ensures answer { IfOk result (λ ms. IsDone (each said_of ms.items)) }
     ensures refused { IfErr result (λ f. ShowsIfRefused f seat.old.desk seat.new.desk) }
 {
-    let text = expression_of(request);
-    if is_console(request) {
-        or_memory(console(alloc, seat, text))
-    } else {
-        look(alloc, &seat.desk, text)
+    let text = text_or(request, "/arguments/expression", "");
+    if text_or(request, "/arguments/context", "repl") == "repl" {
+        return or_memory(console(alloc, seat, text));
+    }
+    match look_at(alloc, &seat.desk, text)? {
+        Some(body) => or_memory(answered(alloc, Ok(body))),
+        None => Err(refused(alloc, "this is neither a register nor a place")),
     }
 }
 
@@ -178,37 +154,6 @@ pub fn happen(alloc: Global, desk: &mut Desk, event: Event) -> Result<(), Fault>
     Err(fault)
 }
 
-/// Sets a byte.
-///
-/// Errors: `Refused` if there is not one byte, or it cannot be set.
-#[tactic(auto, using(crate::proofs::Stays::shows_same))]
-fn put(alloc: Global, desk: &mut Desk, address: u16, bytes: &[u8]) -> Result<(), Fault>
-    ensures done { OnOk result (HasChanged desk.old desk.new) }
-    ensures refused { IfErr result (λ f. ShowsIfRefused f desk.old desk.new) }
-{
-    match bytes {
-        [byte] => {
-            let event = Event::Patch {
-                address,
-                bytes: [*byte, 0, 0],
-                count: 1,
-            };
-            happen(alloc, desk, event)
-        }
-        _ => Err(refused(alloc, "a variable takes one value")),
-    }
-}
-
-/// Sets a flag.
-fn set_one_flag(desk: &mut Desk, flag: Flag, value: bool) -> Result<(), Fault>
-    ensures done { OnOk result (HasChanged desk.old desk.new) }
-    ensures memory { IfErr result (λ f. f ≡ Fault.OutOfMemory) }
-{
-    set_flag(desk, flag, value)?;
-    desk.text.clear();
-    Ok(())
-}
-
 /// Does what a line of `mon` asks for that sets a register, a flag or a byte.
 ///
 /// Errors: `Refused` for any other line.
@@ -219,18 +164,23 @@ fn obey(alloc: Global, desk: &mut Desk, command: Command<'_>) -> Result<(), Faul
 {
     match command {
         Command::Set(setting) => happen(alloc, desk, Event::Set(setting)),
-        Command::SetFlag { flag, value } => set_one_flag(desk, flag, value),
-        Command::Put { address, bytes } => put(alloc, desk, address, bytes.as_slice()),
+        Command::SetFlag { flag, value } => {
+            set_flag(desk, flag, value)?;
+            desk.text.clear();
+            Ok(())
+        }
+        Command::Put { address, bytes } => match bytes.as_slice() {
+            [byte] => {
+                let event = Event::Patch {
+                    address,
+                    bytes: [*byte, 0, 0],
+                    count: 1,
+                };
+                happen(alloc, desk, event)
+            }
+            _ => Err(refused(alloc, "a variable takes one value")),
+        },
         _ => Err(refused(alloc, "a variable takes one value")),
-    }
-}
-
-/// Returns the refusal of a line that is wrong.
-fn slipped(alloc: Global, slip: Slip<'_>) -> Fault {
-    let mut text = Vec::new(alloc);
-    match push_slip(&mut text, slip) {
-        Ok(()) => refused_by(alloc, text.as_slice()),
-        Err(_) => Fault::OutOfMemory,
     }
 }
 
@@ -247,54 +197,34 @@ fn change(alloc: Global, desk: &mut Desk, line: &[u8]) -> Result<(), Fault>
     }
     match read_line(line, &desk.places, desk.session.regs().pc) {
         Ok(command) => obey(alloc, desk, command),
-        Err(slip) => Err(slipped(alloc, slip)),
+        Err(slip) => {
+            let mut text = Vec::new(alloc);
+            match push_slip(&mut text, slip) {
+                Ok(()) => Err(refused_by(alloc, text.as_slice())),
+                Err(_) => Err(Fault::OutOfMemory),
+            }
+        }
     }
 }
 
-/// Returns whether a variable has a name.
-fn is_named(variable: &Value, name: &str) -> bool
-    ensures { result ≡ is_named name.now (view variable.now) }
+/// Returns the value of the first variable of some that are shown that has a name.
+fn value_of<'a>(shown: &'a Value, name: &str) -> Option<&'a str>
+    ensures { (listed : List Data)
+        × (items_of listed ≡ items_at (codes "/variables") (view shown.now))
+        × (option_map (λ s. s.now) result ≡ value_of name.now listed) }
 {
-    match text_at(variable, "/name") {
-        Some(other) => other == name,
-        None => false,
-    }
-}
-
-/// Returns the value of the first of some variables that has a name.
-fn value_of<'a>(variables: &'a [Value], name: &str) -> Option<&'a str>
-    ensures { option_map (λ s. s.now) result
-        ≡ value_of name.now (each view variables.now) }
-{
-    for variable in variables {
-        if is_named(variable, name) {
+    let Some(list) = shown.pointer("/variables") else {
+        return None;
+    };
+    let Some(variables) = list.as_array() else {
+        return None;
+    };
+    for variable in variables.as_slice() {
+        if text_at(variable, "/name") == Some(name) {
             return text_at(variable, "/value");
         }
     }
     None
-}
-
-/// Returns the variables that a scope is shown with.
-fn variables_in(shown: &Value) -> &[Value]
-    ensures { items_view result.now ≡ items_at (codes "/variables") (view shown.now) }
-{
-    let Some(listed) = shown.pointer("/variables") else {
-        return &[];
-    };
-    match listed.as_array() {
-        Some(list) => list.as_slice(),
-        None => &[],
-    }
-}
-
-/// Returns the value that is shown of the variable that a request sets, or else the one that it
-/// asks for.
-fn value_shown<'a>(request: &'a Value, variables: &'a [Value]) -> &'a str
-    ensures { result.now ≡ value_shown (view request.now) (each view variables.now) }
-{
-    let name = text_or(request, "/arguments/name", "");
-    let asked = text_or(request, "/arguments/value", "");
-    value_of(variables, name).unwrap_or(asked)
 }
 
 /// Says which value a variable has that a request has set, and that what the client shows may have
@@ -302,8 +232,10 @@ fn value_shown<'a>(request: &'a Value, variables: &'a [Value]) -> &'a str
 fn tell_value(alloc: Global, desk: &Desk, request: &Value) -> Result<Vec<Message>, AllocError>
     ensures { IfOk result (λ ms. TellsValue (view request.now) desk.now (each said_of ms.items)) }
 {
+    let name = text_or(request, "/arguments/name", "");
+    let asked = text_or(request, "/arguments/value", "");
     let shown = variables_shown(alloc, desk, request)?;
-    let body = value_set(alloc, value_shown(request, variables_in(&shown)));
+    let body = value_set(alloc, value_of(&shown, name).unwrap_or(asked));
     drop(shown);
     with_unmoved(alloc, answered(alloc, body))
 }

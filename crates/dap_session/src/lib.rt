@@ -1,29 +1,33 @@
 //! A session of the debug adapter, from its launch on: what each request does to it, and what is
 //! answered.
 //!
-//! `launching` reads what a launch asks for into `options`, `seat` begins a session on it, `fault`
-//! has why a request is not done. `stands` tells why the machine stands, `console` serves lines of
-//! `mon` and sets variables, `changing` makes another instruction the next and writes to memory,
-//! `answering` has each request of a session. `dap_desk` moves the machine.
+//! `launching` reads what a launch asks for, `seat` begins a session by it and keeps its message,
+//! `fault` has why a request is not done. `stands` tells why the machine stands, `console` serves
+//! lines of `mon` and sets variables, `changing` makes another instruction the next and writes to
+//! memory, `completion` offers words for one that is typed, `telling` says what a client is told
+//! besides an answer, `answering` has each request of a session. `dap_desk` moves the machine.
 //!
 //! What a launch asks for stands in `specs/Options.antt`, how a session begins in
 //! `specs/Begun.antt`, what each request does in `specs/Answered.antt`: what a line does in
-//! `specs/Console.antt`, a variable, a target and bytes in `specs/Changes.antt`.
+//! `specs/Console.antt`, a variable, a target and bytes in `specs/Changes.antt`. What can be chosen
+//! stands in `specs/Completions.antt`, what is told in `specs/Told.antt`.
 #![tactic(auto)]
 
 mod answering;
 mod changing;
+mod completion;
 mod console;
 mod fault;
 mod launching;
-mod options;
 mod seat;
 mod stands;
+mod telling;
+mod wording;
 
 pub use answering::answer;
 pub use console::with_terminated;
 pub use dap_desk::NO_STOP;
 pub use fault::{Fault, or_memory, refused};
-pub use options::Options;
 pub use seat::{Seat, begin_session, put_seat};
 pub use stands::all_done;
+pub use telling::{answered, with_event};

@@ -7,8 +7,8 @@ ghost use Rattle.dap_session.specs.Stands.{IsToldHalt, KeepsSession, is_at, reas
 ghost use Rattle.serde_json.specs.Data.{Data};
 
 use crate::seat::Seat;
+use crate::telling::{answered, with_halt};
 use dap_messages::{Halt, Listed, Message, Reason, nothing};
-use dap_views::{answered, with_halt};
 use std::alloc::{AllocError, Global};
 
 /// Returns that a request is done.

@@ -3,5 +3,7 @@ mod Following
 mod Framed
 mod Joined
 mod Lossy
+mod Matching
 mod Shown
 mod Symbols
+mod Watching

@@ -1,8 +1,13 @@
+pub mod Answered
+pub mod BreakValues
+pub mod Breaks
 pub mod Frames
 pub mod Looks
 pub mod Memory
 pub mod Rows
 pub mod Scopes
-pub mod Told
+pub mod Targets
 pub mod Values
 pub mod Variables
+pub mod Wanted
+pub mod Watches

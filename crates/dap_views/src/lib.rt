@@ -1,26 +1,41 @@
-//! What the answers of a debug adapter show of a session. Nothing here changes the session.
+//! What an editor's views show of a session, and the breakpoints and watches that it lists.
 //!
 //! `frames` shows where the machine stands, `variables` the variables of a scope, `memory` bytes,
-//! `rows` instructions, `looks` a register or a place, `telling` says why the machine stands.
-//! `bodies` makes the bodies of events, `texts` bytes as they are shown. What is shown stands in
-//! `specs/Frames.antt`, `specs/Scopes.antt`, `specs/Memory.antt`, `specs/Rows.antt` and
-//! `specs/Looks.antt`, what is told in `specs/Told.antt`, and the values are those of
-//! `specs/Values.antt` and `specs/Variables.antt`.
+//! `rows` instructions, `looks` a register or a place. `texts` makes texts of bytes, `source` is
+//! the source that a client sees. These change nothing.
+//!
+//! Each list of breakpoints replaces the one before: `wanted` reads the breakpoints of a list,
+//! `listed` sets them and answers, `watches` watches bytes. `targets` has the addresses at which a
+//! line can be gone to. `values` makes the values of answers.
+//!
+//! What is shown stands in `specs/Frames.antt`, `specs/Scopes.antt`, `specs/Memory.antt`,
+//! `specs/Rows.antt` and `specs/Looks.antt`, with the values of `specs/Values.antt` and
+//! `specs/Variables.antt`. What a list does stands in `specs/Breaks.antt` and `specs/Watches.antt`,
+//! what is answered in `specs/Answered.antt`, what can be chosen in `specs/Targets.antt`, with the
+//! values of `specs/BreakValues.antt`.
 #![tactic(auto)]
 
-mod bodies;
 mod frames;
+mod listed;
 mod looks;
 mod memory;
 mod rows;
-mod telling;
+mod source;
+mod targets;
 mod texts;
+mod values;
 mod variables;
-mod wording;
+mod wanted;
+mod watches;
 
 pub use frames::frames_shown;
-pub use looks::{look_at, place_named};
+pub use listed::{set_addresses, set_lines, set_source};
+pub use looks::look_at;
 pub use memory::memory_shown;
 pub use rows::disassembled;
-pub use telling::{answered, with_event, with_halt, with_unmoved};
+pub use source::Source;
+pub use targets::goto_targets;
+pub use texts::as_text;
+pub use values::list_body;
 pub use variables::variables_shown;
+pub use watches::{data_shown, set_data};

@@ -1,8 +1,7 @@
 //! Bytes of memory.
 
-ghost use Rattle.std.specs.Prelude.{◌≡◌, ◌+◌, ◌-◌, ◌≤◌, IfOk, string_bytes};
+ghost use Rattle.std.specs.Prelude.{◌≡◌, ◌+◌, ◌≤◌, IfOk, string_bytes};
 ghost use Rattle.dap_views.specs.Memory.{bytes_text, count_at, memory_shown};
-ghost use Rattle.dap_views.specs.Values.{memory_body};
 ghost use Rattle.serde_json.specs.View.{view};
 
 use base64::engine::general_purpose::STANDARD;
@@ -40,38 +39,20 @@ pub fn count_at(request: &Value, path: &str) -> u32
     count.min(65536) as u32
 }
 
-/// Returns those of so many bytes from an address on that there are, with how many there are not.
-fn bytes_shown(
-    alloc: Global,
-    session: &Session,
-    first: u16,
-    most: u32,
-    count: u32,
-) -> Result<Value, AllocError>
-    requires within { first + most ≤ 65536 }
-    requires most { most ≤ count }
-    ensures { IfOk result (λ v. view v ≡ memory_body first
-        (bytes_text session.now.current.bus.memory first most) (count - most)) }
-{
-    Object::new(alloc)
-        .text("address", reference(alloc, first))
-        .text("data", bytes_text(alloc, session, first, most))
-        .count("unreadableBytes", u64::from(count - most))
-        .build()
-}
-
-/// Returns the bytes of memory that a request asks for, as far as it goes: none where it names no
-/// address.
+/// Returns the bytes of memory that a request asks for, as far as it goes, with how many more were
+/// asked for: none where it names no address.
 pub fn memory_shown(alloc: Global, desk: &Desk, request: &Value) -> Result<Value, AllocError>
     ensures { IfOk result (λ v. view v
         ≡ memory_shown desk.now.session.current.bus.memory (view request.now)) }
 {
     let count = count_at(request, "/arguments/count");
-    match place_at(request, "/arguments/memoryReference", "/arguments/offset") {
-        Some(first) => {
-            let most = count.min(65536 - u32::from(first));
-            bytes_shown(alloc, &desk.session, first, most, count)
-        }
-        None => bytes_shown(alloc, &desk.session, 0, 0, count),
-    }
+    let (first, most) = match place_at(request, "/arguments/memoryReference", "/arguments/offset") {
+        Some(first) => (first, count.min(65536 - u32::from(first))),
+        None => (0, 0),
+    };
+    Object::new(alloc)
+        .text("address", reference(alloc, first))
+        .text("data", bytes_text(alloc, &desk.session, first, most))
+        .count("unreadableBytes", u64::from(count - most))
+        .build()
 }

@@ -1,22 +1,22 @@
 //! The rows of a disassembly.
 
-ghost use Rattle.std.specs.Prelude.{◌≡◌, ◌+◌, ◌≤◌, ◌++◌, ◌-◌, ℕ, IfOk, List, OnOk, string_bytes};
-ghost use Rattle.dap_views.specs.Rows.{ahead, behind, disassembled, first, found, joined, next_row};
-ghost use Rattle.dap_views.specs.Rows.{row_bytes, row_of, row_on, row_shown, row_text, rows};
-ghost use Rattle.dap_views.specs.Rows.{rows_around, rows_at, rows_on, rows_to, up_to};
+ghost use Rattle.std.specs.Prelude.{◌≡◌, ◌+◌, ◌≤◌, ◌++◌, ◌-◌, [], ℕ, IfOk, List, OnOk, codes};
+ghost use Rattle.std.specs.Prelude.{string_bytes};
+ghost use Rattle.dap_views.specs.Rows.{ahead, behind, disassembled, joined, next_row, row_bytes};
+ghost use Rattle.dap_views.specs.Rows.{row_of, row_on, row_text, rows, rows_around, rows_on};
+ghost use Rattle.dap_views.specs.Rows.{rows_to};
 ghost use Rattle.json_values.specs.ValueLists.{HasValues};
-ghost use Rattle.mon_instructions.specs.Instructions.{bytes_at};
 ghost use Rattle.serde_json.specs.Data.{Data};
 ghost use Rattle.serde_json.specs.View.{view};
 
 use crate::memory::count_at;
+use crate::source::Source;
 use crate::texts::as_text;
-use dap_messages::{Source, offset_at, place_at, reference};
+use dap_messages::{offset_at, place_at, reference};
 use disasm::line_in;
 use formatting::{push_byte, push_text};
 use json_values::{Object, ValueList};
 use mon_instructions::{push_instruction, push_listed};
-use mon_runs::Session;
 use mon_session::Desk;
 use serde_json::Value;
 use std::alloc::{AllocError, Global};
@@ -24,22 +24,8 @@ use std::alloc::{AllocError, Global};
 /// Behind the memory.
 const BEHIND: u32 = 65536;
 
-/// Returns how many bytes a row at an address has, which has one if it would run past an end.
-fn up_to(until: u32, address: u32, len: u8) -> u8
-    requires { address ≤ 65535 }
-    ensures { result ≡ up_to until address len }
-{
-    if address >= until {
-        return len;
-    }
-    if until < address + u32::from(len) {
-        1
-    } else {
-        len
-    }
-}
-
-/// Returns how many bytes the row at an address has, up to an end: none behind the memory.
+/// Returns how many bytes the row at an address has: one if it would run past an end, none behind
+/// the memory.
 fn row_len(alloc: Global, desk: &Desk, until: u32, address: u32) -> Result<u8, AllocError>
     requires { address ≤ 65790 }
     ensures next { IfOk result (λ len. address + len ≡ next_row desk.now until address) }
@@ -50,7 +36,10 @@ fn row_len(alloc: Global, desk: &Desk, until: u32, address: u32) -> Result<u8, A
     }
     let mut text = Vec::new(alloc);
     let len = push_listed(&mut text, &desk.session, &desk.places, address as u16)?;
-    Ok(up_to(until, address, len))
+    if address < until && until < address + u32::from(len) {
+        return Ok(1);
+    }
+    Ok(len)
 }
 
 /// Returns where the row begins that is `count` rows on.
@@ -86,33 +75,18 @@ fn rows_to(alloc: Global, desk: &Desk, until: u32, from: u32) -> Result<u32, All
     Ok(count)
 }
 
-/// Returns the byte at an address and the two behind it.
-fn bytes_at(session: &Session, address: u16) -> [u8; 3]
-    ensures { result ≡ bytes_at session.now.current address }
-{
-    [
-        session.peek(address),
-        session.peek(address.wrapping_add(1)),
-        session.peek(address.wrapping_add(2)),
-    ]
-}
-
-/// Appends the bytes of a row in hex, with words in front of the first and between them.
+/// Appends bytes in hex, with words in front of the first and between them.
 fn push_row_bytes(
     text: &mut Vec<u8>,
     front: &str,
     between: &str,
-    desk: &Desk,
-    address: u16,
-    len: u8,
+    bytes: &[u8],
 ) -> Result<(), AllocError>
     ensures { OnOk result (text.new.items
-        ≡ text.old.items ++ joined front.now between.now (row_bytes desk.now address len)) }
+        ≡ text.old.items ++ joined front.now between.now bytes.now) }
 {
-    let bytes = bytes_at(&desk.session, address);
-    let shown = &bytes[..usize::from(len.min(3))];
     let mut words = front;
-    for byte in shown {
+    for byte in bytes {
         push_text(text, words)?;
         push_byte(text, *byte)?;
         words = between;
@@ -120,17 +94,33 @@ fn push_row_bytes(
     Ok(())
 }
 
-/// Appends the text of a row: an instruction, or data.
-fn push_row_text(text: &mut Vec<u8>, desk: &Desk, address: u16, len: u8) -> Result<(), AllocError>
-    ensures { OnOk result (text.new.items ≡ text.old.items ++ row_text desk.now address len) }
+/// Appends the bytes of a row to one text, and what it shows to another: an instruction, or data.
+fn push_row(
+    column: &mut Vec<u8>,
+    words: &mut Vec<u8>,
+    desk: &Desk,
+    address: u16,
+    len: u8,
+) -> Result<(), AllocError>
+    ensures column { OnOk result (column.new.items
+        ≡ column.old.items ++ joined [] (codes " ") (row_bytes desk.now address len)) }
+    ensures words { OnOk result
+        (words.new.items ≡ words.old.items ++ row_text desk.now address len) }
 {
-    let bytes = bytes_at(&desk.session, address);
-    if line_in(desk.session.profile(), &bytes, address).len == len
+    let session = &desk.session;
+    let bytes = [
+        session.peek(address),
+        session.peek(address.wrapping_add(1)),
+        session.peek(address.wrapping_add(2)),
+    ];
+    let shown = &bytes[..usize::from(len.min(3))];
+    push_row_bytes(column, "", " ", shown)?;
+    if line_in(session.profile(), &bytes, address).len == len
         && desk.places.data_left(address) == 0
     {
-        push_instruction(text, &desk.session, &desk.places, address)
+        push_instruction(words, session, &desk.places, address)
     } else {
-        push_row_bytes(text, ".BYTE $", ",$", desk, address, len)
+        push_row_bytes(words, ".BYTE $", ",$", shown)
     }
 }
 
@@ -164,28 +154,8 @@ fn row_on(
     }
 }
 
-/// Returns the row of some bytes at an address, which may begin a line of the source.
-fn row_shown(
-    alloc: Global,
-    desk: &Desk,
-    source: &Source<'_>,
-    address: u16,
-    len: u8,
-) -> Result<Value, AllocError>
-    ensures { IfOk result (λ v. view v ≡ row_shown desk.now source.now.path.now
-        source.now.counting address len) }
-{
-    let mut column = Vec::new(alloc);
-    let shown = push_row_bytes(&mut column, "", " ", desk, address, len);
-    let bytes = as_text(alloc, column, shown);
-    let mut words = Vec::new(alloc);
-    let grown = push_row_text(&mut words, desk, address, len);
-    let text = as_text(alloc, words, grown);
-    let line = desk.places.line_at(address);
-    row_on(alloc, source, address, bytes, text, line)
-}
-
-/// Returns the row of some bytes at an address. Where no memory is, it says so.
+/// Returns the row of some bytes at an address, an instruction or data, which may begin a line of
+/// the source. Where no memory is, it says so.
 fn row_of(
     alloc: Global,
     desk: &Desk,
@@ -196,15 +166,21 @@ fn row_of(
     ensures { IfOk result (λ v. view v ≡ row_of desk.now source.now.path.now
         source.now.counting address len) }
 {
-    if address < BEHIND {
-        row_shown(alloc, desk, source, address as u16, len)
-    } else {
-        Object::new(alloc)
+    if address >= BEHIND {
+        return Object::new(alloc)
             .word("address", "0xFFFF")
             .word("instruction", "")
             .word("presentationHint", "invalid")
-            .build()
+            .build();
     }
+    let address = address as u16;
+    let mut column = Vec::new(alloc);
+    let mut words = Vec::new(alloc);
+    let grown = push_row(&mut column, &mut words, desk, address, len);
+    let bytes = as_text(alloc, column, grown);
+    let text = as_text(alloc, words, grown);
+    let line = desk.places.line_at(address);
+    row_on(alloc, source, address, bytes, text, line)
 }
 
 /// Returns a list with so many rows from an address on behind its values.
@@ -231,53 +207,22 @@ fn with_rows(
     Ok(list)
 }
 
-/// Returns how many rows ahead the first one is.
-fn ahead(offset: i64) -> u32
-    ensures value { result ≡ ahead offset }
-    ensures most { result ≤ 65536 }
+/// Returns how many rows back the first one is, and how many rows ahead.
+fn moved(offset: i64) -> (u32, u32)
+    ensures behind { result.0 ≡ behind offset }
+    ensures ahead { result.1 ≡ ahead offset }
+    ensures most_behind { result.0 ≤ 65536 }
+    ensures most_ahead { result.1 ≤ 65536 }
 {
-    if offset < 0 {
-        0
+    if offset <= -65536 {
+        (65536, 0)
+    } else if offset < 0 {
+        ((-offset) as u32, 0)
     } else if offset < 65536 {
-        offset as u32
+        (0, offset as u32)
     } else {
-        65536
+        (0, 65536)
     }
-}
-
-/// Returns how many rows back the first one is.
-fn behind(offset: i64) -> u32
-    ensures value { result ≡ behind offset }
-    ensures most { result ≤ 65536 }
-{
-    if offset >= 0 {
-        0
-    } else if offset > -65536 {
-        (-offset) as u32
-    } else {
-        65536
-    }
-}
-
-/// Returns where the first row begins, and how many rows in front of it no memory has.
-fn first_row(
-    alloc: Global,
-    desk: &Desk,
-    until: u32,
-    back: u32,
-    on: u32,
-) -> Result<(u32, u32), AllocError>
-    requires until { until ≤ 65535 }
-    requires back { back ≤ 65536 }
-    requires on { on ≤ 65536 }
-    ensures first { IfOk result (λ p. p.0 ≡ first desk.now until back on) }
-    ensures within { IfOk result (λ p. p.0 ≤ 65790) }
-    ensures lacking { IfOk result (λ p. p.1 ≡ back - found desk.now until back) }
-{
-    let begin = until.saturating_sub(back * 3);
-    let found = rows_to(alloc, desk, until, begin)?;
-    let first = rows_on(alloc, desk, until, found.saturating_sub(back) + on, begin)?;
-    Ok((first, back.saturating_sub(found)))
 }
 
 /// Returns so many rows, of which the first is some rows before an address or behind it.
@@ -293,30 +238,16 @@ fn rows_around(
         source.now.counting until (behind offset) (ahead offset) count)) }
 {
     let until = u32::from(until);
-    let (first, lacking) = first_row(alloc, desk, until, behind(offset), ahead(offset))?;
+    let (back, on) = moved(offset);
+    let begin = until.saturating_sub(back * 3);
+    let found = rows_to(alloc, desk, until, begin)?;
+    let passed = found.saturating_sub(back) + on;
+    let first = rows_on(alloc, desk, until, passed, begin)?;
+    let lacking = back.saturating_sub(found);
     let none = ValueList::new(alloc);
     let front = with_rows(alloc, none, desk, source, until, lacking.min(count), BEHIND)?;
     let left = count.saturating_sub(lacking);
     with_rows(alloc, front, desk, source, until, left, first)
-}
-
-/// Returns so many rows, of which the first is some rows before an address or behind it, if there
-/// is an address.
-fn rows_at(
-    alloc: Global,
-    desk: &Desk,
-    source: &Source<'_>,
-    offset: i64,
-    count: u32,
-    until: Option<u16>,
-) -> Result<ValueList, AllocError>
-    ensures { IfOk result (HasValues (rows_at desk.now source.now.path.now source.now.counting
-        offset count until)) }
-{
-    match until {
-        Some(until) => rows_around(alloc, desk, source, until, offset, count),
-        None => with_rows(alloc, ValueList::new(alloc), desk, source, 0, count, BEHIND),
-    }
 }
 
 /// Returns as many rows of a disassembly as a request asks for, at most 65,536: instructions, and
@@ -334,7 +265,11 @@ pub fn disassembled(
     let until = place_at(request, "/arguments/memoryReference", "/arguments/offset");
     let offset = offset_at(request, "/arguments/instructionOffset");
     let count = count_at(request, "/arguments/instructionCount");
-    let list = rows_at(alloc, desk, source, offset, count, until)?;
+    let rows = match until {
+        Some(until) => rows_around(alloc, desk, source, until, offset, count),
+        None => with_rows(alloc, ValueList::new(alloc), desk, source, 0, count, BEHIND),
+    };
+    let list = rows?;
     Object::new(alloc)
         .member("instructions", list.build())
         .build()

@@ -2,8 +2,7 @@
 
 ghost use Rattle.std.specs.Prelude.{◌≡◌, ◌-◌, ℕ, IfOk, List, map as each, slice_index};
 ghost use Rattle.std.specs.Prelude.{string_bytes};
-ghost use Rattle.dap_views.specs.Scopes.{cells, listed, machine_shown, scope_at};
-ghost use Rattle.dap_views.specs.Scopes.{symbols_shown, variables_shown};
+ghost use Rattle.dap_views.specs.Scopes.{cells, machine_shown, symbols_shown, variables_shown};
 ghost use Rattle.dap_views.specs.Variables.{byte_variable, flag_variable, flags_shown};
 ghost use Rattle.dap_views.specs.Variables.{number_variable, registers_shown, variable};
 ghost use Rattle.json_values.specs.Values.{list_of};
@@ -19,36 +18,6 @@ use mon_session::Desk;
 use serde_json::Value;
 use source_map::Name;
 use std::alloc::{AllocError, Global};
-
-/// What a frame has variables of.
-#[derive(Clone, Copy)]
-pub enum Scope {
-    Registers,
-    Flags,
-    /// The names of the program, each with the byte at its address.
-    Symbols,
-    /// The stack.
-    Stack,
-    ZeroPage,
-    /// The cycles, the events that are held, and the bytes that were put out.
-    Machine,
-}
-
-/// Returns the scope whose variables a request asks for, if there is one.
-#[tactic(auto, unfolding(crate::specs::Scopes::scope_of))]
-fn scope_at(request: &Value) -> Option<Scope>
-    ensures { result ≡ scope_at (view request.now) }
-{
-    match number_at(request, "/arguments/variablesReference") {
-        Some(1) => Some(Scope::Registers),
-        Some(2) => Some(Scope::Flags),
-        Some(3) => Some(Scope::Symbols),
-        Some(4) => Some(Scope::Stack),
-        Some(5) => Some(Scope::ZeroPage),
-        Some(6) => Some(Scope::Machine),
-        _ => None,
-    }
-}
 
 /// Returns a variable of a name, with its value, if memory did not run out for that.
 fn variable(
@@ -120,19 +89,17 @@ fn flags(alloc: Global, flags: Flags) -> Result<Value, AllocError>
         .build()
 }
 
-/// Returns the byte at an address, under a name, if memory did not run out for that.
+/// Returns a byte as a variable of a name, if memory did not run out for that.
 fn byte_named(
     alloc: Global,
-    session: &Session,
     name: Result<String, AllocError>,
-    address: u16,
+    byte: u8,
 ) -> Result<Value, AllocError>
     ensures { (bytes : List ℕ) → IfOk name (λ s. string_bytes s ≡ bytes)
-        → IfOk result (λ v. view v ≡ byte_variable bytes
-        (slice_index session.now.current.bus.memory address)) }
+        → IfOk result (λ v. view v ≡ byte_variable bytes byte) }
 {
     let name = name?;
-    byte_variable(alloc, name.as_str(), session.peek(address))
+    byte_variable(alloc, name.as_str(), byte)
 }
 
 /// Returns the bytes at names, each under its name.
@@ -143,7 +110,7 @@ fn symbols(alloc: Global, session: &Session, names: &[Name]) -> Result<Value, Al
     let mut list = ValueList::new(alloc);
     for name in names {
         let text = String::from_utf8_lossy(alloc, name.text.as_slice());
-        list = list.with(byte_named(alloc, session, text, name.address));
+        list = list.with(byte_named(alloc, text, session.peek(name.address)));
     }
     list.build()
 }
@@ -156,7 +123,7 @@ fn cells(alloc: Global, session: &Session, from: u16, to: u16) -> Result<Value, 
     let mut list = ValueList::new(alloc);
     for address in from..to {
         let name = address_text(alloc, address);
-        list = list.with(byte_named(alloc, session, name, address));
+        list = list.with(byte_named(alloc, name, session.peek(address)));
     }
     list.build()
 }
@@ -172,34 +139,23 @@ fn machine(alloc: Global, session: &Session) -> Result<Value, AllocError>
         .build()
 }
 
-/// Returns the variables of a scope: none if there is no scope. The bytes of the stack are those
-/// from that above the stack pointer on.
-fn listed(
-    alloc: Global,
-    session: &Session,
-    names: &[Name],
-    scope: Option<Scope>,
-) -> Result<Value, AllocError>
-    ensures { IfOk result
-        (λ v. view v ≡ list_of (listed session.now (each named names.now) scope)) }
-{
-    match scope {
-        Some(Scope::Registers) => registers(alloc, session.regs()),
-        Some(Scope::Flags) => flags(alloc, session.regs().flags),
-        Some(Scope::Symbols) => symbols(alloc, session, names),
-        Some(Scope::Stack) => cells(alloc, session, 257 + u16::from(session.regs().s), 512),
-        Some(Scope::ZeroPage) => cells(alloc, session, 0, 256),
-        Some(Scope::Machine) => machine(alloc, session),
-        None => ValueList::new(alloc).build(),
-    }
-}
-
-/// Returns the variables that a request asks for.
+/// Returns the variables of the scope whose number a request names: 1 for the registers, 2 for the
+/// flags, 3 for the names of the program, 4 for the stack, 5 for the zero page, 6 for what is told
+/// of the machine. Another scope has none. The bytes of the stack are those from that above the
+/// stack pointer on.
 pub fn variables_shown(alloc: Global, desk: &Desk, request: &Value) -> Result<Value, AllocError>
     ensures { IfOk result (λ v. view v
         ≡ variables_shown desk.now.session desk.now.places.names (view request.now)) }
 {
-    let names = desk.places.names().all();
-    let list = listed(alloc, &desk.session, names, scope_at(request));
+    let session = &desk.session;
+    let list = match number_at(request, "/arguments/variablesReference") {
+        Some(1) => registers(alloc, session.regs()),
+        Some(2) => flags(alloc, session.regs().flags),
+        Some(3) => symbols(alloc, session, desk.places.names().all()),
+        Some(4) => cells(alloc, session, 257 + u16::from(session.regs().s), 512),
+        Some(5) => cells(alloc, session, 0, 256),
+        Some(6) => machine(alloc, session),
+        _ => ValueList::new(alloc).build(),
+    };
     Object::new(alloc).member("variables", list).build()
 }

@@ -2,13 +2,13 @@ use Rattle.std.proofs.Common.{arith}
 use Rattle.dap_desk.proofs.BreakList.{found, not_here, nowhere}
 use Rattle.dap_desk.proofs.halts.is_break.Goals as goal
 
-pub returns-then-is_this : goal.returns-then-is_this
-returns-then-is_this c = found _ _ c.loop-index.index _ _ c.loop-index.invariant
-    (omega (arith, c.loop-index-test.true, c.break_count-index-end.ensures)) c.is_this.ensures c.if-is_this.true
+pub returns-then-eq : goal.returns-then-eq
+returns-then-eq c = found _ _ c.loop-index.index _ c.loop-index.invariant
+    (omega (arith, c.loop-index-test.true, c.break_count-index-end.ensures)) (cc)
 
 pub loop-index-preserved : goal.loop-index-preserved
-loop-index-preserved c = not_here _ _ c.loop-index.index _ _ c.loop-index.invariant
-    (omega (arith, c.loop-index-test.true, c.break_count-index-end.ensures)) c.is_this.ensures c.if-is_this.false
+loop-index-preserved c = not_here _ _ c.loop-index.index _ c.loop-index.invariant
+    (omega (arith, c.loop-index-test.true, c.break_count-index-end.ensures)) (cc)
 
 pub returns : goal.returns
 returns c = nowhere _ _ c.loop-index.index _ c.loop-index.invariant

@@ -1,7 +1,24 @@
-use Rattle.std.proofs.Common.{sym}
+use Rattle.std.proofs.Common.{◌∙◌, ℕ, List, ap, sym}
 use Rattle.std.proofs.lemmas.Result.{IfOk-weaker}
+use Rattle.dap_session.proofs.Done.{kept}
+use Rattle.dap_session.specs.Changes.{count_there, written_said}
+use Rattle.mon_session.specs.Course.{course_of}
+use Rattle.mon_settings.specs.ByteLines.{bytes_put}
 use Rattle.dap_session.proofs.changing.write_memory.Goals as goal
 
-pub returns-in-Some-clause-done : goal.returns-in-Some-clause-done
-returns-in-Some-clause-done c =
-    IfOk-weaker c.write_at.result _ _ (λ ms h. (c.in-Some.address, sym c.in-Some.ensures, h)) c.write_at.ensures.done
+pub returns-clause-done : goal.returns-clause-done
+returns-clause-done c =
+    let memory = c.put-done.new.desk.session.current.bus.memory in
+    IfOk-weaker c.or_memory.result _ _
+    (λ ms said. (
+      c.in-Some.address,
+      sym c.in-Some.ensures,
+      (
+        c.in_ok-bytes.bytes.items,
+        c.in_ok-bytes.ensures,
+        c.put-done.ensures.course ∙ ap (λ (bytes : List ℕ). bytes_put c.in-Some.address bytes (course_of c.args.seat.now.desk)) c.as_slice.ensures.value,
+        c.put-done.ensures.stops,
+        said ∙ ap written_said (c.count_there-count.ensures ∙ ap (count_there memory c.in-Some.address) c.as_slice-2.ensures.value),
+      ),
+    ))
+    (kept c.with_unmoved.result c.or_memory.result _ c.or_memory.ensures.made (c.with_unmoved.ensures _ (c.answered.ensures _ c.written_body.ensures)))

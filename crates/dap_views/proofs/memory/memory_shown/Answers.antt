@@ -1,24 +1,32 @@
-use Rattle.std.proofs.Common.{◌≡◌, ◌∙◌, ◌-◌, [], ap, arith, sym}
+use Rattle.std.proofs.Common.{◌≡◌, ◌∙◌, ◌-◌, ℕ, [], List, Option, ap, arith, sym}
 use Rattle.base64.specs.Rfc4648.{encode_symbols}
 use Rattle.dap_views.proofs.Shown.{shown_as}
 use Rattle.dap_views.specs.Memory.{bytes_text, memory_at, most}
 use Rattle.dap_views.specs.Values.{memory_body}
+use Rattle.serde_json.specs.Data.{Data}
 use Rattle.std.specs.Prelude.{min}
 use Rattle.dap_views.proofs.memory.memory_shown.Goals as goal
+use Rattle.dap_views.proofs.memory.memory_shown.Goals.{in-Some, in-None}
 
-pub returns-in-Some : goal.returns-in-Some
-returns-in-Some c =
-    let memory = c.args.desk.now.session.current.bus.memory in
-    let first = c.in-Some.first in
-    let count = c.count_at-count.result in
-    let there : c.min-most.result ≡ most first count = c.min-most.ensures ∙ ap (λ k. min count (65536 - k)) c.from.ensures in
-    shown_as _ _ _ (ap (λ n. memory_body first (bytes_text memory first n) (count - n)) there
-    ∙ (λ i. memory_at memory (c.count_at-count.ensures.value i) ((sym c.in-Some.is ∙ c.place_at.ensures) i))) c.bytes_shown.ensures
+-- where the bytes begin, and how many there are
+abbrev shown : List ℕ → ℕ → ℕ × ℕ → Data
+shown memory count place = memory_body place.0 (bytes_text memory place.0 place.1) (count - place.1)
 
-pub returns-in-None : goal.returns-in-None
+pub returns : goal.returns
 unfolding encode_symbols
-returns-in-None c =
+returns c =
     let memory = c.args.desk.now.session.current.bus.memory in
     let count = c.count_at-count.result in
-    let all : count - 0 ≡ count = omega arith in
-    shown_as _ _ _ (ap (memory_body 0 []) all ∙ (λ i. memory_at memory (c.count_at-count.ensures.value i) ((sym c.in-None.is ∙ c.place_at.ensures) i))) c.bytes_shown-in-None.ensures
+    let at : Option ℕ → Data = memory_at memory count in
+    let place = c.match-place_at.first in
+    let same : shown memory count place ≡ at c.place_at.result = elim c.match-place_at.branch [
+      | in-Some w ↦
+          let there : w.min.result ≡ most w.in-Some.first count = w.min.ensures ∙ ap (λ k. min count (65536 - k)) w.from.ensures in
+          ap (shown memory count) w.first-is ∙ ap (λ n. shown memory count (w.in-Some.first, n)) there ∙ sym (ap at w.in-Some.is)
+      | in-None w ↦
+          let all : count - 0 ≡ count = omega arith in
+          ap (shown memory count) w.first-is ∙ ap (memory_body 0 []) all ∙ sym (ap at w.in-None.is)
+    ] in
+    let built = c.build.ensures _ (c.count.ensures _ (c.text-2.ensures _ _ (c.text.ensures _ _ c.new.ensures c.reference.ensures) c.bytes_text.ensures)) in
+    shown_as _ _ _ (ap (memory_body place.0 (bytes_text memory place.0 place.1)) c.from-2.ensures ∙ same
+    ∙ (λ i. memory_at memory (c.count_at-count.ensures.value i) (c.place_at.ensures i))) built

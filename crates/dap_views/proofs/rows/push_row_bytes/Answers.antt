@@ -1,6 +1,5 @@
-use Rattle.std.proofs.Common.{◌∙◌, ◌++◌, arith, rules, take}
+use Rattle.std.proofs.Common.{arith, rules}
 use Rattle.dap_views.proofs.Joined.{joined_done, joined_more}
-use Rattle.dap_views.specs.Rows.{joined}
 use Rattle.dap_views.proofs.rows.push_row_bytes.Goals as goal
 
 pub loop-byte-preserved : goal.loop-byte-preserved
@@ -11,6 +10,4 @@ loop-byte-preserved c = record {
 }
 
 pub returns : goal.returns
-returns c =
-    joined_done c.loop-byte.words.now c.args.between.now _ c.loop-byte.byte-index c.loop-byte.text.items _ (omega (arith, c.loop-byte-test.false)) c.loop-byte.invariant.joined
-    ∙ (λ i. c.args.text.now.items ++ joined c.args.front.now c.args.between.now (take ((c.from.ensures ∙ c.min.ensures) i) (c.bytes_at-bytes.ensures i)))
+returns c = joined_done c.loop-byte.words.now c.args.between.now _ c.loop-byte.byte-index c.loop-byte.text.items _ (omega (arith, c.loop-byte-test.false)) c.loop-byte.invariant.joined

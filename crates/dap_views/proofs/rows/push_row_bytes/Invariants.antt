@@ -6,6 +6,6 @@ use Rattle.dap_views.proofs.rows.push_row_bytes.Given as goal
 
 abbrev pub invariant-loop-byte : goal.invariant-loop-byte
 invariant-loop-byte l = record {
-  joined : l.text.items ++ joined l.words l.between (drop l.byte-index l.shown) ≡ l.initial.text.items ++ joined l.front l.between l.shown;
+  joined : l.text.items ++ joined l.words l.between (drop l.byte-index l.bytes) ≡ l.initial.text.items ++ joined l.front l.between l.bytes;
   utf8 : shadow (Utf8 l.words);
 }

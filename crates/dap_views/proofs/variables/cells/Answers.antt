@@ -1,6 +1,9 @@
 use Rattle.std.proofs.Common.{◌≡◌, ◌-◌, List, ap, arith, subst}
+use Rattle.dap_messages.specs.Texts.{address_text}
 use Rattle.dap_views.proofs.Cells.{cells_more, cells_none}
+use Rattle.dap_views.proofs.Shown.{shown_as}
 use Rattle.dap_views.specs.Scopes.{cells}
+use Rattle.dap_views.specs.Variables.{byte_variable}
 use Rattle.json_values.specs.ValueLists.{HasValues}
 use Rattle.serde_json.specs.Data.{Data}
 use Rattle.dap_views.proofs.variables.cells.Goals as goal
@@ -16,7 +19,7 @@ pub loop-address-preserved : goal.loop-address-preserved
 loop-address-preserved c =
     let inv = c.loop-address.invariant in
     record {
-      cells = cells_more c.args.session.now.current.bus.memory c.args.from c.loop-address.address _ inv.behind (c.with-list.ensures _ _ inv.cells (c.byte_named.ensures _ c.address_text-name.ensures));
+      cells = cells_more c.args.session.now.current.bus.memory c.args.from c.loop-address.address _ inv.behind (c.with-list.ensures _ _ inv.cells (shown_as _ _ _ (ap (byte_variable (address_text c.loop-address.address)) c.peek.ensures.value) (c.byte_named.ensures _ c.address_text-name.ensures)));
       behind = omega (arith, inv.behind);
       within = omega (arith, inv.behind, c.loop-address-test.true);
     }

@@ -3,6 +3,7 @@ use Rattle.std.proofs.lemmas.Result.{IfOk-weaker}
 use Rattle.std.specs.Str.Lossy.{utf8_lossy}
 use Rattle.dap_views.proofs.Shown.{shown_as}
 use Rattle.dap_views.proofs.Symbols.{symbol_shown, symbols_of}
+use Rattle.dap_views.specs.Variables.{byte_variable}
 use Rattle.json_values.proofs.Lists.{all_values, next_value}
 use Rattle.json_values.specs.ValueLists.{HasValues}
 use Rattle.serde_json.specs.Data.{Data}
@@ -16,7 +17,7 @@ loop-name-preserved c =
     let g = symbol_shown c.args.session.now.current.bus.memory in
     let text = IfOk-weaker c.from_utf8_lossy-text.result _ _ (λ t h. h ∙ ap utf8_lossy c.as_slice.ensures.value) c.from_utf8_lossy-text.ensures.lossy in
     next_value g c.args.names.now c.loop-name.name-index _ _ (omega (arith, c.loop-name-test.true))
-    (c.with-list.ensures _ _ c.loop-name.invariant (shown_as _ _ _ (ap g c.name-item.is) (c.byte_named.ensures _ text)))
+    (c.with-list.ensures _ _ c.loop-name.invariant (shown_as _ _ _ (ap (byte_variable (utf8_lossy c.name-item.result.text.items)) c.peek.ensures.value ∙ ap g c.name-item.is) (c.byte_named.ensures _ text)))
 
 pub returns : goal.returns
 returns c =

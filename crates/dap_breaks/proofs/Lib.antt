@@ -1,3 +1,0 @@
-mod Begun
-mod Matching
-mod Watching

@@ -1,4 +1,0 @@
-use Rattle.dap_messages.proofs.message.refusal.Goals as goal
-
-pub returns : goal.returns
-returns c = c.build.ensures _ (c.word-3.ensures _ (c.flag.ensures _ (c.count-2.ensures _ (c.count.ensures _ (c.word-2.ensures _ (c.word.ensures _ c.new.ensures))))))

@@ -1,0 +1,7 @@
+use Rattle.std.proofs.Common.{◌∙◌, ap, sym}
+use Rattle.base64.specs.Engines.{standard}
+use Rattle.base64.specs.GeneralPurpose.{decode_of}
+use Rattle.dap_session.proofs.changing.bytes_in.Goals as goal
+
+pub returns-in-Ok : goal.returns-in-Ok
+returns-in-Ok c = ap (decode_of standard) (sym (c.as_bytes.ensures.value ∙ c.text_or-text.ensures)) ∙ c.in-Ok.ensures.ok

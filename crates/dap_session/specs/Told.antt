@@ -1,0 +1,67 @@
+-- What a client is told besides the answer to a request. Source: Debug Adapter Protocol 1.65,
+-- "Output Event", "Stopped Event", "Invalidated Event"; what is told when, mos65.
+use Rattle.std.specs.Prelude.{ℕ, ◌-◌, nat_lt, if◌then◌else◌, List, [], ◌∷◌, ◌++◌, codes, decimal, drop, encode_utf8, length, Option, Some, None}
+use Rattle.std.specs.List.{flat_map}
+use Rattle.std.specs.Str.Lossy.{utf8_lossy}
+use Rattle.dap_views.specs.Values.{invalidated_body, output_body, stopped_body}
+use Rattle.dap_messages.specs.Messages.{Said, event}
+use Rattle.dap_messages.specs.Halts.{word_of}
+use Rattle.dap_messages.specs.declared.halt.Halt.{Halt}
+use Rattle.dap_messages.specs.declared.halt.Reason.{Reason}
+use Rattle.dap_messages.specs.declared.halt.Reason.TheVariants.{Entry}
+use Rattle.dap_session.specs.declared.wording.TheConstants.{LESS_BEFORE, LESS_BEHIND}
+use Rattle.model.specs.declared.event.EventFault.{EventFault}
+use Rattle.mon_session.specs.Faults.{fault_text}
+use Rattle.mon_session.specs.declared.desk.Desk.{Desk}
+use Rattle.source_map.specs.Names.{Named}
+
+-- ---- what the program puts out
+
+-- A byte is the character of its number.
+abbrev pub characters : List ℕ → List ℕ
+characters bytes = flat_map encode_utf8 bytes
+
+abbrev pub output_said : List ℕ → List ℕ → Said
+output_said category text = event (codes "output") (output_body category text)
+
+abbrev pub less_text : ℕ → List ℕ
+less_text count = LESS_BEFORE.now ++ decimal count ++ LESS_BEHIND.now
+
+-- What was put out since the client was told so many bytes, or that bytes were taken back.
+abbrev pub console_said : ℕ → List ℕ → List Said
+console_said told out = if nat_lt told (length out)
+    then output_said (codes "stdout") (characters (drop told out)) ∷ []
+    else if nat_lt (length out) told
+    then output_said (codes "console") (less_text (told - length out)) ∷ [] else []
+
+-- ---- that the machine stands
+
+abbrev pub line_of : List ℕ → List ℕ
+line_of words = words ++ codes "\n"
+
+-- Before the first instruction, and at the oldest state, a remark says so.
+abbrev pub remark_said : Reason → List ℕ → List Said
+remark_said Entry words = output_said (codes "console") (line_of words) ∷ []
+remark_said other words = []
+
+-- The words of a halt, or why a step is refused.
+abbrev pub fault_shown : List Named → EventFault → List ℕ
+fault_shown names fault = utf8_lossy (fault_text names fault)
+
+abbrev pub halt_shown : List Named → List ℕ → Option EventFault → List ℕ
+halt_shown names words (Some fault) = fault_shown names fault
+halt_shown names words None = words
+
+abbrev pub stopped_said : Reason → List ℕ → Said
+stopped_said reason words = event (codes "stopped") (stopped_body (word_of reason) words)
+
+-- All of it, in this order.
+abbrev pub told_of : Desk → ℕ → Halt → List Said
+told_of desk told halt = console_said told desk.session.current.bus.out
+    ++ remark_said halt.reason halt.words.now
+    ++ stopped_said halt.reason
+    (halt_shown desk.places.names halt.words.now halt.fault) ∷ []
+
+-- All that is shown may have changed.
+abbrev pub unmoved_said : Said
+unmoved_said = event (codes "invalidated") invalidated_body

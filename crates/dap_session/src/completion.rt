@@ -1,0 +1,158 @@
+//! What can stand in a line of the console for the word that is typed.
+
+ghost use Rattle.std.specs.Prelude.{◌≡◌, ◌≤◌, ◌++◌, IfOk, List, length, map as each};
+ghost use Rattle.std.specs.List.{flat_map, list_all};
+ghost use Rattle.dap_session.specs.Completions.{completions, front_of, if_begun};
+ghost use Rattle.dap_session.specs.Completions.{names_begun, offered, typed_bytes, word_begun};
+ghost use Rattle.json_values.specs.ValueLists.{HasValues};
+ghost use Rattle.mon_line_parts.specs.Topics.{row_view};
+ghost use Rattle.model.specs.Token.{is_blank};
+ghost use Rattle.serde_json.specs.Data.{Data};
+ghost use Rattle.serde_json.specs.View.{view};
+ghost use Rattle.source_map.specs.Names.{named};
+
+use dap_messages::Counting;
+use dap_views::list_body;
+use json_values::{Object, ValueList, number_at, text_or};
+use mon_line_parts::{Topic, all_words, begins_with};
+use mon_session::Desk;
+use serde_json::Value;
+use source_map::Name;
+use std::alloc::{AllocError, Global};
+
+/// Returns the text of a request before its column: all of it if the column is behind it.
+fn front_of(counting: Counting, request: &Value) -> &[u8]
+    ensures { result.now ≡ front_of counting (view request.now) }
+{
+    let text = text_or(request, "/arguments/text", "").as_bytes();
+    let column = number_at(request, "/arguments/column").unwrap_or(0);
+    let count = column.saturating_sub(counting.first_column());
+    if count < text.len() as u64 {
+        &text[..count as usize]
+    } else {
+        text
+    }
+}
+
+/// Counts the letters, digits and `_` at the end of a text.
+#[tactic(auto, unfolding(crate::specs::Completions::typed_bytes))]
+fn typed_bytes(text: &[u8]) -> usize
+    ensures counted { result ≡ typed_bytes 0 text.now }
+    ensures inside { result ≤ length text.now }
+{
+    let mut count = 0;
+    for byte in text {
+        count = match *byte {
+            b'A'..=b'Z' | b'a'..=b'z' | b'0'..=b'9' | b'_' => count + 1,
+            _ => 0,
+        };
+    }
+    count
+}
+
+/// Returns whether each byte of a text is a blank.
+fn are_blanks(text: &[u8]) -> bool
+    ensures { result ≡ list_all is_blank text.now }
+{
+    for byte in text {
+        if *byte != b' ' && *byte != b'\t' {
+            return false;
+        }
+    }
+    true
+}
+
+/// Returns a list with a name behind its values, if the name begins with what is typed from a
+/// column on.
+fn with_begun(alloc: Global, list: ValueList, name: &[u8], start: u64, typed: &[u8]) -> ValueList
+    ensures { (ds : List Data) → HasValues ds list
+        → HasValues (ds ++ if_begun start typed.now name.now) result }
+{
+    if begins_with(name, typed) {
+        let completion = Object::new(alloc)
+            .text("label", String::from_utf8_lossy(alloc, name))
+            .count("length", typed.len() as u64)
+            .count("start", start)
+            .text("text", String::from_utf8_lossy(alloc, name))
+            .build();
+        list.with(completion)
+    } else {
+        list
+    }
+}
+
+/// Returns a list with a word of `mon` behind its values, if the word begins with what is typed.
+fn with_word(
+    alloc: Global,
+    list: ValueList,
+    word: &[u8],
+    topic: Topic,
+    start: u64,
+    typed: &[u8],
+) -> ValueList
+    ensures { (ds : List Data) → HasValues ds list → HasValues
+        (ds ++ word_begun start typed.now (word.now, topic)) result }
+{
+    match topic {
+        Topic::Trace => list,
+        _ => with_begun(alloc, list, word, start, typed),
+    }
+}
+
+/// Returns those of some words of `mon` that begin with what is typed.
+fn words_begun(alloc: Global, rows: &[(&[u8], Topic)], start: u64, typed: &[u8]) -> ValueList
+    ensures { HasValues (flat_map (word_begun start typed.now) (each row_view rows.now)) result }
+{
+    let mut list = ValueList::new(alloc);
+    for (word, topic) in rows {
+        list = with_word(alloc, list, word, *topic, start, typed);
+    }
+    list
+}
+
+/// Returns those of some names that begin with what is typed.
+fn names_begun(alloc: Global, names: &[Name], start: u64, typed: &[u8]) -> ValueList
+    ensures { HasValues (names_begun start typed.now (each named names.now)) result }
+{
+    let mut list = ValueList::new(alloc);
+    for name in names {
+        list = with_begun(alloc, list, name.text.as_slice(), start, typed);
+    }
+    list
+}
+
+/// Returns what begins with the word at the end of a text: words of `mon` if nothing stands before
+/// it, otherwise names. Nothing is offered if the text is not ASCII.
+fn offered(alloc: Global, counting: Counting, names: &[Name], front: &[u8]) -> ValueList
+    ensures { HasValues (offered counting (each named names.now) front.now) result }
+{
+    if front.is_ascii() {
+        let (before, typed) = front.split_at(front.len() - typed_bytes(front));
+        let start = before.len() as u64 + counting.first_column();
+        if are_blanks(before) {
+            words_begun(alloc, all_words(), start, typed)
+        } else {
+            names_begun(alloc, names, start, typed)
+        }
+    } else {
+        ValueList::new(alloc)
+    }
+}
+
+/// Returns what can stand for the word that is typed before the column of a request: words of `mon`
+/// if it is the first of the line, otherwise names of the program.
+///
+/// Errors: `AllocError` if an allocation fails.
+pub fn completions(
+    alloc: Global,
+    desk: &Desk,
+    counting: Counting,
+    request: &Value,
+) -> Result<Value, AllocError>
+    ensures { IfOk result (λ v. view v
+        ≡ completions counting desk.now.places.names (view request.now)) }
+{
+    let names = desk.places.names().all();
+    let list = offered(alloc, counting, names, front_of(counting, request));
+    list_body(alloc, "targets", list)
+}

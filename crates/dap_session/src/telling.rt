@@ -1,0 +1,191 @@
+//! What a client is told besides the answer to a request.
+
+ghost use Rattle.std.specs.Prelude.{◌≡◌, ◌++◌, ◌∷◌, ◌≤◌, [], ℕ, IfOk, OnOk};
+ghost use Rattle.std.specs.Prelude.{List, drop, length, map as each, string_bytes};
+ghost use Rattle.dap_messages.specs.Messages.{Said, done, event, said_of};
+ghost use Rattle.dap_session.specs.Told.{characters, console_said, halt_shown, output_said};
+ghost use Rattle.dap_session.specs.Told.{remark_said, stopped_said, told_of, unmoved_said};
+ghost use Rattle.serde_json.specs.Data.{Data};
+ghost use Rattle.serde_json.specs.View.{view};
+
+use crate::wording::{LESS_BEFORE, LESS_BEHIND};
+use dap_messages::{Halt, Message, Reason, Told};
+use dap_views::as_text;
+use json_values::{Object, ValueList};
+use mon_runs::Session;
+use mon_session::{Desk, push_fault};
+use serde_json::Value;
+use source_map::Places;
+use std::alloc::{AllocError, Global};
+
+/// Returns what the program put out since it had put out so many bytes. A byte is the character of
+/// its number.
+fn output_since(alloc: Global, session: &Session, from: u32) -> Result<String, AllocError>
+    requires { from ≤ length session.now.current.bus.out }
+    ensures { IfOk result (λ text. string_bytes text
+        ≡ characters (drop from session.now.current.bus.out)) }
+{
+    let mut text = String::new(alloc);
+    for index in from..session.output_len() {
+        text.push(session.output_at(index).unwrap_or(0) as char)?;
+    }
+    Ok(text)
+}
+
+/// Returns messages with an event of a name and a body behind them, if memory did not run out for
+/// either.
+pub fn with_event(
+    messages: Result<Vec<Message>, AllocError>,
+    name: &'static str,
+    body: Result<Value, AllocError>,
+) -> Result<Vec<Message>, AllocError>
+    ensures { (before : List Said) (d : Data)
+        → IfOk messages (λ ms. each said_of ms.items ≡ before) → IfOk body (λ v. view v ≡ d)
+        → IfOk result (λ ms. each said_of ms.items ≡ before ++ event name.now d ∷ []) }
+{
+    let mut messages = messages?;
+    messages.push(Message::Event(name, body?))?;
+    Ok(messages)
+}
+
+/// Returns messages with an event that has a text behind them, if memory did not run out for
+/// either.
+fn with_output(
+    alloc: Global,
+    messages: Result<Vec<Message>, AllocError>,
+    category: &str,
+    text: Result<String, AllocError>,
+) -> Result<Vec<Message>, AllocError>
+    ensures { (before : List Said) (bytes : List ℕ)
+        → IfOk messages (λ ms. each said_of ms.items ≡ before)
+        → IfOk text (λ s. string_bytes s ≡ bytes)
+        → IfOk result
+        (λ ms. each said_of ms.items ≡ before ++ output_said category.now bytes ∷ []) }
+{
+    let body = Object::new(alloc)
+        .word("category", category)
+        .text("output", text)
+        .build();
+    with_event(messages, "output", body)
+}
+
+/// Returns messages and, behind them, what the program put out since the client was told so many
+/// bytes, or that bytes were taken back.
+fn with_console(
+    alloc: Global,
+    messages: Result<Vec<Message>, AllocError>,
+    session: &Session,
+    told: u32,
+) -> Result<Vec<Message>, AllocError>
+    ensures { (before : List Said) → IfOk messages (λ ms. each said_of ms.items ≡ before)
+        → IfOk result (λ ms. each said_of ms.items
+        ≡ before ++ console_said told session.now.current.bus.out) }
+{
+    let count = session.output_len();
+    if told < count {
+        let text = output_since(alloc, session, told);
+        with_output(alloc, messages, "stdout", text)
+    } else if count < told {
+        let less = told - count;
+        let text = format!(in alloc; "{LESS_BEFORE}{less}{LESS_BEHIND}");
+        with_output(alloc, messages, "console", text)
+    } else {
+        messages
+    }
+}
+
+/// Returns why the machine stands, in words: if a step is refused, why it is.
+fn halt_shown(alloc: Global, places: &Places, halt: Halt) -> Result<String, AllocError>
+    ensures { IfOk result (λ words. string_bytes words
+        ≡ halt_shown places.now.names halt.words.now halt.fault) }
+{
+    match halt.fault {
+        Some(fault) => {
+            let mut text = Vec::new(alloc);
+            let grown = push_fault(&mut text, places, fault);
+            as_text(alloc, text, grown)
+        }
+        None => String::from_str(alloc, halt.words),
+    }
+}
+
+/// Returns messages and, behind them, that the machine stands, in words of why. If it is before the
+/// first instruction or at its oldest state, a remark says so first.
+fn with_stop(
+    alloc: Global,
+    messages: Result<Vec<Message>, AllocError>,
+    halt: Halt,
+    words: &str,
+) -> Result<Vec<Message>, AllocError>
+    ensures { (before : List Said) → IfOk messages (λ ms. each said_of ms.items ≡ before)
+        → IfOk result (λ ms. each said_of ms.items
+        ≡ (before ++ remark_said halt.reason halt.words.now)
+        ++ stopped_said halt.reason words.now ∷ []) }
+{
+    let remarked = match halt.reason {
+        Reason::Entry => {
+            let remark = halt.words;
+            with_output(alloc, messages, "console", format!(in alloc; "{remark}\n"))
+        }
+        Reason::Step | Reason::Breakpoint | Reason::InstructionBreakpoint => messages,
+        Reason::DataBreakpoint | Reason::Exception | Reason::Goto | Reason::Pause => messages,
+    };
+    let body = Object::new(alloc)
+        .flag("allThreadsStopped", true)
+        .word("description", words)
+        .word("reason", halt.reason.word())
+        .count("threadId", 1)
+        .build();
+    with_event(remarked, "stopped", body)
+}
+
+/// Returns messages and, behind them, what the program put out, a remark if the machine is before
+/// the first instruction or at its oldest state, and that the machine stands. Notes what is told.
+pub fn with_halt(
+    alloc: Global,
+    messages: Result<Vec<Message>, AllocError>,
+    desk: &Desk,
+    told: &mut Told,
+    halt: Halt,
+) -> Result<Vec<Message>, AllocError>
+    ensures messages { (before : List Said)
+        → IfOk messages (λ ms. each said_of ms.items ≡ before)
+        → IfOk result
+        (λ ms. each said_of ms.items ≡ before ++ told_of desk.now told.old.count halt) }
+    ensures count { OnOk result
+        (told.new.count ≡ length desk.now.session.current.bus.out) }
+    ensures words { OnOk result (string_bytes told.new.words
+        ≡ halt_shown desk.now.places.names halt.words.now halt.fault) }
+{
+    let words = halt_shown(alloc, &desk.places, halt)?;
+    let console = with_console(alloc, messages, &desk.session, told.count);
+    let all = with_stop(alloc, console, halt, words.as_str());
+    told.count = desk.session.output_len();
+    told.words = words;
+    all
+}
+
+/// Returns messages and, behind them, that what the client shows may have changed.
+pub fn with_unmoved(
+    alloc: Global,
+    messages: Result<Vec<Message>, AllocError>,
+) -> Result<Vec<Message>, AllocError>
+    ensures { (before : List Said) → IfOk messages (λ ms. each said_of ms.items ≡ before)
+        → IfOk result (λ ms. each said_of ms.items ≡ before ++ unmoved_said ∷ []) }
+{
+    let areas = ValueList::new(alloc)
+        .with(Value::try_from_str(alloc, "all"))
+        .build();
+    let body = Object::new(alloc).member("areas", areas).build();
+    with_event(messages, "invalidated", body)
+}
+
+/// Returns an answer with a body, if memory did not run out for it.
+pub fn answered(alloc: Global, body: Result<Value, AllocError>) -> Result<Vec<Message>, AllocError>
+    ensures { (d : Data) → IfOk body (λ v. view v ≡ d)
+        → IfOk result (λ ms. each said_of ms.items ≡ done d ∷ []) }
+{
+    let mut messages = Vec::new(alloc);
+    messages.push(Message::Done(body?))?;
+    Ok(messages)
+}

@@ -1,0 +1,50 @@
+-- Watches set and cleared one after another.
+use Rattle.std.proofs.Common.{◌≡◌, ◌∙◌, ℕ, ◌+◌, ◌<◌, ◌≤◌, List, [], ◌∷◌, ◌++◌, length, get_or, drop, map, refl, sym, ap, add-one, arith, drop-cons}
+use Rattle.std.proofs.lemmas.Grind.{common_steps}
+use Rattle.std.proofs.lemmas.List.{drop_all}
+use Rattle.std.specs.Prelude.{Err, IfErr, Ok, OnOk, Result}
+use Rattle.dap_views.specs.Watches.{Watched, all_unset, unset, watches_in, watches_of, with_all, with_one}
+use Rattle.model.specs.Breakpoints.{watch_cleared}
+use Rattle.model.specs.Session.{Session}
+use Rattle.model.specs.declared.session_fault.SessionFault.{SessionFault}
+use Rattle.mon_settings.specs.StopLines.{or_same}
+use Rattle.mon_stops.specs.declared.watches.Watch.{Watch}
+use Rattle.serde_json.specs.View.{view}
+use Rattle.serde_json.specs.declared.value.Value.{Value}
+
+-- ---- watches cleared
+
+pub unset_by : (r : Result Unit SessionFault) (address : ℕ) (old new : Session) → OnOk r (watch_cleared address old ≡ Ok new) → IfErr r (λ fault. (watch_cleared address old ≡ Err fault) × (new ≡ old)) → new ≡ unset address old
+unset_by (Ok done) address old new is failed = sym (ap (or_same old) is)
+unset_by (Err fault) address old new is failed = failed.1 ∙ sym (ap (or_same old) failed.0)
+
+pub unset_more : (addresses : List ℕ) (i : ℕ) → i < length addresses → (s : Session)
+    → all_unset (drop i addresses) s ≡ all_unset (drop (i + 1) addresses) (unset (get_or addresses i 0) s)
+unset_more addresses i h s =
+    let cons : drop i addresses ≡ get_or addresses i 0 ∷ drop (i + 1) addresses = rw add-one (drop-cons addresses i 0 h) in
+    ap (λ l. all_unset l s) cons
+
+pub unset_none : (addresses : List ℕ) (i : ℕ) → length addresses ≤ i → (s : Session) → all_unset (drop i addresses) s ≡ s
+unset_none addresses i h s =
+    let e : drop i addresses ≡ [] = grind (arith, common_steps) in ap (λ l. all_unset l s) e
+
+-- ---- watches set
+
+with_both : (some more : List Watch) (p : Watched) → with_all (some ++ more) p ≡ with_all more (with_all some p)
+with_both [] more p = refl
+with_both (watch ∷ some) more p = with_both some more (with_one watch p)
+
+-- those that are still to be set
+abbrev pub left_set : List Value → ℕ → Watched → Watched
+left_set all i p = with_all (watches_in (map view (drop i all))) p
+
+pub set_more : (all : List Value) (i : ℕ) (w : Value) (whole p q : Watched) → i < length all → w ≡ get_or all i w → q ≡ with_all (watches_of (view w)) p
+    → whole ≡ left_set all i p → whole ≡ left_set all (i + 1) q
+set_more all i w whole p q within is set so_far =
+    let cons : drop i all ≡ get_or all i w ∷ drop (i + 1) all = rw add-one (drop-cons all i w within) in
+    let rest = watches_in (map view (drop (i + 1) all)) in
+    so_far ∙ ap (λ (vs : List Value). with_all (watches_in (map view vs)) p) cons ∙ with_both (watches_of (view (get_or all i w))) rest p
+    ∙ ap (λ (v : Value). with_all rest (with_all (watches_of (view v)) p)) (sym is) ∙ ap (with_all rest) (sym set)
+
+pub set_done : (all : List Value) (i : ℕ) (whole p : Watched) → length all ≤ i → whole ≡ left_set all i p → whole ≡ p
+set_done all i whole p over so_far = so_far ∙ ap (λ (vs : List Value). with_all (watches_in (map view vs)) p) (drop_all i all over)

@@ -1,5 +1,0 @@
-use Rattle.dap_views.proofs.Lossy.{grown}
-use Rattle.dap_views.proofs.telling.fault_shown.Goals as goal
-
-pub returns : goal.returns
-returns c = c.as_text.ensures _ (grown _ _ _ _ c.new-text.ensures.items c.push_fault-grown.ensures.ok)
