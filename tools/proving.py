@@ -29,6 +29,7 @@ TOP = os.path.dirname(os.path.dirname(os.path.realpath(__file__)))
 MEMORY_OF_A_JOB = 3_000_000_000
 SIZE_OF_JOB = 20_000  # bytes of a crate's source for each job after the first
 NOT_BUILT = 125
+MUST_FAIL = "must-fail"
 PR_SET_PDEATHSIG, PR_SET_CHILD_SUBREAPER = 1, 36
 SYSTEM = ctypes.CDLL(None)
 
@@ -70,6 +71,10 @@ class Crate:
     def has_tests(self):
         files = (file for file in files_of(f"{self.folder}/src") if file.endswith(".rt"))
         return any(re.search(rb"#\s*\[[^]]*\btest\b", read(it)) for it in files)
+
+    def bodies(self):
+        """The folder of the wrong bodies that `./test --bodies` tries."""
+        return f"{TOP}/tests/bodies/{self.name}"
 
     def program(self):
         """The file that is built: the program, or the archive that C links."""
@@ -139,7 +144,7 @@ def sum_up(crates, sources):
         folder = f"{sources}/{crate.name}"
         for file in files_of(folder):
             inside = os.path.relpath(file, folder)
-            if not inside.startswith(("must-fail/", "out/")):
+            if not inside.startswith((f"{MUST_FAIL}/", "out/")):
                 found.update(repr((inside, read(file))).encode())
         for it in crate.uses:
             found.update(it.sum.encode())
@@ -226,7 +231,8 @@ class Workspace:
         self.top = f"{room}/work/{crate.name}"
         self.folder = f"{self.top}/crates/{crate.name}"
 
-    def fill(self):
+    def fill(self, bodies):
+        """Lays the crate and those below it there, with these wrong bodies where any are given."""
         crates = [*self.crate.below, self.crate]
         write(f"{self.top}/crates.txt", "".join(f"{it.row}\n" for it in crates))
         for it in crates:
@@ -236,6 +242,9 @@ class Workspace:
             shutil.copytree(f"{it.folder}/out/rlib", built, copy_function=link_or_copy)
         if os.path.isdir(f"{self.crate.folder}/out"):
             move(f"{self.crate.folder}/out", f"{self.folder}/out")
+        if bodies:
+            shutil.rmtree(f"{self.folder}/must-fail", ignore_errors=True)
+            shutil.copytree(bodies, f"{self.folder}/must-fail")
 
     def give_back(self):
         """Puts out/ back where it came from, with all that was proved."""
@@ -252,14 +261,14 @@ class Run:
         self.log, self.seconds, self.status = f"{room}/logs/{crate.name}.log", 0, None
         self.is_new = not os.path.isdir(f"{crate.folder}/out/incremental")
         self.space = Workspace(room, crate)
-        self.space.fill()
+        self.space.fill(crate.bodies() if any(it[0] == MUST_FAIL for it in steps) else None)
         open(self.log, "wb").close()
         self.begin()
 
     def begin(self):
         """Begins the next step: the command of rt, and the words for it."""
         self.verb, *words = self.steps.pop(0)
-        if self.verb != "fmt":
+        if self.verb not in ("fmt", MUST_FAIL):
             words = ["--jobs", str(self.jobs), *words]
         with open(self.log, "ab") as log:
             self.began = log.tell()
@@ -276,6 +285,8 @@ class Run:
             said = it.read()
         if self.verb == "run":
             return b"rt: running out/" in said  # its status is that of the program
+        if self.verb == MUST_FAIL:
+            return True  # what it says of each edit is judged later
         if self.verb == "fmt":
             return status == 0 and not re.search(rb"rt: formatted |cannot be applied", said)
         return status == 0
