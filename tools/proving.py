@@ -23,6 +23,7 @@ import shutil
 import signal
 import subprocess
 import sys
+import tempfile
 import time
 
 TOP = os.path.dirname(os.path.dirname(os.path.realpath(__file__)))
@@ -136,11 +137,21 @@ def read_crates(top=TOP):
     return crates
 
 
+def kit():
+    """What the kit says of itself."""
+    if not shutil.which("rt"):
+        raise Failure("not built: there is no rt on the PATH, which the Rattle kit has")
+    ran = subprocess.run(["rt", "version"], stdin=subprocess.DEVNULL, capture_output=True)
+    if ran.returncode or not ran.stdout:
+        raise Failure(f"not built: rt version ended with status {ran.returncode} and no version")
+    return ran.stdout
+
+
 def sum_up(crates, sources):
     """Gives each crate the sum of what it is proved from: its files, those below it, and the kit."""
-    kit = subprocess.run(["rt", "version"], capture_output=True, check=True).stdout
+    version = kit()
     for crate in crates.values():
-        found = hashlib.sha256(kit + crate.row.encode())
+        found = hashlib.sha256(version + crate.row.encode())
         folder = f"{sources}/{crate.name}"
         for file in files_of(folder):
             inside = os.path.relpath(file, folder)
@@ -151,6 +162,14 @@ def sum_up(crates, sources):
         crate.sum = found.hexdigest()
 
 
+def sources(top):
+    """The files that the crates are built from."""
+    for name in sorted(os.listdir(f"{top}/crates")):
+        for at, folders, names in os.walk(f"{top}/crates/{name}"):
+            folders[:] = [it for it in folders if it != "out"]
+            yield from (f"{at}/{it}" for it in names)
+
+
 def copy_sources(crates, top, to):
     """Copies the crates without out/, so that no edit comes between one proof and another."""
     shutil.rmtree(to, ignore_errors=True)
@@ -159,10 +178,36 @@ def copy_sources(crates, top, to):
         shutil.copytree(f"{top}/crates/{crate.name}", f"{to}/{crate.name}", ignore=leave)
 
 
+def can_write(folder):
+    """Makes a folder, and returns whether files can be made there."""
+    try:
+        os.makedirs(folder, exist_ok=True)
+        with tempfile.TemporaryFile(dir=folder):
+            return True
+    except OSError:
+        return False
+
+
+def own_folder():
+    """A folder of this user's below that for temporary files, or None where it is another's."""
+    path = f"{tempfile.gettempdir()}/mos65-{os.getuid()}"
+    try:
+        os.makedirs(path, mode=0o700, exist_ok=True)
+        return path if os.lstat(path).st_uid == os.getuid() else None
+    except OSError:
+        return None
+
+
 def cache():
-    """This clone's folder in the user's cache."""
-    above = os.environ.get("XDG_CACHE_HOME") or os.path.expanduser("~/.cache")
-    return f"{above}/mos65/{hashlib.sha256(TOP.encode()).hexdigest()[:16]}"
+    """This clone's folder in the user's cache. That is XDG_CACHE_HOME, or .cache in HOME, whichever is
+    an absolute path; where it cannot be written, a folder below that for temporary files serves."""
+    given, home = (os.environ.get(it, "") for it in ("XDG_CACHE_HOME", "HOME"))
+    places = [given] * os.path.isabs(given) or [f"{home}/.cache"] * os.path.isabs(home)
+    name = hashlib.sha256(TOP.encode()).hexdigest()[:16]
+    for above in (*places, own_folder()):
+        if above and can_write(f"{above}/mos65/{name}"):
+            return f"{above}/mos65/{name}"
+    raise Failure("not built: neither HOME nor the folder for temporary files can be written")
 
 
 def number_in(file, pattern):
