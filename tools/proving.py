@@ -11,7 +11,9 @@ All of this stands in a folder of the user's cache, one for each clone:
     sources/        the sources as they were when the run began
     work/NAME/      the workspace of a crate that is being proved
     seconds         processor seconds of each crate that was proved from nothing
-    proved          the sums of the crates that were proved and tested, for `tools/prove quick`
+    first-look      the program without proof, of tools/first-look
+    proof.NAME      what tools/background.py keeps
+    proved          the sums of the crates that were proved and tested, for `tools/prove changed`
 """
 
 import ctypes
@@ -57,6 +59,13 @@ class Stop:
         time.sleep(seconds)
         if cls.signal:
             raise SystemExit(128 + cls.signal)
+
+
+def become(file, words):
+    """Becomes another program, with the signals as they were before Python started."""
+    for it in (signal.SIGPIPE, signal.SIGXFSZ):
+        signal.signal(it, signal.SIG_DFL)
+    os.execv(file, [file, *words])
 
 
 class Crate:
@@ -173,7 +182,7 @@ def sources(top):
 def copy_sources(crates, top, to):
     """Copies the crates without out/, so that no edit comes between one proof and another."""
     shutil.rmtree(to, ignore_errors=True)
-    for crate in crates.values():
+    for crate in crates:
         leave = lambda at, names: [it for it in names if it == "out"]
         shutil.copytree(f"{top}/crates/{crate.name}", f"{to}/{crate.name}", ignore=leave)
 
@@ -292,14 +301,29 @@ class Workspace:
             shutil.copytree(bodies, f"{self.folder}/must-fail")
 
     def give_back(self):
-        """Puts out/ back where it came from, with all that was proved."""
-        if os.path.isdir(f"{self.folder}/out"):
+        """Puts out/ back where it came from, with all that was proved, unless the clone is gone."""
+        if os.path.isdir(f"{self.folder}/out") and os.path.isdir(self.crate.folder):
             move(f"{self.folder}/out", f"{self.crate.folder}/out")
         shutil.rmtree(self.top, ignore_errors=True)
 
 
+def lower_session():
+    """Gives this session the least share of the processors, where the system shares them so."""
+    for _ in range(5):
+        try:
+            with open("/proc/self/autogroup", "w", encoding="ascii") as it:
+                it.write("19")
+            return
+        except BlockingIOError:
+            time.sleep(0.12)  # the system takes ten such changes a second
+        except OSError:
+            return
+
+
 class Run:
     """A crate at work: its steps in turn, each a command of rt in the crate's workspace."""
+
+    is_low = False  # whether it is to leave the processors to others
 
     def __init__(self, room, crate, steps, jobs):
         self.crate, self.jobs, self.steps = crate, jobs, [*steps]
@@ -321,8 +345,13 @@ class Run:
             self.process = subprocess.Popen(
                 ["rt", self.verb, *words], cwd=self.space.folder, start_new_session=True,
                 stdin=subprocess.DEVNULL, stdout=log, stderr=log,
-                preexec_fn=lambda: SYSTEM.prctl(PR_SET_PDEATHSIG, signal.SIGKILL),
+                preexec_fn=self.prepare_child,
             )
+
+    def prepare_child(self):
+        SYSTEM.prctl(PR_SET_PDEATHSIG, signal.SIGKILL)
+        if self.is_low:
+            lower_session()
 
     def has_passed(self, status):
         with open(self.log, "rb") as it:
