@@ -198,20 +198,26 @@ class Watch:
         self.state = state
 
 
-def begin(room, words):
-    """Starts the words as the proof, in a session of its own, without a terminal."""
+def begin(proof, words):
+    """Starts the words as a proof, in a session of its own without a terminal, and waits a moment
+    until it is at work."""
     if os.fork():
-        return os.wait()
+        os.wait()
+        for _ in range(20):
+            if proof.is_at_work():
+                return
+            time.sleep(0.05)
+        return
     os.setsid()
     if os.fork():
         os._exit(0)
     try:
-        log = os.open(f"{room}/proof.log", os.O_WRONLY | os.O_CREAT | os.O_TRUNC, 0o600)
+        log = os.open(proof.file("log"), os.O_WRONLY | os.O_CREAT | os.O_TRUNC, 0o600)
         null = os.open(os.devnull, os.O_RDONLY)
         for source, target in ((null, 0), (log, 1), (log, 2)):
             os.dup2(source, target)
         os.closerange(3, 256)
-        os.chdir(room)
+        os.chdir(proof.room)
         os.execv(sys.executable, [sys.executable, *words])
     finally:
         os._exit(proving.NOT_BUILT)
