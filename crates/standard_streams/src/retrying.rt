@@ -6,7 +6,7 @@ ghost use Rattle.std.specs.Io.KnownBytes.{ReadConsumes};
 ghost use Rattle.std.specs.IoError.{error_kind};
 
 use std::io;
-use std::io::{ErrorKind, Read};
+use std::io::{ErrorKind, IsTerminal, Read};
 
 /// A reader that reads what another one does. A read that a signal interrupts is made again.
 #[derive(Drop)]
@@ -47,5 +47,11 @@ impl<R: Read> Read for Retrying<R> {
             }
         }
         Err(io::Error::from(ErrorKind::TimedOut))
+    }
+}
+
+impl<R: Read + IsTerminal> IsTerminal for Retrying<R> {
+    fn is_terminal(&self) -> bool {
+        self.inner.is_terminal()
     }
 }
