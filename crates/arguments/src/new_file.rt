@@ -225,8 +225,8 @@ impl<F: OpenFile + Drop> NewFile<'_, F> {
         }
     }
 
-    /// Leaves the file unwritten, and returns why: a write failed, or another reason is known to the
-    /// caller. A file of one name is as it was.
+    /// Leaves the file unwritten, and returns why: a write failed, or the caller knows another
+    /// reason. A file of one name is as it was.
     pub fn abandon<H: Files>(self, rt: &H) -> Refusal
         ensures { EndsWriting result }
     {

@@ -63,8 +63,8 @@ fn assembled(alloc: Global, source: &[u8], map: &MapSpec) -> Result<Assembly, Re
     Ok(assemble(alloc, source, map)?)
 }
 
-/// Returns why the source of a file is refused that has a fault: `Faults` with the text of all its
-/// faults under the name of the file as it is shown, or `OutOfMemory` if that is the fault or an allocation fails.
+/// Returns why a source is refused: `Faults` with the text of all its faults under the file's shown
+/// name, or `OutOfMemory` if that is the fault or an allocation fails.
 #[tactic(auto, using(crate::proofs::Ends::told_ends))]
 pub fn faults_of(
     alloc: Global,

@@ -131,9 +131,9 @@ fn line_said(
 }
 
 /// Returns what is meant at a place: of a name its number and where it is defined, of an
-/// instruction its form, address, opcode, bytes and cycles, and the flags that it may change; `null`
-/// elsewhere, and of a source that is too long. The only error is that a request for memory was
-/// refused.
+/// instruction its form, address, opcode, bytes and cycles, and the flags that it may change;
+/// `null` elsewhere, and of a source that is too long. The only error is that a request for memory
+/// was refused.
 pub fn hover(alloc: Global, text: &Text<'_>, line: u64, character: u64) -> Result<Value, AllocError>
     ensures { IfOk result (λ v. view v ≡ meaning_of (text_view text.now) line character) }
 {

@@ -140,7 +140,7 @@ fn push_changed(words: &mut Vec<u8>, flags: Flags) -> Result<(), AllocError>
     }
 }
 
-/// Returns what is said of an instruction in a profile: its form, address, opcode, bytes and cycles,
+/// Returns what is said of an instruction in a profile: its form, address, opcode, bytes, cycles
 /// and the flags that it may change. The only error is that a request for memory was refused.
 #[tactic(auto, unfolding(crate::specs::Said::instruction_words))]
 pub fn instruction_words(

@@ -1,4 +1,5 @@
-//! The words of what is said of names and instructions, each once. Definitions in `specs` name them.
+//! The words of what is said of names and instructions, each once. Definitions in `specs` name
+//! them.
 
 // A name.
 pub const NO_NUMBER: &str = " has no number";

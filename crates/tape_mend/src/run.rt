@@ -100,7 +100,7 @@ fn not_mended(
 
 /// Writes OUT, unless it is the tape under another name.
 ///
-/// Errors: `WriteFile` if OUT is the tape, or cannot be written; `OutOfMemory` if an allocation fails.
+/// Errors: `WriteFile` if OUT is the tape or cannot be written; `OutOfMemory` if no memory is left.
 fn write_out<H: Files + AllocGlobal>(
     rt: &H,
     words: &MendWords<'_>,
