@@ -26,7 +26,7 @@ fits_memory app words Value status fits is said = absurd is.1
 fits_memory app words (Wrong which) status fits is said = absurd is.1
 fits_memory app words OutOfMemory status fits is said = said
 
-first : Adapter
+abbrev first : Adapter
 first = record { counting = None; seat = None }
 
 -- Memory ran out before a message was read.

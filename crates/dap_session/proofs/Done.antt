@@ -40,9 +40,9 @@ answered_with (Err e) (Ok ms) told P holds says =
 answered_with (Err e) (Err f) told P holds says = tt
 
 -- what was told of a request that is listed again
-pub set_so : {E : Type 0} (told : Result Value E) (r : Result Unit E) (P : Data → Type 0) → IfOk told (λ v. P (view v)) → OnOk r ((v : Value) × (told ≡ Ok v)) → OnOk r ((d : Data) × P d)
+pub set_so : {U E : Type 0} (told : Result Value E) (r : Result U E) (P : Data → Type 0) → IfOk told (λ v. P (view v)) → OnOk r ((v : Value) × (told ≡ Ok v)) → OnOk r ((d : Data) × P d)
 set_so (Ok v) (Ok done) P sets let_go = (view v, sets)
-set_so (Err e) (Ok done) P sets let_go = absurd cc
+set_so (Err e) (Ok done) P sets let_go = let no : Err e ≡ Ok let_go.0 = let_go.1 in absurd cc
 set_so told (Err e) P sets let_go = tt
 
 -- two that hold of what was made

@@ -10,10 +10,10 @@ pub shows_same : (f : Fault) (d : Desk) → ShowsIfRefused f d d
 shows_same (fault.Refused words) d = (refl, refl, refl, refl, refl)
 shows_same fault.OutOfMemory d = tt
 
-pub refused_so : (f : Fault) {Why : Type 0} → Why → IfRefused f Why
-refused_so (fault.Refused words) why = why
-refused_so fault.OutOfMemory why = tt
+pub refused_so : (f : Fault) (Why : Type 0) → Why → IfRefused f Why
+refused_so (fault.Refused words) Why why = why
+refused_so fault.OutOfMemory Why why = tt
 
-pub refused_by_more : (f : Fault) {Why Other : Type 0} → (Why → Other) → IfRefused f Why → IfRefused f Other
-refused_by_more (fault.Refused words) so why = so why
-refused_by_more fault.OutOfMemory so why = tt
+pub refused_by_more : (f : Fault) (Why Other : Type 0) → (Why → Other) → IfRefused f Why → IfRefused f Other
+refused_by_more (fault.Refused words) Why Other so why = so why
+refused_by_more fault.OutOfMemory Why Other so why = tt

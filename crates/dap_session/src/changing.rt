@@ -74,7 +74,7 @@ fn bytes_in(alloc: Global, request: &Value) -> Result<Vec<u8>, Fault>
     match STANDARD.decode(alloc, text.as_bytes()) {
         Ok(bytes) => Ok(bytes),
         Err(DecodeAllocError::OutOfMemory) => Err(Fault::OutOfMemory),
-        Err(DecodeAllocError::Failed(_)) => Err(refused(alloc, "the bytes are not in Base64")),
+        Err(DecodeAllocError::DecodeError(_)) => Err(refused(alloc, "the bytes are not in Base64")),
     }
 }
 

@@ -1,5 +1,5 @@
 -- Breakpoints that are looked for, one after another.
-use Rattle.std.proofs.Common.{◌≡◌, ◌∙◌, ℕ, ◌+◌, ◌<◌, ◌≤◌, ◌×◌, List, [], ◌∷◌, ◌++◌, length, take, map, get_or, refl, sym, ap, append-nil}
+use Rattle.std.proofs.Common.{◌≡◌, ◌∙◌, Option, ℕ, ◌+◌, ◌<◌, ◌≤◌, List, [], ◌∷◌, ◌++◌, length, take, map, get_or, refl, sym, ap, append-nil}
 use Rattle.std.proofs.lemmas.Grind.{flat_map-append}
 use Rattle.std.proofs.lemmas.List.{map-append, take_all, take_more}
 use Rattle.std.proofs.lemmas.Simd.{map-map}
@@ -17,10 +17,10 @@ flat_map_map f g [] = refl
 flat_map_map f g (x ∷ xs) = ap (λ l. f (g x) ++ l) (flat_map_map f g xs)
 
 module _ (find : Data → Found) where
-  tells : Value → ℕ × Option ℕ
+  abbrev tells : Value → ℕ × Option ℕ
   tells v = told_of (find (view v))
 
-  sets : Value → List Stop
+  abbrev sets : Value → List Stop
   sets v = option_to_list (find (view v)).1
 
   -- the first of a list were looked for
@@ -37,8 +37,8 @@ module _ (find : Data → Found) where
   one_found all i e old new within found so_far =
       let v = get_or all i e in
       let more : take (i + 1) all ≡ take i all ++ v ∷ [] = take_more all i e within in (
-        found.0 ∙ ap (λ l. l ++ tells v ∷ []) so_far.0 ∙ sym (map-append tells (take i all) (v ∷ [])) ∙ sym (ap (map tells) more),
-        found.1 ∙ ap (λ l. l ++ sets v) so_far.1 ∙ ap (λ l. flat_map sets (take i all) ++ l) (sym (append-nil (sets v)))
+        found.0 ∙ ap (λ (l : List (ℕ × Option ℕ)). l ++ tells v ∷ []) so_far.0 ∙ sym (map-append tells (take i all) (v ∷ [])) ∙ sym (ap (map tells) more),
+        found.1 ∙ ap (λ (l : List Stop). l ++ sets v) so_far.1 ∙ ap (λ (l : List Stop). flat_map sets (take i all) ++ l) (sym (append-nil (sets v)))
             ∙ sym (flat_map-append sets (take i all) (v ∷ [])) ∙ sym (ap (flat_map sets) more),
       )
 

@@ -5,7 +5,11 @@ use Rattle.dap_messages.specs.Messages.{done, said_of}
 use Rattle.dap_session.proofs.Done.{always, kept}
 use Rattle.dap_session.proofs.Stays.{refused_by_more}
 use Rattle.dap_session.specs.Changes.{HasGone}
+use Rattle.dap_session.specs.Refusals.{IsNoTarget, Rejects}
 use Rattle.dap_session.specs.Stands.{halt_at}
+use Rattle.model.specs.declared.event.Event.TheVariants.{Set}
+use Rattle.model.specs.declared.event.Setting.TheVariants.{Pc}
+use Rattle.serde_json.specs.View.{view}
 use Rattle.dap_session.specs.Told.{told_of}
 use Rattle.mon_session.specs.declared.desk.Desk.{Desk}
 use Rattle.dap_session.proofs.changing.go_to.Goals as goal
@@ -33,4 +37,5 @@ returns-in-Ok-clause-told c =
 
 pub returns-in-Err-clause-why : goal.returns-in-Err-clause-why
 returns-in-Err-clause-why c =
-    refused_by_more c.in-Err.fault (λ rejects. inr (c.in-Some.address, sym c.in-Some.ensures, rejects)) c.in-Err.ensures.why
+    let desk = c.args.seat.now.desk in
+    refused_by_more c.in-Err.fault (Rejects (Set (Pc c.in-Some.address)) desk) (IsNoTarget (view c.args.request.now) desk) (λ rejects. inr (c.in-Some.address, sym c.in-Some.ensures, rejects)) c.in-Err.ensures.why

@@ -5,6 +5,7 @@ use Rattle.dap_messages.specs.Messages.{done, said_of}
 use Rattle.dap_session.proofs.Done.{kept}
 use Rattle.dap_session.proofs.Stays.{refused_so}
 use Rattle.dap_session.specs.Console.{Evaluates, Looks, ServesConsole}
+use Rattle.dap_session.specs.Refusals.{IsNoLook}
 use Rattle.dap_views.specs.Looks.{look_at}
 use Rattle.serde_json.specs.View.{view}
 use Rattle.dap_session.proofs.console.evaluate.Goals as goal
@@ -30,7 +31,7 @@ returns-in-Some-clause-done c =
 pub returns-in-None-clause-why : goal.returns-in-None-clause-why
 returns-in-None-clause-why c =
     let desk = c.args.seat.now.desk in
-    refused_so c.refused.result (
+    refused_so c.refused.result (IsNoLook (view c.args.request.now) desk) (
       sym (sym c.if-eq.false ∙ c.eq.ensures ∙ ap (λ (l : List ℕ). bytes_eq l (codes "repl")) c.text_or.ensures),
       sym (c.in-None.ensures ∙ ap (look_at desk.session.current desk.places.names) c.text_or-text.ensures),
     )
