@@ -1,6 +1,6 @@
 -- What lists of breakpoints do to a desk, and what is answered. Source: Debug Adapter Protocol 1.65,
 -- "SetBreakpoints Request", "SetInstructionBreakpoints Request"; mos65.
-use Rattle.std.specs.Prelude.{ℕ, ◌≡◌, ◌⊎◌, List, codes, option_map, Some}
+use Rattle.std.specs.Prelude.{ℕ, ◌≡◌, ◌⊎◌, List, codes, option_map, Option, Some}
 use Rattle.assembler.specs.Assembly.{AssemblyView}
 use Rattle.dap_desk.specs.Breaks.{all_cleared, all_set, place_of}
 use Rattle.dap_messages.specs.declared.counting.Counting.{Counting}
