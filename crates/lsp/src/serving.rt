@@ -129,20 +129,29 @@ fn attend<R: Read, O: Write>(
     Err(StreamFault::Read)
 }
 
+/// Tells what of the streams cuts a session short, and returns the exit status.
+fn cut_by<E: Write>(reason: &str, errors: &mut E) -> u8
+    ensures { result ≡ 4 }
+{
+    put_all(&[b"mos65: ", reason.as_bytes(), b"\n"], errors);
+    4
+}
+
 /// Tells why a session ends before its end is asked for, and returns the exit status.
 fn cut_off<E: Write>(fault: StreamFault, errors: &mut E) -> u8
     ensures { result ≡ status_of fault }
 {
-    let reason = match fault {
-        StreamFault::NoLength => "a header of the input gives no length of a message",
-        StreamFault::LongHeader => "a header of the input has more than 4096 bytes",
-        StreamFault::Cut => "the input ends before exit",
-        StreamFault::Read => "the input cannot be read",
-        StreamFault::Write => "the output cannot be written",
-        StreamFault::OutOfMemory => return refuse(Refusal::OutOfMemory, errors),
-    };
-    put_all(&[b"mos65: ", reason.as_bytes(), b"\n"], errors);
-    4
+    match fault {
+        StreamFault::NoLength => cut_by(
+            "a header of the input gives no length of a message",
+            errors,
+        ),
+        StreamFault::LongHeader => cut_by("a header of the input has more than 4096 bytes", errors),
+        StreamFault::Cut => cut_by("the input ends before exit", errors),
+        StreamFault::Read => cut_by("the input cannot be read", errors),
+        StreamFault::Write => cut_by("the output cannot be written", errors),
+        StreamFault::OutOfMemory => refuse(Refusal::OutOfMemory, errors),
+    }
 }
 
 /// Serves a session on the map of the words, and returns the exit status.

@@ -58,3 +58,6 @@ returns-in-Ok-None g c =
     let all : Answers c.args.map.now body state state None h.1 = (None, is, map view values.items, (refl, done, refl), h.2) in
     (h.0, h.3.0, inr (state, None, h.1, h.3.1, all, h.3.2), h.3.3))
     (λ kept. (tt, [], inl refl, subst (λ o. Appends (g.O.Write.contents c.args.output.now) (g.O.Write.contents o) []) (sym kept) (Appends-nil _)))
+
+pub returns-in-Err : goal.returns-in-Err
+returns-in-Err g c = (tt, [], inl refl, Appends-nil _)

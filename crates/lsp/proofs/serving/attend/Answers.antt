@@ -72,11 +72,11 @@ returns-in-Fresh-clause-session g c =
     let over = rw (c.in-Ok-None.field-0-is) at came.3 in
     (inv.0, cut_over (Answers c.args.map.now) _ _ _ c.loop.incoming.bytes came.0 start (server_view c.loop.server) inv.0 inv.1 came.1 over, inv.2)
 
-pub returns-in-Err-next-clause-session : goal.returns-in-Err-next-clause-session
-returns-in-Err-next-clause-session g c =
+pub returns-in-Err-clause-session : goal.returns-in-Err-clause-session
+returns-in-Err-clause-session g c =
     let inv = c.loop.invariant in
-    let came = c.in-Err-next.ensures.taken in
-    (inv.0, cut_between (Answers c.args.map.now) _ _ _ c.loop.incoming.bytes came.0 start (server_view c.loop.server) c.in-Err-next.fault inv.0 inv.1 came.1 came.3, inv.2)
+    let came = c.in-Err.ensures.taken in
+    (inv.0, cut_between (Answers c.args.map.now) _ _ _ c.loop.incoming.bytes came.0 start (server_view c.loop.server) c.in-Err.fault inv.0 inv.1 came.1 came.3, inv.2)
 
 pub returns-clause-session : goal.returns-clause-session
 returns-clause-session g c =
