@@ -1,10 +1,10 @@
 //! Messages taken from the input, one after another, and answered.
 
-ghost use Rattle.std.specs.Prelude.{◌≡◌, ◌≤◌, [], ℕ, IfOk, IsErr, List};
+ghost use Rattle.std.specs.Prelude.{◌≡◌, ◌≤◌, ◌⊎◌, [], ℕ, IfOk, IsErr, List};
 ghost use Rattle.std.specs.Prelude.{MatchResult, None, Some, map as each};
 ghost use Rattle.std.specs.Io.KnownBytes.{Appends};
-ghost use Rattle.arguments.specs.Words.{Fits, Refuses, texts};
-ghost use Rattle.lsp.specs.CommandLine.{LspAsked, lsp_app, lsp_asked, lsp_view};
+ghost use Rattle.arguments.specs.Words.{AsksForHelp, Fits, Misfits, Refuses, texts};
+ghost use Rattle.lsp.specs.CommandLine.{Asks, HasNoMap, LspAsked, lsp_app, lsp_asked, lsp_view};
 ghost use Rattle.lsp.specs.Sessions.{Answers, IsSession, map_for};
 ghost use Rattle.lsp.specs.State.{server_view, start};
 ghost use Rattle.lsp.specs.Writing.{AreWritten};
@@ -141,6 +141,7 @@ fn done<R: Read, O: Write, E: Write>(
     ensures session { result ≤ 1 → IsSession (map_for (lsp_view words.now))
         (R.remaining input.old) (R.remaining input.new) result (O.contents output.old)
         (O.contents output.new) }
+    ensures wrong { result ≡ 2 → HasNoMap (lsp_view words.now) }
     ensures status { result ≤ 4 }
     ensures quiet { result ≤ 1 → errors.new ≡ errors.old }
     ensures unread { result ≡ 2 → input.new ≡ input.old }
@@ -177,6 +178,19 @@ pub fn lsp<H: AllocGlobal, R: Read, O: Write, E: Write>(
         → Fits lsp_app (texts words.entry.now) → result ≤ 1 → IsSession (map_for a)
         (R.remaining input.old) (R.remaining input.new) result (O.contents output.old)
         (O.contents output.new) }
+    // 0 means that a session came to its end so, or that help is asked for; 1, that a session came
+    // to its end so.
+    ensures right { result ≡ 0 → AsksForHelp lsp_app (texts words.entry.now)
+        ⊎ Asks (texts words.entry.now) (λ a. IsSession (map_for a) (R.remaining input.old)
+        (R.remaining input.new) result (O.contents output.old) (O.contents output.new)) }
+    ensures early { result ≡ 1 → Asks (texts words.entry.now) (λ a. IsSession (map_for a)
+        (R.remaining input.old) (R.remaining input.new) result (O.contents output.old)
+        (O.contents output.new)) }
+    // 2 means that the words do not fit, that a value is wrong, or that the port makes no map.
+    ensures wrong { result ≡ 2 → Misfits lsp_app (texts words.entry.now)
+        ⊎ ((Fits lsp_app (texts words.entry.now)
+        × (lsp_asked (texts words.entry.now) ≡ None))
+        ⊎ Asks (texts words.entry.now) HasNoMap) }
     // Other words read nothing, and write nothing on the output but help.
     ensures refused { Refuses lsp_app (texts words.entry.now)
         (lsp_asked (texts words.entry.now) ≡ None) result (input.new ≡ input.old)

@@ -1,5 +1,5 @@
-use Rattle.std.proofs.Common.{◌≡◌, None, refl, subst}
-use Rattle.arguments.proofs.Parsed.{not_both, one_asked}
+use Rattle.std.proofs.Common.{◌≡◌, None, arith, inl, inr, refl, subst}
+use Rattle.arguments.proofs.Parsed.{not_both, one_asked, says_of_words}
 use Rattle.arguments.proofs.Refusing.{not_refused, refuses}
 use Rattle.arguments.specs.Words.{texts}
 use Rattle.lsp.specs.CommandLine.{LspAsked, lsp_app, lsp_asked, lsp_view}
@@ -27,3 +27,21 @@ returns-in-Err-clause-refused g c =
     refuses lsp_app (texts c.args.words.now) (lsp_asked (texts c.args.words.now) ≡ None) c.in-Err.fault c.refused_words.result
     (c.args.input.now ≡ c.args.input.now) (c.refused_words.new.output ≡ c.args.output.now)
     c.in-Err.ensures.refused c.refused_words.ensures.status refl c.refused_words.ensures.untouched
+
+pub returns-in-Ok-clause-right : goal.returns-in-Ok-clause-right
+returns-in-Ok-clause-right g c = λ zero. inr (lsp_view c.in-Ok.words, c.in-Ok.ensures.fits, c.in-Ok.ensures.asked, c.done.ensures.session (omega (arith, zero)))
+
+pub returns-in-Ok-clause-early : goal.returns-in-Ok-clause-early
+returns-in-Ok-clause-early g c = λ one. (lsp_view c.in-Ok.words, c.in-Ok.ensures.fits, c.in-Ok.ensures.asked, c.done.ensures.session (omega (arith, one)))
+
+pub returns-in-Ok-clause-wrong : goal.returns-in-Ok-clause-wrong
+returns-in-Ok-clause-wrong g c = λ two. inr (inr (lsp_view c.in-Ok.words, c.in-Ok.ensures.fits, c.in-Ok.ensures.asked, c.done.ensures.wrong two))
+
+pub returns-in-Err-clause-right : goal.returns-in-Err-clause-right
+returns-in-Err-clause-right g c = λ zero. inl ((says_of_words lsp_app (texts c.args.words.now) _ _ _ c.in-Err.ensures.refused c.refused_words.ensures.status).help (inl zero))
+
+pub returns-in-Err-clause-early : goal.returns-in-Err-clause-early
+returns-in-Err-clause-early g c = λ one. absurd ((says_of_words lsp_app (texts c.args.words.now) _ _ _ c.in-Err.ensures.refused c.refused_words.ensures.status).never one)
+
+pub returns-in-Err-clause-wrong : goal.returns-in-Err-clause-wrong
+returns-in-Err-clause-wrong g c = λ two. elim ((says_of_words lsp_app (texts c.args.words.now) _ _ _ c.in-Err.ensures.refused c.refused_words.ensures.status).wrong two) [ inl m ↦ inl m | inr w ↦ inr (inl w) ]
