@@ -53,6 +53,16 @@ fn shown_text(alloc: Global, bytes: &[u8]) -> Result<String, AllocError>
     Ok(text)
 }
 
+/// Returns the name of a file as it is shown: a `?` for each byte that is no visible character of
+/// ASCII, so that it stands in one line.
+fn shown_name(alloc: Global, name: &str) -> Result<String, AllocError> {
+    let mut text = String::new(alloc);
+    for byte in name.as_bytes() {
+        push_visible(&mut text, *byte)?;
+    }
+    Ok(text)
+}
+
 /// Returns the words of a refusal, without the file that it is of.
 fn refusal_words(alloc: Global, refusal: Refusal) -> Result<String, AllocError>
     ensures { IfOk result (λ title. IsShown (string_bytes title)) }
@@ -219,9 +229,13 @@ pub fn remarks_of(alloc: Global, suite: Suite<'_>, fault: &FileFault) -> Result<
 {
     let mut told = Vec::new(alloc);
     match fault {
-        FileFault::InRows(fault) => tell_rows(suite.rows, *fault, &mut told),
+        FileFault::InRows(fault) => {
+            let rows = shown_name(alloc, suite.rows)?;
+            tell_rows(&rows, *fault, &mut told);
+        }
         FileFault::InProgram(path, fault) => {
-            tell_program(path, suite.reading.symbols, fault, &mut told)
+            let path = shown_name(alloc, path)?;
+            tell_program(&path, suite.reading.symbols, fault, &mut told);
         }
     }
     shown_text(alloc, &told)
