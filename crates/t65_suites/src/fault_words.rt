@@ -7,7 +7,7 @@ use crate::fault::{FileFault, TestFault};
 use crate::names::text_of;
 use crate::suites::Suite;
 use crate::wording::{AT_PORT, NO_IMAGE, NO_ROW, NO_SOURCE, TOO_LARGE};
-use arguments::{LoadFault, Refusal, put_fault_line, refuse_file, tell_no_image};
+use arguments::{LoadFault, Refusal, put_fault_line, refuse_file, shown_name, tell_no_image};
 use loading::NamedFault;
 use std::alloc::{AllocError, Global};
 use std::io::Write;
@@ -50,16 +50,6 @@ fn shown_text(alloc: Global, bytes: &[u8]) -> Result<String, AllocError>
 {
     let mut text = String::new(alloc);
     push_all_shown(&mut text, bytes)?;
-    Ok(text)
-}
-
-/// Returns the name of a file as it is shown: a `?` for each byte that is no visible character of
-/// ASCII, so that it stands in one line.
-fn shown_name(alloc: Global, name: &str) -> Result<String, AllocError> {
-    let mut text = String::new(alloc);
-    for byte in name.as_bytes() {
-        push_visible(&mut text, *byte)?;
-    }
     Ok(text)
 }
 
