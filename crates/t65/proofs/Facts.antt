@@ -256,10 +256,10 @@ untested_result contents manner suite count old new fault (Ok tally) ends is tol
 untested_result contents manner suite count old new fault (Err stop) ends is told begun = elim begun [
   | inl same ↦ subst (λ e. IsBegun manner suite count (contents old) (contents e)) (sym same) (none_begun manner suite count (contents old))
   | inr some ↦ record {
-      outcome = outcome_by manner.is_summary (name_of suite) (tap_fault (tally_after false 0 (fresh_tally count)).count (name_of suite) some.0 some.1) (tally_after false 0 (fresh_tally count));
-      is = untested_outcome manner suite count fault some.0 some.1 (tally_after false 0 (fresh_tally count)) ends some.3 refl;
-      written = some.2;
-    }
+    outcome = outcome_by manner.is_summary (name_of suite) (tap_fault (tally_after false 0 (fresh_tally count)).count (name_of suite) some.0 some.1) (tally_after false 0 (fresh_tally count));
+    is = untested_outcome manner suite count fault some.0 some.1 (tally_after false 0 (fresh_tally count)) ends some.3 refl;
+    written = some.2;
+  }
 ]
 
 -- All of TAP.

@@ -9,6 +9,7 @@ ghost use Rattle.t65_runner.specs.Counting.{test_counted};
 ghost use Rattle.t65_runner.specs.Passes.{rows_seen};
 ghost use Rattle.t65_runner.specs.Start.{fresh};
 
+use crate::report::path_of;
 use crate::stop::Stop;
 use accesses::Tally;
 use arguments::{FileForm, write_file};
@@ -23,8 +24,8 @@ use t65_suites::Prepared;
 /// What is written for lcov: a record for each suite that was tested; nothing is counted where no
 /// file is asked for.
 #[derive(Drop)]
-pub struct Coverage<'a> {
-    path: Option<&'a str>,
+pub struct Coverage {
+    path: Option<String>,
     /// The records of the suites that have ended.
     text: Vec<u8>,
     /// How often steps began at each address, in the tests of the suite so far.
@@ -33,17 +34,23 @@ pub struct Coverage<'a> {
 
 /// Begins what is written for lcov to a file of that name, if that is asked for. The file stays as
 /// it is.
-pub fn begin_coverage<'a>(alloc: Global, path: Option<&'a str>) -> Coverage<'a>
+///
+/// Errors: `AllocError` if an allocation fails.
+pub fn begin_coverage(alloc: Global, path: Option<&str>) -> Result<Coverage, AllocError>
     // There is no record yet, and nothing is counted.
-    ensures path { result.path ≡ path.entry }
-    ensures text { result.text.items ≡ [] }
-    ensures counts { result.counts ≡ None }
+    ensures path { IfOk result (λ coverage. is_some coverage.path ≡ is_some path.entry) }
+    ensures text { IfOk result (λ coverage. coverage.text.items ≡ []) }
+    ensures counts { IfOk result (λ coverage. coverage.counts ≡ None) }
 {
-    Coverage {
+    let path = match path {
+        None => None,
+        Some(path) => Some(path_of(alloc, path)?),
+    };
+    Ok(Coverage {
         path,
         text: Vec::new(alloc),
         counts: None,
-    }
+    })
 }
 
 /// Returns a count of nothing, if steps are to be counted.
@@ -87,7 +94,7 @@ fn record_of(
     }
 }
 
-impl Coverage<'_> {
+impl Coverage {
     /// Begins a suite.
     ///
     /// Errors: `AllocError` if an allocation fails.
@@ -159,9 +166,9 @@ impl Coverage<'_> {
     ///
     /// Errors: `Coverage` if the file cannot be written.
     pub fn finish<H: Files + AllocGlobal>(&self, rt: &H) -> Result<(), Stop> {
-        match self.path {
+        match &self.path {
             None => Ok(()),
-            Some(path) => match write_file(rt, path, &self.text) {
+            Some(path) => match write_file(rt, path.as_str(), self.text.as_slice()) {
                 Ok(()) => Ok(()),
                 Err(refusal) => Err(Stop::of_coverage(refusal)),
             },

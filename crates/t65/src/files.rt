@@ -64,7 +64,7 @@ fn run_tested<H: Files + AllocGlobal, O: Write>(
     name: &str,
     count: u64,
     output: &mut O,
-    reports: &mut Reports<'_>,
+    reports: &mut Reports,
 ) -> Result<Tally, Stop>
     ensures tally { IfOk result (λ tally. tally ≡ tally_rows (ground_in prepared.now)
         (fresh_tally count) (tests_in prepared.now)) }
@@ -128,7 +128,7 @@ fn run_untested<H: Files + AllocGlobal, O: Write>(
     count: u64,
     fault: &FileFault,
     output: &mut O,
-    reports: &mut Reports<'_>,
+    reports: &mut Reports,
 ) -> Result<Tally, Stop>
     ensures tally { IfOk result (λ tally. tally ≡ tally_after false 0 (fresh_tally count)) }
     ensures written { IfOk result (λ tally. (title : List ℕ) × (remarks : List ℕ)
@@ -163,7 +163,7 @@ fn run_suite<H: Files + AllocGlobal, O: Write>(
     manner: Manner,
     count: u64,
     output: &mut O,
-    reports: &mut Reports<'_>,
+    reports: &mut Reports,
 ) -> Result<Tally, Stop>
     ensures { MatchResult result (IsRun manner (suite_view suite.entry) count
         (O.contents output.old) (O.contents output.new))
@@ -205,7 +205,7 @@ pub fn run_suites<H: Files + AllocGlobal, O: Write>(
     suites: &[Suite<'_>],
     manner: Manner,
     output: &mut O,
-    reports: &mut Reports<'_>,
+    reports: &mut Reports,
 ) -> Result<(u64, bool), Stop>
     ensures { MatchResult result (λ end. AreRun manner (map suite_view suites.now)
         (O.contents output.old) (O.contents output.new) end.0 end.1)

@@ -1,10 +1,10 @@
 //! What is written in files beside TAP: a report for JUnit, and which lines were run.
 //!
 //! Both are kept as texts. The report is a whole file after each test, and is written whole: after
-//! the first test, then each time when a sixteenth of it or more is not in the file, and at the end.
-//! So all writes together are as long as some seventeen reports, however many tests there are.
+//! the first test, then each time when a sixteenth of it or more is not in the file, and at the
+//! end. So all writes together are as long as some seventeen reports, however many tests there are.
 
-ghost use Rattle.std.specs.Prelude.{◌≡◌, OnOk};
+ghost use Rattle.std.specs.Prelude.{◌≡◌, IfOk, OnOk};
 ghost use Rattle.std.specs.Option.{option_map};
 ghost use Rattle.t65_reports.specs.Junit.{no_suite, report_told, with_end, with_suite, with_test};
 ghost use Rattle.t65.specs.Covered.{told_in};
@@ -18,8 +18,8 @@ use t65_reports::Junit;
 
 /// A report for JUnit, and how much of it is in its file.
 #[derive(Drop)]
-pub struct ReportFile<'a> {
-    path: &'a str,
+pub struct ReportFile {
+    path: String,
     junit: Junit,
     /// How many bytes are told of tests.
     told: usize,
@@ -29,42 +29,62 @@ pub struct ReportFile<'a> {
 
 /// A report for JUnit; nothing is told where none is asked for.
 #[derive(Drop)]
-pub struct Report<'a> {
-    file: Option<ReportFile<'a>>,
+pub struct Report {
+    file: Option<ReportFile>,
 }
 
 /// What is written in files.
 #[derive(Drop)]
-pub struct Reports<'a> {
-    pub junit: Report<'a>,
-    pub coverage: Coverage<'a>,
+pub struct Reports {
+    pub junit: Report,
+    pub coverage: Coverage,
+}
+
+/// Returns a path that is there already, as one of its own.
+///
+/// Errors: `AllocError` if an allocation fails.
+pub fn path_of(alloc: Global, path: &str) -> Result<String, AllocError> {
+    let mut copy = String::new(alloc);
+    copy.push_str(path)?;
+    Ok(copy)
+}
+
+/// Begins a report for the file of that name. The file stays as it is.
+fn begin_file(alloc: Global, path: &str) -> Result<ReportFile, AllocError>
+    ensures { IfOk result (λ file. report_told file.junit ≡ no_suite) }
+{
+    Ok(ReportFile {
+        path: path_of(alloc, path)?,
+        junit: Junit::new(alloc),
+        told: 0,
+        unwritten: 0,
+    })
 }
 
 /// Begins a report for the file of that name, if one is asked for. The file stays as it is.
-pub fn begin_report<'a>(alloc: Global, path: Option<&'a str>) -> Report<'a>
+///
+/// Errors: `AllocError` if an allocation fails.
+pub fn begin_report(alloc: Global, path: Option<&str>) -> Result<Report, AllocError>
     // There is a report where one is asked for, and it has no suite.
-    ensures { told_in result ≡ option_map (λ _. no_suite) path.entry }
+    ensures { IfOk result
+        (λ report. told_in report ≡ option_map (λ _. no_suite) path.entry) }
 {
-    Report {
-        file: match path {
-            None => None,
-            Some(path) => Some(ReportFile {
-                path,
-                junit: Junit::new(alloc),
-                told: 0,
-                unwritten: 0,
-            }),
-        },
+    match path {
+        None => Ok(Report { file: None }),
+        Some(path) => {
+            let file = begin_file(alloc, path)?;
+            Ok(Report { file: Some(file) })
+        }
     }
 }
 
-impl ReportFile<'_> {
+impl ReportFile {
     /// Writes the report to its file.
     fn write<H: Files + AllocGlobal>(&mut self, rt: &H) -> Result<(), Stop>
         ensures { report_told self.new.junit ≡ report_told self.old.junit }
     {
         let text = self.junit.text(rt.alloc())?;
-        match write_file(rt, self.path, text.as_bytes()) {
+        match write_file(rt, self.path.as_str(), text.as_bytes()) {
             Ok(()) => {
                 self.unwritten = 0;
                 Ok(())
@@ -94,16 +114,11 @@ impl ReportFile<'_> {
     }
 }
 
-impl Report<'_> {
+impl Report {
     /// Begins a suite of so many tests.
     ///
     /// Errors: `AllocError` if an allocation fails.
-    pub fn begin_suite(
-        &mut self,
-        alloc: Global,
-        name: &str,
-        tests: usize,
-    ) -> Result<(), AllocError>
+    pub fn begin_suite(&mut self, alloc: Global, name: &str, tests: usize) -> Result<(), AllocError>
         ensures { OnOk result (told_in self.new
             ≡ option_map (with_suite name.now tests) (told_in self.old)) }
     {
@@ -163,7 +178,7 @@ impl Report<'_> {
     }
 }
 
-impl Reports<'_> {
+impl Reports {
     /// Writes what is not in its file yet: the records for lcov, and the report for JUnit.
     ///
     /// Errors: `OutOfMemory` if an allocation fails, `Report` and `Coverage` if these cannot be

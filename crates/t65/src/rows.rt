@@ -105,7 +105,7 @@ fn run_row(
     number: u64,
     case: Case<'_>,
     row: &(u32, Row),
-    coverage: &mut Coverage<'_>,
+    coverage: &mut Coverage,
 ) -> Result<Told, AllocError>
     requires start { session.old ≡ fresh prepared.now.map prepared.now.assembly.image }
     requires around { IsAround prepared.now around.now }
@@ -142,14 +142,16 @@ pub fn write_told<H: Files + AllocGlobal, O: Write>(
     rt: &H,
     told: &Told,
     output: &mut O,
-    reports: &mut Reports<'_>,
+    reports: &mut Reports,
 ) -> Result<(), Stop>
     ensures written { Writes (O.contents output.old) (O.contents output.new)
         (string_bytes told.now.tap) result }
     ensures report { OnOk result (told_in reports.new.junit ≡ option_map
         (with_test told.now.passes (string_bytes told.now.junit)) (told_in reports.old.junit)) }
 {
-    reports.junit.push_test(rt, told.junit.as_str(), told.passes)?;
+    reports
+        .junit
+        .push_test(rt, told.junit.as_str(), told.passes)?;
     write_text(output, told.tap.as_bytes())?;
     Ok(())
 }
@@ -165,7 +167,7 @@ fn run_each<H: Files + AllocGlobal, O: Write>(
     name: &str,
     tally: Tally,
     output: &mut O,
-    reports: &mut Reports<'_>,
+    reports: &mut Reports,
 ) -> Result<Tally, Stop>
     requires start { session.old ≡ fresh prepared.now.map prepared.now.assembly.image }
     requires around { IsAround prepared.now around.now }
@@ -192,7 +194,14 @@ fn run_each<H: Files + AllocGlobal, O: Write>(
         let row = tests[index];
         let coverage = &mut reports.coverage;
         let told = run_row(
-            rt.alloc(), session, prepared, around, number, case, row, coverage,
+            rt.alloc(),
+            session,
+            prepared,
+            around,
+            number,
+            case,
+            row,
+            coverage,
         )?;
         write_told(rt, &told, output, reports)?;
         so_far = tally_after(told.passes, tests[index].1.points, so_far);
@@ -215,7 +224,7 @@ pub fn run_rows<H: Files + AllocGlobal, O: Write>(
     name: &str,
     tally: Tally,
     output: &mut O,
-    reports: &mut Reports<'_>,
+    reports: &mut Reports,
 ) -> Result<Tally, Stop>
     ensures written { Writes (O.contents output.old) (O.contents output.new)
         (rows_text (ground_in prepared.now) name.now tally.count 1

@@ -15,8 +15,10 @@ use crate::report::{Reports, begin_report};
 use crate::stop::Stop;
 use crate::words::{TestWords, read_words};
 use arguments::{
-    Refusal, WriteFault, check_output, is_one_output, refuse, refuse_file, refused_words, write_text,
+    Refusal, WriteFault, check_output, is_one_output, refuse, refuse_file, refused_words,
+    write_text,
 };
+use std::alloc::{AllocError, Global};
 use std::io::Write;
 use std::rt::Files;
 use t65_reports::{TAP_BEGIN, plan};
@@ -27,7 +29,7 @@ fn run_told<H: Files + AllocGlobal, O: Write>(
     rt: &H,
     words: &TestWords<'_>,
     output: &mut O,
-    reports: &mut Reports<'_>,
+    reports: &mut Reports,
 ) -> Result<bool, Stop>
     ensures { MatchResult result (AreTested (test_view words.now) (O.contents output.old)
         (O.contents output.new)) (λ _. HasBegun (test_view words.now) (O.contents output.old)
@@ -125,7 +127,8 @@ fn are_one_output<H: Files + AllocGlobal>(rt: &H, words: &TestWords<'_>) -> Resu
 
 /// Checks that the files of the words can be written, which stay as they are.
 ///
-/// Errors: `Report` and `Coverage` if these cannot be written; `OutOfMemory` if an allocation fails.
+/// Errors: `Report` and `Coverage` if these cannot be written; `OutOfMemory` if an allocation
+/// fails.
 fn check_reports<H: Files + AllocGlobal>(rt: &H, words: &TestWords<'_>) -> Result<(), Stop> {
     if let Some(path) = words.junit {
         check_output(rt, path).map_err(Stop::of_report)?;
@@ -134,6 +137,16 @@ fn check_reports<H: Files + AllocGlobal>(rt: &H, words: &TestWords<'_>) -> Resul
         check_output(rt, path).map_err(Stop::of_coverage)?;
     }
     Ok(())
+}
+
+/// Begins what is written in files.
+///
+/// Errors: `AllocError` if an allocation fails.
+fn begin_reports(alloc: Global, words: &TestWords<'_>) -> Result<Reports, AllocError> {
+    Ok(Reports {
+        junit: begin_report(alloc, words.junit)?,
+        coverage: begin_coverage(alloc, words.coverage)?,
+    })
 }
 
 /// Runs the suites of the words, and returns the exit status.
@@ -153,9 +166,9 @@ fn run_reported<H: Files + AllocGlobal, O: Write, E: Write>(
         → HasBegun (test_view words.now) (O.contents output.old) (O.contents output.new) }
     ensures quiet { result ≤ 1 → errors.new ≡ errors.old }
 {
-    let mut reports = Reports {
-        junit: begin_report(rt.alloc(), words.junit),
-        coverage: begin_coverage(rt.alloc(), words.coverage),
+    let mut reports = match begin_reports(rt.alloc(), words) {
+        Ok(reports) => reports,
+        Err(_) => return refuse(Refusal::OutOfMemory, errors),
     };
     match run_told(rt, words, output, &mut reports) {
         Ok(true) => 0,
@@ -226,14 +239,14 @@ fn run_words<H: Files + AllocGlobal, O: Write, E: Write>(
 /// - 0: all rows of all files pass. 1: a row fails, or a file cannot be tested.
 /// - 2: the words are wrong. 3: memory ran out. 4: reading or writing failed.
 ///
-/// TAP goes to `output`, which is flushed after each test. The report for JUnit goes to its file, if
-/// one is asked for: whole, after the first test, when a sixteenth of it or more is not there, and at
-/// the end. The file for lcov is written at the end, with a record for each suite that was run on a
-/// source. A file stays as it is until it is replaced by a whole one. Neither is a file that is read:
-/// where its name is that of a file of the words, or both have one name, the words are wrong, and
-/// where it is another name for one, or is the source that a file names, the status is 4. What cannot
-/// be read, assembled or loaded is a test that fails, and other files are tested. That `errors` cannot
-/// be written changes no status.
+/// TAP goes to `output`, which is flushed after each test. The report for JUnit goes to its file,
+/// if one is asked for: whole, after the first test, when a sixteenth of it or more is not there,
+/// and at the end. The file for lcov is written at the end, with a record for each suite that was
+/// run on a source. A file stays as it is until it is replaced by a whole one. Neither is a file
+/// that is read: where its name is that of a file of the words, or both have one name, the words
+/// are wrong, and where it is another name for one, or is the source that a file names, the status
+/// is 4. What cannot be read, assembled or loaded is a test that fails, and other files are tested.
+/// That `errors` cannot be written changes no status.
 pub fn test<H: Files + AllocGlobal, O: Write, E: Write>(
     rt: &H,
     words: &[&str],
@@ -257,12 +270,13 @@ pub fn test<H: Files + AllocGlobal, O: Write, E: Write>(
     ensures refused { result ≡ 2 → Misfits test (texts words.entry.now)
         ⊎ (Fits test (texts words.entry.now)
         × (words_asked (texts words.entry.now) ≡ None)) }
-    // 3 means that memory ran out: of what is told of the suites a beginning was written, or nothing.
+    // 3 means that memory ran out: of what is told of the suites a beginning was written, or
+    // nothing.
     ensures memory { result ≡ 3 → (output.new ≡ output.old)
         ⊎ Asks (texts words.entry.now)
         (λ asked. HasBegun asked (O.contents output.old) (O.contents output.new)) }
-    // 4 means that a stream or a file failed: a beginning of the same was written; or that it is help
-    // that is asked for.
+    // 4 means that a stream or a file failed: a beginning of the same was written; or that it is
+    // help that is asked for.
     ensures begun { result ≡ 4 → AsksForHelp test (texts words.entry.now)
         ⊎ Asks (texts words.entry.now)
         (λ asked. HasBegun asked (O.contents output.old) (O.contents output.new)) }

@@ -5,15 +5,16 @@ use Rattle.t65_reports.specs.declared.junit.Junit.{Junit}
 use Rattle.t65_reports.specs.declared.junit.OpenSuite.{OpenSuite}
 use Rattle.t65_reports.specs.declared.wording.TheConstants.{JUNIT_BEGIN, JUNIT_END, SUITE_END}
 
--- A suite whose tests are run: its file, how many tests it has, how many of those so far fail, and what
--- is told of these.
+-- A suite whose tests are run: its file, how many tests it has, how many of those so far fail, and
+-- what is told of these.
 pub record SuiteTold : Type 0 where
   pub file : List ℕ
   pub tests : ℕ
   pub failed : ℕ
   pub cases : List ℕ
 
--- A report: the text of the suites that have ended, and the suite whose tests are run, if there is one.
+-- A report: the text of the suites that have ended, and the suite whose tests are run, if there is
+-- one.
 pub record ReportTold : Type 0 where
   pub ended : List ℕ
   pub suite : Option SuiteTold

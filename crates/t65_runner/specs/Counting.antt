@@ -111,8 +111,8 @@ abbrev pub is_last : Option Values → Values → Bool
 is_last None values = false
 is_last (Some failed) values = are_same failed values
 
--- So many calls of a test from a number on, each from a session; those for the last values are counted
--- otherwise.
+-- So many calls of a test from a number on, each from a session; those for the last values are
+-- counted otherwise.
 unfoldable pub counted_in : (ℕ → Values) → (one last : Values → Counts → Counts) → Option Values → ℕ
     → ℕ → Counts → Counts
 counted_in at one last failed zero number counts = counts

@@ -181,8 +181,8 @@ fn count_values(
     restore(alloc, session, map, image)
 }
 
-/// Makes the calls of rows for values for which one of them fails, up to that one, from the machine's
-/// start, counts their steps, and goes back there.
+/// Makes the calls of rows for values for which one of them fails, up to that one, from the
+/// machine's start, counts their steps, and goes back there.
 fn count_to_failure(
     alloc: Global,
     session: &mut Session,
