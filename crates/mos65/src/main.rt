@@ -17,6 +17,7 @@ use mon::mon;
 use page_words::page;
 use program::{process_words, program, unreadable_words, words_of};
 use running::run_program;
+use standard_streams::take_closed;
 use std::io;
 use std::process::ExitCode;
 use strict_debug::{strict_debug, strict_debug_image};
@@ -155,6 +156,7 @@ fn run(rt: &HostRuntime) -> io::Result<u8> {
 }
 
 fn main(rt: HostRuntime) -> ExitCode {
+    let _closed = take_closed(&rt);
     let status = match run(&rt) {
         Ok(status) => status,
         Err(error) => unreadable_words(&error, &mut rt.stderr()),

@@ -3,6 +3,7 @@
 #![tactic(auto)]
 
 use program::{process_words, program, unreadable_words, words_of};
+use standard_streams::take_closed;
 use std::io;
 use std::process::ExitCode;
 
@@ -20,6 +21,7 @@ fn run(rt: &HostRuntime) -> io::Result<u8> {
 }
 
 fn main(rt: HostRuntime) -> ExitCode {
+    let _closed = take_closed(&rt);
     let status = match run(&rt) {
         Ok(status) => status,
         Err(error) => unreadable_words(&error, &mut rt.stderr()),
