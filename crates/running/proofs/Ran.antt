@@ -4,7 +4,8 @@ use Rattle.std.specs.Io.KnownBytes.{Appends}
 use Rattle.accesses.specs.Writing.{bytes_in, or_everywhere}
 use Rattle.assembler.specs.Assembly.{AssemblyView}
 use Rattle.console.specs.Playing.{Outcome, begun, played}
-use Rattle.console.specs.Written.{AreBytesOf, RanAs}
+use Rattle.console.proofs.Growing.{broke_grows}
+use Rattle.console.specs.Written.{AreBytesOf, BrokeOff, RanAs}
 use Rattle.console.specs.declared.ending.Ending.{Ending}
 use Rattle.console.specs.declared.ending.PlayFault.{PlayFault}
 use Rattle.console.specs.declared.ending.Played.{Played}
@@ -14,6 +15,7 @@ use Rattle.loading.specs.Place.{names_of}
 use Rattle.model.specs.Event.{start}
 use Rattle.model.specs.State.{State}
 use Rattle.model.specs.Session.{Session, new_session}
+use Rattle.model.proofs.Written.{front_more}
 use Rattle.model.specs.Writers.{AppendsFront}
 use Rattle.arguments.specs.FaultLines.{fault_line}
 use Rattle.arguments.specs.Statuses.{status_of}
@@ -64,12 +66,24 @@ ran_to a assembly until s t streams heard end status silent run written is told 
       told_of a.tells_cycles a.file.file assembly heard end.ending outcome.ending end.steps outcome.steps t.current outcome.play.session.current same.ending same.steps (ap (λ (now : Session). now.current) same.session) told,
     )
 
+abbrev BrokenOf : Option ℕ → ℕ → Start → Option (List ℕ) → Option (List ℕ) → Session → Type 0
+BrokenOf until limit s given left now = (input : List ℕ) × (rest : List ℕ) × AreBytesOf given input × AreBytesOf left rest
+    × BrokeOff until limit (begun s.session s.written input) now rest
+
 pub failed_to : (a : RunAsked) (assembly : Option AssemblyView) (until : Option ℕ) (s : Start) (t : Session) (streams : Streams) (heard : Heard) (fault : PlayFault) (status : ℕ)
+    → s.session.current.bus.out ≡ []
+    → BrokenOf until a.steps s streams.given streams.left t
     → FrontWritten s.session t streams.held streams.now
     → status ≡ status_of (refusal_of fault)
     → Tells heard (fault_line (refusal_of fault))
     → RanTo a assembly until s streams heard status
-failed_to a assembly until s t streams heard fault status written is told = (Err fault, (written.2.0, written.2.3), is, told)
+failed_to a assembly until s t streams heard fault status silent broke written is told =
+    let whole : List ℕ = (played until a.steps (begun s.session s.written broke.0)).play.session.current.bus.out in
+    let grows = broke_grows until a.steps (begun s.session s.written broke.0) t broke.1 broke.4 in
+    let W : List ℕ → Type 0 = λ text. AppendsFront streams.held streams.now text in
+    let text_is : written.0 ≡ t.current.bus.out = sym (ap (λ (out : List ℕ). out ++ written.0) silent) ∙ sym written.1 in
+    let front : W whole = subst W (sym grows.1) (front_more streams.held streams.now t.current.bus.out grows.0 (subst W text_is written.2)) in
+    (Err fault, (broke.0, broke.2, front), is, told)
 
 -- A file that was loaded.
 pub ran_file : (a : RunAsked) (s : Session) (w : List Bool) (assembly : Option AssemblyView) (image : List (Option ℕ)) (streams : Streams) (heard : Heard) (status : ℕ) (Alone : Type 0) → IsLoaded a.file image assembly

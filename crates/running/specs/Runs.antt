@@ -30,6 +30,13 @@ pub record Streams : Type 0 where
   pub held : Option (List ℕ)
   pub now : Option (List ℕ)
 
+abbrev pub streams_of : Option (List ℕ) → Option (List ℕ) → Option (List ℕ) → Option (List ℕ)
+    → Streams
+streams_of given left held now = record { given = given; left = left; held = held; now = now }
+
+abbrev pub heard_of : Option (List ℕ) → Option (List ℕ) → Heard
+heard_of held now = record { held = held; now = now }
+
 -- Where a run begins: a session, with these addresses written.
 pub record Start : Type 0 where
   pub session : Session
@@ -37,13 +44,15 @@ pub record Start : Type 0 where
 
 -- A session ran to its end by the definition of a run, over some input, which is the reader's if
 -- its bytes are known: what the run did not ask for is left, and its output was written. If a
--- stream failed, something was written.
+-- stream failed, a beginning of the output of such a run was written.
 abbrev pub Ran : Start → Option ℕ → ℕ → Streams → Result Outcome PlayFault → Type 0
 Ran s until limit streams (Ok end) = (input : List ℕ)
     × (end ≡ played until limit (begun s.session s.written input))
     × AreBytesOf streams.given input × AreBytesOf streams.left end.play.input
     × Appends streams.held streams.now end.play.session.current.bus.out
-Ran s until limit streams (Err fault) = (text : List ℕ) × Appends streams.held streams.now text
+Ran s until limit streams (Err fault) = (input : List ℕ) × AreBytesOf streams.given input
+    × AppendsFront streams.held streams.now
+    (played until limit (begun s.session s.written input)).play.session.current.bus.out
 
 -- A writer got why a run did not come to its end, with what the source says of the address.
 abbrev pub TellsEnding : List ℕ → Option AssemblyView → Heard → Ending → ℕ → ℕ → Type 0

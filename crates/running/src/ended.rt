@@ -5,7 +5,7 @@ ghost use Rattle.std.specs.Prelude.{option_map};
 ghost use Rattle.model.specs.FaultTexts.{event_fault_text};
 ghost use Rattle.model.specs.Text.{hex_byte};
 ghost use Rattle.model.specs.Writers.{AppendsFront};
-ghost use Rattle.running.specs.Runs.{TellsEnding};
+ghost use Rattle.running.specs.Runs.{TellsEnding, heard_of};
 ghost use Rattle.running.specs.Statuses.{status_of_ending};
 ghost use Rattle.running.specs.Told.{IsSite, break_text, came_text, cycles_line, ending_line};
 ghost use Rattle.running.specs.Told.{place_of_ending, refused_line, step_word, stop_text};
@@ -234,10 +234,8 @@ pub fn tell_ending<E: Write>(
     errors: &mut E,
 )
     ensures quiet { status_of_ending played.ending 0 ≡ 0 → errors.new ≡ errors.old }
-    ensures told { TellsEnding file.now (option_map (λ a. a.now) assembly.entry) (record {
-      held = E.contents errors.old;
-      now = E.contents errors.new;
-    }) played.ending played.steps pc }
+    ensures told { TellsEnding file.now (option_map (λ a. a.now) assembly.entry)
+        (heard_of (E.contents errors.old) (E.contents errors.new)) played.ending played.steps pc }
 {
     let site = site_of_ending(alloc, file, assembly, played.ending, pc);
     put_ending(played, pc, site.as_slice(), errors);

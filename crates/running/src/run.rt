@@ -7,7 +7,8 @@ ghost use Rattle.arguments_play.specs.Run.{RunAsked, asked, run, run_view};
 ghost use Rattle.loading.specs.Place.{names_of};
 ghost use Rattle.model.specs.State.{input_waits, is_map};
 ghost use Rattle.running.specs.Places.{place_asked};
-ghost use Rattle.running.specs.Runs.{IsDone, RanIfFound, RanTo, Start, TellsEnd};
+ghost use Rattle.running.specs.Runs.{IsDone, RanIfFound, RanTo, Start, TellsEnd, heard_of};
+ghost use Rattle.running.specs.Runs.{streams_of};
 ghost use Rattle.running.specs.Statuses.{status_of_ending};
 
 use crate::ended::{status_of_ending, tell_cycles, tell_ending};
@@ -33,10 +34,9 @@ fn tell_end<E: Write>(
     errors: &mut E,
 )
     ensures told { TellsEnd words.now.tells_cycles words.now.file.file.now
-        (option_map (λ a. a.now) assembly.entry) (record {
-          held = E.contents errors.old;
-          now = E.contents errors.new;
-        }) played.ending played.steps session.now.current }
+        (option_map (λ a. a.now) assembly.entry)
+        (heard_of (E.contents errors.old) (E.contents errors.new))
+        played.ending played.steps session.now.current }
     ensures quiet { words.now.tells_cycles ≡ false → status_of_ending played.ending 0 ≡ 0
         → errors.new ≡ errors.old }
 {
@@ -59,10 +59,9 @@ fn ended<E: Write>(
     ensures status { result ≡ status_of_ending played.ending
         (if words.now.is_status_of_a then session.now.current.regs.a else 0) }
     ensures told { TellsEnd words.now.tells_cycles words.now.file.file.now
-        (option_map (λ a. a.now) assembly.entry) (record {
-          held = E.contents errors.old;
-          now = E.contents errors.new;
-        }) played.ending played.steps session.now.current }
+        (option_map (λ a. a.now) assembly.entry)
+        (heard_of (E.contents errors.old) (E.contents errors.new))
+        played.ending played.steps session.now.current }
     ensures quiet { words.now.tells_cycles ≡ false → result ≡ 0 → errors.new ≡ errors.old }
 {
     tell_end(alloc, words, assembly, played, session, errors);
@@ -89,15 +88,10 @@ fn run_to<R: Read, O: Write, E: Write>(
     requires idle { input_waits session.old.current.bus ≡ false }
     requires silent { session.old.current.bus.out ≡ [] }
     ensures ran { RanTo (run_view words.now) (option_map (λ a. a.now) assembly.entry) until
-        (record { session = session.old; written = written }) (record {
-          given = R.remaining input.old;
-          left = R.remaining input.new;
-          held = O.contents output.old;
-          now = O.contents output.new;
-        }) (record {
-          held = E.contents errors.old;
-          now = E.contents errors.new;
-        }) result }
+        (record { session = session.old; written = written })
+        (streams_of (R.remaining input.old) (R.remaining input.new) (O.contents output.old)
+        (O.contents output.new))
+        (heard_of (E.contents errors.old) (E.contents errors.new)) result }
     ensures quiet { words.now.tells_cycles ≡ false → result ≡ 0 → errors.new ≡ errors.old }
 {
     match play(session, written, until, words.steps, input, output) {
@@ -122,15 +116,11 @@ fn run_loaded<R: Read, O: Write, E: Write>(
         (record {
           session = loaded.session;
           written = or_everywhere words.now.is_free loaded.written;
-        }) (record {
-          given = R.remaining input.old;
-          left = R.remaining input.new;
-          held = O.contents output.old;
-          now = O.contents output.new;
-        }) (record {
-          held = E.contents errors.old;
-          now = E.contents errors.new;
-        }) result ((input.new ≡ input.old) × (output.new ≡ output.old)) }
+        })
+        (streams_of (R.remaining input.old) (R.remaining input.new) (O.contents output.old)
+        (O.contents output.new))
+        (heard_of (E.contents errors.old) (E.contents errors.new)) result
+        ((input.new ≡ input.old) × (output.new ≡ output.old)) }
     ensures quiet { words.now.tells_cycles ≡ false → result ≡ 0 → errors.new ≡ errors.old }
 {
     let until = match place_named(&loaded, words.until, errors) {
@@ -164,15 +154,11 @@ fn run_words<H: Files + AllocGlobal, R: Read, O: Write, E: Write>(
     output: &mut O,
     errors: &mut E,
 ) -> u8
-    ensures done { IsDone (run_view words.now) (record {
-      given = R.remaining input.old;
-      left = R.remaining input.new;
-      held = O.contents output.old;
-      now = O.contents output.new;
-    }) (record {
-      held = E.contents errors.old;
-      now = E.contents errors.new;
-    }) result ((input.new ≡ input.old) × (output.new ≡ output.old)) }
+    ensures done { IsDone (run_view words.now)
+        (streams_of (R.remaining input.old) (R.remaining input.new) (O.contents output.old)
+        (O.contents output.new))
+        (heard_of (E.contents errors.old) (E.contents errors.new)) result
+        ((input.new ≡ input.old) × (output.new ≡ output.old)) }
     ensures bad_map { is_map words.now.file.rom words.now.file.port ≡ false → result ≡ 2 }
     ensures quiet { words.now.tells_cycles ≡ false → result ≡ 0 → errors.new ≡ errors.old }
 {
@@ -205,15 +191,11 @@ pub fn run_program<H: Files + AllocGlobal, R: Read, O: Write, E: Write>(
     // definition of a run, or it was not and the streams are unchanged, as the status says. The
     // error stream gets why, or how the run ended.
     ensures done { (a : RunAsked) → asked (texts words.entry.now) ≡ Some a
-        → Fits run (texts words.entry.now) → IsDone a (record {
-          given = R.remaining input.old;
-          left = R.remaining input.new;
-          held = O.contents output.old;
-          now = O.contents output.new;
-        }) (record {
-          held = E.contents errors.old;
-          now = E.contents errors.new;
-        }) result ((input.new ≡ input.old) × (output.new ≡ output.old)) }
+        → Fits run (texts words.entry.now) → IsDone a
+        (streams_of (R.remaining input.old) (R.remaining input.new) (O.contents output.old)
+        (O.contents output.new))
+        (heard_of (E.contents errors.old) (E.contents errors.new)) result
+        ((input.new ≡ input.old) × (output.new ≡ output.old)) }
     // Other words read nothing, and write nothing on the output but help.
     ensures refused { Refuses run (texts words.entry.now) (asked (texts words.entry.now) ≡ None)
         result (input.new ≡ input.old) (output.new ≡ output.old) }

@@ -27,5 +27,5 @@ returns-in-Err-clause-ran g c =
     }) (record {
       held = g.E.Write.contents c.args.errors.now;
       now = g.E.Write.contents c.refuse.new.errors;
-    }) c.in-Err.fault c.refuse.result c.in-Err.ensures.output
+    }) c.in-Err.fault c.refuse.result c.requires.silent c.in-Err.ensures.err c.in-Err.ensures.output
     (c.refuse.ensures.status ∙ ap status_of c.refusal_of.ensures) (rw c.refusal_of.ensures at c.refuse.ensures.told)
