@@ -1,5 +1,5 @@
 -- What a run puts out begins with what was put out before.
-use Rattle.std.proofs.Common.{◌≡◌, ◌∙◌, ℕ, zero, suc, ◌-◌, ◌<◌, ◌≤◌, Bool, true, false, cond, List, [], ◌∷◌, ◌++◌, length, Option, Some, None, Result, Ok, Err, refl, sym, ap, arith, append-nil, append_assoc, inl, inr, subst}
+use Rattle.std.proofs.Common.{◌≡◌, ◌∙◌, ℕ, zero, suc, ◌-◌, ◌<◌, Bool, true, false, cond, List, [], ◌∷◌, ◌++◌, length, Option, Some, None, Result, Ok, Err, refl, sym, ap, arith, append-nil, append_assoc, inl, inr, subst}
 use Rattle.std.specs.Prelude.{nat_le}
 use Rattle.model.specs.Event.{event_of, input_of}
 use Rattle.model.specs.Session.{Session}
@@ -10,7 +10,7 @@ use Rattle.model.specs.declared.event.Event.TheVariants as event
 use Rattle.model.specs.declared.event.EventFault.{EventFault}
 use Rattle.model.specs.declared.event.EventFault.TheVariants.{InputFull}
 use Rattle.console.specs.Playing.{Outcome, Play, Turn, after_turn, asks, came, ending_here, is_at, later, line_for, played, stepped, turn_of, turn_with, unless_ended, with_line}
-use Rattle.console.specs.Turns.{CutTurn, play_at, turn_to}
+use Rattle.console.specs.Turns.{CutTurn, play_at}
 use Rattle.console.specs.Written.{BrokeOff, CutRun}
 use Rattle.console.specs.declared.ending.Ending.{Ending}
 use Rattle.console.specs.declared.ending.Ending.TheVariants.{Until}
