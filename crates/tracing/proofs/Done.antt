@@ -47,9 +47,9 @@ pub traced_to : (a : TraceAsked) (b : Begin) (from to : Option ℕ) (limit : ℕ
     → TellsEnding a.file.file b.assembly (record { held = said; now = heard.now }) end.ending end.steps t.current.regs.pc
     → status ≡ status_of_ending end.ending 0 → TracedTo a b from to streams heard status
 traced_to a b from to limit t streams heard out said end flag status long silent run put unbegun told is =
-    let run = subst (λ n. TracedAs a b from to n streams t end flag) long run in
-    let outcome : Outcome = traced from to a.steps (play_of a b run.0) in
-    let same : RanAs outcome end t run.1 = run.4 in
+    let made = subst (λ n. TracedAs a b from to n streams t end flag) long run in
+    let outcome : Outcome = traced from to a.steps (play_of a b made.0) in
+    let same : RanAs outcome end t made.1 = made.4 in
     let B : List ℕ → Type 0 = λ bytes. AreBytesOf streams.left bytes in
     let W : List ℕ → Type 0 = λ text. Appends heard.held out text in
     let text_is : put.0 ≡ outcome.play.session.current.bus.out
@@ -58,11 +58,11 @@ traced_to a b from to limit t streams heard out said end flag status long silent
       out,
       said,
       subst W text_is put.2,
-      subst (λ (b : Bool). AppendsFront out said (unbegun_text b)) run.6 unbegun,
+      subst (λ (b : Bool). AppendsFront out said (unbegun_text b)) made.6 unbegun,
       told_of a.file.file b.assembly (record { held = said; now = heard.now }) end.ending outcome.ending end.steps outcome.steps t.current.regs.pc outcome.play.session.current.regs.pc same.ending same.steps
           (ap (λ (now : Session). now.current.regs.pc) same.session) told,
     ) in
-    (Ok outcome, (run.0, refl, run.2, subst B same.left run.3, run.5, tells), is ∙ ap (λ (why : Ending). status_of_ending why 0) same.ending)
+    (Ok outcome, (made.0, refl, made.2, subst B same.left made.3, made.5, tells), is ∙ ap (λ (why : Ending). status_of_ending why 0) same.ending)
 
 -- A trace that was cut short.
 pub cut_off : (a : TraceAsked) (b : Begin) (from to : Option ℕ) (limit : ℕ) (u : Session) (streams : Streams) (heard : Heard) (out : Option (List ℕ)) (refusal : Refusal) (status : ℕ)
@@ -73,12 +73,12 @@ pub cut_off : (a : TraceAsked) (b : Begin) (from to : Option ℕ) (limit : ℕ) 
     → AppendsFront out heard.now (cut_line a.lcov refusal)
     → status ≡ status_of refusal → TracedTo a b from to streams heard status
 cut_off a b from to limit u streams heard out refusal status long silent why run put told is =
-    let run = subst (λ n. (input : List ℕ) × AreBytesOf streams.given input × CutIn (traced from to n (play_of a b input)) u × WroteFront a b (λ g. trace_noted from to n g (play_of a b input)) streams.held streams.now) long run in
-    let outcome : Outcome = traced from to a.steps (play_of a b run.0) in
+    let made = subst (λ n. (input : List ℕ) × AreBytesOf streams.given input × CutIn (traced from to n (play_of a b input)) u × WroteFront a b (λ g. trace_noted from to n g (play_of a b input)) streams.held streams.now) long run in
+    let outcome : Outcome = traced from to a.steps (play_of a b made.0) in
     let W : List ℕ → Type 0 = λ text. AppendsFront heard.held out text in
     let text_is : put.0 ≡ u.current.bus.out = sym (ap (λ (xs : List ℕ). xs ++ put.0) silent) ∙ sym put.1 in
-    let front : W outcome.play.session.current.bus.out = subst W (sym run.2.1) (front_more heard.held out u.current.bus.out run.2.0 (subst W text_is put.2)) in
-    (Err refusal, (why, (run.0, run.1, run.3, (out, front, told))), is)
+    let front : W outcome.play.session.current.bus.out = subst W (sym made.2.1) (front_more heard.held out u.current.bus.out made.2.0 (subst W text_is put.2)) in
+    (Err refusal, (why, (made.0, made.1, made.3, (out, front, told))), is)
 
 pub traced_between : (asked : TraceAsked) (begin : Begin) (from to : Option ℕ) (a b : Result (Option ℕ) ℕ) (streams : Streams) (heard : Heard) (status : ℕ) (Alone : Type 0)
     → Ok from ≡ a → Ok to ≡ b → TracedTo asked begin from to streams heard status → TracedIfFound asked begin a b streams heard status Alone

@@ -307,6 +307,7 @@ fn trace_on<R: Read, O: Write, E: Write>(
 }
 
 /// How a trace ended, and whether its run came to the place where it begins.
+#[derive(Clone, Copy)]
 struct Traced {
     played: Played,
     has_begun: bool,
