@@ -1,5 +1,5 @@
 -- What was read of a text of records. Source: mos65.
-use Rattle.std.specs.Prelude.{◌≡◌, ℕ, ◌+◌, nat_le, if◌then◌else◌, is_some, List, [], ◌∷◌, length, Option, Some, Result, Ok, Err, slice_set}
+use Rattle.std.specs.Prelude.{◌≡◌, ℕ, ◌+◌, nat_lt, ◌&&◌, if◌then◌else◌, is_some, List, [], ◌∷◌, length, Option, Some, Result, Ok, Err, slice_set}
 use Rattle.model.specs.Image.{cell_at, empty_image, with_bytes}
 use Rattle.image_reader.specs.declared.fault.LineFault.{LineFault}
 use Rattle.image_reader.specs.declared.fault.RecordFaultKind.TheVariants.{PastEnd}
@@ -41,14 +41,16 @@ with_again cells again address [] = again
 with_again cells again address (b ∷ bytes)
     = with_again cells (with_again_at cells again address) (address + 1) bytes
 
--- Data from an address on, in place of what is there. The column is that of the address.
+-- Data from an address on, in place of what is there. No byte may be past address 65535; a record
+-- without data may be at any address. The column is that of the address.
 unfoldable pub stored : ℕ → ℕ → List ℕ → Progress → Result Progress LineFault
-stored column address bytes s = if nat_le (address + length bytes) 65536
-    then Ok (record s {
+stored column address bytes s =
+    if nat_lt 0 (length bytes) && nat_lt 65536 (address + length bytes)
+    then Err (at PastEnd column)
+    else Ok (record s {
       cells = with_bytes s.cells address bytes;
       again = with_again s.cells s.again address bytes;
     })
-    else Err (at PastEnd column)
 
 -- What a step of the code returned, and what it left, is what the step gives. After a fault
 -- nothing is said of what it left.

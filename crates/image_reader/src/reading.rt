@@ -133,16 +133,17 @@ impl Reading {
         requires short { length bytes.now ≤ 523 }
         ensures { Gives result self.new (stored column address bytes.now self.old) }
     {
+        if bytes.is_empty() {
+            return Ok(());
+        }
         if address + bytes.len() as u64 > 65536 {
             return Err(LineFault {
                 kind: RecordFaultKind::PastEnd,
                 column,
             });
         }
-        if !bytes.is_empty() {
-            note_each(&mut self.again, &self.image, address as u16, bytes);
-            self.image.store(address as u16, bytes);
-        }
+        note_each(&mut self.again, &self.image, address as u16, bytes);
+        self.image.store(address as u16, bytes);
         Ok(())
     }
 

@@ -3,7 +3,7 @@ use Rattle.std.proofs.Common.{◌≡◌, ℕ, zero, suc, ◌+◌, ◌-◌, ◌*�
 use Rattle.std.specs.Prelude.{codes}
 use Rattle.std.specs.List.{AllByRecursion, flat_map, list_all, prefix_len}
 use Rattle.std.specs.Io.BufRead.{strip_last}
-use Rattle.std.proofs.lemmas.Bool.{and_parts, and_from, cases_Bool, eq-eqb, eqb-true, lt-ltb, le-leb, le-ltb, ne_eqb, lt-leb}
+use Rattle.std.proofs.lemmas.Bool.{and_parts, and_from, cases_Bool, eq-eqb, eqb-true, lt-ltb, le-ltb, ne_eqb, lt-leb}
 use Rattle.std.proofs.lemmas.List.{append-nil, get_or_at, length-append, take_at}
 use Rattle.hex.specs.Hex.{encode_with, encode_upper, upper_digits}
 use Rattle.hex.proofs.HexLemmas.{IsDigits-upper_digits, length-encode_with}
@@ -95,7 +95,8 @@ put s address bytes = record s { cells = with_bytes s.cells address bytes; again
 
 put_there : (column address : ℕ) (bytes : List ℕ) (s : Progress) → address + length bytes ≤ 65536 → stored column address bytes s ≡ Ok (put s address bytes)
 unfolding stored
-put_there column address bytes s h = rw (le-leb (address + length bytes) 65536 h) refl
+put_there column address [] s h = refl
+put_there column address (b ∷ bytes) s h = rw (lt-ltb 0 (length (b ∷ bytes)) (omega arith), le-ltb 65536 (address + length (b ∷ bytes)) h) refl
 
 -- the bytes of a written row
 abbrev hex_bytes : Stretch → List ℕ

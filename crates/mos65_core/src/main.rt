@@ -3,7 +3,7 @@
 #![tactic(auto)]
 
 use program::{process_words, program, unreadable_words, words_of};
-use standard_streams::take_closed;
+use standard_streams::{Retrying, take_closed};
 use std::io;
 use std::process::ExitCode;
 
@@ -14,7 +14,7 @@ fn run(rt: &HostRuntime) -> io::Result<u8> {
     Ok(program(
         rt,
         &words,
-        &mut rt.reader(),
+        &mut Retrying::new(rt.reader()),
         &mut io::writer(rt),
         &mut rt.stderr(),
     ))
