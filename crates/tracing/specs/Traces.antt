@@ -236,7 +236,8 @@ TellsTrace a assembly heard begun end = (out : Option (List ℕ)) × (said : Opt
 -- Why a trace was cut short: the file for lcov is named.
 abbrev pub cut_line : Option (List ℕ) → Refusal → List ℕ
 cut_line (Some file) (WriteFile why) = file_line file (WriteFile why)
-cut_line lcov refusal = fault_line refusal
+cut_line (Some file) refusal = fault_line refusal
+cut_line None refusal = fault_line refusal
 
 -- The error stream got a beginning of what the program puts out, and why the trace was cut short.
 abbrev pub TellsCut : TraceAsked → Heard → Outcome → Refusal → Type 0

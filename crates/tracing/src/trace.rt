@@ -351,7 +351,7 @@ fn trace_between<R: Read, O: Write, E: Write>(
     };
     match reached.ending {
         Ending::Until => {
-            let traced = trace_on(
+            match trace_on(
                 alloc,
                 tracer,
                 session,
@@ -360,8 +360,7 @@ fn trace_between<R: Read, O: Write, E: Write>(
                 input,
                 output,
                 errors,
-            );
-            match traced {
+            ) {
                 Ok(played) => Ok(Traced {
                     played,
                     has_begun: true,
@@ -446,9 +445,19 @@ fn tell_cut<E: Write>(refusal: Refusal, lcov: Option<&str>, errors: &mut E) -> u
     ensures told { AppendsFront (E.contents errors.old) (E.contents errors.new)
         (cut_line (option_map (λ s. s.now) lcov.entry) refusal) }
 {
-    match (lcov, refusal) {
-        (Some(file), Refusal::WriteFile(_)) => refuse_file(refusal, file, errors),
-        _ => refuse(refusal, errors),
+    match lcov {
+        Some(file) => match refusal {
+            Refusal::WriteFile(_) => refuse_file(refusal, file, errors),
+            Refusal::Words
+            | Refusal::Map(_)
+            | Refusal::Source(_)
+            | Refusal::Tape(_)
+            | Refusal::Session(_)
+            | Refusal::OutOfMemory
+            | Refusal::Read(_)
+            | Refusal::Write => refuse(refusal, errors),
+        },
+        None => refuse(refusal, errors),
     }
 }
 

@@ -10,10 +10,10 @@ use Rattle.tracing.proofs.trace.trace_between.Goals as goal
 pub returns-in-Ok-trace_on-clause-ok : goal.returns-in-Ok-trace_on-clause-ok
 returns-in-Ok-trace_on-clause-ok g c =
     let on = c.in-Ok-trace_on.ensures.ok in
-    whole_told c.args.span.from c.args.span.to c.args.span.limit (gathered c.args.tracer.now) c.args.session.now c.trace_on-traced.new.session c.begin-player.result c.trace_on-traced.new.player
-    (g.R.Read.remaining c.args.input.now) (g.R.Read.remaining c.trace_on-traced.new.input) _ _ c.args.written c.in-Ok-trace_on.played (Some on.0) _ refl c.begin-player.ensures.known c.in-Ok-trace_on.ensures.over
-    (traced_on c.args.span.from c.args.span.to c.args.span.limit c.args.session.now c.run_to_start.new.session c.trace_on-traced.new.session c.begin-player.result c.run_to_start.new.player c.trace_on-traced.new.player
-    (g.R.Read.remaining c.args.input.now) (g.R.Read.remaining c.run_to_start.new.input) (g.R.Read.remaining c.trace_on-traced.new.input) (gathered c.args.tracer.now) (gathered c.run_to_start.new.tracer) on.0 c.in-Ok.reached c.in-Ok-trace_on.played
+    whole_told c.args.span.from c.args.span.to c.args.span.limit (gathered c.args.tracer.now) c.args.session.now c.trace_on.new.session c.begin-player.result c.trace_on.new.player
+    (g.R.Read.remaining c.args.input.now) (g.R.Read.remaining c.trace_on.new.input) _ _ c.args.written c.in-Ok-trace_on.played (Some on.0) _ refl c.begin-player.ensures.known c.in-Ok-trace_on.ensures.over
+    (traced_on c.args.span.from c.args.span.to c.args.span.limit c.args.session.now c.run_to_start.new.session c.trace_on.new.session c.begin-player.result c.run_to_start.new.player c.trace_on.new.player
+    (g.R.Read.remaining c.args.input.now) (g.R.Read.remaining c.run_to_start.new.input) (g.R.Read.remaining c.trace_on.new.input) (gathered c.args.tracer.now) (gathered c.run_to_start.new.tracer) on.0 c.in-Ok.reached c.in-Ok-trace_on.played
     c.in-Until.is c.in-Ok.ensures.ok on.1)
     on.2
 
@@ -24,8 +24,8 @@ returns-in-Ok-trace_on-clause-output g c =
 
 pub returns-in-Err-trace_on-clause-err : goal.returns-in-Err-trace_on-clause-err
 returns-in-Err-trace_on-clause-err g c =
-    whole_cut_on c.args.span.from c.args.span.to c.args.span.limit c.args.session.now c.run_to_start.new.session c.trace_on-traced.new.session c.begin-player.result c.run_to_start.new.player
-    (g.R.Read.remaining c.args.input.now) (g.R.Read.remaining c.run_to_start.new.input) (g.R.Read.remaining c.trace_on-traced.new.input) _ _ c.trace_on-traced.new.player.is_over c.args.written
+    whole_cut_on c.args.span.from c.args.span.to c.args.span.limit c.args.session.now c.run_to_start.new.session c.trace_on.new.session c.begin-player.result c.run_to_start.new.player
+    (g.R.Read.remaining c.args.input.now) (g.R.Read.remaining c.run_to_start.new.input) (g.R.Read.remaining c.trace_on.new.input) _ _ c.trace_on.new.player.is_over c.args.written
     (gathered c.args.tracer.now) (gathered c.run_to_start.new.tracer) c.in-Ok.reached
     c.begin-player.ensures.known c.in-Until.is c.in-Err-trace_on.ensures.over c.in-Ok.ensures.ok c.in-Err-trace_on.ensures.err
 

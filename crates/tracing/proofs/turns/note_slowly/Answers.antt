@@ -10,8 +10,8 @@ returns-in-Ok-Some-clause-ok g c =
     let turn = rw c.in-Ok-Some.field-0-is at c.in-Ok-Some.ensures.ok in
     (turn.0, [], turned (Some c.in-Ok-Some.ending) _ _ _ _ _ _ turn.0 turn.1 turn.2 turn.3 turn.4, (refl, refl), gathers_none _ _ _ _ refl refl)
 
-pub returns-in-Ok-note-clause-ok : goal.returns-in-Ok-note-clause-ok
-returns-in-Ok-note-clause-ok g c =
+pub returns-in-Ok-clause-ok : goal.returns-in-Ok-clause-ok
+returns-in-Ok-clause-ok g c =
     let turn = rw c.in-Ok-None.field-0-is at c.in-Ok-None.ensures.ok in
     let old = c.args.tracer.now in
     let s = c.args.session.now.current in
@@ -20,8 +20,8 @@ returns-in-Ok-note-clause-ok g c =
       turn.0,
       text_of_step t ahead (gathered old),
       turned None _ _ _ _ _ _ turn.0 turn.1 turn.2 turn.3 turn.4,
-      turn_noted s t (gathered old) (gathered c.note.new.self) ahead c.look_ahead-ahead.ensures c.in-Ok-note.ensures.noted,
-      c.in-Ok-note.ensures.gathered,
+      turn_noted s t (gathered old) (gathered c.note.new.self) ahead c.look_ahead-ahead.ensures c.in-Ok.ensures.noted,
+      c.in-Ok.ensures.gathered,
     )
 
 pub returns-in-Err-clause-err : goal.returns-in-Err-clause-err
