@@ -23,7 +23,7 @@ use crate::notes::{Note, note_line, placed_in};
 use crate::seat::{Seat, of_memory};
 use crate::starting::{Started, start};
 use crate::wording::LOADED_AGAIN;
-use arguments::{LoadFault, Refusal};
+use arguments::{LoadFault, Refusal, push_shown};
 use loading::{Loaded, load_with_history};
 use mon_dispatch::follow;
 use mon_session::Desk;
@@ -73,7 +73,7 @@ fn say_loaded(desk: &mut Desk, text: &[u8], file: &str) -> Result<(), AllocError
         × (desk.new.text.items ≡ text.now ++ first)) }
 {
     desk.text.extend_from_slice(text)?;
-    desk.say(file)?;
+    push_shown(&mut desk.text, file.as_bytes())?;
     desk.say(LOADED_AGAIN)
 }
 

@@ -1,6 +1,6 @@
 //! The words of what is said of a file, behind its name.
 
-pub const NOT_WRITTEN: &str = " cannot be written\n";
+pub const NOT_WRITTEN: &str = " cannot be written";
 
 pub const OWN_FILE: &str = " is a file of this session; save under another name\n";
 
