@@ -4,8 +4,8 @@ ghost use Rattle.std.specs.Prelude.{◌≡◌, ℕ, IfErr, IfOk, List, Ok, OnOk}
 ghost use Rattle.mon_dispatch.specs.Lines.{Says};
 ghost use Rattle.mon_session.specs.Course.{ShowsOnly};
 
-use crate::wording::{NOT_WRITTEN, OWN_FILE};
-use arguments::{Refusal, WriteFault, is_one_file, push_shown, write_file, write_reason};
+use crate::wording::{NOT_UTF8, NOT_WRITTEN, OWN_FILE};
+use arguments::{Refusal, WriteFault, is_one_file, put_shown, write_file, write_reason};
 use arguments_play::MonWords;
 use mon_session::Desk;
 use std::alloc::AllocError;
@@ -63,12 +63,28 @@ pub fn write_new<H: Files + AllocGlobal>(
     }
 }
 
+/// Says the name of a file, with a `?` for each control character.
+///
+/// Errors: `AllocError` if an allocation fails.
+pub fn say_name(desk: &mut Desk, file: &[u8]) -> Result<(), AllocError>
+    ensures shows { ShowsOnly desk.old desk.new }
+    ensures said { OnOk result ((said : List ℕ) × Says said desk.old desk.new) }
+{
+    let Ok(name) = str::from_utf8(file) else {
+        return desk.say(NOT_UTF8);
+    };
+    match put_shown(&mut desk.text, name) {
+        Ok(()) => Ok(()),
+        Err(_) => Err(AllocError),
+    }
+}
+
 /// Says something behind the name of a file.
 pub fn say_of(desk: &mut Desk, file: &[u8], words: &str) -> Result<(), AllocError>
     ensures shows { ShowsOnly desk.old desk.new }
     ensures said { OnOk result ((said : List ℕ) × Says said desk.old desk.new) }
 {
-    push_shown(&mut desk.text, file)?;
+    say_name(desk, file)?;
     desk.say(words)
 }
 
