@@ -5,4 +5,5 @@ mod Going
 mod Keeping
 mod Making
 mod Noting
+mod Refusing
 mod Telling

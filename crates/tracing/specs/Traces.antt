@@ -21,7 +21,7 @@ use Rattle.model.specs.State.{State}
 use Rattle.arguments.specs.Statuses.{status_of}
 use Rattle.arguments.specs.declared.refusal.ReadFault.TheVariants.{Other}
 use Rattle.arguments.specs.declared.refusal.Refusal.{Refusal}
-use Rattle.arguments.specs.declared.refusal.Refusal.TheVariants.{OutOfMemory, Read, Write}
+use Rattle.arguments.specs.declared.refusal.Refusal.TheVariants.{OutOfMemory, Read, Write, WriteFile}
 use Rattle.running.specs.Places.{place_asked}
 use Rattle.loading.specs.Told.{Heard, Tells}
 use Rattle.running.specs.Runs.{Streams}
@@ -151,11 +151,12 @@ abbrev pub WroteNotes : TraceAsked → Begin → (Gathered → Option Noted)
 WroteNotes a b notes held now = (sites : Sites) × AreSites b.assembly sites
     × GotText (notes (none_gathered a sites (first_written a.finds_unwritten b.written))) held now
 
--- Memory ran out, or a stream failed.
+-- Memory ran out, a stream failed, or the file for lcov is not written.
 abbrev pub IsOfStreams : Refusal → Type 0
 IsOfStreams OutOfMemory = ⊤
 IsOfStreams (Read Other) = ⊤
 IsOfStreams Write = ⊤
+IsOfStreams (WriteFile why) = ⊤
 IsOfStreams refusal = ⊥
 
 -- A session was traced by the definition of a trace over some input, which is the reader's if its

@@ -3,6 +3,7 @@
 ghost use Rattle.std.specs.Prelude.{◌≡◌, ◌≤◌, ◌⊎◌, [], ◌∷◌, ℕ, List, None, IfErr, IfOk, OnOk};
 ghost use Rattle.std.specs.Prelude.{Some, false, option_map};
 ghost use Rattle.accesses.specs.Writing.{or_everywhere};
+ghost use Rattle.arguments.specs.Statuses.{status_of};
 ghost use Rattle.arguments.specs.Words.{Fits, Refuses, texts};
 ghost use Rattle.console.specs.Playing.{begun, is_at, played};
 ghost use Rattle.console.specs.Taking.{Waits};
@@ -24,7 +25,7 @@ use crate::lines::{check_lines, write_lines};
 use crate::tracer::Tracer;
 use crate::turns::{noted_turn, passed_turn};
 use accesses::Written;
-use arguments::{Refusal, refuse, refused_words};
+use arguments::{Refusal, refuse, refuse_file, refused_words};
 use arguments_play::{TraceWords, read_trace_words};
 use console::{Ending, Played, Player, begin, ending_after};
 use debugger::Session;
@@ -346,6 +347,16 @@ fn trace_span<H: Files + AllocGlobal, R: Read, O: Write, E: Write>(
     Ok(played)
 }
 
+/// Writes why a trace was cut short, and returns the exit status. The file for lcov is named.
+fn tell_cut<E: Write>(refusal: Refusal, lcov: Option<&str>, errors: &mut E) -> u8
+    ensures { result ≡ status_of refusal }
+{
+    match (lcov, refusal) {
+        (Some(file), Refusal::WriteFile(_)) => refuse_file(refusal, file, errors),
+        _ => refuse(refusal, errors),
+    }
+}
+
 /// Traces what was loaded, tells how that ended, and returns the exit status.
 fn trace_told<H: Files + AllocGlobal, R: Read, O: Write, E: Write>(
     rt: &H,
@@ -373,7 +384,7 @@ fn trace_told<H: Files + AllocGlobal, R: Read, O: Write, E: Write>(
             tell_ending(alloc, words.file.file, assembly, played, pc, errors);
             status_of_ending(played.ending, 0)
         }
-        Err(refusal) => refuse(refusal, errors),
+        Err(refusal) => tell_cut(refusal, words.lcov, errors),
     }
 }
 
@@ -446,7 +457,7 @@ fn trace_words<H: Files + AllocGlobal, R: Read, O: Write, E: Write>(
 /// The statuses are those of `run`, and 10 if `--steps` ended the trace. Rows, or what was counted
 /// or found, go to `output`, and the program's own output to `errors`. How often each line was run
 /// goes to its file when the trace has ended; the status is 4 where that cannot be written, or is
-/// the file to run.
+/// the file to run or the file of names.
 pub fn trace_program<H: Files + AllocGlobal, R: Read, O: Write, E: Write>(
     rt: &H,
     words: &[&str],

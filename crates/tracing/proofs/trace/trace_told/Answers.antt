@@ -23,4 +23,4 @@ returns-in-Err g c =
       left = g.R.Read.remaining c.trace_span.new.input;
       held = g.O.Write.contents c.args.output.now;
       now = g.O.Write.contents c.trace_span.new.output;
-    }) c.in-Err.refusal c.refuse.result c.in-Err.ensures.fault c.refuse.ensures.status
+    }) c.in-Err.refusal c.tell_cut.result c.in-Err.ensures.fault c.tell_cut.ensures
