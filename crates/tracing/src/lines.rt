@@ -59,5 +59,8 @@ pub fn write_lines<H: Files + AllocGlobal>(
     let Ok(text) = lines_text(rt.alloc(), words.file.file, assembly, tally) else {
         return Err(Refusal::OutOfMemory);
     };
-    write_file(rt, path, &text)
+    match write_file(rt, path, &text) {
+        Ok(()) => Ok(()),
+        Err(fault) => Err(fault),
+    }
 }
