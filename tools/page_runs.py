@@ -11,7 +11,7 @@ import page_model
 import tape       # page_model has put tools/reference on the path
 
 TOP = os.path.dirname(os.path.dirname(os.path.realpath(__file__)))
-PROGRAM = os.environ.get("MOS65", f"{TOP}/crates/mos65/out/mos65")
+PROGRAM = os.environ.get("MOS65_PROGRAM", f"{TOP}/crates/mos65/out/mos65")
 
 # A source, its words, its input, and the port, the ROM and the profile of its map.
 HOSTILE = "hostile.a65"

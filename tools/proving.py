@@ -11,7 +11,9 @@ All of this stands in a folder of the user's cache, one for each clone:
     sources/        the sources as they were when the run began
     work/NAME/      the workspace of a crate that is being proved
     seconds         processor seconds of each crate that was proved from nothing
-    proved          the sums of the crates that were proved and tested, for `tools/prove quick`
+    first-look      the program without proof, of tools/first-look
+    proof.NAME      what tools/background.py keeps
+    proved          the sums of the crates that were proved and tested, for `tools/prove changed`
 """
 
 import ctypes
@@ -23,12 +25,14 @@ import shutil
 import signal
 import subprocess
 import sys
+import tempfile
 import time
 
 TOP = os.path.dirname(os.path.dirname(os.path.realpath(__file__)))
 MEMORY_OF_A_JOB = 3_000_000_000
 SIZE_OF_JOB = 20_000  # bytes of a crate's source for each job after the first
 NOT_BUILT = 125
+MUST_FAIL = "must-fail"
 PR_SET_PDEATHSIG, PR_SET_CHILD_SUBREAPER = 1, 36
 SYSTEM = ctypes.CDLL(None)
 
@@ -57,6 +61,13 @@ class Stop:
             raise SystemExit(128 + cls.signal)
 
 
+def become(file, words):
+    """Becomes another program, with the signals as they were before Python started."""
+    for it in (signal.SIGPIPE, signal.SIGXFSZ):
+        signal.signal(it, signal.SIG_DFL)
+    os.execv(file, [file, *words])
+
+
 class Crate:
     """A line of crates.txt. `below` are the crates that it stands on, each after its own."""
 
@@ -70,6 +81,10 @@ class Crate:
     def has_tests(self):
         files = (file for file in files_of(f"{self.folder}/src") if file.endswith(".rt"))
         return any(re.search(rb"#\s*\[[^]]*\btest\b", read(it)) for it in files)
+
+    def bodies(self):
+        """The folder of the wrong bodies that `./test --bodies` tries."""
+        return f"{TOP}/tests/bodies/{self.name}"
 
     def program(self):
         """The file that is built: the program, or the archive that C links."""
@@ -131,33 +146,77 @@ def read_crates(top=TOP):
     return crates
 
 
+def kit():
+    """What the kit says of itself."""
+    if not shutil.which("rt"):
+        raise Failure("not built: there is no rt on the PATH, which the Rattle kit has")
+    ran = subprocess.run(["rt", "version"], stdin=subprocess.DEVNULL, capture_output=True)
+    if ran.returncode or not ran.stdout:
+        raise Failure(f"not built: rt version ended with status {ran.returncode} and no version")
+    return ran.stdout
+
+
 def sum_up(crates, sources):
     """Gives each crate the sum of what it is proved from: its files, those below it, and the kit."""
-    kit = subprocess.run(["rt", "version"], capture_output=True, check=True).stdout
+    version = kit()
     for crate in crates.values():
-        found = hashlib.sha256(kit + crate.row.encode())
+        found = hashlib.sha256(version + crate.row.encode())
         folder = f"{sources}/{crate.name}"
         for file in files_of(folder):
             inside = os.path.relpath(file, folder)
-            if not inside.startswith(("must-fail/", "out/")):
+            if not inside.startswith((f"{MUST_FAIL}/", "out/")):
                 found.update(repr((inside, read(file))).encode())
         for it in crate.uses:
             found.update(it.sum.encode())
         crate.sum = found.hexdigest()
 
 
+def sources(top):
+    """The files that the crates are built from."""
+    for name in sorted(os.listdir(f"{top}/crates")):
+        for at, folders, names in os.walk(f"{top}/crates/{name}"):
+            folders[:] = [it for it in folders if it != "out"]
+            yield from (f"{at}/{it}" for it in names)
+
+
 def copy_sources(crates, top, to):
     """Copies the crates without out/, so that no edit comes between one proof and another."""
     shutil.rmtree(to, ignore_errors=True)
-    for crate in crates.values():
+    for crate in crates:
         leave = lambda at, names: [it for it in names if it == "out"]
         shutil.copytree(f"{top}/crates/{crate.name}", f"{to}/{crate.name}", ignore=leave)
 
 
+def can_write(folder):
+    """Makes a folder, and returns whether files can be made there."""
+    try:
+        os.makedirs(folder, exist_ok=True)
+        with tempfile.TemporaryFile(dir=folder):
+            return True
+    except OSError:
+        return False
+
+
+def own_folder():
+    """A folder of this user's below that for temporary files, or None where it is another's."""
+    path = f"{tempfile.gettempdir()}/mos65-{os.getuid()}"
+    try:
+        os.makedirs(path, mode=0o700, exist_ok=True)
+        return path if os.lstat(path).st_uid == os.getuid() else None
+    except OSError:
+        return None
+
+
 def cache():
-    """This clone's folder in the user's cache."""
-    above = os.environ.get("XDG_CACHE_HOME") or os.path.expanduser("~/.cache")
-    return f"{above}/mos65/{hashlib.sha256(TOP.encode()).hexdigest()[:16]}"
+    """This clone's folder in the user's cache. That is XDG_CACHE_HOME, or .cache in HOME, whichever is
+    an absolute path; where it cannot be written, a folder below that for temporary files serves."""
+    given, home = (os.environ.get(it, "") for it in ("XDG_CACHE_HOME", "HOME"))
+    places = [given] * os.path.isabs(given) or [f"{home}/.cache"] * os.path.isabs(home)
+    name = hashlib.sha256(TOP.encode()).hexdigest()[:16]
+    for above in (*places, own_folder()):
+        if above and can_write(f"{above}/mos65/{name}"):
+            return f"{above}/mos65/{name}"
+    raise Failure("not built: neither HOME nor the folder for temporary files can be written")
 
 
 def number_in(file, pattern):
@@ -226,7 +285,8 @@ class Workspace:
         self.top = f"{room}/work/{crate.name}"
         self.folder = f"{self.top}/crates/{crate.name}"
 
-    def fill(self):
+    def fill(self, bodies):
+        """Lays the crate and those below it there, with these wrong bodies where any are given."""
         crates = [*self.crate.below, self.crate]
         write(f"{self.top}/crates.txt", "".join(f"{it.row}\n" for it in crates))
         for it in crates:
@@ -236,30 +296,48 @@ class Workspace:
             shutil.copytree(f"{it.folder}/out/rlib", built, copy_function=link_or_copy)
         if os.path.isdir(f"{self.crate.folder}/out"):
             move(f"{self.crate.folder}/out", f"{self.folder}/out")
+        if bodies:
+            shutil.rmtree(f"{self.folder}/must-fail", ignore_errors=True)
+            shutil.copytree(bodies, f"{self.folder}/must-fail")
 
     def give_back(self):
-        """Puts out/ back where it came from, with all that was proved."""
-        if os.path.isdir(f"{self.folder}/out"):
+        """Puts out/ back where it came from, with all that was proved, unless the clone is gone."""
+        if os.path.isdir(f"{self.folder}/out") and os.path.isdir(self.crate.folder):
             move(f"{self.folder}/out", f"{self.crate.folder}/out")
         shutil.rmtree(self.top, ignore_errors=True)
 
 
+def lower_session():
+    """Gives this session the least share of the processors, where the system shares them so."""
+    for _ in range(5):
+        try:
+            with open("/proc/self/autogroup", "w", encoding="ascii") as it:
+                it.write("19")
+            return
+        except BlockingIOError:
+            time.sleep(0.12)  # the system takes ten such changes a second
+        except OSError:
+            return
+
+
 class Run:
     """A crate at work: its steps in turn, each a command of rt in the crate's workspace."""
+
+    is_low = False  # whether it is to leave the processors to others
 
     def __init__(self, room, crate, steps, jobs):
         self.crate, self.jobs, self.steps = crate, jobs, [*steps]
         self.log, self.seconds, self.status = f"{room}/logs/{crate.name}.log", 0, None
         self.is_new = not os.path.isdir(f"{crate.folder}/out/incremental")
         self.space = Workspace(room, crate)
-        self.space.fill()
+        self.space.fill(crate.bodies() if any(it[0] == MUST_FAIL for it in steps) else None)
         open(self.log, "wb").close()
         self.begin()
 
     def begin(self):
         """Begins the next step: the command of rt, and the words for it."""
         self.verb, *words = self.steps.pop(0)
-        if self.verb != "fmt":
+        if self.verb not in ("fmt", MUST_FAIL):
             words = ["--jobs", str(self.jobs), *words]
         with open(self.log, "ab") as log:
             self.began = log.tell()
@@ -267,8 +345,13 @@ class Run:
             self.process = subprocess.Popen(
                 ["rt", self.verb, *words], cwd=self.space.folder, start_new_session=True,
                 stdin=subprocess.DEVNULL, stdout=log, stderr=log,
-                preexec_fn=lambda: SYSTEM.prctl(PR_SET_PDEATHSIG, signal.SIGKILL),
+                preexec_fn=self.prepare_child,
             )
+
+    def prepare_child(self):
+        SYSTEM.prctl(PR_SET_PDEATHSIG, signal.SIGKILL)
+        if self.is_low:
+            lower_session()
 
     def has_passed(self, status):
         with open(self.log, "rb") as it:
@@ -276,6 +359,8 @@ class Run:
             said = it.read()
         if self.verb == "run":
             return b"rt: running out/" in said  # its status is that of the program
+        if self.verb == MUST_FAIL:
+            return True  # what it says of each edit is judged later
         if self.verb == "fmt":
             return status == 0 and not re.search(rb"rt: formatted |cannot be applied", said)
         return status == 0

@@ -1,5 +1,7 @@
 """The program's words `asm`, `dis` and `debug`: options, files, exit statuses and fault lines."""
 
+import os
+
 import asm
 import disasm
 import engine
@@ -151,6 +153,17 @@ class Disk:
         with open(name, "wb") as file:
             file.write(content)
 
+    @staticmethod
+    def is_one(first, second):
+        """Whether two names are one file, or would be."""
+        if os.path.isfile(first) and os.path.isfile(second):
+            return os.path.samefile(first, second)
+        return os.path.realpath(first) == os.path.realpath(second)
+
+    @staticmethod
+    def is_there(name):
+        return os.path.isfile(name)
+
 
 def read_file(files, name):
     try:
@@ -163,6 +176,15 @@ def write_file(files, name, content):
     try:
         files.write(name, content)
     except OSError:
+        raise End(INOUT, "WRITE")
+
+
+def check_files(files, names, source):
+    """No file to write is the source or another one; a source that looks like a tape replaces none."""
+    for at, name in enumerate(names):
+        if any(files.is_one(name, other) for other in names[:at]):
+            raise End(INOUT, "WRITE")
+    if any(files.is_there(name) for name in names[1:]) and tape.looks_like_tape(source):
         raise End(INOUT, "WRITE")
 
 
@@ -188,9 +210,11 @@ def do_asm(positional, options, files, stdin, put):
     if len(set(names)) < len(names):
         raise bad_words()  # no output over the source or over the other output
     spec = make_map()
-    assembly = read_source(read_file(files, positional[0]), spec)
+    source = read_file(files, positional[0])
+    assembly = read_source(source, spec)
     tape_text = tape.write_tape(assembly.image)
     listing = assembly.listing()
+    check_files(files, names, source)
     write_file(files, positional[1], tape_text)
     if "--listing" in options:
         write_file(files, options["--listing"], listing)

@@ -51,6 +51,19 @@ def write_tape(image):
 
 # The reader -------------------------------------------------------------------
 
+def looks_like_tape(text):
+    """Whether the first line with a `;` begins a tape there: up to its end, records may follow."""
+    start = text.find(b";")
+    if start < 0:
+        return False
+    end = min((at for at in (text.find(b"\r", start), text.find(b"\n", start)) if at >= 0), default=len(text))
+    try:
+        read_tape(text[:end] + b";")
+    except TapeFault as fault:
+        return fault.number == 5 and fault.offset == end + 1
+    return False
+
+
 def read_tape(text):
     """The image of a text, or TapeFault: the first fault from left to right."""
     image, count, at, ended = {}, 0, 0, False

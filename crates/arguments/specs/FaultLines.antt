@@ -1,5 +1,6 @@
 -- The fault lines of the program. Source: mos65.
 use Rattle.std.specs.Prelude.{◌≡◌, ◌≤◌, ⊤, ℕ, List, [], ◌∷◌, ◌++◌, codes, decimal, Option, Some, None}
+use Rattle.arguments.specs.Shown.{shown_name}
 use Rattle.arguments.specs.Statuses.{status_of}
 use Rattle.arguments.specs.declared.fault.WordsFault.{WordsFault}
 use Rattle.arguments.specs.declared.fault.WordsFault.TheVariants.{Help, Usage, Value, Wrong}
@@ -8,8 +9,11 @@ use Rattle.arguments.specs.declared.load_fault.LoadFault.{LoadFault}
 use Rattle.arguments.specs.declared.load_fault.LoadFault.TheVariants.{AtPort, Faults, LooksLikeHex, LooksLikeSRecords, LooksLikeTape, NoImage, Refused}
 use Rattle.arguments.specs.declared.refusal.ReadFault.TheVariants.{NoSuchFile, PermissionDenied as permission_denied}
 use Rattle.arguments.specs.declared.refusal.Refusal.{Refusal}
-use Rattle.arguments.specs.declared.refusal.Refusal.TheVariants.{Words, Map, Source, Tape, Session, OutOfMemory, Read, Write}
-use Rattle.arguments.specs.declared.wording.TheConstants.{AT_PORT, IS_FREE, LIKE_HEX, LIKE_S_RECORDS, LIKE_TAPE, NONE_IS_FREE, NO_SUCH_FILE, PERMISSION_DENIED, TRY_PORT, USE_TAPE}
+use Rattle.arguments.specs.declared.refusal.Refusal.TheVariants.{Words, Map, Source, Tape, Session, OutOfMemory, Read, Write, WriteFile}
+use Rattle.arguments.specs.declared.write_fault.WriteFault.{WriteFault}
+use Rattle.arguments.specs.declared.write_fault.WriteFault.TheVariants.{IsFolder, NoRoom, NoSuchFolder, SameFile}
+use Rattle.arguments.specs.declared.write_fault.WriteFault.TheVariants as write_fault
+use Rattle.arguments.specs.declared.wording.TheConstants.{AT_PORT, IS_FOLDER, IS_FREE, LIKE_HEX, LIKE_S_RECORDS, LIKE_TAPE, NONE_IS_FREE, NO_ROOM, NO_SUCH_FILE, NO_SUCH_FOLDER, PERMISSION_DENIED, SAME_FILE, SOURCE_LIKE_TAPE, TRY_PORT, USE_TAPE}
 use Rattle.model.specs.FaultTexts.{bus_fault_text, session_fault_text, source_fault_text, tape_fault_text}
 use Rattle.model.specs.Listing.{address_text}
 use Rattle.model.specs.Text.{hex_address}
@@ -31,6 +35,7 @@ place_part (Session fault) = codes "TAPE "
 place_part OutOfMemory = codes "OutOfMemory"
 place_part (Read fault) = codes "READ"
 place_part Write = codes "WRITE"
+place_part (WriteFile fault) = codes "WRITE"
 
 -- The fault's name and number, if it has them.
 unfoldable pub name_part : Refusal → List ℕ
@@ -44,17 +49,32 @@ name_part refusal = []
 abbrev pub fault_line : Refusal → List ℕ
 fault_line refusal = codes "mos65: " ++ place_part refusal ++ name_part refusal ++ 10 ∷ []
 
--- Why a file cannot be read, where that is known.
+-- Why a file is not written, where that is known.
+abbrev pub write_reason : WriteFault → List ℕ
+write_reason NoRoom = NO_ROOM.now
+write_reason write_fault.PermissionDenied = PERMISSION_DENIED.now
+write_reason IsFolder = IS_FOLDER.now
+write_reason NoSuchFolder = NO_SUCH_FOLDER.now
+write_reason SameFile = SAME_FILE.now
+write_reason write_fault.LooksLikeTape = SOURCE_LIKE_TAPE.now
+write_reason write_fault.Other = []
+
+-- Why a file cannot be read or is not written, where that is known.
 unfoldable pub reason_part : Refusal → List ℕ
 reason_part (Read NoSuchFile) = NO_SUCH_FILE.now
 reason_part (Read permission_denied) = PERMISSION_DENIED.now
+reason_part (WriteFile fault) = write_reason fault
 reason_part refusal = []
+
+-- A line that begins with the name of a file.
+abbrev pub line_of : List ℕ → List ℕ → List ℕ
+line_of file rest = codes "mos65: " ++ (shown_name file ++ rest)
 
 -- The same with the file's name, for example `mos65: first.a65: SOURCE line 2 Syntax 4`, and with the
 -- reason, as `mos65: first.a65: READ no such file`.
 abbrev pub named_line : List ℕ → Refusal → List ℕ
-named_line file refusal = codes "mos65: " ++ (file ++ (codes ": "
-    ++ ((place_part refusal ++ reason_part refusal) ++ (name_part refusal ++ 10 ∷ []))))
+named_line file refusal = line_of file (codes ": " ++ (place_part refusal ++ (reason_part refusal
+    ++ (name_part refusal ++ 10 ∷ []))))
 
 -- Words, a map and memory are of no file.
 unfoldable pub file_line : List ℕ → Refusal → List ℕ
@@ -65,7 +85,7 @@ file_line file refusal = named_line file refusal
 
 -- A file is given as a source, and begins with a record of an image.
 abbrev pub like_line : List ℕ → List ℕ → List ℕ
-like_line like file = joined (codes "mos65: " ∷ file ∷ like ∷ USE_TAPE.now ∷ [])
+like_line like file = line_of file (like ++ USE_TAPE.now)
 
 -- The number of what is wrong, if it has one, and the end of the line.
 unfoldable pub number_part : Option ℕ → List ℕ
@@ -74,8 +94,8 @@ number_part (Some number) = codes " " ++ decimal number ++ codes "\n"
 
 -- A file is no image: where that shows, what is wrong, and its number.
 abbrev pub no_image_line : List ℕ → List ℕ → List ℕ → Option ℕ → List ℕ
-no_image_line file place what number = joined (codes "mos65: " ∷ file ∷ codes ": " ∷ place
-    ∷ what ∷ number_part number ∷ [])
+no_image_line file place what number = line_of file (codes ": " ++ (place ++ (what
+    ++ number_part number)))
 
 -- Which base is free, after the addresses of the port.
 abbrev pub free_part : Option ℕ → List ℕ
@@ -89,7 +109,7 @@ port_part first last free = address_text first ++ codes "-" ++ address_text last
 -- The image of a file has bytes at the port.
 abbrev pub port_line : List ℕ → ℕ → ℕ → Option ℕ → List ℕ
 port_line file first last free
-    = joined (codes "mos65: " ∷ file ∷ AT_PORT.now ∷ port_part first last free ∷ [])
+    = line_of file (AT_PORT.now ++ port_part first last free)
 
 -- All faults of a source, or one line.
 unfoldable pub load_text : LoadFault → List ℕ → List ℕ

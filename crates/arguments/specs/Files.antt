@@ -2,7 +2,7 @@
 -- file. Source: mos65.
 use Rattle.std.specs.Prelude.{⊤}
 use Rattle.arguments.specs.declared.refusal.Refusal.{Refusal}
-use Rattle.arguments.specs.declared.refusal.Refusal.TheVariants.{OutOfMemory, Read, Write}
+use Rattle.arguments.specs.declared.refusal.Refusal.TheVariants.{OutOfMemory, Read, Write, WriteFile}
 
 -- Why a file is not read.
 abbrev pub EndsReading : Refusal → Type 0
@@ -14,4 +14,5 @@ EndsReading fault = ⊥
 abbrev pub EndsWriting : Refusal → Type 0
 EndsWriting OutOfMemory = ⊤
 EndsWriting Write = ⊤
+EndsWriting (WriteFile fault) = ⊤
 EndsWriting fault = ⊥

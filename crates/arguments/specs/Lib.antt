@@ -2,7 +2,9 @@ pub mod Asked
 pub mod CommandLine
 pub mod FaultLines
 pub mod Files
+pub mod Outputs
 pub mod Refusals
+pub mod Shown
 pub mod Statuses
 pub mod Streams
 pub mod Values

@@ -6,6 +6,9 @@ use Rattle.arguments.specs.declared.refusal.ReadFault.{ReadFault}
 use Rattle.arguments.specs.declared.refusal.ReadFault.TheVariants.{NoSuchFile, PermissionDenied, Other}
 use Rattle.arguments.specs.declared.refusal.Refusal.{Refusal}
 use Rattle.arguments.specs.declared.refusal.Refusal.TheVariants.{Source, Tape, Session, OutOfMemory, Read}
+use Rattle.arguments.specs.declared.write_fault.WriteFault.{WriteFault}
+use Rattle.arguments.specs.declared.write_fault.WriteFault.TheVariants.{IsFolder, NoRoom, NoSuchFolder}
+use Rattle.arguments.specs.declared.write_fault.WriteFault.TheVariants as write_fault
 use Rattle.model.specs.declared.session_fault.SessionFault.{SessionFault}
 use Rattle.model.specs.declared.session_fault.SessionFault.TheVariants as session_fault
 use Rattle.model.specs.declared.source_fault.AsmFault.{AsmFault}
@@ -22,6 +25,18 @@ abbrev pub read_fault_of : ErrorKind → ReadFault
 read_fault_of error_kind.NotFound = NoSuchFile
 read_fault_of error_kind.PermissionDenied = PermissionDenied
 read_fault_of _ = Other
+
+-- Why a file is not written, by the kind of error that the system tells.
+abbrev pub write_fault_of : ErrorKind → WriteFault
+write_fault_of error_kind.StorageFull = NoRoom
+write_fault_of error_kind.QuotaExceeded = NoRoom
+write_fault_of error_kind.FileTooLarge = NoRoom
+write_fault_of error_kind.PermissionDenied = write_fault.PermissionDenied
+write_fault_of error_kind.ReadOnlyFilesystem = write_fault.PermissionDenied
+write_fault_of error_kind.IsADirectory = IsFolder
+write_fault_of error_kind.NotFound = NoSuchFolder
+write_fault_of error_kind.NotADirectory = NoSuchFolder
+write_fault_of _ = write_fault.Other
 
 abbrev pub of_source_kind : AsmFaultKind → AsmFault → Refusal
 of_source_kind source_fault.OutOfMemory fault = OutOfMemory

@@ -3,7 +3,7 @@ use Rattle.std.specs.Prelude.{ℕ}
 use Rattle.arguments.specs.declared.load_fault.LoadFault.{LoadFault}
 use Rattle.arguments.specs.declared.load_fault.LoadFault.TheVariants.{AtPort, Faults, LooksLikeHex, LooksLikeSRecords, LooksLikeTape, NoImage, Refused}
 use Rattle.arguments.specs.declared.refusal.Refusal.{Refusal}
-use Rattle.arguments.specs.declared.refusal.Refusal.TheVariants.{Words, Map, Source, Tape, Session, OutOfMemory, Read, Write}
+use Rattle.arguments.specs.declared.refusal.Refusal.TheVariants.{Words, Map, Source, Tape, Session, OutOfMemory, Read, Write, WriteFile}
 
 -- 1 for a source or a tape, 2 for the words or the map, 3 for memory, 4 for reading or writing
 abbrev pub status_of : Refusal → ℕ
@@ -15,6 +15,7 @@ status_of (Session fault) = 1
 status_of OutOfMemory = 3
 status_of (Read fault) = 4
 status_of Write = 4
+status_of (WriteFile fault) = 4
 
 -- 1 for a source with faults and for a file that is no image, 2 for an image that is given as a
 -- source; otherwise that of the refusal

@@ -2,12 +2,14 @@
 ghost use Rattle.std.specs.Prelude.{◌≡◌, ◌+◌, ◌≤◌, ◌++◌, ◌∷◌, [], codes, decimal, length};
 ghost use Rattle.model.specs.Writers.{AppendsFront};
 ghost use Rattle.arguments.specs.FaultLines.{fault_line, file_line, name_part, named_line};
-ghost use Rattle.arguments.specs.FaultLines.{joined, place_part, reason_part};
+ghost use Rattle.arguments.specs.FaultLines.{joined, line_of, place_part, reason_part};
 ghost use Rattle.arguments.specs.Words.{texts};
 
 use crate::output::put;
 use crate::refusal::{ReadFault, Refusal};
+use crate::shown::put_shown;
 use crate::wording::{NO_SUCH_FILE, PERMISSION_DENIED};
+use crate::write_fault::write_reason;
 use formatting::{Text, push_bytes, push_decimal};
 use std::io::Write;
 
@@ -33,7 +35,7 @@ fn place_text(refusal: Refusal) -> Text
         Refusal::Session(_) => push_bytes(&mut text, b"TAPE "),
         Refusal::OutOfMemory => push_bytes(&mut text, b"OutOfMemory"),
         Refusal::Read(_) => push_bytes(&mut text, b"READ"),
-        Refusal::Write => push_bytes(&mut text, b"WRITE"),
+        Refusal::Write | Refusal::WriteFile(_) => push_bytes(&mut text, b"WRITE"),
     }
     text
 }
@@ -61,7 +63,11 @@ fn name_text(refusal: Refusal) -> Text
         Refusal::Source(fault) => push_name(&mut text, fault.kind.name(), fault.kind.number()),
         Refusal::Tape(fault) => push_name(&mut text, fault.kind.name(), fault.kind.number()),
         Refusal::Session(fault) => push_name(&mut text, fault.name(), fault.number()),
-        Refusal::Words | Refusal::OutOfMemory | Refusal::Read(_) | Refusal::Write => {}
+        Refusal::Words
+        | Refusal::OutOfMemory
+        | Refusal::Read(_)
+        | Refusal::Write
+        | Refusal::WriteFile(_) => {}
     }
     push_bytes(&mut text, b"\n");
     text
@@ -108,20 +114,33 @@ pub fn put_fault_line<E: Write>(refusal: Refusal, errors: &mut E)
     );
 }
 
-/// Returns what is rejected of a file, where the fault is in it, and why it cannot be read.
-#[tactic(auto, unfolding(crate::specs::FaultLines::place_part, crate::specs::FaultLines::reason_part))]
-fn file_place_text(refusal: Refusal) -> Text
-    ensures { result.items ≡ place_part refusal ++ reason_part refusal }
+/// Writes a line that begins with the name of a file, and has these parts behind it, or a beginning
+/// of the line if a write fails. The name is shown with a `?` for each control character.
+pub fn put_named<E: Write>(file: &str, parts: &[&[u8]], errors: &mut E)
+    ensures { AppendsFront (E.contents errors.old) (E.contents errors.new)
+        (line_of file.now (joined (texts parts.entry.now))) }
 {
-    let mut text = place_text(refusal);
-    match refusal {
-        Refusal::Read(ReadFault::NoSuchFile) => push_bytes(&mut text, NO_SUCH_FILE.as_bytes()),
-        Refusal::Read(ReadFault::PermissionDenied) => {
-            push_bytes(&mut text, PERMISSION_DENIED.as_bytes());
-        }
-        _ => {}
+    match put(errors, b"mos65: ") {
+        Ok(()) => {}
+        Err(_) => return,
     }
-    text
+    match put_shown(errors, file) {
+        Ok(()) => put_all(parts, errors),
+        Err(_) => {}
+    }
+}
+
+/// Returns why a file cannot be read or is not written, where that is known.
+#[tactic(auto, unfolding(crate::specs::FaultLines::reason_part))]
+fn reason_text(refusal: Refusal) -> &'static str
+    ensures { result.now ≡ reason_part refusal }
+{
+    match refusal {
+        Refusal::Read(ReadFault::NoSuchFile) => NO_SUCH_FILE,
+        Refusal::Read(ReadFault::PermissionDenied) => PERMISSION_DENIED,
+        Refusal::WriteFile(fault) => write_reason(fault),
+        _ => "",
+    }
 }
 
 /// Writes the fault line of a refusal with the name of a file, or a beginning of it if a write
@@ -130,12 +149,12 @@ fn put_named_line<E: Write>(refusal: Refusal, file: &str, errors: &mut E)
     ensures { AppendsFront (E.contents errors.old) (E.contents errors.new)
         (named_line file.now refusal) }
 {
-    put_all(
+    put_named(
+        file,
         &[
-            b"mos65: ",
-            file.as_bytes(),
             b": ",
-            file_place_text(refusal).as_slice(),
+            place_text(refusal).as_slice(),
+            reason_text(refusal).as_bytes(),
             name_text(refusal).as_slice(),
         ],
         errors,
@@ -156,6 +175,7 @@ pub fn put_file_line<E: Write>(refusal: Refusal, file: &str, errors: &mut E)
         | Refusal::Tape(_)
         | Refusal::Session(_)
         | Refusal::Read(_)
-        | Refusal::Write => put_named_line(refusal, file, errors),
+        | Refusal::Write
+        | Refusal::WriteFile(_) => put_named_line(refusal, file, errors),
     }
 }

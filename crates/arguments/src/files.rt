@@ -3,11 +3,12 @@
 ghost use Rattle.std.specs.Prelude.{IfErr};
 ghost use Rattle.arguments.specs.Files.{EndsReading, EndsWriting};
 
+use crate::new_file::{begin_file, check_path};
 use crate::refusal::Refusal;
 use std::fs::File;
-use std::io::Read;
+use std::io;
+use std::io::{Read, Write};
 use std::rt::Files;
-use std::{fs, io};
 
 /// One byte more than the longest source, so that a longer file is rejected for its size without
 /// being read to its end.
@@ -38,11 +39,26 @@ pub fn read_source<H: Files + AllocGlobal>(rt: &H, path: &str) -> Result<Vec<u8>
     read_most(rt, path, MOST_OF_SOURCE)
 }
 
-/// Writes a text to a file of that name. A file that is there is replaced.
+/// Writes a text to a file of that name. A file that is there is replaced, and only by the whole
+/// text, unless it is written in place (`NewFile`).
 ///
-/// Errors: `OutOfMemory` if an allocation fails, `Write` if the file cannot be written.
-pub fn write_file<H: Files>(rt: &H, path: &str, text: &[u8]) -> Result<(), Refusal>
+/// Errors: `OutOfMemory` if an allocation fails, `WriteFile` if the file cannot be written. A file
+/// of one name is then as it was.
+pub fn write_file<H: Files + AllocGlobal>(rt: &H, path: &str, text: &[u8]) -> Result<(), Refusal>
     ensures { IfErr result EndsWriting }
 {
-    fs::write(rt, path, text).map_err(|error| Refusal::unwritable(&error))
+    let mut file = begin_file(rt, path)?;
+    match file.write_all(text) {
+        Ok(()) => file.end(rt),
+        Err(_) => Err(file.abandon(rt)),
+    }
+}
+
+/// Checks that a file of that name can be written, and leaves the file that is there as it was.
+///
+/// Errors: `OutOfMemory` if an allocation fails, `WriteFile` if the file cannot be written.
+pub fn check_output<H: Files + AllocGlobal>(rt: &H, path: &str) -> Result<(), Refusal>
+    ensures { IfErr result EndsWriting }
+{
+    check_path(rt, path).map_err(|error| Refusal::unwritable_file(&error))
 }

@@ -5,6 +5,9 @@
 //! `matched`, whose clauses say what `clap`'s own definition of a parse finds. `Refusal` says why a
 //! word ends without an answer. `refuse` writes its line as `asm`, `dis` and `debug` do, and
 //! `refuse_file` with the file's name.
+//!
+//! A word that writes files calls `check_outputs` before it opens one, and writes each with
+//! `write_file`, or bit by bit with `begin_file`: a write that fails leaves the file that is there.
 #![tactic(auto)]
 
 mod fault;
@@ -15,28 +18,36 @@ mod files;
 mod load_fault;
 mod map;
 mod matching;
+mod new_file;
 mod options;
 mod output;
+mod outputs;
 mod refusal;
 mod refused;
 mod same_file;
+mod shown;
 mod value;
 mod wording;
+mod write_fault;
 
 pub use fault::WordsFault;
-pub use fault_line::{put_all, put_fault_line, put_three, put_two};
+pub use fault_line::{put_all, put_fault_line, put_named, put_three, put_two};
 pub use file_options::{FileForm, FileWords, file_words, with_file_options};
 pub use file_refusal::FileRefusal;
-pub use files::{read_most, read_source, write_file};
+pub use files::{check_output, read_most, read_source, write_file};
 pub use load_fault::{LoadFault, tell_no_image};
 pub use map::map_of;
 pub use matching::{is_given, let_go, matched};
+pub use new_file::{NewFile, begin_file};
 pub use options::{begin, file, file_list, flag, list, option, port, profile, rom, tape};
 pub use output::{NotWritten, put, write_text};
+pub use outputs::{check_outputs, check_source};
 pub use refusal::{ReadFault, Refusal};
 pub use refused::{finish, refuse, refuse_file, refused_words};
-pub use same_file::is_one_file;
+pub use same_file::{is_one_file, is_one_output};
+pub use shown::{put_shown, shown_name};
 pub use value::{
     address_asked, debug_history_asked, form_asked, history_asked, port_asked, profile_asked,
     rom_asked, steps_asked, value_fault, wrong_value,
 };
+pub use write_fault::{WriteFault, write_reason};

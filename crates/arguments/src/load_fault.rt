@@ -1,14 +1,13 @@
 //! Why a file is not loaded.
 
-ghost use Rattle.std.specs.Prelude.{◌≡◌, ◌∷◌, [], codes};
-ghost use Rattle.arguments.specs.FaultLines.{joined, like_line, load_text, no_image_line};
+ghost use Rattle.std.specs.Prelude.{◌≡◌};
+ghost use Rattle.arguments.specs.FaultLines.{like_line, load_text, no_image_line};
 ghost use Rattle.arguments.specs.FaultLines.{number_part, port_line, port_part};
 ghost use Rattle.arguments.specs.Statuses.{status_of_load};
-ghost use Rattle.arguments.specs.declared.wording.TheConstants.{USE_TAPE};
 ghost use Rattle.arguments.specs.declared.load_fault.LoadFault.TheVariants.{Refused};
 ghost use Rattle.model.specs.Writers.{AppendsFront};
 
-use crate::fault_line::put_all;
+use crate::fault_line::{put_all, put_named};
 use crate::refusal::Refusal;
 use crate::refused::refuse_file;
 use crate::wording::{
@@ -64,15 +63,7 @@ fn tell_like<E: Write>(file: &str, like: &str, errors: &mut E)
     ensures { AppendsFront (E.contents errors.old) (E.contents errors.new)
         (like_line like.now file.now) }
 {
-    put_all(
-        &[
-            b"mos65: ",
-            file.as_bytes(),
-            like.as_bytes(),
-            USE_TAPE.as_bytes(),
-        ],
-        errors,
-    );
+    put_named(file, &[like.as_bytes(), USE_TAPE.as_bytes()], errors);
 }
 
 /// Returns the number of what is wrong, if it has one, and the end of the line.
@@ -89,14 +80,6 @@ fn number_text(number: Option<u8>) -> Text
     text
 }
 
-/// Writes the parts of a line that says why a file is no image.
-fn put_no_image<E: Write>(file: &[u8], place: &[u8], what: &[u8], end: &[u8], errors: &mut E)
-    ensures { AppendsFront (E.contents errors.old) (E.contents errors.new)
-        (joined (codes "mos65: " ∷ file.now ∷ codes ": " ∷ place.now ∷ what.now ∷ end.now ∷ [])) }
-{
-    put_all(&[b"mos65: ", file, b": ", place, what, end], errors);
-}
-
 /// Writes why a file is no image: where that shows, what is wrong, and its number if it has one.
 pub fn tell_no_image<E: Write>(
     file: &str,
@@ -109,11 +92,9 @@ pub fn tell_no_image<E: Write>(
         (no_image_line file.now place.now what.now number) }
 {
     let end = number_text(number);
-    put_no_image(
-        file.as_bytes(),
-        place,
-        what.as_bytes(),
-        end.as_slice(),
+    put_named(
+        file,
+        &[b": ", place, what.as_bytes(), end.as_slice()],
         errors,
     );
 }
@@ -143,13 +124,9 @@ fn tell_port<E: Write>(file: &str, first: u32, last: u32, free: Option<u16>, err
     ensures { AppendsFront (E.contents errors.old) (E.contents errors.new)
         (port_line file.now first last free) }
 {
-    put_all(
-        &[
-            b"mos65: ",
-            file.as_bytes(),
-            AT_PORT.as_bytes(),
-            port_text(first, last, free).as_slice(),
-        ],
+    put_named(
+        file,
+        &[AT_PORT.as_bytes(), port_text(first, last, free).as_slice()],
         errors,
     );
 }

@@ -2,8 +2,10 @@
 ghost use Rattle.std.specs.Prelude.{◌≡◌};
 ghost use Rattle.std.specs.IoError.{error_kind};
 ghost use Rattle.arguments.specs.Refusals.{of_session, of_source, of_tape_read, read_fault_of};
+ghost use Rattle.arguments.specs.Refusals.{write_fault_of};
 ghost use Rattle.arguments.specs.declared.refusal.Refusal.TheVariants.{Map};
 
+use crate::write_fault::{WriteFault, write_fault_of};
 use model::{AsmFault, AsmFaultKind, BusFault, SessionFault, TapeFault, TapeFaultKind};
 use papertape::TapeReadFault;
 use std::io;
@@ -33,7 +35,7 @@ fn read_fault(kind: ErrorKind) -> ReadFault
 
 /// Why a word ends without having done what it was asked for.
 ///
-/// Each but `OutOfMemory`, `Read` and `Write` is found before anything is written.
+/// Each but `OutOfMemory`, `Read`, `Write` and `WriteFile` is found before anything is written.
 #[derive(Clone, Copy, Debug, PartialEq, Eq)]
 pub enum Refusal {
     /// The word does not take one of the words after it.
@@ -50,8 +52,10 @@ pub enum Refusal {
     OutOfMemory,
     /// A file or the standard input cannot be read.
     Read(ReadFault),
-    /// A file or the standard output cannot be written.
+    /// The standard output cannot be written.
     Write,
+    /// A file cannot be written.
+    WriteFile(WriteFault),
 }
 
 impl Refusal {
@@ -68,7 +72,7 @@ impl Refusal {
             Refusal::Source(_) | Refusal::Tape(_) | Refusal::Session(_) => 1,
             Refusal::Words | Refusal::Map(_) => 2,
             Refusal::OutOfMemory => 3,
-            Refusal::Read(_) | Refusal::Write => 4,
+            Refusal::Read(_) | Refusal::Write | Refusal::WriteFile(_) => 4,
         }
     }
 
@@ -85,7 +89,7 @@ impl Refusal {
         }
     }
 
-    /// Returns why a file could not be written.
+    /// Returns why a standard stream could not be written.
     pub fn unwritable(error: &io::Error) -> Refusal
         ensures memory { error_kind error.now ≡ ErrorKind.OutOfMemory
             → result ≡ Refusal.OutOfMemory }
@@ -95,6 +99,28 @@ impl Refusal {
             ErrorKind::OutOfMemory => Refusal::OutOfMemory,
             _ => Refusal::Write,
         }
+    }
+
+    /// Returns why a file could not be written, by the kind of error that the system tells.
+    pub fn unwritable_by(kind: ErrorKind) -> Refusal
+        ensures memory { kind ≡ ErrorKind.OutOfMemory → result ≡ Refusal.OutOfMemory }
+        ensures other { ¬ (kind ≡ ErrorKind.OutOfMemory)
+            → result ≡ Refusal.WriteFile (write_fault_of kind) }
+    {
+        match kind {
+            ErrorKind::OutOfMemory => Refusal::OutOfMemory,
+            kind => Refusal::WriteFile(write_fault_of(kind)),
+        }
+    }
+
+    /// Returns why a file could not be written.
+    pub fn unwritable_file(error: &io::Error) -> Refusal
+        ensures memory { error_kind error.now ≡ ErrorKind.OutOfMemory
+            → result ≡ Refusal.OutOfMemory }
+        ensures other { ¬ (error_kind error.now ≡ ErrorKind.OutOfMemory)
+            → result ≡ Refusal.WriteFile (write_fault_of (error_kind error.now)) }
+    {
+        Refusal::unwritable_by(error.kind())
     }
 }
 

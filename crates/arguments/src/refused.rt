@@ -9,6 +9,8 @@ ghost use Rattle.model.specs.Writers.{AppendsFront};
 use crate::fault::WordsFault;
 use crate::fault_line::{put_all, put_fault_line, put_file_line};
 use crate::refusal::Refusal;
+use crate::shown::ShownLines;
+use std::fmt::Write as _;
 use std::io::Write;
 
 /// Writes the fault line, and returns the exit status, even if the line cannot be written.
@@ -61,7 +63,8 @@ pub fn refused_words<O: Write, E: Write>(fault: WordsFault, output: &mut O, erro
             Err(_) => refuse(Refusal::Write, errors),
         },
         WordsFault::Usage(text) => {
-            let _ = write!(errors, "{text}");
+            let mut lines = ShownLines { output: errors };
+            let _ = write!(lines, "{text}");
             2
         }
         WordsFault::Value => refuse(Refusal::Words, errors),

@@ -1,9 +1,20 @@
 //! Words of messages. Definitions in `specs` name them.
 
-/// Why a file cannot be read, after the word `READ`.
+/// Why a file cannot be read, after the word `READ`; the second also after `WRITE`.
 pub const NO_SUCH_FILE: &str = " no such file";
 
 pub const PERMISSION_DENIED: &str = " permission denied";
+
+/// Why a file is not written, after the word `WRITE`.
+pub const NO_ROOM: &str = " no room";
+
+pub const IS_FOLDER: &str = " is a folder";
+
+pub const NO_SUCH_FOLDER: &str = " no such folder";
+
+pub const SAME_FILE: &str = " same file as another";
+
+pub const SOURCE_LIKE_TAPE: &str = " the source looks like a tape";
 
 /// What a file looks like that is given as a source, and how to say so.
 pub const LIKE_TAPE: &str = " looks like a tape";

@@ -2,7 +2,7 @@
 use Rattle.std.proofs.Common.{◌≡◌, Result, Ok, Err, ◌⊎◌, inl, inr, ap}
 use Rattle.arguments.specs.declared.load_fault.LoadFault.{LoadFault}
 use Rattle.arguments.specs.declared.load_fault.LoadFault.TheVariants.{AtPort, Faults, LooksLikeHex, LooksLikeSRecords, LooksLikeTape, NoImage, Refused}
-use Rattle.arguments.specs.declared.refusal.Refusal.TheVariants.{Words, Map as NoMap, Source, Tape, Session as NoSession, OutOfMemory, Read, Write}
+use Rattle.arguments.specs.declared.refusal.Refusal.TheVariants.{Words, Map as NoMap, Source, Tape, Session as NoSession, OutOfMemory, Read, Write, WriteFile}
 use Rattle.asm_files.specs.CommandLine.{EndsTexts}
 use Rattle.clap.specs.Words.{Text}
 use Rattle.loading.specs.Loads.{EndsSourceFile}
@@ -42,3 +42,4 @@ source_ends bus_map file (Refused (NoSession fault)) ends = absurd ends
 source_ends bus_map file (Refused OutOfMemory) ends = ends
 source_ends bus_map file (Refused (Read why)) ends = ends
 source_ends bus_map file (Refused Write) ends = absurd ends
+source_ends bus_map file (Refused (WriteFile why)) ends = absurd ends

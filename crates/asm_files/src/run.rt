@@ -14,21 +14,22 @@ use crate::asked::{FilesWords, ImageNames, read_files_words};
 use crate::images::{ImageTexts, ImagesAsked};
 use crate::texts::{FileTexts, TextsAsked, file_texts};
 use arguments::{
-    FileRefusal, LoadFault, Refusal, is_one_file, map_of, read_source, refused_words, write_file,
+    FileRefusal, LoadFault, Refusal, check_outputs, check_source, map_of, read_source,
+    refused_words, write_file,
 };
 use loading::faults_of;
 use std::io::Write;
 use std::rt::Files;
 
 /// Writes a text to a file of that name. A file that is there is replaced.
-fn write_named<'a, H: Files>(rt: &H, file: &'a str, text: &[u8]) -> Result<(), FileRefusal<'a>>
+fn write_named<'a, H: Files + AllocGlobal>(rt: &H, file: &'a str, text: &[u8]) -> Result<(), FileRefusal<'a>>
     ensures only { IfErr result (λ why. EndsWriting why.refusal) }
 {
     write_file(rt, file, text).map_err(|refusal| FileRefusal { file, refusal })
 }
 
 /// Writes a text to a file of that name, if both are there. A file that is there is replaced.
-fn write_asked<'a, H: Files>(
+fn write_asked<'a, H: Files + AllocGlobal>(
     rt: &H,
     file: Option<&'a str>,
     text: &Option<Vec<u8>>,
@@ -41,9 +42,16 @@ fn write_asked<'a, H: Files>(
     }
 }
 
-/// Returns the first of the files to write that is the source under another name.
-fn replaced_source<'a, H: Files>(rt: &H, words: &FilesWords<'a>) -> Option<&'a str> {
-    for file in [
+/// Checks that each file to write is neither the source nor another of them, and that a source that
+/// looks like a tape replaces none.
+fn check_files<'a, H: Files + AllocGlobal>(
+    rt: &H,
+    words: &FilesWords<'a>,
+    source: &[u8],
+) -> Result<(), FileRefusal<'a>>
+    ensures only { IfErr result (λ why. EndsWriting why.refusal) }
+{
+    let written = [
         Some(words.asm.tape),
         words.asm.listing,
         words.symbols,
@@ -51,17 +59,13 @@ fn replaced_source<'a, H: Files>(rt: &H, words: &FilesWords<'a>) -> Option<&'a s
         words.images.raw,
         words.images.hex,
         words.images.srec,
-    ] {
-        match file {
-            Some(file) if is_one_file(rt, words.asm.source, file) => return Some(file),
-            _ => {}
-        }
-    }
-    None
+    ];
+    check_outputs(rt, &[Some(words.asm.source)], &written)?;
+    check_source(rt, source, &written)
 }
 
 /// Writes the image's files, if they are asked for.
-fn write_images<'a, H: Files>(
+fn write_images<'a, H: Files + AllocGlobal>(
     rt: &H,
     names: &ImageNames<'a>,
     texts: &ImageTexts,
@@ -74,20 +78,16 @@ fn write_images<'a, H: Files>(
 }
 
 /// Writes the tape's file, and then the listing's, that of the names, that of the places and those
-/// of the image. None is written if one of the files is the source.
-fn write_texts<'a, H: Files>(
+/// of the image. None is written if `check_files` refuses them.
+fn write_texts<'a, H: Files + AllocGlobal>(
     rt: &H,
     words: &FilesWords<'a>,
+    source: &[u8],
     texts: &FileTexts,
 ) -> Result<(), FileRefusal<'a>>
     ensures only { IfErr result (λ why. EndsWriting why.refusal) }
 {
-    if let Some(file) = replaced_source(rt, words) {
-        return Err(FileRefusal {
-            file,
-            refusal: Refusal::Write,
-        });
-    }
+    check_files(rt, words, source)?;
     write_named(rt, words.asm.tape, texts.asm.tape.as_slice())?;
     write_asked(rt, words.asm.listing, &texts.asm.listing)?;
     write_asked(rt, words.symbols, &texts.symbols)?;
@@ -115,9 +115,12 @@ fn texts_asked(words: &FilesWords<'_>) -> TextsAsked {
     }
 }
 
-/// Returns the texts of the source that the words name.
+/// Returns the source that the words name, and its texts.
 #[tactic(auto, using(crate::proofs::Ends::source_ends))]
-fn texts_of<H: Files + AllocGlobal>(rt: &H, words: &FilesWords<'_>) -> Result<FileTexts, LoadFault>
+fn texts_of<H: Files + AllocGlobal>(
+    rt: &H,
+    words: &FilesWords<'_>,
+) -> Result<(Vec<u8>, FileTexts), LoadFault>
     ensures bad_map { is_map None words.now.asm.port ≡ false
         → result ≡ Err (Refused (Refusal.Map BadMap)) }
     ensures refused { IfErr result
@@ -127,15 +130,16 @@ fn texts_of<H: Files + AllocGlobal>(rt: &H, words: &FilesWords<'_>) -> Result<Fi
     let map = map_of(words.asm.profile, None, words.asm.port).map_err(Refusal::from)?;
     let source = read_source(rt, words.asm.source)?;
     match file_texts(rt.alloc(), source.as_slice(), &map, texts_asked(words)) {
-        Ok(texts) => Ok(texts),
+        Ok(texts) => Ok((source, texts)),
         Err(fault) => Err(faults_of(rt.alloc(), words.asm.source, &source, &map, fault)),
     }
 }
 
 /// Writes the texts, or why not, and returns the exit status.
-fn written<H: Files, E: Write>(
+fn written<H: Files + AllocGlobal, E: Write>(
     rt: &H,
     words: &FilesWords<'_>,
+    source: &[u8],
     texts: &FileTexts,
     errors: &mut E,
 ) -> u8
@@ -143,7 +147,7 @@ fn written<H: Files, E: Write>(
     ensures late { 1 ≤ result → 3 ≤ result }
     ensures quiet { result ≡ 0 → errors.new ≡ errors.old }
 {
-    match write_texts(rt, words, texts) {
+    match write_texts(rt, words, source, texts) {
         Ok(()) => 0,
         Err(why) => why.tell(errors),
     }
@@ -159,7 +163,7 @@ fn done<H: Files + AllocGlobal, E: Write>(rt: &H, words: &FilesWords<'_>, errors
     ensures refused { result ≡ 2 → is_map None words.now.asm.port ≡ false }
 {
     match texts_of(rt, words) {
-        Ok(texts) => written(rt, words, &texts, errors),
+        Ok((source, texts)) => written(rt, words, &source, &texts, errors),
         Err(fault) => fault.tell(words.asm.source, errors),
     }
 }
@@ -172,8 +176,9 @@ fn done<H: Files + AllocGlobal, E: Write>(rt: &H, words: &FilesWords<'_>, errors
 /// why: all faults of the source, or a line with the name of the file that cannot be read or
 /// written; the status is the same if that cannot be written. The tape is written first, then the
 /// listing, the names, the places of the lines and the image in other forms; all texts are whole
-/// before the first file is made. If a file to write is the source under another name, the status
-/// is 4 and nothing is written. The output gets nothing but help.
+/// before the first file is made. If a file to write is the source or another of the files, the
+/// status is 4 and nothing is written; so it is if the source looks like a tape and a file to write
+/// is there. A write that fails leaves the file that is there. The output gets nothing but help.
 pub fn asm_files<H: Files + AllocGlobal, O: Write, E: Write>(
     rt: &H,
     words: &[&str],

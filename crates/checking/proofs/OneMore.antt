@@ -8,7 +8,7 @@ use Rattle.arguments.specs.Statuses.{status_of_load}
 use Rattle.arguments.specs.Words.{texts}
 use Rattle.arguments.specs.declared.load_fault.LoadFault.{LoadFault}
 use Rattle.arguments.specs.declared.load_fault.LoadFault.TheVariants.{AtPort, Faults, LooksLikeHex, LooksLikeSRecords, LooksLikeTape, NoImage, Refused}
-use Rattle.arguments.specs.declared.refusal.Refusal.TheVariants.{Words, Map as NoMap, Source, Tape, Session as NoSession, OutOfMemory, Read, Write}
+use Rattle.arguments.specs.declared.refusal.Refusal.TheVariants.{Words, Map as NoMap, Source, Tape, Session as NoSession, OutOfMemory, Read, Write, WriteFile}
 use Rattle.checking.specs.CommandLine.{CheckAsked}
 use Rattle.checking.specs.Files.{AreBegun, AreKeptBack, AreOutcomes, AreTried, IsBegun, IsOutcome, IsTried, Outcome, said_of, worst_of}
 use Rattle.checking.specs.Found.{EndsFile, IsFound, has_slips}
@@ -73,6 +73,7 @@ kept_status (Refused (NoSession fault)) ends = absurd ends
 kept_status (Refused OutOfMemory) ends = (omega arith, omega arith)
 kept_status (Refused (Read why)) ends = (omega arith, omega arith)
 kept_status (Refused Write) ends = absurd ends
+kept_status (Refused (WriteFile why)) ends = absurd ends
 
 -- why a text is no source
 pub looks_end : (text : List ℕ) (why : LoadFault) → EndsLooks text why → EndsFile why
@@ -90,6 +91,7 @@ looks_end text (Refused (Tape fault)) ends = absurd ends
 looks_end text (Refused (NoSession fault)) ends = absurd ends
 looks_end text (Refused (Read why)) ends = absurd ends
 looks_end text (Refused Write) ends = absurd ends
+looks_end text (Refused (WriteFile why)) ends = absurd ends
 
 -- ---- lists of outcomes
 

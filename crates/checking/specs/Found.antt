@@ -1,5 +1,6 @@
 -- What `check` finds of a source, and what it writes of it. Source: mos65.
 use Rattle.std.specs.Prelude.{◌≡◌, ⊤, ℕ, ◌==◌, ◌&&◌, ◌||◌, Bool, not, true, false, List, None, length}
+use Rattle.arguments.specs.Shown.{shown_name}
 use Rattle.arguments.specs.declared.load_fault.LoadFault.{LoadFault}
 use Rattle.arguments.specs.declared.load_fault.LoadFault.TheVariants.{LooksLikeHex, LooksLikeSRecords, LooksLikeTape, Refused}
 use Rattle.arguments.specs.declared.refusal.Refusal.TheVariants.{OutOfMemory, Read}
@@ -17,10 +18,10 @@ abbrev pub HasMap : CheckAsked → Type 0
 HasMap asked = is_map None asked.port ≡ true
 
 -- The text of all faults or warnings of some source on the map that is asked for, under the name of
--- a file, and which of these it has. No clause can say which source a file stands for.
+-- a file as it is shown, and which of these it has. No clause can say which source a file stands for.
 pub record IsFound (asked : CheckAsked) (file : Text) (found : CheckedText) : Type 0 where
   pub source : List ℕ
-  pub told : IsCheckedText file source asked.profile
+  pub told : IsCheckedText (shown_name file) source asked.profile
       (faults_of (map_asked asked) source) (warnings_of (map_asked asked) source) found.text.items
   pub faulty : found.is_faulty ≡ not (length (faults_of (map_asked asked) source) == 0)
   pub warned : found.is_warned ≡ ((length (faults_of (map_asked asked) source) == 0)

@@ -10,7 +10,7 @@ ghost use Rattle.checking.specs.Found.{EndsFile, IsFound, has_slips};
 use crate::text::{CheckedText, checked_text};
 use crate::words::{CheckWords, read_words};
 use arguments::{
-    LoadFault, NotWritten, Refusal, map_of, read_source, refuse, refused_words, write_text,
+    LoadFault, NotWritten, Refusal, map_of, read_source, refuse, refused_words, shown_name, write_text,
 };
 use bus::MapSpec;
 use image_files::refuse_image;
@@ -41,7 +41,10 @@ fn found_of(
     ensures found { IfOk result (IsFound (check_view words.now) file.now) }
     ensures refused { IfErr result EndsFile }
 {
-    checked_text(alloc, file.as_bytes(), source, map).map_err(|_| LoadFault::Refused(
+    let Ok(name) = shown_name(alloc, file) else {
+        return Err(LoadFault::Refused(Refusal::OutOfMemory));
+    };
+    checked_text(alloc, name.as_bytes(), source, map).map_err(|_| LoadFault::Refused(
         Refusal::OutOfMemory,
     ))
 }

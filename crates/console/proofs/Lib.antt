@@ -4,3 +4,4 @@ pub mod Port
 pub mod Steps
 pub mod Turning
 pub mod Gliding
+pub mod Growing

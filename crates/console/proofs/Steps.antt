@@ -292,3 +292,27 @@ pub step_leads : (s after : State) → s.regs.s < 256 → step s ≡ Ok after
     → Leads (counted s.regs.s after.regs.s (take_count (access_here s).read s.bus)) s.bus after.bus
 unfolding step access_here
 step_leads s after small e = step_by s after (nat_lt most_cycles s.cycles) s.nmi (irq_asked s && not s.regs.flags.i) small e
+
+-- ---- the output alone
+
+entry_grows : (s : State) (vector : ℕ) → Leads 0 s.bus (interrupt_entry s vector).bus
+unfolding interrupt_entry
+entry_grows s vector = sequence_leads s s.regs.pc false vector
+
+grows_by : (s after : State) (full nmi irq : Bool)
+    → cond full (Err CyclesFull)
+    (cond nmi (Ok (interrupt_entry (forgotten s) 0xFFFA)) (cond irq (Ok (interrupt_entry s 0xFFFE)) (attempt (row_at s.bus.map.profile (slice_index s.bus.memory s.regs.pc)) s)))
+    ≡ Ok after
+    → (more : List ℕ) × (after.bus.out ≡ s.bus.out ++ more)
+grows_by s after true nmi irq e = cc
+grows_by s after false true irq e =
+    let same : interrupt_entry (forgotten s) 0xFFFA ≡ after = cc in (rw same at (entry_grows (forgotten s) 0xFFFA)).out
+grows_by s after false false true e =
+    let same : interrupt_entry s 0xFFFE ≡ after = cc in (rw same at (entry_grows s 0xFFFE)).out
+grows_by s after false false false e =
+    (attempted_leads (row_at s.bus.map.profile (slice_index s.bus.memory s.regs.pc)) s after e).out
+
+-- a step puts something out, or nothing, and takes nothing back
+pub step_grows : (s after : State) → step s ≡ Ok after → (more : List ℕ) × (after.bus.out ≡ s.bus.out ++ more)
+unfolding step
+step_grows s after e = grows_by s after (nat_lt most_cycles s.cycles) s.nmi (irq_asked s && not s.regs.flags.i) e

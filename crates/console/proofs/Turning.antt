@@ -221,7 +221,7 @@ ends_full until limit s first told over steps t memo h full within rest may =
 
 -- a run that was cut short in its next turn
 pub cut_run : (until : Option ℕ) (limit : ℕ) (s : Session) (first : Known) (told : List ℕ) (over : Bool) (steps : ℕ) (t : Session) (memo : Known) → RunsOn until limit s first told over steps t memo → steps < limit
-    → (told2 : List ℕ) (over2 : Bool) (u : Session) → EndsOnce over over2 told2 → CutTurn t told2 u
+    → (told2 : List ℕ) (over2 : Bool) (u : Session) → EndsOnce over over2 told2 → ((rest : List ℕ) → MayCome over2 rest → CutTurn (play_at t memo (told2 ++ rest)) told2 rest u)
     → (rest : List ℕ) → MayCome over2 rest → CutRun until limit (play_at s first ((told ++ told2) ++ rest)) u rest
 cut_run until limit s first told over steps t memo h room told2 over2 u once cut rest may = record {
   steps = steps;
@@ -230,7 +230,7 @@ cut_run until limit s first told over steps t memo h room told2 over2 u once cut
   within = room;
   made = ap (λ l. played until limit (play_at s first l)) (append_assoc told told2 rest) ∙ h.runs (told2 ++ rest) (may_all over over2 told2 rest once may);
   input = refl;
-  turn = cut;
+  turn = cut rest may;
 }
 
 -- a run that was cut short between two turns

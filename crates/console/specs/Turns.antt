@@ -1,9 +1,7 @@
 -- What a turn has read and where it leads, if more of the input may come.
 use Rattle.std.specs.Io.KnownBytes.{IsAtEnd}
-use Rattle.std.specs.Prelude.{◌≡◌, ◌⊎◌, ℕ, Bool, true, if◌then◌else◌, List, [], ◌++◌, Option, Ok}
-use Rattle.model.specs.State.{State}
-use Rattle.model.specs.Step.{step}
-use Rattle.model.specs.Session.{Session, with_state}
+use Rattle.std.specs.Prelude.{◌≡◌, ◌⊎◌, ℕ, Bool, true, if◌then◌else◌, List, [], ◌++◌, None, Option}
+use Rattle.model.specs.Session.{Session}
 use Rattle.model.specs.Transcript.{after_input}
 use Rattle.console.specs.Line.{line_at}
 use Rattle.console.specs.Playing.{Play, Turn, no_memo, turn_of}
@@ -51,8 +49,8 @@ abbrev pub TurnsTo : Session → Known → List ℕ → Bool → Option Ending �
 TurnsTo s k told is_over ending t after = (rest : List ℕ) → MayCome is_over rest
     → turn_of (play_at s k (told ++ rest)) ≡ turn_to ending t after rest
 
--- A turn that was cut short: bytes of a line were handed in, and then the step was made or not.
-abbrev pub CutTurn : Session → List ℕ → Session → Type 0
-CutTurn s told t = (t ≡ after_input s told)
-    ⊎ ((state : State) × (step (after_input s told).current ≡ Ok state)
-    × (t ≡ with_state (after_input s told) state))
+-- A turn that was cut short, with `rest` left of the input: bytes of a line were handed in; or the
+-- turn was made, and its output not written to its end.
+abbrev pub CutTurn : Play → List ℕ → List ℕ → Session → Type 0
+CutTurn p told rest t = (t ≡ after_input p.session told)
+    ⊎ ((after : Known) × (turn_of p ≡ turn_to None t after rest))

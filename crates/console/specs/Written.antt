@@ -27,7 +27,7 @@ pub record CutRun (until : Option ℕ) (limit : ℕ) (first : Play) (now : Sessi
   pub within : steps < limit
   pub made : played until limit first ≡ later steps (played until (limit - steps) before)
   pub input : before.input ≡ told ++ rest
-  pub turn : CutTurn before.session told now
+  pub turn : CutTurn before told rest now
 
 -- A run came to an end in a session, with some input left.
 pub record CameTo (outcome : Outcome) (now : Session) (rest : List ℕ) : Type 0 where

@@ -1,9 +1,8 @@
 //! A turn: a line of input if one is asked for, and a step.
 
 ghost use Rattle.std.specs.Prelude.{◌≡◌, ◌==◌, ◌+◌, ◌≤◌, ◌<◌, ◌++◌, ℕ, List, IfOk, OnOk};
-ghost use Rattle.std.specs.Prelude.{OnErr, Ok, false};
+ghost use Rattle.std.specs.Prelude.{None, OnErr, false};
 ghost use Rattle.std.specs.Io.KnownBytes.{Consumes, Keeps};
-ghost use Rattle.model.specs.Session.{with_state};
 ghost use Rattle.model.specs.Step.{step};
 ghost use Rattle.model.specs.State.{input_waits, State};
 ghost use Rattle.model.specs.Transcript.{after_input};
@@ -16,8 +15,8 @@ ghost use Rattle.console.specs.Playing.{asks, came as is_some_line, ending_after
 ghost use Rattle.console.specs.Playing.{ending_here, fall_of, is_idle, memo_after};
 ghost use Rattle.console.specs.Playing.{same_flags, same_regs, stands, stepped, stray_of};
 ghost use Rattle.console.specs.Taking.{counted, take_count, Waits};
-ghost use Rattle.console.specs.Turns.{CutTurn, EndsOnce, EndsWith, IsLine, TurnsTo, first_known};
-ghost use Rattle.console.specs.Turns.{known, play_at, turn_to};
+ghost use Rattle.console.specs.Turns.{CutTurn, EndsOnce, EndsWith, IsLine, MayCome, TurnsTo};
+ghost use Rattle.console.specs.Turns.{first_known, known, play_at, turn_to};
 
 use crate::ending::{Ending, PlayFault};
 use crate::input::hand_in_line;
@@ -260,8 +259,9 @@ fn make_step<W: Write>(
         (step session.old.current) ≡ turn_to ending session.new (known player.new) input) }
     ensures waits { OnOk result (Waits session.new.current player.new.waiting) }
     // The step was made, and its output not written to its end.
-    ensures err { OnErr result ((state : State) × (step session.old.current ≡ Ok state)
-        × (session.new ≡ with_state session.old state)) }
+    ensures err { OnErr result ((input : List ℕ)
+        → stepped (play_at session.old (known player.old) input) is_asked came
+        (step session.old.current) ≡ turn_to None session.new (known player.new) input) }
     ensures over { player.new.is_over ≡ player.old.is_over }
     ensures output { (text : List ℕ)
         × (session.new.current.bus.out ≡ session.old.current.bus.out ++ text)
@@ -396,7 +396,9 @@ pub fn take_turn<R: Read, W: Write>(
         × EndsWith player.old.is_over player.new.is_over (R.remaining reader.old)
         (R.remaining reader.new)
         × EndsOnce player.old.is_over player.new.is_over told
-        × CutTurn session.old told session.new) }
+        × ((rest : List ℕ) → MayCome player.new.is_over rest
+        → CutTurn (play_at session.old (known player.old) (told ++ rest)) told rest
+        session.new)) }
     ensures waits { OnOk result (Waits session.new.current player.new.waiting) }
     ensures output { (text : List ℕ)
         × (session.new.current.bus.out ≡ session.old.current.bus.out ++ text)

@@ -3,7 +3,7 @@ use Rattle.std.proofs.Common.{◌≡◌, ◌≢◌, ◌≤◌, ◌⊎◌, ◌∙
 use Rattle.arguments.specs.Statuses.{status_of}
 use Rattle.arguments.specs.declared.file_refusal.FileRefusal.{FileRefusal}
 use Rattle.arguments.specs.declared.refusal.Refusal.{Refusal}
-use Rattle.arguments.specs.declared.refusal.Refusal.TheVariants.{Words, Map, Source, Tape, Session, OutOfMemory, Read, Write}
+use Rattle.arguments.specs.declared.refusal.Refusal.TheVariants.{Words, Map, Source, Tape, Session, OutOfMemory, Read, Write, WriteFile}
 use Rattle.dis_source.specs.Asked.{SourceAsked}
 use Rattle.dis_source.specs.Word.{EndsDefined, EndsNamed, EndsSource, HasNamesFault}
 use Rattle.image_files.proofs.Ended.{ended}
@@ -22,6 +22,7 @@ by_names profile (Map f) status ends is = absurd ends
 by_names profile (Tape f) status ends is = absurd ends
 by_names profile (Session f) status ends is = absurd ends
 by_names profile Write status ends is = absurd ends
+by_names profile (WriteFile f) status ends is = absurd ends
 
 abbrev Says : SourceAsked → ℕ → Type 0
 Says asked status = (status ≡ 1 → HasNoImage asked.form ⊎ HasNamesFault asked.profile) × (status ≢ 2) × (1 ≤ status) × (status ≤ 4)

@@ -1,6 +1,6 @@
 -- Which exit status a file has that is no image.
 use Rattle.std.proofs.Common.{◌≡◌, ◌≤◌, ◌⊎◌, ℕ, Option, inl, inr, refl, arith}
-use Rattle.arguments.specs.declared.refusal.Refusal.TheVariants.{Words, Map, Source, Tape, Session, OutOfMemory, Read, Write}
+use Rattle.arguments.specs.declared.refusal.Refusal.TheVariants.{Words, Map, Source, Tape, Session, OutOfMemory, Read, Write, WriteFile}
 use Rattle.image_reader.specs.declared.form.Form.{Form}
 use Rattle.image_files.specs.Files.{EndsImage, HasNoImage}
 use Rattle.image_files.specs.Told.{status_of_image}
@@ -17,6 +17,7 @@ by_kind said (Refused (Map f)) ends = absurd ends.1
 by_kind said (Refused (Source f)) ends = absurd ends.1
 by_kind said (Refused (Session f)) ends = absurd ends.1
 by_kind said (Refused Write) ends = absurd ends.1
+by_kind said (Refused (WriteFile f)) ends = absurd ends.1
 
 -- A file that is no image has the status 1; one that is not read has 3 or 4.
 pub ended : (said : Option Form) (why : ImageRefusal) (status : ℕ) → EndsImage said why → status ≡ status_of_image why → ((status ≡ 1) × HasNoImage said) ⊎ ((3 ≤ status) × (status ≤ 4))

@@ -53,6 +53,7 @@ module _ (said : Option Form) (bytes : List ℕ) (form : Form) (read : Read) (to
   fault_of (Refused refusal.OutOfMemory) is = absurd is
   fault_of (Refused (refusal.Read f)) is = absurd is
   fault_of (Refused refusal.Write) is = absurd is
+  fault_of (Refused (refusal.WriteFile f)) is = absurd is
 
   -- a fault in their form is why they denote none
   fault_by : (f : ImageFault) → (f ≡ fault.OutOfMemory) ⊎ HasFault form bytes f → (of_fault f ≡ Memory) ⊎ IsNoImage said bytes (of_fault f)
@@ -105,3 +106,4 @@ refused_other said bytes like (Refused (refusal.Session f)) told is = absurd is
 refused_other said bytes like (Refused refusal.OutOfMemory) told is = absurd is
 refused_other said bytes like (Refused (refusal.Read f)) told is = absurd is
 refused_other said bytes like (Refused refusal.Write) told is = absurd is
+refused_other said bytes like (Refused (refusal.WriteFile f)) told is = absurd is

@@ -2,7 +2,7 @@
 use Rattle.std.proofs.Common.{◌≡◌, ◌≤◌, ◌⊎◌, ℕ, List, Option, Result, Ok, Err, IfOk, IfErr, subst, sym, inl, inr, arith}
 use Rattle.arguments.specs.Files.{EndsWriting}
 use Rattle.arguments.specs.declared.refusal.Refusal.{Refusal}
-use Rattle.arguments.specs.declared.refusal.Refusal.TheVariants.{Words, Map as NoMap, Source, Tape, Session, OutOfMemory, Read, Write}
+use Rattle.arguments.specs.declared.refusal.Refusal.TheVariants.{Words, Map as NoMap, Source, Tape, Session, OutOfMemory, Read, Write, WriteFile}
 use Rattle.image_files.specs.Bytes.{IsImage, IsNoImage}
 use Rattle.image_files.specs.Files.{EndsBytes}
 use Rattle.image_files.specs.declared.refusal.ImageRefusal.{ImageRefusal}
@@ -46,10 +46,12 @@ bytes_end (why.Refused (Source fault)) ends = absurd ends
 bytes_end (why.Refused (Tape fault)) ends = absurd ends
 bytes_end (why.Refused (Session fault)) ends = absurd ends
 bytes_end (why.Refused Write) ends = absurd ends
+bytes_end (why.Refused (WriteFile fault)) ends = absurd ends
 
 pub writing_ends : (refusal : Refusal) → EndsWriting refusal → EndsConvert (Refused (why.Refused refusal))
 writing_ends OutOfMemory ends = tt
 writing_ends Write ends = tt
+writing_ends (WriteFile fault) ends = tt
 writing_ends Words ends = absurd ends
 writing_ends (NoMap fault) ends = absurd ends
 writing_ends (Source fault) ends = absurd ends
@@ -63,6 +65,7 @@ no_image_ends asked bytes (why.Refused (Tape fault)) is = tt
 no_image_ends asked bytes (why.Refused OutOfMemory) is = tt
 no_image_ends asked bytes (why.Refused (Read fault)) is = tt
 no_image_ends asked bytes (why.Refused Write) is = tt
+no_image_ends asked bytes (why.Refused (WriteFile fault)) is = tt
 no_image_ends asked bytes (why.Refused Words) is = absurd is
 no_image_ends asked bytes (why.Refused (NoMap fault)) is = absurd is
 no_image_ends asked bytes (why.Refused (Source fault)) is = absurd is
@@ -94,6 +97,7 @@ bounded (Refused (why.Refused (Tape fault))) ends = one
 bounded (Refused (why.Refused OutOfMemory)) ends = three
 bounded (Refused (why.Refused (Read fault))) ends = four
 bounded (Refused (why.Refused Write)) ends = four
+bounded (Refused (why.Refused (WriteFile fault))) ends = four
 bounded (Refused (why.Refused Words)) ends = absurd ends
 bounded (Refused (why.Refused (NoMap fault))) ends = absurd ends
 bounded (Refused (why.Refused (Source fault))) ends = absurd ends

@@ -15,6 +15,7 @@ EndsConvert (Refused (why.Refused (refusal.Tape fault))) = ⊤
 EndsConvert (Refused (why.Refused refusal.OutOfMemory)) = ⊤
 EndsConvert (Refused (why.Refused (refusal.Read fault))) = ⊤
 EndsConvert (Refused (why.Refused refusal.Write)) = ⊤
+EndsConvert (Refused (why.Refused (refusal.WriteFile fault))) = ⊤
 EndsConvert (Refused (why.Refused refusal)) = ⊥
 
 -- 1 for bytes that are no image, or that nothing is written for; 3 for memory; 4 for reading and

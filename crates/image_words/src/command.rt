@@ -45,12 +45,12 @@ pub fn convert_command<'a>(alloc: Global) -> Result<Command<'a>, Error>
         .arg(word(
             alloc,
             "LO",
-            "The first address to write [default: that of the first byte]",
+            "The first address to write, with HI [default: that of the first byte]",
         ))?
         .arg(word(
             alloc,
             "HI",
-            "The last address to write [default: that of the last byte]",
+            "The last address to write, with LO [default: that of the last byte]",
         ))?
         .arg(option(alloc, "from", "FORM", from))?
         .arg(option(alloc, "bin", "HHHH", bin))?

@@ -11,19 +11,19 @@ use crate::converting::converted;
 use crate::fault::ConvertFault;
 use crate::wording::NO_BYTE;
 use crate::words::{ConvertWords, read_convert_words};
-use arguments::{Refusal, is_one_file, refused_words, tell_no_image, write_file};
+use arguments::{Refusal, WriteFault, is_one_file, refused_words, tell_no_image, write_file};
 use image_files::{ImageRefusal, image_bytes};
 use std::io::Write;
 use std::rt::Files;
 
 /// Writes OUT, unless it is IN under another name.
 ///
-/// Errors: `Write` if OUT is IN, or cannot be written; `OutOfMemory` if an allocation fails.
-fn write_out<H: Files>(rt: &H, words: &ConvertWords<'_>, bytes: &[u8]) -> Result<(), Refusal>
+/// Errors: `WriteFile` if OUT is IN, or cannot be written; `OutOfMemory` if an allocation fails.
+fn write_out<H: Files + AllocGlobal>(rt: &H, words: &ConvertWords<'_>, bytes: &[u8]) -> Result<(), Refusal>
     ensures { IfErr result EndsWriting }
 {
     if is_one_file(rt, words.input, words.out) {
-        return Err(Refusal::Write);
+        return Err(Refusal::WriteFile(WriteFault::SameFile));
     }
     write_file(rt, words.out, bytes)
 }

@@ -5,6 +5,8 @@ pub const FROM_TAKES: &str = "--from takes hex, srec, tape or prg; or bin with -
 
 pub const BIN_TAKES: &str = "--bin takes four hex digits, the address of the first byte";
 
+pub const BIN_ALONE: &str = "--bin goes with --from bin alone, and not with --prg";
+
 pub const TO_TAKES: &str =
     "--to takes bin, hex, srec, tape or prg, which the ending of OUT does not tell";
 

@@ -11,7 +11,7 @@ ghost use Rattle.image_words.specs.CommandLine.{convert};
 
 use crate::command::convert_command;
 use crate::names::{FormName, form_named, form_of_ending};
-use crate::wording::{BIN_TAKES, FILL_TAKES, FROM_TAKES, ONE_NAME, RANGE_TAKES, TO_TAKES};
+use crate::wording::{BIN_ALONE, BIN_TAKES, FILL_TAKES, FROM_TAKES, ONE_NAME, RANGE_TAKES, TO_TAKES};
 use arguments::{WordsFault, address_asked, is_given, matched};
 use clap::ArgMatches;
 use image_files::fill_asked;
@@ -151,10 +151,13 @@ fn convert_words<'a>(matches: &ArgMatches<'a>) -> Option<ConvertWords<'a>>
 fn wrong_value(matches: &ArgMatches<'_>) -> &'static str {
     let is_prg = is_given(matches, "prg");
     if from_asked(matches.get_str("from"), matches.get_str("bin"), is_prg).is_none() {
-        if matches.get_str("bin").is_some() {
-            return BIN_TAKES;
-        }
-        return FROM_TAKES;
+        return match matches.get_str("bin") {
+            None => FROM_TAKES,
+            Some(word) => match address_asked(Some(word)) {
+                None => BIN_TAKES,
+                Some(_) => BIN_ALONE,
+            },
+        };
     }
     if to_asked(matches.get_str("to"), matches.get_str("OUT").unwrap_or("")).is_none() {
         return TO_TAKES;

@@ -1,11 +1,12 @@
 //! Values as the bodies of messages.
 
-ghost use Rattle.std.specs.Prelude.{IfErr, IfOk, List, OnOk, ℕ};
+ghost use Rattle.std.specs.Prelude.{IfErr, IfOk, List, OnErr, OnOk, ℕ};
 ghost use Rattle.std.specs.Io.KnownBytes.{Appends};
 ghost use Rattle.std.specs.Option.{option_map};
 ghost use Rattle.json_values.specs.Bodies.{IsMessage, IsTextOf};
 ghost use Rattle.message_stream.specs.Messages.{framed};
 ghost use Rattle.message_stream.specs.Taken.{IsUnwritten};
+ghost use Rattle.model.specs.Writers.{AppendsFront};
 ghost use Rattle.serde_json.specs.View.{view};
 
 use message_stream::{StreamFault, write_message};
@@ -34,7 +35,7 @@ pub fn value_of(alloc: Global, body: &[u8]) -> Result<Option<Value>, AllocError>
 ///
 /// # Errors
 ///
-/// - `Write`: the write or the flush failed.
+/// - `Write`: the write or the flush failed. A beginning of the message, or all of it, was written.
 /// - `OutOfMemory`: an allocation failed. Nothing was written.
 pub fn write_value<W: Write>(
     alloc: Global,
@@ -43,10 +44,12 @@ pub fn write_value<W: Write>(
 ) -> Result<(), StreamFault>
     ensures written { OnOk result ((text : List ℕ) × IsTextOf (view value.now) text
         × Appends (W.contents writer.old) (W.contents writer.new) (framed text)) }
+    ensures begun { OnErr result ((text : List ℕ) × IsTextOf (view value.now) text
+        × AppendsFront (W.contents writer.old) (W.contents writer.new) (framed text)) }
     ensures fault { IfErr result IsUnwritten }
 {
-    let Ok(text) = value.to_string(alloc) else {
-        return Err(StreamFault::OutOfMemory);
-    };
-    write_message(alloc, writer, text.as_bytes())
+    match value.to_string(alloc) {
+        Ok(text) => write_message(alloc, writer, text.as_bytes()),
+        Err(_) => Err(StreamFault::OutOfMemory),
+    }
 }

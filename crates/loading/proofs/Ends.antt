@@ -5,12 +5,13 @@ use Rattle.std.specs.declared.alloc.Global.{Global}
 use Rattle.std.specs.declared.vec.Vec.{Vec}
 use Rattle.arguments.specs.Asked.{FileAsked, map_of}
 use Rattle.arguments.specs.Refusals.{of_source, of_source_kind}
+use Rattle.arguments.specs.Shown.{shown_name}
 use Rattle.arguments.specs.declared.file_options.FileForm.{FileForm}
 use Rattle.arguments.specs.declared.file_options.FileForm.TheVariants as form
 use Rattle.arguments.specs.declared.load_fault.LoadFault.{LoadFault}
 use Rattle.arguments.specs.declared.load_fault.LoadFault.TheVariants.{AtPort, Faults, LooksLikeHex, LooksLikeSRecords, LooksLikeTape, NoImage, Refused}
 use Rattle.arguments.specs.declared.refusal.Refusal.{Refusal}
-use Rattle.arguments.specs.declared.refusal.Refusal.TheVariants.{Map as NoMap, OutOfMemory, Read, Session, Source, Tape, Words, Write}
+use Rattle.arguments.specs.declared.refusal.Refusal.TheVariants.{Map as NoMap, OutOfMemory, Read, Session, Source, Tape, Words, Write, WriteFile}
 use Rattle.assembler.specs.Assembly.{AssemblyView, out_of_memory}
 use Rattle.fault_notes.specs.Blocks.{IsToldText}
 use Rattle.image_files.specs.declared.refusal.ImageRefusal.TheVariants as why
@@ -47,7 +48,7 @@ source_ends bus_map source f (Err r) (inr has) is = subst (EndsSource bus_map) (
 -- ---- a source whose faults are told
 
 pub told_ends : (bus_map : Map) (file source : List ℕ) (fault : AsmFault) (text : Vec ℕ Global) (told : Option (Vec ℕ Global)) → told ≡ Some text → (fault ≡ out_of_memory) ⊎ HasFault bus_map source fault
-    → (fault ≡ out_of_memory → told ≡ None) → IsToldText file source bus_map.profile (faults_of bus_map source) text.items → EndsSourceFile bus_map file (Faults fault text)
+    → (fault ≡ out_of_memory → told ≡ None) → IsToldText (shown_name file) source bus_map.profile (faults_of bus_map source) text.items → EndsSourceFile bus_map file (Faults fault text)
 told_ends bus_map file source fault text told some (inl memory) none is = absurd (no_text (none memory))
   where
     no_text : told ≡ None → ⊥
@@ -78,6 +79,7 @@ looks_end bus_map file source (Refused (Tape f)) ends = absurd ends
 looks_end bus_map file source (Refused (Session f)) ends = absurd ends
 looks_end bus_map file source (Refused (Read f)) ends = absurd ends
 looks_end bus_map file source (Refused Write) ends = absurd ends
+looks_end bus_map file source (Refused (WriteFile f)) ends = absurd ends
 
 -- ---- a file that is no source
 

@@ -1,6 +1,7 @@
 -- Which image and assembly a file is loaded with, and why it is not loaded. No clause can say
 -- whether memory is there, nor what is in a file. Source: mos65.
 use Rattle.std.specs.Prelude.{◌≡◌, ◌+◌, ◌⊎◌, ⊤, ℕ, true, false, List, Option, None, Some}
+use Rattle.arguments.specs.Shown.{shown_name}
 use Rattle.assembler.specs.Assembly.{AssemblyView, IsAssembled}
 use Rattle.arguments.specs.Asked.{FileAsked, map_of}
 use Rattle.arguments.specs.declared.file_options.FileForm.{FileForm}
@@ -51,10 +52,10 @@ MeetsPort said bus_map first last free = (first ≡ bus_map.port) × (last ≡ b
 abbrev pub EndsNames : FileAsked → Refusal → Type 0
 EndsNames asked fault = IsBadMap (map_of asked) fault ⊎ EndsSource (map_of asked) fault
 
--- A source has a fault, and a text tells of all its faults under the name of its file.
+-- A source has a fault, and a text tells of all its faults under the name of its file, as it is shown.
 abbrev pub TellsFaults : Map → List ℕ → AsmFault → List ℕ → Type 0
 TellsFaults bus_map file fault text = (source : List ℕ) × HasFault bus_map source fault
-    × IsToldText file source bus_map.profile (faults_of bus_map source) text
+    × IsToldText (shown_name file) source bus_map.profile (faults_of bus_map source) text
 
 -- Why the source of a file is not assembled on a map: it has a fault, and all its faults are told;
 -- or it is not read.

@@ -19,7 +19,7 @@ ghost use Rattle.names_files.specs.NamesFile.{names_file};
 ghost use Rattle.model.specs.declared.bus_fault.BusFault.TheVariants.{BadMap};
 
 use accesses::Written;
-use arguments::{FileForm, FileWords, LoadFault, Refusal, map_of, read_source};
+use arguments::{FileForm, FileWords, LoadFault, Refusal, map_of, read_source, shown_name};
 use assembler::{Assembly, assemble};
 use debugger::Session;
 use fault_notes::told_faults;
@@ -64,7 +64,7 @@ fn assembled(alloc: Global, source: &[u8], map: &MapSpec) -> Result<Assembly, Re
 }
 
 /// Returns why the source of a file is refused that has a fault: `Faults` with the text of all its
-/// faults under the name of the file, or `OutOfMemory` if that is the fault or an allocation fails.
+/// faults under the name of the file as it is shown, or `OutOfMemory` if that is the fault or an allocation fails.
 #[tactic(auto, using(crate::proofs::Ends::told_ends))]
 pub fn faults_of(
     alloc: Global,
@@ -76,7 +76,10 @@ pub fn faults_of(
     requires { (fault ≡ out_of_memory) ⊎ HasFault map.now source.now fault }
     ensures { EndsSourceFile map.now file.now result }
 {
-    match told_faults(alloc, file.as_bytes(), source, map, fault) {
+    let Ok(name) = shown_name(alloc, file) else {
+        return LoadFault::Refused(Refusal::OutOfMemory);
+    };
+    match told_faults(alloc, name.as_bytes(), source, map, fault) {
         Some(text) => LoadFault::Faults { fault, text },
         None => LoadFault::Refused(Refusal::OutOfMemory),
     }

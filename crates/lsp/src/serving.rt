@@ -90,7 +90,7 @@ fn attend<R: Read, O: Write>(
     input: &mut R,
     output: &mut O,
 ) -> Result<u8, StreamFault>
-    requires empty { incoming.old ≡ [] }
+    requires empty { incoming.old.bytes ≡ [] }
     requires fresh { server_view server.old ≡ start }
     ensures session { IfOk result (λ status. IsSession map.now (R.remaining input.old)
         (R.remaining input.new) status (O.contents output.old) (O.contents output.new)) }

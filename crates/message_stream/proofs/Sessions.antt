@@ -1,9 +1,13 @@
 -- Messages that are served one after another.
-use Rattle.std.proofs.Common.{◌≡◌, ◌∙◌, ℕ, List, [], ◌∷◌, ◌++◌, append_assoc, append-nil, refl, sym, ap, subst, Option, Some, None}
+use Rattle.std.proofs.Common.{◌≡◌, ◌∙◌, ℕ, List, [], ◌∷◌, ◌++◌, append_assoc, append-nil, inl, inr, refl, sym, ap, subst, Option, Some, None}
 use Rattle.std.proofs.KnownBytes.{Consumes-nil, Consumes-trans}
 use Rattle.std.specs.Io.KnownBytes.{Consumes}
-use Rattle.message_stream.specs.Messages.{AreMessages, IsFront}
-use Rattle.message_stream.specs.Sessions.{AreServed, IsEndedBy, IsServedSoFar}
+use Rattle.message_stream.specs.Messages.{AreMessages, IsFront, front_of, header_from}
+use Rattle.message_stream.specs.Sessions.{AreServed, BeginsTurn, IsCutShort, IsEndedBy, IsServedSoFar}
+use Rattle.message_stream.specs.Taken.{IsOver, IsUntaken, IsUnwritten}
+use Rattle.message_stream.specs.declared.fault.StreamFault.{StreamFault}
+use Rattle.message_stream.specs.declared.fault.StreamFault.TheVariants as fault
+use Rattle.message_stream.specs.declared.front.Front.TheVariants.{Open}
 use Rattle.message_stream.proofs.Stays.{messages_kept, messages_more}
 
 none_served : {S : Type 0} (Turn : List ℕ → S → S → Option ℕ → List ℕ → Type 0) (s : S)
@@ -90,4 +94,64 @@ served_whole Turn given left after held told old new written p read none = (
   p.2,
   subst (AreMessages (p.0 ++ told) p.2) none (messages_kept p.0 told p.2 held p.3),
   p.4,
+)
+
+-- ---- a session that a fault cuts short
+
+-- No message is taken of what is held and what was read.
+pub cut_between : {S : Type 0} (Turn : List ℕ → S → S → Option ℕ → List ℕ → Type 0)
+    (given left after : Option (List ℕ)) (held told : List ℕ) (old between : S)
+    (fault : StreamFault) (written : List ℕ) → IsServedSoFar Turn given left held old between written
+    → Consumes left after told → IsUntaken (held ++ told) after fault
+    → IsCutShort Turn given after old fault written
+cut_between Turn given left after held told old between fault written p read why = (
+  held ++ told,
+  between,
+  written,
+  [],
+  (
+    p.0 ++ told,
+    Consumes-trans given left after p.0 told p.1 read,
+    p.2,
+    messages_kept p.0 told p.2 held p.3,
+    p.4,
+  ),
+  inl (why, refl),
+  sym (append-nil written),
+)
+
+nothing_open : (bytes : List ℕ) → bytes ≡ [] → front_of bytes ≡ Open
+unfolding header_from
+nothing_open bytes e = rw e refl
+
+-- The input has ended, and the session has not.
+pub cut_over : {S : Type 0} (Turn : List ℕ → S → S → Option ℕ → List ℕ → Type 0)
+    (given left after : Option (List ℕ)) (held told : List ℕ) (old between : S)
+    (written : List ℕ) → IsServedSoFar Turn given left held old between written
+    → Consumes left after told → IsOver (held ++ told) after
+    → IsCutShort Turn given after old fault.Cut written
+cut_over Turn given left after held told old between written p read over =
+    cut_between Turn given left after held told old between fault.Cut written p read (nothing_open (held ++ told) over.0, over.1)
+
+-- A message is taken, and is not answered to its end.
+pub cut_within : {S : Type 0} (Turn : List ℕ → S → S → Option ℕ → List ℕ → Type 0)
+    (given left after : Option (List ℕ)) (held told body behind : List ℕ) (old between : S)
+    (fault : StreamFault) (first rest : List ℕ)
+    → IsServedSoFar Turn given left held old between first
+    → Consumes left after told → IsFront (held ++ told) body behind → IsUnwritten fault
+    → BeginsTurn Turn body between rest → IsCutShort Turn given after old fault (first ++ rest)
+cut_within Turn given left after held told body behind old between fault first rest p read front why begun = (
+  held ++ told,
+  between,
+  first,
+  rest,
+  (
+    p.0 ++ told,
+    Consumes-trans given left after p.0 told p.1 read,
+    p.2,
+    messages_kept p.0 told p.2 held p.3,
+    p.4,
+  ),
+  inr (body, behind, front, why, begun),
+  refl,
 )

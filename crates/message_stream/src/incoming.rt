@@ -1,10 +1,11 @@
 //! Messages taken from a reader.
 
-ghost use Rattle.std.specs.Prelude.{◌≡◌, ◌++◌, [], ℕ, IfErr, IfOk, IfSome, List, MatchOption};
-ghost use Rattle.std.specs.Prelude.{MatchResult, None, OnErr, OnOk, Option, drop, false, take};
-ghost use Rattle.std.specs.Io.KnownBytes.{Consumes, IsAtEnd, Keeps};
+ghost use Rattle.std.specs.Prelude.{◌≡◌, ◌++◌, ℕ, IfErr, IfOk, List, MatchOption};
+ghost use Rattle.std.specs.Prelude.{MatchResult, OnErr, OnOk, false};
+ghost use Rattle.std.specs.Io.KnownBytes.{Consumes, IsAtEnd};
 ghost use Rattle.message_stream.specs.Messages.{IsFront, front_of};
-ghost use Rattle.message_stream.specs.Taken.{IsOver, IsUnread, IsUntaken};
+ghost use Rattle.message_stream.specs.Taken.{IsOver, IsUnread, IsUntaken, count_with, has_more};
+ghost use Rattle.message_stream.specs.Taken.{unread};
 ghost use Rattle.message_stream.specs.declared.front.Front.TheVariants.{Message, Open};
 
 use crate::fault::StreamFault;
@@ -22,17 +23,28 @@ pub struct Incoming {
 }
 
 impl Model for Incoming {
-    ghost use Rattle.std.specs.Prelude.{ℕ, List};
+    ghost use Rattle.message_stream.specs.Taken.{Held};
 
-    ghost Value = { List ℕ };
+    ghost Value = { Held };
 
-    ghost view = { λ incoming. incoming.held.items };
+    ghost view = { λ incoming. record { bytes = incoming.held.items; count = incoming.count } };
+}
+
+/// Returns how many bytes were read, once some more are.
+fn count_with(count: u64, told: &[u8]) -> u64
+    ensures { result ≡ count_with count told.now }
+{
+    if told.is_empty() {
+        count
+    } else {
+        count.saturating_add(told.len() as u64)
+    }
 }
 
 impl Incoming {
     /// Makes a stream of which nothing was read.
     pub fn new(alloc: Global) -> Incoming
-        ensures { result ≡ [] }
+        ensures { result ≡ unread }
     {
         Incoming {
             held: Vec::new(alloc),
@@ -43,7 +55,7 @@ impl Incoming {
     /// Returns whether bytes wait to be taken, where so many have come: bytes are held, or fewer
     /// were read than have come.
     pub fn waits(&self, come: u64) -> bool
-        ensures { result ≡ false → self.now ≡ [] }
+        ensures { result ≡ has_more self.now come }
     {
         !self.held.is_empty() || self.count < come
     }
@@ -51,9 +63,11 @@ impl Incoming {
     /// Takes the message in front, whose body has the bytes from `start` up to `end`, and returns
     /// the body. Nothing is changed if memory ran out.
     fn take(&mut self, alloc: Global, start: usize, end: usize) -> Result<Vec<u8>, AllocError>
-        requires { front_of self.old ≡ Message start end }
-        ensures taken { IfOk result (λ body. IsFront self.old body.items self.new) }
-        ensures memory { OnErr result (self.new ≡ self.old) }
+        requires { front_of self.old.bytes ≡ Message start end }
+        ensures taken { IfOk result
+            (λ body. IsFront self.old.bytes body.items self.new.bytes) }
+        ensures count { self.new.count ≡ self.old.count }
+        ensures memory { OnErr result (self.new.bytes ≡ self.old.bytes) }
     {
         let body = Vec::from_slice(alloc, &self.held[start..end])?;
         self.held = Vec::from_slice(alloc, &self.held[end..])?;
@@ -64,18 +78,20 @@ impl Incoming {
     fn fill<R: Read>(&mut self, reader: &mut R) -> Result<bool, StreamFault>
         ensures read { (told : List ℕ)
             × Consumes (R.remaining reader.old) (R.remaining reader.new) told
-            × (OnOk result (self.new ≡ self.old ++ told)) }
+            × (self.new.count ≡ count_with self.old.count told)
+            × (OnOk result (self.new.bytes ≡ self.old.bytes ++ told)) }
         ensures end { IfOk result (λ is_more. is_more ≡ false
-            → (self.new ≡ self.old) × IsAtEnd (R.remaining reader.new)) }
-        ensures kept { OnErr result (self.new ≡ self.old) }
+            → (self.new.bytes ≡ self.old.bytes) × IsAtEnd (R.remaining reader.new)) }
+        ensures kept { OnErr result (self.new.bytes ≡ self.old.bytes) }
         ensures fault { IfErr result IsUnread }
     {
         let mut chunk = [0u8; 4096];
         match reader.read(&mut chunk) {
             Ok(0) => Ok(false),
             Ok(n) => {
-                self.count = self.count.saturating_add(n as u64);
-                match self.held.extend_from_slice(&chunk[..n]) {
+                let told = &chunk[..n];
+                self.count = count_with(self.count, told);
+                match self.held.extend_from_slice(told) {
                     Ok(()) => Ok(true),
                     Err(_) => Err(StreamFault::OutOfMemory),
                 }
@@ -100,10 +116,12 @@ impl Incoming {
     ) -> Result<Option<Vec<u8>>, StreamFault>
         ensures taken { (told : List ℕ)
             × Consumes (R.remaining reader.old) (R.remaining reader.new) told
+            × (self.new.count ≡ count_with self.old.count told)
             × MatchResult result
-            (λ found. MatchOption found (IsOver (self.old ++ told) (R.remaining reader.new))
-            (λ body. IsFront (self.old ++ told) body.items self.new))
-            (IsUntaken (self.old ++ told) (R.remaining reader.new)) }
+            (λ found. MatchOption found
+            (IsOver (self.old.bytes ++ told) (R.remaining reader.new))
+            (λ body. IsFront (self.old.bytes ++ told) body.items self.new.bytes))
+            (IsUntaken (self.old.bytes ++ told) (R.remaining reader.new)) }
     {
         for _ in 0..u64::MAX {
             match front_of(self.held.as_slice()) {

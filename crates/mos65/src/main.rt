@@ -17,6 +17,7 @@ use mon::mon;
 use page_words::page;
 use program::{process_words, program, unreadable_words, words_of};
 use running::run_program;
+use standard_streams::{Retrying, take_closed};
 use std::io;
 use std::process::ExitCode;
 use strict_debug::{strict_debug, strict_debug_image};
@@ -31,7 +32,7 @@ fn debug_strictly(rt: &HostRuntime, words: &[&str]) -> u8 {
     let (status, _) = strict_debug(
         rt,
         words,
-        &mut rt.reader(),
+        &mut Retrying::new(rt.reader()),
         io::writer(rt),
         &mut rt.stderr(),
     );
@@ -43,7 +44,7 @@ fn debug_strictly_on_image(rt: &HostRuntime, words: &[&str]) -> u8 {
     let (status, _) = strict_debug_image(
         rt,
         words,
-        &mut rt.reader(),
+        &mut Retrying::new(rt.reader()),
         io::writer(rt),
         &mut rt.stderr(),
     );
@@ -55,7 +56,7 @@ fn debug_on_image(rt: &HostRuntime, words: &[&str]) -> u8 {
     debug_image(
         rt,
         words,
-        &mut rt.reader(),
+        &mut Retrying::new(rt.reader()),
         &mut io::writer(rt),
         &mut rt.stderr(),
     )
@@ -67,21 +68,21 @@ fn play(rt: &HostRuntime, route: Route, words: &[&str]) -> u8 {
         Route::Mon => mon(
             rt,
             words,
-            &mut rt.reader(),
+            &mut Retrying::new(rt.reader()),
             &mut io::writer(rt),
             &mut rt.stderr(),
         ),
         Route::Run => run_program(
             rt,
             words,
-            &mut rt.reader(),
+            &mut Retrying::new(rt.reader()),
             &mut io::writer(rt),
             &mut rt.stderr(),
         ),
         _ => trace_program(
             rt,
             words,
-            &mut rt.reader(),
+            &mut Retrying::new(rt.reader()),
             &mut io::writer(rt),
             &mut rt.stderr(),
         ),
@@ -94,14 +95,14 @@ fn serve_editor(rt: &HostRuntime, route: Route, words: &[&str]) -> u8 {
         Route::Dap => dap(
             rt,
             words,
-            &mut rt.reader(),
+            &mut Retrying::new(rt.reader()),
             &mut io::writer(rt),
             &mut rt.stderr(),
         ),
         _ => lsp(
             rt,
             words,
-            &mut rt.reader(),
+            &mut Retrying::new(rt.reader()),
             &mut io::writer(rt),
             &mut rt.stderr(),
         ),
@@ -113,7 +114,7 @@ fn serve_promised(rt: &HostRuntime, words: &[&str]) -> u8 {
     program(
         rt,
         words,
-        &mut rt.reader(),
+        &mut Retrying::new(rt.reader()),
         &mut io::writer(rt),
         &mut rt.stderr(),
     )
@@ -155,6 +156,7 @@ fn run(rt: &HostRuntime) -> io::Result<u8> {
 }
 
 fn main(rt: HostRuntime) -> ExitCode {
+    let _closed = take_closed(&rt);
     let status = match run(&rt) {
         Ok(status) => status,
         Err(error) => unreadable_words(&error, &mut rt.stderr()),

@@ -3,6 +3,7 @@
 #![tactic(auto)]
 
 use program::{process_words, program, unreadable_words, words_of};
+use standard_streams::{Retrying, take_closed};
 use std::io;
 use std::process::ExitCode;
 
@@ -13,13 +14,14 @@ fn run(rt: &HostRuntime) -> io::Result<u8> {
     Ok(program(
         rt,
         &words,
-        &mut rt.reader(),
+        &mut Retrying::new(rt.reader()),
         &mut io::writer(rt),
         &mut rt.stderr(),
     ))
 }
 
 fn main(rt: HostRuntime) -> ExitCode {
+    let _closed = take_closed(&rt);
     let status = match run(&rt) {
         Ok(status) => status,
         Err(error) => unreadable_words(&error, &mut rt.stderr()),

@@ -1,9 +1,9 @@
 -- Why there is no whole page, from why a file is not read or written.
 use Rattle.std.proofs.Common.{Result, Ok, Err, IfErr, inl, inr}
 use Rattle.arguments.specs.Asked.{FileAsked, map_of}
-use Rattle.arguments.specs.Files.{EndsReading}
+use Rattle.arguments.specs.Files.{EndsReading, EndsWriting}
 use Rattle.arguments.specs.declared.refusal.Refusal.{Refusal}
-use Rattle.arguments.specs.declared.refusal.Refusal.TheVariants.{Map, OutOfMemory, Read, Session, Source, Tape, Words, Write}
+use Rattle.arguments.specs.declared.refusal.Refusal.TheVariants.{Map, OutOfMemory, Read, Session, Source, Tape, Words, Write, WriteFile}
 use Rattle.loading.specs.Loads.{EndsNames, EndsSource, IsBadMap}
 use Rattle.model.specs.State.{Map as MapView}
 use Rattle.page_words.specs.Done.{EndsFile}
@@ -17,6 +17,7 @@ source_ends map (Map fault) h = absurd h
 source_ends map (Tape fault) h = absurd h
 source_ends map (Session fault) h = absurd h
 source_ends map Write h = absurd h
+source_ends map (WriteFile why) h = absurd h
 
 map_ends : (map : MapView) (r : Refusal) → IsBadMap map r → EndsFile r
 map_ends map (Map fault) h = tt
@@ -24,6 +25,7 @@ map_ends map (Source fault) h = tt
 map_ends map OutOfMemory h = tt
 map_ends map (Read why) h = tt
 map_ends map Write h = tt
+map_ends map (WriteFile why) h = tt
 map_ends map Words h = let no = h.1 in absurd cc
 map_ends map (Tape fault) h = let no = h.1 in absurd cc
 map_ends map (Session fault) h = let no = h.1 in absurd cc
@@ -41,7 +43,19 @@ reading_ends (Source fault) h = absurd h
 reading_ends (Tape fault) h = absurd h
 reading_ends (Session fault) h = absurd h
 reading_ends Write h = absurd h
+reading_ends (WriteFile why) h = absurd h
 
 pub unread_ends : {X : Type 0} (r : Result X Refusal) → IfErr r EndsReading → IfErr r EndsFile
 unread_ends (Ok x) h = tt
 unread_ends (Err r) h = reading_ends r h
+
+pub unwritten_ends : (r : Refusal) → EndsWriting r → EndsFile r
+unwritten_ends OutOfMemory h = tt
+unwritten_ends Write h = tt
+unwritten_ends (WriteFile why) h = tt
+unwritten_ends Words h = absurd h
+unwritten_ends (Map fault) h = absurd h
+unwritten_ends (Source fault) h = absurd h
+unwritten_ends (Tape fault) h = absurd h
+unwritten_ends (Session fault) h = absurd h
+unwritten_ends (Read why) h = absurd h

@@ -6,7 +6,7 @@ use Rattle.arguments.specs.Asked.{FileAsked, map_of}
 use Rattle.arguments.specs.FaultLines.{file_line}
 use Rattle.arguments.specs.Statuses.{status_of}
 use Rattle.arguments.specs.declared.refusal.Refusal.{Refusal}
-use Rattle.arguments.specs.declared.refusal.Refusal.TheVariants.{Map, OutOfMemory, Read, Session, Source, Tape, Words, Write}
+use Rattle.arguments.specs.declared.refusal.Refusal.TheVariants.{Map, OutOfMemory, Read, Session, Source, Tape, Words, Write, WriteFile}
 use Rattle.assembler.specs.Assembly.{AssemblyView, IsAssembled}
 use Rattle.console.specs.Playing.{Outcome, begun, played}
 use Rattle.console.specs.Written.{RanAs}
@@ -46,6 +46,7 @@ EndsFile (Map fault) = ⊤
 EndsFile OutOfMemory = ⊤
 EndsFile (Read why) = ⊤
 EndsFile Write = ⊤
+EndsFile (WriteFile why) = ⊤
 EndsFile Words = ⊥
 EndsFile (Tape fault) = ⊥
 EndsFile (Session fault) = ⊥

@@ -1,6 +1,6 @@
 //! What the word `page` does.
 
-ghost use Rattle.std.specs.Prelude.{◌≡◌, ◌⊎◌, ℕ, List, Option, IfErr, IfOk, None, Some, false};
+ghost use Rattle.std.specs.Prelude.{◌≡◌, ◌⊎◌, ℕ, List, Ok, Option, IfErr, IfOk, None, Some, false};
 ghost use Rattle.std.specs.Prelude.{OnErr, OnOk, option_map};
 ghost use Rattle.accesses.specs.Writing.{or_everywhere};
 ghost use Rattle.arguments.specs.Words.{Fits, Refuses, texts};
@@ -19,7 +19,9 @@ ghost use Rattle.running.specs.Told.{unplaced_line};
 
 use crate::words::{PageWords, read_page_words};
 use accesses::Written;
-use arguments::{FileRefusal, Refusal, is_one_file, read_most, refuse_file, refused_words};
+use arguments::{
+    FileRefusal, NewFile, Refusal, begin_file, check_outputs, read_most, refuse_file, refused_words,
+};
 use assembler::Assembly;
 use console::Played;
 use loading::{Loaded, load, load_names, place_of};
@@ -27,7 +29,6 @@ use page_facts::{Program, facts_of, source_of, viewer};
 use page_writer::{SendFault, Texts, write_page};
 use running::{place_named, status_of_ending, tell_ending};
 use std::alloc::{AllocError, Global};
-use std::fs::File;
 use std::io::Write;
 use std::rt::Files;
 
@@ -91,29 +92,21 @@ fn said_of(
     })
 }
 
-/// Returns whether the page is a file that was read, under another name.
-fn replaces<H: Files>(rt: &H, words: &PageWords<'_>) -> bool {
-    is_one_file(rt, words.file.file, words.out)
-        || match words.symbols {
-            None => false,
-            Some(path) => is_one_file(rt, path, words.out),
-        }
-        || match words.input {
-            None => false,
-            Some(path) => is_one_file(rt, path, words.out),
-        }
-}
-
-/// Makes the file of the page, unless it is one that was read.
+/// Begins the file of the page, unless it is one that was read.
 ///
-/// Errors: `Write` if it is, or cannot be made; `OutOfMemory` if an allocation fails.
-fn made_file<H: Files>(rt: &H, words: &PageWords<'_>) -> Result<H::File, Refusal>
+/// Errors: `WriteFile` if it is, or cannot be made; `OutOfMemory` if an allocation fails.
+#[tactic(auto, using(crate::proofs::Ends::unwritten_ends))]
+fn begun_file<'a, H: Files + AllocGlobal>(
+    rt: &H,
+    words: &PageWords<'a>,
+) -> Result<NewFile<'a, H::File>, Refusal>
     ensures { IfErr result EndsFile }
 {
-    if replaces(rt, words) {
-        return Err(Refusal::Write);
+    let read = [Some(words.file.file), words.symbols, words.input];
+    match check_outputs(rt, &read, &[Some(words.out)]) {
+        Ok(()) => begin_file(rt, words.out),
+        Err(why) => Err(why.refusal),
     }
-    File::create(rt, words.out).map_err(|error| Refusal::unwritable(&error))
 }
 
 /// Returns the addresses that count as written when the run begins.
@@ -174,6 +167,32 @@ fn write_run<W: Write>(
     }
 }
 
+/// Ends the file of a page that was written whole, and leaves one that was not.
+#[tactic(auto, using(crate::proofs::Ends::unwritten_ends))]
+fn end_page<H: Files>(
+    rt: &H,
+    written: Result<Played, Refusal>,
+    file: NewFile<'_, H::File>,
+) -> Result<Played, Refusal>
+    requires { IfErr written EndsFile }
+    ensures ran { IfOk result (λ end. written ≡ Ok end) }
+    ensures refused { IfErr result EndsFile }
+{
+    match written {
+        Ok(played) => match file.end(rt) {
+            Ok(()) => Ok(played),
+            Err(refusal) => Err(refusal),
+        },
+        Err(refusal) => {
+            let unwritten = file.abandon(rt);
+            match refusal {
+                Refusal::Write => Err(unwritten),
+                refusal => Err(refusal),
+            }
+        }
+    }
+}
+
 /// Makes the file of the page, and writes the run of what was loaded over an input.
 fn make_page<H: Files + AllocGlobal>(
     rt: &H,
@@ -193,8 +212,11 @@ fn make_page<H: Files + AllocGlobal>(
     let Ok(said) = said_of(rt.alloc(), words, loaded, names) else {
         return Err(Refusal::OutOfMemory);
     };
-    match made_file(rt, words) {
-        Ok(mut file) => write_run(rt.alloc(), words, loaded, &said, until, input, &mut file),
+    match begun_file(rt, words) {
+        Ok(mut file) => {
+            let written = write_run(rt.alloc(), words, loaded, &said, until, input, &mut file);
+            end_page(rt, written, file)
+        }
         Err(refusal) => Err(refusal),
     }
 }

@@ -12,7 +12,7 @@ use Rattle.program.specs.Refusals.{EndsDebug}
 use Rattle.program.specs.Runs.{RunsDebug, Streams, map_asked}
 use Rattle.program.specs.Streams.{IsServed, IsStatus}
 use Rattle.arguments.specs.declared.refusal.Refusal.{Refusal}
-use Rattle.arguments.specs.declared.refusal.Refusal.TheVariants.{Words, Map, Source, Tape, Session, OutOfMemory, Read, Write}
+use Rattle.arguments.specs.declared.refusal.Refusal.TheVariants.{Words, Map, Source, Tape, Session, OutOfMemory, Read, Write, WriteFile}
 use Rattle.arguments_core.specs.Asked.{Asked, DebugAsked, debug}
 
 -- Words ask for one thing.
@@ -28,6 +28,7 @@ not_zero (Session fault) e = omega arith
 not_zero OutOfMemory e = omega arith
 not_zero (Read why) e = omega arith
 not_zero Write e = omega arith
+not_zero (WriteFile why) e = omega arith
 
 -- The transcript of the input was written, from some image on the map.
 abbrev pub IsTranscript : Option (List ℕ) → Option (List ℕ) → Option (List ℕ) → DebugAsked → Type 0
@@ -53,6 +54,7 @@ not_two is_tape map (Session fault) status ends is makes two = omega (arith, is,
 not_two is_tape map OutOfMemory status ends is makes two = omega (arith, is, two)
 not_two is_tape map (Read why) status ends is makes two = omega (arith, is, two)
 not_two is_tape map Write status ends is makes two = omega (arith, is, two)
+not_two is_tape map (WriteFile why) status ends is makes two = absurd ends
 
 right_status : (is_tape : Bool) (map : MapView) (outcome : Result ⊤ Refusal) (status : ℕ) → IfErr outcome (EndsDebug is_tape map) → IsStatus outcome status → is_map map.rom map.port ≡ true → status ≡ 2 → ⊥
 right_status is_tape map (Ok done) status ends is makes two = omega (arith, is, two)

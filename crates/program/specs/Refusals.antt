@@ -10,7 +10,7 @@ use Rattle.engine.specs.declared.fault.EngineFault.{EngineFault}
 use Rattle.engine.specs.declared.fault.EngineFault.TheVariants as engine_fault
 use Rattle.arguments.specs.declared.refusal.ReadFault.TheVariants.{Other}
 use Rattle.arguments.specs.declared.refusal.Refusal.{Refusal}
-use Rattle.arguments.specs.declared.refusal.Refusal.TheVariants.{Words, Map, Source, Tape, Session, OutOfMemory, Read, Write}
+use Rattle.arguments.specs.declared.refusal.Refusal.TheVariants.{Words, Map, Source, Tape, Session, OutOfMemory, Read, Write, WriteFile}
 
 -- The refusal of an engine's fault.
 abbrev pub of_engine : EngineFault → Refusal
@@ -32,6 +32,7 @@ EndsAsm map (Session fault) = ⊥
 EndsAsm map OutOfMemory = ⊤
 EndsAsm map (Read why) = ⊤
 EndsAsm map Write = ⊤
+EndsAsm map (WriteFile why) = ⊤
 
 -- Why `debug` may end early: the ROM and the port do not make a map; a source has this fault on it;
 -- a tape has this fault, or a byte at the port.
@@ -48,6 +49,7 @@ EndsDebug is_tape map (Session fault) = (is_tape ≡ true) × (fault ≡ PortAdd
 EndsDebug is_tape map OutOfMemory = ⊤
 EndsDebug is_tape map (Read why) = ⊤
 EndsDebug is_tape map Write = ⊤
+EndsDebug is_tape map (WriteFile why) = ⊥
 
 -- Why `dis` may end early: a tape has this fault.
 abbrev pub EndsDis : Refusal → Type 0
@@ -59,3 +61,4 @@ EndsDis (Session fault) = ⊥
 EndsDis OutOfMemory = ⊤
 EndsDis (Read why) = ⊤
 EndsDis Write = ⊤
+EndsDis (WriteFile why) = ⊥

@@ -12,7 +12,7 @@ ghost use Rattle.model.specs.declared.source_fault.AsmFault.{AsmFault};
 ghost use Rattle.program.specs.Refusals.{EndsAsm};
 ghost use Rattle.program.specs.Texts.{IsAsked};
 
-use arguments::{Refusal, map_of, read_source, write_file};
+use arguments::{Refusal, check_outputs, check_source, map_of, read_source, write_file};
 use arguments_core::AsmWords;
 use assembler::{Assembly, assemble};
 use bus::MapSpec;
@@ -98,8 +98,29 @@ pub fn asm_texts(
     }
 }
 
+/// Checks that the files to write are neither the source nor one file, and that a source that looks
+/// like a tape replaces none.
+fn check_files<H: Files + AllocGlobal>(
+    rt: &H,
+    words: &AsmWords<'_>,
+    source: &[u8],
+) -> Result<(), Refusal>
+    ensures only { IfErr result EndsWriting }
+{
+    let written = [Some(words.tape), words.listing];
+    match check_outputs(rt, &[Some(words.source)], &written) {
+        Ok(()) => {}
+        Err(why) => return Err(why.refusal),
+    }
+    check_source(rt, source, &written).map_err(|why| why.refusal)
+}
+
 /// Writes the tape's file, and then the listing's if there is a listing.
-fn write_texts<H: Files>(rt: &H, words: &AsmWords<'_>, texts: &AsmTexts) -> Result<(), Refusal>
+fn write_texts<H: Files + AllocGlobal>(
+    rt: &H,
+    words: &AsmWords<'_>,
+    texts: &AsmTexts,
+) -> Result<(), Refusal>
     ensures only { IfErr result EndsWriting }
 {
     write_file(rt, words.tape, texts.tape.as_slice())?;
@@ -111,7 +132,8 @@ fn write_texts<H: Files>(rt: &H, words: &AsmWords<'_>, texts: &AsmTexts) -> Resu
 
 /// Assembles a file and writes its tape and, if it is asked for, its listing.
 ///
-/// Both texts are whole before a file is made.
+/// Both texts are whole before a file is made. None is made if one of the files is the source or
+/// both are one file, or if the source looks like a tape and one of the files is there.
 pub fn asm<H: Files + AllocGlobal>(rt: &H, words: &AsmWords<'_>) -> Result<(), Refusal>
     ensures bad_map { is_map None words.now.port ≡ false → result ≡ Err (Refusal.Map BadMap) }
     ensures refused { IfErr result
@@ -121,5 +143,6 @@ pub fn asm<H: Files + AllocGlobal>(rt: &H, words: &AsmWords<'_>) -> Result<(), R
     let source = read_source(rt, words.source)?;
     let is_listed = words.listing.is_some();
     let texts = asm_texts(rt.alloc(), source.as_slice(), &map, is_listed)?;
+    check_files(rt, words, source.as_slice())?;
     write_texts(rt, words, &texts)
 }

@@ -8,6 +8,7 @@ ghost use Rattle.program.specs.Streams.{IsServed};
 use arguments::{ReadFault, Refusal, map_of, read_source};
 use arguments_core::DebugWords;
 use engine::{EngineFault, debug_source, debug_tape_from};
+use standard_streams::Retrying;
 use std::fs::File;
 use std::io;
 use std::io::{Read, Write};
@@ -44,15 +45,16 @@ pub fn debug<H: Files + AllocGlobal, R: Read, O: Write>(
     }
 }
 
-/// Opens a file to be read while the standard input is.
+/// Opens a file to be read while the standard input is. A read that a signal interrupts is made
+/// again.
 ///
 /// If the standard input is closed, a file would take its number and be read in its place. So an
 /// empty file takes the number first, and is closed again.
-fn opened<H: Files>(rt: &H, path: &str) -> io::Result<H::File> {
+fn opened<H: Files>(rt: &H, path: &str) -> io::Result<Retrying<H::File>> {
     let empty = File::open(rt, "/dev/null");
     let file = File::open(rt, path);
     drop(empty);
-    file
+    Ok(Retrying::new(file?))
 }
 
 /// Returns the refusal of an engine's fault.

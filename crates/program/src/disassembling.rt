@@ -19,6 +19,7 @@ use arguments_core::DisWords;
 use disasm::disassembly;
 use model::{Profile, TAPE_OUT_OF_MEMORY};
 use papertape::{TapeReadFault, read_tape_from};
+use standard_streams::Retrying;
 use std::alloc::Global;
 use std::fs::File;
 use std::io::{Read, Write};
@@ -92,7 +93,8 @@ pub fn dis<H: Files + AllocGlobal, O: Write>(
         (O.contents output.old) (O.contents output.new) result (output.new ≡ output.old) }
 {
     let text = {
-        let mut tape = File::open(rt, words.tape).map_err(|error| Refusal::unreadable(&error))?;
+        let file = File::open(rt, words.tape).map_err(|error| Refusal::unreadable(&error))?;
+        let mut tape = Retrying::new(file);
         dis_text(
             rt.alloc(),
             words.profile,

@@ -3,7 +3,7 @@ use Rattle.std.proofs.Common.{◌≡◌, ◌≤◌, inl, inr, ℕ, zero, suc, Bo
 use Rattle.std.specs.Prelude.{⊤}
 use Rattle.arguments.specs.Statuses.{status_of}
 use Rattle.arguments.specs.declared.refusal.Refusal.{Refusal}
-use Rattle.arguments.specs.declared.refusal.Refusal.TheVariants.{Words, Map, Source, Tape, Session, OutOfMemory, Read, Write}
+use Rattle.arguments.specs.declared.refusal.Refusal.TheVariants.{Words, Map, Source, Tape, Session, OutOfMemory, Read, Write, WriteFile}
 use Rattle.program.specs.Runs.{TellsMap}
 use Rattle.program.specs.Streams.{IsStatus}
 use Rattle.strict_debug.specs.Strict.{IsDone, IsStrictStatus}
@@ -17,6 +17,7 @@ at_least_one (Session fault) = omega arith
 at_least_one OutOfMemory = omega arith
 at_least_one (Read why) = omega arith
 at_least_one Write = omega arith
+at_least_one (WriteFile why) = omega arith
 
 is_done : (fault : Bool) (result : ℕ) → result ≡ (if fault then 5 else 0) → IsDone result
 is_done true result is = inr is

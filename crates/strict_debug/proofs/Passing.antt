@@ -11,7 +11,7 @@ use Rattle.engine.specs.declared.fault.EngineFault.{EngineFault}
 use Rattle.engine.specs.declared.fault.EngineFault.TheVariants as engine_fault
 use Rattle.program.specs.Streams.{IsServed}
 use Rattle.arguments.specs.declared.refusal.Refusal.{Refusal}
-use Rattle.arguments.specs.declared.refusal.Refusal.TheVariants.{Words, Map, Source, Tape, Session as session_refusal, OutOfMemory, Read, Write}
+use Rattle.arguments.specs.declared.refusal.Refusal.TheVariants.{Words, Map, Source, Tape, Session as session_refusal, OutOfMemory, Read, Write, WriteFile}
 use Rattle.strict_debug.specs.Seen.{seen_in}
 use Rattle.strict_debug.specs.Told.{known_framed}
 use Rattle.strict_debug.specs.Strict.{strict_status}
@@ -68,6 +68,7 @@ module _ (watched seen held now : Option (List ℕ)) (fault : Bool) (passes : Pa
     served_passes (Err OutOfMemory) (inl a) = inl (alone a)
     served_passes (Err OutOfMemory) (inr h) = inr (h.0, serves_pass _ input left (Err engine_fault.OutOfMemory) h.1)
     served_passes (Err Words) h = alone h
+    served_passes (Err (WriteFile why)) h = alone h
     served_passes (Err (Map fault)) h = alone h
     served_passes (Err (Source fault)) h = alone h
     served_passes (Err (Tape fault)) h = alone h

@@ -2,7 +2,7 @@
 use Rattle.std.proofs.Common.{◌≡◌, None, false, arith}
 use Rattle.arguments.specs.Statuses.{status_of}
 use Rattle.arguments.specs.declared.refusal.Refusal.{Refusal}
-use Rattle.arguments.specs.declared.refusal.Refusal.TheVariants.{Words, Map, Source, Tape, Session, OutOfMemory, Read, Write}
+use Rattle.arguments.specs.declared.refusal.Refusal.TheVariants.{Words, Map, Source, Tape, Session, OutOfMemory, Read, Write, WriteFile}
 use Rattle.model.specs.State.{is_map}
 use Rattle.tape_info.specs.Word.{EndsInfo}
 use Rattle.tape_words.specs.Asked.{InfoAsked}
@@ -16,6 +16,7 @@ map_of asked (Session fault) ends two = absurd ends
 map_of asked OutOfMemory ends two = absurd (omega (arith, two))
 map_of asked (Read why) ends two = absurd (omega (arith, two))
 map_of asked Write ends two = absurd ends
+map_of asked (WriteFile why) ends two = absurd ends
 
 pub no_map : (asked : InfoAsked) → (f : Refusal) × EndsInfo asked f × (status_of f ≡ 2) → is_map None asked.port ≡ false
 no_map asked p = map_of asked p.0 p.1 p.2

@@ -2,6 +2,7 @@
 use Rattle.std.specs.Prelude.{ℕ, ◌+◌, ◌-◌, ◌%◌, ◌^◌, ◌==◌, Bool, true, false, if◌then◌else◌, List, [], ◌∷◌, ◌++◌, Option, Some, None, codes, decimal, encode_utf8_all, length}
 use Rattle.std.specs.Fmt.{digits, format_spec, padded_integral}
 use Rattle.std.specs.List.{flat_map, zip}
+use Rattle.arguments.specs.Shown.{shown_name}
 use Rattle.model.specs.State.{no_port}
 use Rattle.model.specs.declared.instruction.Profile.{Profile}
 use Rattle.tape_words.specs.Answers.{counted}
@@ -157,7 +158,7 @@ rows_of profile image port facts records overlaps = tape_row facts records ++ ra
 
 -- Where a fault of a text of records is: `rom.hex:2:14: `.
 unfoldable pub place_text : List ℕ → ℕ → ℕ → List ℕ
-place_text file line column = file ++ codes ":" ++ decimal line ++ codes ":" ++ decimal column
+place_text file line column = shown_name file ++ codes ":" ++ decimal line ++ codes ":" ++ decimal column
     ++ codes ": "
 
 -- Its name and number.
@@ -168,4 +169,4 @@ kind_text kind = record_fault_name kind ++ codes " " ++ decimal (record_fault_nu
 -- What is wrong with a file: in which line and column of a text of records, or a sentence.
 unfoldable pub no_image_text : List ℕ → NoImage → List ℕ
 no_image_text file (Record f) = place_text file f.line f.column ++ kind_text f.kind
-no_image_text file no_image = file ++ codes ": " ++ what_of no_image ++ codes "\n"
+no_image_text file no_image = shown_name file ++ codes ": " ++ what_of no_image ++ codes "\n"

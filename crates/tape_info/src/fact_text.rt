@@ -13,6 +13,7 @@ use crate::fact_list::Facts;
 use crate::gaps::Gap;
 use crate::ranges::Range;
 use crate::wording;
+use arguments::shown_name;
 use image_files::NoImage;
 use image_reader::{RecordFault, RecordFaultKind};
 use memory_map::{Image, MapSpec};
@@ -350,10 +351,17 @@ pub fn image_text(
 
 /// Appends where a fault of a text of records is.
 #[tactic(auto, unfolding(crate::specs::Rows::place_text))]
-fn push_place(words: &mut String, file: &str, line: u64, column: u64) -> Result<(), AllocError>
+fn push_place(
+    words: &mut String,
+    alloc: Global,
+    file: &str,
+    line: u64,
+    column: u64,
+) -> Result<(), AllocError>
     ensures { OnOk result (string_bytes words.new
         ≡ string_bytes words.old ++ place_text file.now line column) }
 {
+    let file = shown_name(alloc, file)?;
     write!(words, "{file}:{line}:{column}: ")
 }
 
@@ -376,7 +384,7 @@ fn record_text(alloc: Global, file: &str, fault: RecordFault) -> Result<String, 
         (λ words. string_bytes words ≡ no_image_text file.now (Record fault)) }
 {
     let mut words = String::new(alloc);
-    push_place(&mut words, file, fault.line as u64, fault.column as u64)?;
+    push_place(&mut words, alloc, file, fault.line as u64, fault.column as u64)?;
     push_kind(&mut words, fault.kind)?;
     Ok(words)
 }
@@ -392,6 +400,7 @@ pub fn no_image_text(alloc: Global, file: &str, why: NoImage) -> Result<String, 
     match why {
         NoImage::Record(fault) => record_text(alloc, file, fault),
         NoImage::PastEnd | NoImage::NoAddress | NoImage::Looks(_) | NoImage::TooLong => {
+            let file = shown_name(alloc, file)?;
             let mut words = String::new(alloc);
             writeln!(words, "{file}: {what}")?;
             Ok(words)

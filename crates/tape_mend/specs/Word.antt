@@ -3,7 +3,7 @@
 use Rattle.std.specs.Prelude.{◌≡◌, ⊤, ℕ, Bool, true, false, List, Option, Some, None, string_bytes}
 use Rattle.arguments.specs.Words.{Fits}
 use Rattle.arguments.specs.declared.refusal.Refusal.{Refusal}
-use Rattle.arguments.specs.declared.refusal.Refusal.TheVariants.{Tape, OutOfMemory, Read, Write}
+use Rattle.arguments.specs.declared.refusal.Refusal.TheVariants.{Tape, OutOfMemory, Read, Write, WriteFile}
 use Rattle.clap.specs.Words.{Text}
 use Rattle.model.specs.Tape.{FirstFault, TapeDenotes}
 use Rattle.model.specs.declared.tape.TapeFault.{TapeFault}
@@ -55,6 +55,7 @@ EndsMend (Tape fault) = fault ≡ too_long_file
 EndsMend OutOfMemory = ⊤
 EndsMend (Read why) = ⊤
 EndsMend Write = ⊤
+EndsMend (WriteFile why) = ⊤
 EndsMend refusal = ⊥
 
 -- The words fit, the files have two names, and a fact holds of what is asked for.

@@ -15,7 +15,7 @@ ghost use Rattle.tape_words.specs.CommandLines.{mend};
 use crate::mending::{Mended, mend_text};
 use crate::parts::is_kept;
 use crate::reporting::report;
-use arguments::{FileRefusal, Refusal, is_one_file, refused_words, write_file};
+use arguments::{FileRefusal, Refusal, WriteFault, is_one_file, refused_words, write_file};
 use model::{TapeFault, TapeFaultKind};
 use std::alloc::{AllocError, Global};
 use std::io::Write;
@@ -100,12 +100,12 @@ fn not_mended(
 
 /// Writes OUT, unless it is the tape under another name.
 ///
-/// Errors: `Write` if OUT is the tape, or cannot be written; `OutOfMemory` if an allocation fails.
-fn write_out<H: Files>(rt: &H, words: &MendWords<'_>, text: &[u8]) -> Result<(), Refusal>
+/// Errors: `WriteFile` if OUT is the tape, or cannot be written; `OutOfMemory` if an allocation fails.
+fn write_out<H: Files + AllocGlobal>(rt: &H, words: &MendWords<'_>, text: &[u8]) -> Result<(), Refusal>
     ensures { IfErr result EndsWriting }
 {
     if is_one_file(rt, words.tape, words.out) {
-        return Err(Refusal::Write);
+        return Err(Refusal::WriteFile(WriteFault::SameFile));
     }
     write_file(rt, words.out, text)
 }

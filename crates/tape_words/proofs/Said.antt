@@ -5,7 +5,7 @@ use Rattle.std.specs.Io.KnownBytes.{Appends}
 use Rattle.arguments.specs.Statuses.{status_of}
 use Rattle.arguments.specs.Streams.{Tells, TellsFront}
 use Rattle.arguments.specs.declared.refusal.Refusal.{Refusal}
-use Rattle.arguments.specs.declared.refusal.Refusal.TheVariants.{Words, Map, Source, Tape, Session, OutOfMemory, Read, Write}
+use Rattle.arguments.specs.declared.refusal.Refusal.TheVariants.{Words, Map, Source, Tape, Session, OutOfMemory, Read, Write, WriteFile}
 use Rattle.tape_words.specs.Answers.{IsAnswered}
 use Rattle.tape_words.specs.declared.answer.Answer.{Answer}
 use Rattle.arguments.specs.declared.file_refusal.FileRefusal.{FileRefusal}
@@ -39,6 +39,7 @@ some_status (Session fault) status is zero = omega (arith, is, zero)
 some_status OutOfMemory status is zero = omega (arith, is, zero)
 some_status (Read why) status is zero = omega (arith, is, zero)
 some_status Write status is zero = omega (arith, is, zero)
+some_status (WriteFile why) status is zero = omega (arith, is, zero)
 
 -- 0: the text of a right answer was written
 pub said_right : (S : Bool → List ℕ → Type 0) (r : Result Answer FileRefusal) (status : ℕ) (held now : Option (List ℕ)) → About S r → Says r status held now → status ≡ 0 → Tells S true held now

@@ -2,6 +2,7 @@
 use Rattle.std.specs.Prelude.{◌≡◌, ℕ, ◌==◌, ◌++◌, ◌∷◌, [], codes, if◌then◌else◌, List, Option, ◌⊎◌, string_bytes}
 use Rattle.std.specs.Fmt.{decimal}
 use Rattle.std.specs.Io.KnownBytes.{Appends}
+use Rattle.arguments.specs.Shown.{shown_name}
 use Rattle.model.specs.TapeFault.{tape_fault_name, tape_fault_number}
 use Rattle.model.specs.Writers.{AppendsFront}
 use Rattle.model.specs.declared.tape.TapeFaultKind.{TapeFaultKind}
@@ -26,9 +27,10 @@ Begins front text = (rest : List ℕ) × (text ≡ front ++ rest)
 abbrev pub EndsLine : List ℕ → Type 0
 EndsLine text = (front : List ℕ) × (text ≡ front ++ 10 ∷ [])
 
--- How the line that says a tape's fault begins: `FILE:LINE: NAME NUMBER: `.
+-- How the line that says a tape's fault begins: `FILE:LINE: NAME NUMBER: `, with the name of the file
+-- as it is shown.
 abbrev pub fault_front : List ℕ → ℕ → TapeFaultKind → List ℕ
-fault_front file line kind = file ++ codes ":" ++ decimal line ++ codes ": "
+fault_front file line kind = shown_name file ++ codes ":" ++ decimal line ++ codes ": "
     ++ tape_fault_name kind ++ codes " " ++ decimal (tape_fault_number kind) ++ codes ": "
 
 -- A text tells a fault of a file, in one of its lines.

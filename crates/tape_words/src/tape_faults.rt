@@ -7,6 +7,7 @@ ghost use Rattle.tape_words.specs.Meanings.{fault_line};
 
 use crate::meanings::push_meaning;
 use crate::records::without_first;
+use arguments::shown_name;
 use model::{TapeFault, TapeFaultKind};
 use std::alloc::{AllocError, Global};
 
@@ -51,6 +52,7 @@ fn line_of(text: &[u8], offset: u64) -> u64
 /// Appends how the line that says a fault begins: `FILE:LINE: NAME NUMBER: `.
 fn push_front(
     words: &mut String,
+    alloc: Global,
     file: &str,
     line: u64,
     kind: TapeFaultKind,
@@ -59,6 +61,7 @@ fn push_front(
         ≡ string_bytes words.old ++ fault_front file.now line kind) }
 {
     let (name, number) = (kind.name(), kind.number());
+    let file = shown_name(alloc, file)?;
     write!(words, "{file}:{line}: {name} {number}: ")
 }
 
@@ -79,7 +82,7 @@ pub fn fault_text(
         (fault_front file.now (line_of text.now fault.offset) fault.kind) (string_bytes words)) }
 {
     let mut words = String::new(alloc);
-    push_front(&mut words, file, line_of(text, fault.offset), fault.kind)?;
+    push_front(&mut words, alloc, file, line_of(text, fault.offset), fault.kind)?;
     let mut meaning = String::new(alloc);
     push_meaning(&mut meaning, text, fault)?;
     meaning.push_str("\n")?;

@@ -2,7 +2,8 @@ use Rattle.std.proofs.Common.{◌≡◌, ◌⊎◌, ℕ, List, inl, inr, refl, s
 use Rattle.arguments.specs.FaultLines.{file_line, named_line}
 use Rattle.arguments.specs.declared.refusal.ReadFault.{ReadFault}
 use Rattle.arguments.specs.declared.refusal.Refusal.{Refusal}
-use Rattle.arguments.specs.declared.refusal.Refusal.TheVariants.{Source, Tape, Session, Read, Write}
+use Rattle.arguments.specs.declared.refusal.Refusal.TheVariants.{Source, Tape, Session, Read, Write, WriteFile}
+use Rattle.arguments.specs.declared.write_fault.WriteFault.{WriteFault}
 use Rattle.model.specs.Writers.{AppendsFront}
 use Rattle.model.specs.declared.session_fault.SessionFault.{SessionFault}
 use Rattle.model.specs.declared.source_fault.AsmFault.{AsmFault}
@@ -10,14 +11,15 @@ use Rattle.model.specs.declared.tape.TapeFault.{TapeFault}
 use Rattle.arguments.proofs.fault_line.put_file_line.Goals as goal
 
 of_file : (file : List ℕ) (refusal : Refusal)
-    → ((f : AsmFault) × (refusal ≡ Source f)) ⊎ (((f : TapeFault) × (refusal ≡ Tape f)) ⊎ (((f : SessionFault) × (refusal ≡ Session f)) ⊎ (((f : ReadFault) × (refusal ≡ Read f)) ⊎ (refusal ≡ Write))))
+    → ((f : AsmFault) × (refusal ≡ Source f)) ⊎ (((f : TapeFault) × (refusal ≡ Tape f)) ⊎ (((f : SessionFault) × (refusal ≡ Session f)) ⊎ (((f : ReadFault) × (refusal ≡ Read f)) ⊎ ((refusal ≡ Write) ⊎ ((f : WriteFault) × (refusal ≡ WriteFile f))))))
     → file_line file refusal ≡ named_line file refusal
 unfolding file_line
 of_file file refusal (inl (f, is)) = rw is refl
 of_file file refusal (inr (inl (f, is))) = rw is refl
 of_file file refusal (inr (inr (inl (f, is)))) = rw is refl
 of_file file refusal (inr (inr (inr (inl (f, is))))) = rw is refl
-of_file file refusal (inr (inr (inr (inr is)))) = rw is refl
+of_file file refusal (inr (inr (inr (inr (inl is))))) = rw is refl
+of_file file refusal (inr (inr (inr (inr (inr (f, is)))))) = rw is refl
 
 pub returns-in-Source : goal.returns-in-Source
 returns-in-Source g c =

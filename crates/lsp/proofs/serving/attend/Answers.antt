@@ -20,10 +20,10 @@ pub returns-in-Ok-Some-answer-clause-session : goal.returns-in-Ok-Some-answer-cl
 returns-in-Ok-Some-answer-clause-session g c =
     let inv = c.loop.invariant in
     let came = c.in-Ok-Some.ensures.taken in
-    let front = rw (c.in-Ok-Some.field-0-is) at came.2 in
+    let front = rw (c.in-Ok-Some.field-0-is) at came.3 in
     let turn = rw (c.in-Ok-Some-answer.field-0-is) at c.in-Ok-Some-answer.ensures in (
       inv.0 ++ turn.0,
-      inl (served_last (Answers c.args.map.now) _ _ _ c.loop.incoming came.0 c.in-Ok-Some.body.items c.next.new.self start (server_view c.loop.server) (server_view c.answer.new.server) c.in-Ok-Some-answer.status inv.0 turn.0 inv.1 came.1 front turn.1),
+      inl (served_last (Answers c.args.map.now) _ _ _ c.loop.incoming.bytes came.0 c.in-Ok-Some.body.items c.next.new.self.bytes start (server_view c.loop.server) (server_view c.answer.new.server) c.in-Ok-Some-answer.status inv.0 turn.0 inv.1 came.1 front turn.1),
       Appends-trans _ _ _ inv.0 turn.0 inv.2 turn.2,
     )
 
@@ -36,17 +36,17 @@ pub returns-in-ShutDown-clause-session : goal.returns-in-ShutDown-clause-session
 returns-in-ShutDown-clause-session g c =
     let inv = c.loop.invariant in
     let came = c.in-Ok-None.ensures.taken in
-    let over = rw (c.in-Ok-None.field-0-is) at came.2 in
-    let served = served_whole (Answers c.args.map.now) _ _ _ c.loop.incoming came.0 start (server_view c.loop.server) inv.0 inv.1 came.1 over.0 in
+    let over = rw (c.in-Ok-None.field-0-is) at came.3 in
+    let served = served_whole (Answers c.args.map.now) _ _ _ c.loop.incoming.bytes came.0 start (server_view c.loop.server) inv.0 inv.1 came.1 over.0 in
     (inv.0, inr (server_view c.loop.server, served, over.1, c.in-ShutDown.is, refl), inv.2)
 
 pub loop-preserved : goal.loop-preserved
 loop-preserved g c =
     let inv = c.loop.invariant in
     let came = c.in-Ok-Some.ensures.taken in
-    let front = rw (c.in-Ok-Some.field-0-is) at came.2 in
+    let front = rw (c.in-Ok-Some.field-0-is) at came.3 in
     let turn = rw (c.in-Ok-None-answer.field-0-is) at c.in-Ok-None-answer.ensures in (
       inv.0 ++ turn.0,
-      served_on (Answers c.args.map.now) _ _ _ c.loop.incoming came.0 c.in-Ok-Some.body.items c.next.new.self start (server_view c.loop.server) (server_view c.answer.new.server) inv.0 turn.0 inv.1 came.1 front turn.1,
+      served_on (Answers c.args.map.now) _ _ _ c.loop.incoming.bytes came.0 c.in-Ok-Some.body.items c.next.new.self.bytes start (server_view c.loop.server) (server_view c.answer.new.server) inv.0 turn.0 inv.1 came.1 front turn.1,
       Appends-trans _ _ _ inv.0 turn.0 inv.2 turn.2,
     )

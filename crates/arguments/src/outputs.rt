@@ -1,0 +1,131 @@
+//! What holds of files before one is opened to be written.
+
+ghost use Rattle.std.specs.List.{list_any};
+ghost use Rattle.std.specs.Prelude.{◌≡◌, IfErr, IfOk, false, map};
+ghost use Rattle.arguments.specs.Files.{EndsWriting};
+ghost use Rattle.arguments.specs.Outputs.{is_named, named};
+ghost use Rattle.arguments.specs.declared.write_fault.WriteFault.TheVariants.{LooksLikeTape};
+ghost use Rattle.papertape.specs.Hint.{BeginsTape};
+
+use crate::file_refusal::FileRefusal;
+use crate::refusal::Refusal;
+use crate::same_file::is_one_output;
+use crate::write_fault::WriteFault;
+use papertape::looks_like_tape;
+use std::fs;
+use std::rt::Files;
+
+/// Returns whether a name is one file with a name among others.
+///
+/// Errors: `OutOfMemory` if an allocation fails.
+fn is_one_among<H: Files + AllocGlobal>(
+    rt: &H,
+    name: &str,
+    others: &[Option<&str>],
+) -> Result<bool, Refusal>
+    ensures apart { IfOk result (λ is_one. is_one ≡ false
+        → list_any (is_named name.now) (map named others.now) ≡ false) }
+    ensures memory { IfErr result (λ refusal. refusal ≡ Refusal.OutOfMemory) }
+{
+    for other in others {
+        if let Some(other) = other {
+            if is_one_output(rt, other, name)? {
+                return Ok(true);
+            }
+        }
+    }
+    Ok(false)
+}
+
+/// Checks that a file that is to be written is none of these.
+///
+/// Errors, with its name: `WriteFile` with `SameFile`, and `OutOfMemory` if an allocation fails.
+fn check_output_among<'a, H: Files + AllocGlobal>(
+    rt: &H,
+    file: &'a str,
+    others: &[Option<&str>],
+) -> Result<(), FileRefusal<'a>>
+    ensures apart { IfOk result
+        (λ _. list_any (is_named file.now) (map named others.now) ≡ false) }
+    ensures refused { IfErr result (λ why. EndsWriting why.refusal) }
+{
+    match is_one_among(rt, file, others) {
+        Ok(false) => Ok(()),
+        Ok(true) => Err(FileRefusal {
+            file,
+            refusal: Refusal::WriteFile(WriteFault::SameFile),
+        }),
+        Err(refusal) => Err(FileRefusal { file, refusal }),
+    }
+}
+
+/// Checks that no file that is to be written is one that is read, or another that is to be written.
+/// Nothing is opened.
+///
+/// Errors, with the name of the first such file: `WriteFile` with `SameFile`, and `OutOfMemory` if
+/// an allocation fails.
+pub fn check_outputs<'a, H: Files + AllocGlobal>(
+    rt: &H,
+    read: &[Option<&'a str>],
+    written: &[Option<&'a str>],
+) -> Result<(), FileRefusal<'a>>
+    ensures refused { IfErr result (λ why. EndsWriting why.refusal) }
+{
+    for at in 0..written.len() {
+        if let Some(file) = written[at] {
+            check_output_among(rt, file, read)?;
+            check_output_among(rt, file, &written[..at])?;
+        }
+    }
+    Ok(())
+}
+
+/// Returns whether a file of that name is there and keeps its bytes.
+fn is_kept<H: Files>(rt: &H, path: &str) -> bool {
+    match fs::metadata(rt, path) {
+        Ok(file) => file.is_file(),
+        Err(_) => false,
+    }
+}
+
+/// Returns the first of some files that is there and keeps its bytes, if there is one.
+fn first_kept<'a, H: Files>(rt: &H, written: &[Option<&'a str>]) -> Option<&'a str> {
+    for file in written {
+        if let Some(file) = *file {
+            if is_kept(rt, file) {
+                return Some(file);
+            }
+        }
+    }
+    None
+}
+
+/// Checks that a source that looks like a tape would replace no file: as a source it would be
+/// comments, and its own tape would have no byte.
+///
+/// Errors, with the name of the first file that is there: `WriteFile` with `LooksLikeTape`, and
+/// `OutOfMemory` if an allocation fails.
+pub fn check_source<'a, H: Files + AllocGlobal>(
+    rt: &H,
+    source: &[u8],
+    written: &[Option<&'a str>],
+) -> Result<(), FileRefusal<'a>>
+    ensures refused { IfErr result (λ why. EndsWriting why.refusal) }
+    ensures tape { IfErr result
+        (λ why. why.refusal ≡ Refusal.WriteFile LooksLikeTape → BeginsTape source.now) }
+{
+    let Some(file) = first_kept(rt, written) else {
+        return Ok(());
+    };
+    match looks_like_tape(rt.alloc(), source) {
+        Ok(false) => Ok(()),
+        Ok(true) => Err(FileRefusal {
+            file,
+            refusal: Refusal::WriteFile(WriteFault::LooksLikeTape),
+        }),
+        Err(_) => Err(FileRefusal {
+            file,
+            refusal: Refusal::OutOfMemory,
+        }),
+    }
+}
