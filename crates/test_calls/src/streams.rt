@@ -136,7 +136,7 @@ fn debugged(
 }
 
 /// A writer with nothing in it.
-fn replies<'a>(
+fn new_writer<'a>(
     alloc: Global,
     most: usize,
     room: usize,
@@ -166,7 +166,7 @@ fn served(
         waiting: &waiting,
         is_early: false,
     };
-    let mut writer = replies(alloc, most, room, flushes, &waiting);
+    let mut writer = new_writer(alloc, most, room, flushes, &waiting);
     let answer = debugged(alloc, is_tape, &mut lines, &mut writer)?;
     Ok((answer, lines.is_early, writer.text))
 }
@@ -225,7 +225,7 @@ fn flushes_each_message(rt: HostRuntime) {
         (5, 1, false, 5),
     ] {
         let waiting = Cell::new(0);
-        let mut writer = replies(rt.alloc(), 1, room, flushes, &waiting);
+        let mut writer = new_writer(rt.alloc(), 1, room, flushes, &waiting);
         let written = write_message(rt.alloc(), &mut writer, b"{}");
         let answer = match written {
             Ok(()) => true,

@@ -4,8 +4,8 @@ use anyhow::Result;
 use bus::Image;
 use papertape::{TapeFault, TapeReader, read_tape, write_tape};
 use std::alloc::Global;
-use std::rt::Files;
 use std::fs;
+use std::rt::Files;
 
 /// How many addresses of an image have a byte.
 fn size(image: &Image) -> usize {
