@@ -213,9 +213,12 @@ def cache():
     given, home = (os.environ.get(it, "") for it in ("XDG_CACHE_HOME", "HOME"))
     places = [given] * os.path.isabs(given) or [f"{home}/.cache"] * os.path.isabs(home)
     name = hashlib.sha256(TOP.encode()).hexdigest()[:16]
-    for above in (*places, own_folder()):
-        if above and can_write(f"{above}/mos65/{name}"):
+    for above in places:
+        if can_write(f"{above}/mos65/{name}"):
             return f"{above}/mos65/{name}"
+    above = own_folder()
+    if above and can_write(f"{above}/mos65/{name}"):
+        return f"{above}/mos65/{name}"
     raise Failure("not built: neither HOME nor the folder for temporary files can be written")
 
 

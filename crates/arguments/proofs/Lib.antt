@@ -4,4 +4,4 @@ mod Parses
 pub mod Parsed
 pub mod Writing
 pub mod Refusing
-mod Shown
+mod Names

@@ -22,7 +22,11 @@ use std::io::Write;
 use std::rt::Files;
 
 /// Writes a text to a file of that name. A file that is there is replaced.
-fn write_named<'a, H: Files + AllocGlobal>(rt: &H, file: &'a str, text: &[u8]) -> Result<(), FileRefusal<'a>>
+fn write_named<'a, H: Files + AllocGlobal>(
+    rt: &H,
+    file: &'a str,
+    text: &[u8],
+) -> Result<(), FileRefusal<'a>>
     ensures only { IfErr result (λ why. EndsWriting why.refusal) }
 {
     write_file(rt, file, text).map_err(|refusal| FileRefusal { file, refusal })

@@ -10,7 +10,8 @@ ghost use Rattle.checking.specs.Found.{EndsFile, IsFound, has_slips};
 use crate::text::{CheckedText, checked_text};
 use crate::words::{CheckWords, read_words};
 use arguments::{
-    LoadFault, NotWritten, Refusal, map_of, read_source, refuse, refused_words, shown_name, write_text,
+    LoadFault, NotWritten, Refusal, map_of, read_source, refuse, refused_words, shown_name,
+    write_text,
 };
 use bus::MapSpec;
 use image_files::refuse_image;

@@ -142,7 +142,8 @@ fn take_turn<H: Files + AllocGlobal, R: Read, O: Write>(
 ) -> Result<(u64, bool), StreamFault>
     ensures { IfOk result (λ p. (told : List ℕ)
         × Consumes (R.remaining input.old) (R.remaining input.new) told
-        × (body : List ℕ) × IsFront (incoming.old ++ told) body incoming.new × (written : List ℕ)
+        × (body : List ℕ) × IsFront (incoming.old.bytes ++ told) body incoming.new.bytes
+        × (written : List ℕ)
         × Answers (option_map (λ s. s.now) seen.entry) body adapter.old sent adapter.new p.0 p.1
         written
         × Appends (O.contents output.old) (O.contents output.new) written) }

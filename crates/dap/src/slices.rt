@@ -56,7 +56,7 @@ fn is_open(request: &Value, messages: &[Message]) -> bool
 /// Returns whether bytes of the client wait, or may wait: some are held, the file that they are
 /// copied to has more than were read, or it cannot be looked at.
 fn waits<H: Files>(rt: &H, seen: Option<&str>, incoming: &Incoming) -> bool
-    ensures held { result ≡ false → incoming.now ≡ [] }
+    ensures held { result ≡ false → incoming.now.bytes ≡ [] }
     ensures named { (again : ℕ) → result ≡ false
         → MayRunOn (option_map (λ s. s.now) seen.entry) again }
 {

@@ -19,7 +19,11 @@ use std::rt::Files;
 /// Writes OUT, unless it is IN under another name.
 ///
 /// Errors: `WriteFile` if OUT is IN, or cannot be written; `OutOfMemory` if an allocation fails.
-fn write_out<H: Files + AllocGlobal>(rt: &H, words: &ConvertWords<'_>, bytes: &[u8]) -> Result<(), Refusal>
+fn write_out<H: Files + AllocGlobal>(
+    rt: &H,
+    words: &ConvertWords<'_>,
+    bytes: &[u8],
+) -> Result<(), Refusal>
     ensures { IfErr result EndsWriting }
 {
     if is_one_file(rt, words.input, words.out) {

@@ -11,7 +11,9 @@ ghost use Rattle.image_words.specs.CommandLine.{convert};
 
 use crate::command::convert_command;
 use crate::names::{FormName, form_named, form_of_ending};
-use crate::wording::{BIN_ALONE, BIN_TAKES, FILL_TAKES, FROM_TAKES, ONE_NAME, RANGE_TAKES, TO_TAKES};
+use crate::wording::{
+    BIN_ALONE, BIN_TAKES, FILL_TAKES, FROM_TAKES, ONE_NAME, RANGE_TAKES, TO_TAKES,
+};
 use arguments::{WordsFault, address_asked, is_given, matched};
 use clap::ArgMatches;
 use image_files::fill_asked;

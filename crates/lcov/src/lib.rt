@@ -1,9 +1,9 @@
 //! How often the lines of a source were run, as lcov reads it.
 #![tactic(auto)]
 
-ghost use Rattle.std.specs.Prelude.{◌≡◌, ◌++◌, OnOk};
+ghost use Rattle.std.specs.Prelude.{◌≡◌, ◌++◌, OnOk, map};
 ghost use Rattle.std.specs.List.{flat_map};
-ghost use Rattle.lcov.specs.Records.{line_text, record_text, row_text};
+ghost use Rattle.lcov.specs.Records.{line_text, name_byte, record_text, row_text};
 
 use accesses::Tally;
 use assembler::Assembly;
@@ -45,8 +45,26 @@ fn push_lines(text: &mut Vec<u8>, tally: &Tally, rows: &[Row]) -> Result<(), All
     Ok(())
 }
 
+/// Returns a byte of a file's name as the record shows it.
+fn name_byte(byte: u8) -> u8
+    ensures { result ≡ name_byte byte }
+{
+    if byte < 32 || byte == 127 { b'?' } else { byte }
+}
+
+/// Appends the name of a file.
+fn push_name(text: &mut Vec<u8>, name: &[u8]) -> Result<(), AllocError>
+    ensures { OnOk result (text.new.items ≡ text.old.items ++ map name_byte name.now) }
+{
+    for byte in name {
+        text.push(name_byte(*byte))?;
+    }
+    Ok(())
+}
+
 /// Appends the record of a source: the name of its file, and for each line that is an instruction
-/// how often a step began there.
+/// how often a step began there. A control byte of the name is shown as `?`, so that the name has
+/// one line.
 ///
 /// Errors: `AllocError` if an allocation fails.
 #[tactic(auto, unfolding(crate::specs::Records::record_text))]
@@ -62,7 +80,7 @@ pub fn push_record(
 {
     let rows = rows_of(alloc, assembly)?;
     push_text(text, "SF:")?;
-    text.extend_from_slice(file)?;
+    push_name(text, file)?;
     push_text(text, "\n")?;
     push_lines(text, tally, &rows)?;
     push_text(text, "end_of_record\n")

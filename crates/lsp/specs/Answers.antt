@@ -6,7 +6,7 @@ use Rattle.lsp.specs.State.{Opened, State, source_in}
 use Rattle.lsp.specs.declared.phase.Phase.{Phase}
 use Rattle.lsp.specs.declared.phase.Phase.TheVariants.{Fresh, Running, ShutDown}
 use Rattle.lsp_answers.specs.Lists.{completion_of, symbols_of}
-use Rattle.lsp_answers.specs.Meanings.{IsMeaning}
+use Rattle.lsp_answers.specs.Meanings.{meaning_of}
 use Rattle.lsp_answers.specs.Names.{definition_at, references_at}
 use Rattle.lsp_answers.specs.Renames.{IsKeptAt, IsRenameAt}
 use Rattle.lsp_answers.specs.Texts.{TextView, name_at, text_of}
@@ -47,7 +47,7 @@ of_document t documents.Colours = colours_in t
 of_document t documents.Folds = folds_in t
 
 abbrev pub IsOfPosition : List ℕ → TextView → ℕ → ℕ → At → Data → Type 0
-IsOfPosition uri t line character positions.Hover given = IsMeaning t line character given
+IsOfPosition uri t line character positions.Hover given = given ≡ meaning_of t line character
 IsOfPosition uri t line character positions.Definition given
     = given ≡ definition_at uri t line character
 IsOfPosition uri t line character (positions.References declares) given

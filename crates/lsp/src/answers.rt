@@ -58,7 +58,7 @@ fn rename_reply(
     };
     match rename(alloc, map, uri, &text, line, character, name) {
         Ok(Ok(changes)) => result_reply(alloc, id, changes),
-        Ok(Err(words)) => failure_reply(alloc, id, Failure::Refused, words),
+        Ok(Err(words)) => failure_reply(alloc, id, Failure::Refused, words.as_str()),
         Err(error) => Err(error),
     }
 }

@@ -1,3 +1,4 @@
 pub mod Behind
 pub mod DefinedSteps
 pub mod Marking
+mod SaidSteps

@@ -5,5 +5,6 @@ pub mod Marks
 pub mod Meanings
 pub mod Names
 pub mod Renames
+pub mod Said
 pub mod Texts
 pub mod Written

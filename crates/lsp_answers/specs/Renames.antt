@@ -6,23 +6,26 @@ use Rattle.json_values.specs.Values.{list_of}
 use Rattle.lsp_messages.specs.Values.{changes_data, edit_data}
 use Rattle.model.specs.Source.{Denotes}
 use Rattle.model.specs.State.{Map}
+use Rattle.name_uses.specs.Faulty.{faulty_line}
 use Rattle.name_uses.specs.Uses.{Use, is_name}
 use Rattle.serde_json.specs.Data.{Data}
 use Rattle.source_renaming.specs.Renaming.{IsRefused, renamed, uses_named}
 use Rattle.source_renaming.specs.declared.fault.RenameFault.{RenameFault}
-use Rattle.source_renaming.specs.declared.fault.RenameFault.TheVariants.{NoName, Taken, Changed, OutOfMemory}
+use Rattle.source_renaming.specs.declared.fault.RenameFault.TheVariants.{NoName, Taken, Faulty, Changed, OutOfMemory}
 
 -- The changes that put a word in place of some uses.
 abbrev pub edits_of : TextView → List ℕ → List Use → Data
 edits_of t word uses = list_of (map (λ u. edit_data word (use_range t u)) uses)
 
--- A name gets another one: each place where it stands is changed and no other, and what the source
--- denotes, the source with these changes denotes too.
+-- A name gets another one: each place where it stands is changed and no other, neither name stands
+-- in a line whose text has a fault, and what the source denotes, the source with these changes
+-- denotes too.
 pub record IsRename (bus_map : Map) (uri : List ℕ) (t : TextView) (old new : List ℕ) (v : Data)
     : Type 0 where
   pub edits : v ≡ changes_data uri (edits_of t new (uses_named bus_map.profile t.source old))
   pub named : is_name bus_map.profile new ≡ true
   pub free : uses_named bus_map.profile t.source new ≡ []
+  pub sound : faulty_line bus_map.profile t.source old new ≡ None
   pub image : (image : List (Option ℕ)) → Denotes bus_map t.source image
       → Denotes bus_map (renamed bus_map.profile t.source old new) image
 
@@ -30,6 +33,7 @@ pub record IsRename (bus_map : Map) (uri : List ℕ) (t : TextView) (old new : L
 abbrev pub IsTold : RenameFault → Type 0
 IsTold NoName = ⊤
 IsTold Taken = ⊤
+IsTold (Faulty line) = ⊤
 IsTold Changed = ⊤
 IsTold OutOfMemory = ⊥
 

@@ -1,47 +1,45 @@
 //! What is meant at a place.
 
-ghost use Rattle.std.specs.Prelude.{◌≡◌, IfOk};
+ghost use Rattle.std.specs.Prelude.{◌≡◌, ℕ, IfOk, List};
 ghost use Rattle.std.specs.Option.{option_map};
+ghost use Rattle.std.specs.Str.Lossy.{utf8_lossy};
 ghost use Rattle.line_parts.specs.Lexemes.{lexeme_of};
-ghost use Rattle.lsp_answers.specs.Meanings.{IsMeaning, IsOfLine, IsSaid};
-ghost use Rattle.lsp_answers.specs.Meanings.{found_in, mnemonic_on, row_on};
+ghost use Rattle.lsp_answers.specs.Meanings.{found_in, meaning_of, mnemonic_on, of_line};
+ghost use Rattle.lsp_answers.specs.Meanings.{said_of, said_on};
+ghost use Rattle.lsp_answers.specs.Said.{instruction_words};
 ghost use Rattle.lsp_answers.specs.Texts.{text_view};
+ghost use Rattle.lsp_messages.specs.Values.{hover_data};
 ghost use Rattle.serde_json.specs.Data.{Data};
 ghost use Rattle.serde_json.specs.View.{view};
-ghost use Rattle.source_faults.specs.Views.{found_all};
+ghost use Rattle.source_faults.specs.Views.{found_all, found_view};
 
+use crate::said::{Placed, instruction_words, name_words};
 use crate::source_text::{SOURCE_SIZE, Text};
-use crate::wording::{instruction_tail, name_tail};
 use lexer::tokens;
 use line_parts::{Statement, Token};
-use lsp_messages::{column_of, hover as said_of};
-use model::{LineFault, Profile, Row};
-use optable::{decode_in, letters_of, mnemonic_in};
+use lsp_messages::{column_of, hover as hover_of};
+use model::{LineFault, Profile};
+use optable::{decode_in, mnemonic_in};
 use serde_json::Value;
 use source_faults::{Found, Mending, lay_out};
-use source_notes::concat;
 use std::alloc::{AllocError, Global};
 use symbols::Symbols;
 
-/// Returns what is said at a place, in these words and behind them others, with the range that it
-/// is said of.
+/// Returns what is said at a place, in these words, with the range that it is said of.
 fn said(
     alloc: Global,
-    front: &[u8],
-    rest: Result<Vec<u8>, AllocError>,
+    words: Result<Vec<u8>, AllocError>,
     range: Result<Value, AllocError>,
 ) -> Result<Value, AllocError>
-    ensures { (r : Data) → IfOk range (λ v. view v ≡ r)
-        → IfOk result (λ v. IsSaid front.now r (view v)) }
+    ensures { (text : List ℕ) (r : Data) → IfOk words (λ w. w.items ≡ text)
+        → IfOk range (λ v. view v ≡ r)
+        → IfOk result (λ v. view v ≡ hover_data (utf8_lossy text) r) }
 {
-    let words = match rest {
-        Ok(rest) => match concat(alloc, &[front, &rest]) {
-            Ok(words) => String::from_utf8_lossy(alloc, &words),
-            Err(error) => Err(error),
-        },
+    let words = match words {
+        Ok(words) => String::from_utf8_lossy(alloc, &words),
         Err(error) => Err(error),
     };
-    said_of(alloc, words, range)
+    hover_of(alloc, words, range)
 }
 
 /// Returns the first token of a line that is a mnemonic, and has a column or ends there. A line
@@ -71,20 +69,35 @@ fn mnemonic_on<'a>(
     Ok(None)
 }
 
-/// Returns the row, the opcode and the address of the instruction of a line by its number, if it
-/// has one.
-fn row_on(profile: Profile, found: &[Found<'_>], number: u32) -> Option<(Row, u8, u32)>
-    ensures { option_map (λ p. p.0) result ≡ row_on profile (found_all found.now) number }
+/// Returns the instruction that a line is found to have, if it has one.
+fn placed_in(profile: Profile, found: &Found<'_>) -> Option<Placed>
+    ensures { option_map (λ p. instruction_words profile p.opcode p.address p.row) result
+        ≡ said_of profile (found_view found.now) }
 {
-    let Some(Found::Bytes(kept)) = found.get((number as usize).saturating_sub(1)) else {
+    let Found::Bytes(kept) = found else {
         return None;
     };
     match (&kept.statement, kept.code) {
         (Statement::Instruction(_, _), Some(code)) => match decode_in(profile, code.opcode) {
-            Some(row) => Some((row, code.opcode, kept.address)),
+            Some(row) => Some(Placed {
+                row,
+                opcode: code.opcode,
+                address: kept.address,
+            }),
             None => None,
         },
         _ => None,
+    }
+}
+
+/// Returns the instruction of a line by its number, if it has one.
+fn placed_on(profile: Profile, found: &[Found<'_>], number: u32) -> Option<Placed>
+    ensures { option_map (λ p. instruction_words profile p.opcode p.address p.row) result
+        ≡ said_on profile (found_all found.now) number }
+{
+    match found.get((number as usize).saturating_sub(1)) {
+        Some(one) => placed_in(profile, one),
+        None => None,
     }
 }
 
@@ -98,7 +111,7 @@ fn line_said(
     character: u64,
 ) -> Result<Value, AllocError>
     requires { found_all found.now ≡ found_in (text_view text.now) }
-    ensures { IfOk result (λ v. IsOfLine (text_view text.now) character number (view v)) }
+    ensures { IfOk result (λ v. view v ≡ of_line (text_view text.now) character number) }
 {
     let Some(number) = number else {
         return Ok(Value::Null);
@@ -107,22 +120,22 @@ fn line_said(
     let Ok(token) = mnemonic_on(alloc, text.profile, column_of(line, character), line) else {
         return Err(AllocError);
     };
-    match (token, row_on(text.profile, found, number)) {
-        (Some(token), Some((row, opcode, address))) => {
-            let letters = letters_of(row.mnemonic);
-            let rest = instruction_tail(alloc, &row, opcode, address);
+    match (token, placed_on(text.profile, found, number)) {
+        (Some(token), Some(placed)) => {
+            let words = instruction_words(alloc, text.profile, placed);
             let range = text.range(alloc, number, token.start, token.text.len());
-            said(alloc, &letters, rest, range)
+            said(alloc, words, range)
         }
         _ => Ok(Value::Null),
     }
 }
 
 /// Returns what is meant at a place: of a name its number and where it is defined, of an
-/// instruction its form, address, opcode, bytes, cycles and flags; `null` elsewhere, and of a
-/// source that is too long. The only error is that a request for memory was refused.
+/// instruction its form, address, opcode, bytes and cycles, and the flags that it may change; `null`
+/// elsewhere, and of a source that is too long. The only error is that a request for memory was
+/// refused.
 pub fn hover(alloc: Global, text: &Text<'_>, line: u64, character: u64) -> Result<Value, AllocError>
-    ensures { IfOk result (λ v. IsMeaning (text_view text.now) line character (view v)) }
+    ensures { IfOk result (λ v. view v ≡ meaning_of (text_view text.now) line character) }
 {
     if text.source.len() > SOURCE_SIZE {
         return Ok(Value::Null);
@@ -134,8 +147,8 @@ pub fn hover(alloc: Global, text: &Text<'_>, line: u64, character: u64) -> Resul
     };
     match text.name_at(line, character) {
         Some(one) => {
-            let rest = name_tail(alloc, &text.uses, &symbols, one.text);
-            said(alloc, one.text, rest, text.range_of(alloc, &one))
+            let words = name_words(alloc, &text.uses, &symbols, one.text);
+            said(alloc, words, text.range_of(alloc, &one))
         }
         None => line_said(alloc, text, &found, text.number(line), character),
     }

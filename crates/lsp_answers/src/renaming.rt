@@ -1,7 +1,7 @@
 //! A name changed.
 
-ghost use Rattle.std.specs.Prelude.{◌≡◌, IfErr, IfOk, IsOk};
-ghost use Rattle.lsp_answers.specs.Renames.{IsKeptAt, IsRenameAt, edits_of};
+ghost use Rattle.std.specs.Prelude.{◌≡◌, Err, IfErr, IfOk, IsErr, MatchResult, Ok};
+ghost use Rattle.lsp_answers.specs.Renames.{IsKeptAt, IsRenameAt, IsTold, edits_of};
 ghost use Rattle.lsp_answers.specs.Texts.{name_at, text_view};
 ghost use Rattle.lsp_messages.specs.Values.{changes_data};
 ghost use Rattle.name_uses.specs.Views.{use_views};
@@ -23,23 +23,52 @@ fn changed(
     text: &Text<'_>,
     uses: &[NameUse<'_>],
     word: &str,
-) -> Result<Result<Value, &'static str>, AllocError>
-    ensures changed { IfOk result (λ r. IfOk r (λ v. view v
-        ≡ changes_data uri.now (edits_of (text_view text.now) word.now (use_views uses.now)))) }
-    ensures told { IfOk result (λ r. IsOk r) }
+) -> Result<Value, AllocError>
+    ensures { IfOk result (λ v. view v
+        ≡ changes_data uri.now (edits_of (text_view text.now) word.now (use_views uses.now))) }
 {
     let mut found = ValueList::new(alloc);
     for one in uses {
         found = found.with(edit(alloc, word, text.range_of(alloc, one)));
     }
-    match changes(alloc, uri, found.build()) {
-        Ok(changes) => Ok(Ok(changes)),
+    changes(alloc, uri, found.build())
+}
+
+/// Returns the words of why a name is not changed. The only error is that a request for memory was
+/// refused, before or here.
+fn words_of(alloc: Global, fault: RenameFault) -> Result<String, AllocError>
+    ensures { IfOk result (λ words. IsTold fault) }
+{
+    let words = match fault {
+        RenameFault::NoName => {
+            "a name begins with a letter, has letters, digits and _, at most 31, and is no \
+            mnemonic, A, X or Y"
+        }
+        RenameFault::Taken => "the source has this name already",
+        RenameFault::Faulty(line) => {
+            return format!(in alloc;
+                "line {line} has a fault, and the old or the new name stands \
+                there: mend it first"
+            );
+        }
+        RenameFault::Changed => "a line or the source would be too long",
+        RenameFault::OutOfMemory => return Err(AllocError),
+    };
+    String::from_str(alloc, words)
+}
+
+/// Returns words as a refusal, if memory did not run out for them.
+fn refused(words: Result<String, AllocError>) -> Result<Result<Value, String>, AllocError>
+    ensures { MatchResult words (λ w. result ≡ Ok (Err w)) (λ e. IsErr result) }
+{
+    match words {
+        Ok(words) => Ok(Err(words)),
         Err(error) => Err(error),
     }
 }
 
-/// Returns the changes that give the name at a place another name, or why there are none. The only
-/// error is that a request for memory was refused.
+/// Returns the changes that give the name at a place another name, or the words of why there are
+/// none. The only error is that a request for memory was refused.
 pub fn rename(
     alloc: Global,
     map: &MapSpec,
@@ -48,7 +77,7 @@ pub fn rename(
     line: u64,
     character: u64,
     name: &str,
-) -> Result<Result<Value, &'static str>, AllocError>
+) -> Result<Result<Value, String>, AllocError>
     // The changes are those of the name at the place.
     ensures changed { IfOk result (λ r. IfOk r (λ v. IsRenameAt map.now uri.now
         (text_view text.now) (name_at (text_view text.now) line character) name.now (view v))) }
@@ -57,19 +86,19 @@ pub fn rename(
         (name_at (text_view text.now) line character) name.now)) }
 {
     let Some(one) = text.name_at(line, character) else {
-        return Ok(Err("no name stands here"));
+        return refused(String::from_str(
+            alloc,
+            "no name stands here; a line with a fault has none",
+        ));
     };
     if text.source.len() > SOURCE_SIZE {
-        return Ok(Err("a source has at most 1048576 bytes"));
+        return refused(String::from_str(alloc, "a source has at most 1048576 bytes"));
     }
     match renamed(alloc, map, text.source, one.text, name.as_bytes()) {
-        Ok(renaming) => changed(alloc, uri, text, &renaming.uses, name),
-        Err(RenameFault::NoName) => Ok(Err(
-            "a name begins with a letter, has letters, digits and _, at most 31, and is no \
-            mnemonic, A, X or Y",
-        )),
-        Err(RenameFault::Taken) => Ok(Err("the source has this name already")),
-        Err(RenameFault::Changed) => Ok(Err("a line or the source would be too long")),
-        Err(RenameFault::OutOfMemory) => Err(AllocError),
+        Ok(renaming) => match changed(alloc, uri, text, &renaming.uses, name) {
+            Ok(changes) => Ok(Ok(changes)),
+            Err(error) => Err(error),
+        },
+        Err(fault) => refused(words_of(alloc, fault)),
     }
 }

@@ -26,6 +26,7 @@ use crate::wording::LOADED_AGAIN;
 use arguments::{LoadFault, Refusal};
 use loading::{Loaded, load_with_history};
 use mon_dispatch::follow;
+use mon_files::say_name;
 use mon_session::Desk;
 use std::alloc::{AllocError, Global};
 use std::rt::Files;
@@ -73,7 +74,7 @@ fn say_loaded(desk: &mut Desk, text: &[u8], file: &str) -> Result<(), AllocError
         × (desk.new.text.items ≡ text.now ++ first)) }
 {
     desk.text.extend_from_slice(text)?;
-    desk.say(file)?;
+    say_name(desk, file.as_bytes())?;
     desk.say(LOADED_AGAIN)
 }
 

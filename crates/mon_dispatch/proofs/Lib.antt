@@ -1,4 +1,3 @@
 mod Found
 mod Rows
 mod Followed
-pub mod Others

@@ -1,5 +1,5 @@
 -- Help on an instruction. Source: mos65.
-use Rattle.std.specs.Prelude.{ℕ, ◌==◌, ◌||◌, if◌then◌else◌, Bool, List, [], ◌∷◌, ◌++◌, Option, None, Some, codes, decimal}
+use Rattle.std.specs.Prelude.{ℕ, ◌==◌, if◌then◌else◌, Bool, List, [], ◌++◌, Option, None, Some, codes, decimal}
 use Rattle.std.specs.List.{flat_map}
 use Rattle.formatting.specs.Padding.{padded}
 use Rattle.model.specs.Effect.{operation_of}
@@ -12,7 +12,8 @@ use Rattle.model.specs.declared.instruction.Mode.TheVariants.{Imp, Acc, Imm, Zp,
 use Rattle.model.specs.declared.instruction.Profile.{Profile}
 use Rattle.model.specs.declared.instruction.Row.{Row}
 use Rattle.model.specs.declared.registers.Flags.{Flags}
-use Rattle.mon_dispatch.specs.Changed.{changed_by}
+use Rattle.opcode_facts.specs.Changed.{changed_by}
+use Rattle.opcode_facts.specs.Letters.{flags_text, is_any}
 use Rattle.mon_session.specs.declared.wording.TheConstants.{NO_INSTRUCTION}
 use Rattle.mon_dispatch.specs.declared.forms.TheConstants.{MODES}
 use Rattle.mon_dispatch.specs.declared.wording.TheConstants.{BRANCH_CYCLES, BYTE, BYTES, CHANGES, CHANGES_NO_FLAG, CYCLES, FORM_ABS, FORM_ABSX, FORM_ABSY, FORM_ACC, FORM_IMM, FORM_IND, FORM_INDX, FORM_INDY, FORM_INDZ, FORM_REL, FORM_ZP, FORM_ZPX, FORM_ZPY, PAGE_CYCLE}
@@ -72,18 +73,6 @@ unfoldable pub all_modes : List Mode
 all_modes = MODES
 
 -- ---- the flags that it changes
-
-abbrev pub flag_text : Bool → ℕ → List ℕ
-flag_text is_changed letter = if is_changed then 32 ∷ letter ∷ [] else []
-
--- The letters of the flags that are changed.
-abbrev pub flags_text : Flags → List ℕ
-flags_text changed = flag_text changed.n 78 ++ flag_text changed.v 86 ++ flag_text changed.d 68
-    ++ flag_text changed.i 73 ++ flag_text changed.z 90 ++ flag_text changed.c 67
-
-abbrev pub is_any : Flags → Bool
-is_any changed
-    = changed.n || changed.v || changed.d || changed.i || changed.z || changed.c
 
 abbrev pub changes_text : Flags → List ℕ
 changes_text changed = if is_any changed then CHANGES.now ++ flags_text changed

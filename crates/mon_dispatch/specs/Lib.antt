@@ -1,5 +1,4 @@
 pub mod Lines
 pub mod LineTexts
 pub mod LookTexts
-pub mod Changed
 pub mod Forms

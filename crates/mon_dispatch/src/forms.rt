@@ -2,11 +2,10 @@
 
 ghost use Rattle.std.specs.Prelude.{◌≡◌, ◌++◌, OnOk};
 ghost use Rattle.std.specs.List.{flat_map};
-ghost use Rattle.mon_dispatch.specs.Forms.{all_forms, all_modes, changes_text, extra_text, flag_text, flags_text};
-ghost use Rattle.mon_dispatch.specs.Forms.{form_by, form_row, forms_text, is_any, len_text};
+ghost use Rattle.mon_dispatch.specs.Forms.{all_forms, all_modes, changes_text, extra_text};
+ghost use Rattle.mon_dispatch.specs.Forms.{form_by, form_row, forms_text, len_text};
 ghost use Rattle.mon_dispatch.specs.Forms.{known_forms, no_forms, opcode_form, operand_form, row_form};
 
-use crate::changed::changed_by;
 use crate::wording::{
     BRANCH_CYCLES, BYTE, BYTES, CHANGES, CHANGES_NO_FLAG, CYCLES, FORM_ABS, FORM_ABSX, FORM_ABSY,
     FORM_ACC, FORM_IMM, FORM_IND, FORM_INDX, FORM_INDY, FORM_INDZ, FORM_REL, FORM_ZP, FORM_ZPX,
@@ -15,6 +14,7 @@ use crate::wording::{
 use formatting::{push_blanks, push_byte, push_count, push_text};
 use model::Flags;
 use mon_session::wording::NO_INSTRUCTION;
+use opcode_facts::{changed_by, is_any, push_flags};
 use optable::{
     Mnemonic, Mode, Profile, Row, decode_in, encode_in, letters_of, mnemonic_in, operation,
 };
@@ -153,36 +153,6 @@ fn push_forms_in(
         push_form_in(text, profile, mnemonic, *mode)?;
     }
     Ok(())
-}
-
-/// Appends the letter of a flag behind a blank, if it is changed.
-fn push_flag(text: &mut Vec<u8>, is_changed: bool, letter: u8) -> Result<(), AllocError>
-    ensures { OnOk result (text.new.items ≡ text.old.items ++ flag_text is_changed letter) }
-{
-    if is_changed {
-        text.push(b' ')?;
-        text.push(letter)?;
-    }
-    Ok(())
-}
-
-/// Appends the letters of the flags that are changed.
-fn push_flags(text: &mut Vec<u8>, changed: Flags) -> Result<(), AllocError>
-    ensures { OnOk result (text.new.items ≡ text.old.items ++ flags_text changed) }
-{
-    push_flag(text, changed.n, b'N')?;
-    push_flag(text, changed.v, b'V')?;
-    push_flag(text, changed.d, b'D')?;
-    push_flag(text, changed.i, b'I')?;
-    push_flag(text, changed.z, b'Z')?;
-    push_flag(text, changed.c, b'C')
-}
-
-/// Returns whether a flag is changed.
-fn is_any(changed: Flags) -> bool
-    ensures { result ≡ is_any changed }
-{
-    changed.n || changed.v || changed.d || changed.i || changed.z || changed.c
 }
 
 /// Appends which flags are changed.

@@ -2,11 +2,10 @@
 //!
 //! `lines` reads a line by `mon_lines`, and passes what it asks for to `mon_steps`, `mon_settings`,
 //! or `looks`, which has the lines that change nothing. `finding` looks for bytes in memory;
-//! `forms` has help on instructions, with the flags of `changed`. What each line does stands in
+//! `forms` has help on instructions, with the flags of `opcode_facts`. What each line does stands in
 //! `specs/Lines.antt`, what it writes in `specs/LineTexts.antt`.
 #![tactic(auto)]
 
-mod changed;
 mod finding;
 mod forms;
 mod lines;

@@ -20,3 +20,4 @@ pub use asked::{PageLine, page_line};
 pub use known::Known;
 pub use page::{Program, show_page};
 pub use saving::save_tape;
+pub use writing::say_name;

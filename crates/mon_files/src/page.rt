@@ -10,10 +10,8 @@ ghost use Rattle.mon_session.specs.Course.{KeepsStops, ShowsOnly, course_of};
 
 use crate::asked::PageLine;
 use crate::held::record_held;
-use crate::wording::{
-    BYTE, BYTES, EVENT, EVENTS, HERE, NONE_HELD, NOT_WRITTEN, OWN_FILE, UNKNOWN_FIRST,
-};
-use crate::writing::{Outcome, of_memory, write_new};
+use crate::wording::{BYTE, BYTES, EVENT, EVENTS, HERE, NONE_HELD, UNKNOWN_FIRST};
+use crate::writing::{Outcome, of_memory, say_failure, say_of, say_own, write_new};
 use accesses::Written;
 use arguments::Refusal;
 use arguments_play::MonWords;
@@ -90,22 +88,12 @@ pub fn page_of_held(
     Ok(Some(page_of(alloc, &viewer(), &texts, bytes.as_slice(), HERE)?))
 }
 
-/// Says something behind the name of a file.
-fn say_of(desk: &mut Desk, file: &[u8], words: &str) -> Result<(), AllocError>
-    ensures shows { ShowsOnly desk.old desk.new }
-    ensures said { OnOk result ((said : List ℕ) × Says said desk.old desk.new) }
-{
-    desk.text.extend_from_slice(file)?;
-    desk.say(words)
-}
-
 /// Says how many events and bytes a page has that was written.
 fn say_whole(desk: &mut Desk, file: &[u8], events: u32, bytes: usize) -> Result<(), AllocError>
     ensures shows { ShowsOnly desk.old desk.new }
     ensures said { OnOk result ((said : List ℕ) × Says said desk.old desk.new) }
 {
-    desk.text.extend_from_slice(file)?;
-    desk.say(": ")?;
+    say_of(desk, file, ": ")?;
     desk.count(events as u64, EVENT, EVENTS)?;
     desk.count(bytes as u64, BYTE, BYTES)
 }
@@ -123,13 +111,13 @@ fn say_outcome(
 {
     match outcome {
         Outcome::Whole => say_whole(desk, file, events, bytes),
-        Outcome::Own => say_of(desk, file, OWN_FILE),
-        Outcome::Not => say_of(desk, file, NOT_WRITTEN),
+        Outcome::Own => say_own(desk, file),
+        Outcome::Not(fault) => say_failure(desk, file, fault),
     }
 }
 
 /// Writes a page to a file, if there is one, and says what has become of it.
-fn write_page<H: Files>(
+fn write_page<H: Files + AllocGlobal>(
     rt: &H,
     desk: &mut Desk,
     words: &MonWords<'_>,

@@ -9,8 +9,8 @@ ghost use Rattle.mon_files.specs.Saved.{IsSaved, is_asked, is_saved, with_saved}
 ghost use Rattle.mon_session.specs.Course.{ShowsOnly};
 
 use crate::known::Known;
-use crate::wording::{BYTE_IS_SAVED, BYTES_ARE_SAVED, NOT_WRITTEN, OWN_FILE};
-use crate::writing::{Outcome, of_memory, write_new};
+use crate::wording::{BYTE_IS_SAVED, BYTES_ARE_SAVED};
+use crate::writing::{Outcome, of_memory, say_failure, say_of, say_own, write_new};
 use accesses::Written;
 use arguments::Refusal;
 use arguments_play::MonWords;
@@ -107,14 +107,13 @@ fn say_saved(desk: &mut Desk, file: &[u8], outcome: Outcome, count: usize) -> Re
     ensures shows { ShowsOnly desk.old desk.new }
     ensures said { OnOk result ((said : List ℕ) × Says said desk.old desk.new) }
 {
-    desk.text.extend_from_slice(file)?;
     match outcome {
         Outcome::Whole => {
-            desk.say(": ")?;
+            say_of(desk, file, ": ")?;
             desk.count(count as u64, BYTE_IS_SAVED, BYTES_ARE_SAVED)
         }
-        Outcome::Own => desk.say(OWN_FILE),
-        Outcome::Not => desk.say(NOT_WRITTEN),
+        Outcome::Own => say_own(desk, file),
+        Outcome::Not(fault) => say_failure(desk, file, fault),
     }
 }
 

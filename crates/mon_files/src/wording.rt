@@ -1,6 +1,9 @@
 //! The words of what is said of a file, behind its name.
 
-pub const NOT_WRITTEN: &str = " cannot be written\n";
+/// What is said in place of a name.
+pub const NOT_UTF8: &str = "a name that is no UTF-8";
+
+pub const NOT_WRITTEN: &str = " cannot be written";
 
 pub const OWN_FILE: &str = " is a file of this session; save under another name\n";
 

@@ -1,9 +1,13 @@
-//! A file that a line writes.
+//! A file that a line writes, and what is said of it.
 
-ghost use Rattle.std.specs.Prelude.{◌≡◌, IfErr, IfOk, Ok};
+ghost use Rattle.std.specs.Prelude.{◌≡◌, ℕ, IfErr, IfOk, List, Ok, OnOk};
+ghost use Rattle.mon_dispatch.specs.Lines.{Says};
+ghost use Rattle.mon_session.specs.Course.{ShowsOnly};
 
-use arguments::{Refusal, is_one_file, write_file};
+use crate::wording::{NOT_UTF8, NOT_WRITTEN, OWN_FILE};
+use arguments::{Refusal, WriteFault, is_one_file, put_shown, write_file, write_reason};
 use arguments_play::MonWords;
+use mon_session::Desk;
 use std::alloc::AllocError;
 use std::rt::Files;
 
@@ -13,8 +17,8 @@ pub enum Outcome {
     Whole,
     /// It is a file that the session has read.
     Own,
-    /// It cannot be written.
-    Not,
+    /// It cannot be written, for this reason.
+    Not(WriteFault),
 }
 
 /// Returns what was made, or that an allocation failed.
@@ -33,10 +37,11 @@ fn is_own<H: Files>(rt: &H, words: &MonWords<'_>, path: &str) -> bool {
     }
 }
 
-/// Writes a text to a file, unless the session has read that file.
+/// Writes a text to a file, unless the session has read that file. A file that is there is replaced
+/// only by the whole text.
 ///
 /// Errors: `OutOfMemory` if an allocation fails.
-pub fn write_new<H: Files>(
+pub fn write_new<H: Files + AllocGlobal>(
     rt: &H,
     words: &MonWords<'_>,
     file: &[u8],
@@ -45,7 +50,7 @@ pub fn write_new<H: Files>(
     ensures { IfErr result (λ fault. fault ≡ Refusal.OutOfMemory) }
 {
     let Ok(path) = str::from_utf8(file) else {
-        return Ok(Outcome::Not);
+        return Ok(Outcome::Not(WriteFault::Other));
     };
     if is_own(rt, words, path) {
         return Ok(Outcome::Own);
@@ -53,6 +58,62 @@ pub fn write_new<H: Files>(
     match write_file(rt, path, text) {
         Ok(()) => Ok(Outcome::Whole),
         Err(Refusal::OutOfMemory) => Err(Refusal::OutOfMemory),
-        Err(_) => Ok(Outcome::Not),
+        Err(Refusal::WriteFile(fault)) => Ok(Outcome::Not(fault)),
+        Err(_) => Ok(Outcome::Not(WriteFault::Other)),
     }
+}
+
+/// Says the name of a file, with a `?` for each control character.
+///
+/// Errors: `AllocError` if an allocation fails.
+pub fn say_name(desk: &mut Desk, file: &[u8]) -> Result<(), AllocError>
+    ensures shows { ShowsOnly desk.old desk.new }
+    ensures said { OnOk result ((said : List ℕ) × Says said desk.old desk.new) }
+{
+    let Ok(name) = str::from_utf8(file) else {
+        return desk.say(NOT_UTF8);
+    };
+    match put_shown(&mut desk.text, name) {
+        Ok(()) => Ok(()),
+        Err(_) => Err(AllocError),
+    }
+}
+
+/// Says something behind the name of a file.
+pub fn say_of(desk: &mut Desk, file: &[u8], words: &str) -> Result<(), AllocError>
+    ensures shows { ShowsOnly desk.old desk.new }
+    ensures said { OnOk result ((said : List ℕ) × Says said desk.old desk.new) }
+{
+    say_name(desk, file)?;
+    desk.say(words)
+}
+
+/// Says behind a colon why a file is not written, if that is known, and ends the line.
+fn say_reason(desk: &mut Desk, reason: &str) -> Result<(), AllocError>
+    ensures shows { ShowsOnly desk.old desk.new }
+    ensures said { OnOk result ((said : List ℕ) × Says said desk.old desk.new) }
+{
+    if reason.is_empty() {
+        return desk.say("\n");
+    }
+    desk.say(":")?;
+    desk.say(reason)?;
+    desk.say("\n")
+}
+
+/// Says that a file cannot be written, and why.
+pub fn say_failure(desk: &mut Desk, file: &[u8], fault: WriteFault) -> Result<(), AllocError>
+    ensures shows { ShowsOnly desk.old desk.new }
+    ensures said { OnOk result ((said : List ℕ) × Says said desk.old desk.new) }
+{
+    say_of(desk, file, NOT_WRITTEN)?;
+    say_reason(desk, write_reason(fault))
+}
+
+/// Says that a file is one that the session has read.
+pub fn say_own(desk: &mut Desk, file: &[u8]) -> Result<(), AllocError>
+    ensures shows { ShowsOnly desk.old desk.new }
+    ensures said { OnOk result ((said : List ℕ) × Says said desk.old desk.new) }
+{
+    say_of(desk, file, OWN_FILE)
 }

@@ -2,3 +2,4 @@ pub mod Reserved
 pub mod Steps
 pub mod Named
 pub mod PickedSteps
+mod FaultySteps

@@ -4,3 +4,4 @@ pub mod Registers
 pub mod Views
 pub mod Picked
 pub mod Places
+pub mod Faulty

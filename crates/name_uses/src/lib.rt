@@ -2,10 +2,12 @@
 //!
 //! `name_uses` is the call, `picked` has those of one name, `name_at` the one at a place, and
 //! `is_name` says whether a text may be a name. `Uses.antt`, `Picked.antt` and `Places.antt` define
-//! them. A law (`law`) says that the names found in a line are exactly those that the grammar reads
-//! in it, in their order.
+//! them. `faulty_line` finds a line whose text has a fault and in which a word stands that may be a
+//! name (`Faulty.antt`). A law (`law`) says that the names found in a line are exactly those that
+//! the grammar reads in it, in their order.
 #![tactic(auto)]
 
+mod faulty;
 mod law;
 mod lines;
 mod name_use;
@@ -13,6 +15,7 @@ mod picks;
 mod place;
 mod words;
 
+pub use faulty::faulty_line;
 pub use law::names_are_the_grammars;
 pub use lines::name_uses;
 pub use name_use::NameUse;

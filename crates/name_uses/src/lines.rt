@@ -31,7 +31,7 @@ fn defines_and_ends(line: &Line<'_>) -> (bool, bool)
 
 /// Drops a line, and returns whether it defines the name with which it begins, and whether it is
 /// the last one that is read.
-fn taken_from(line: Line<'_>) -> (bool, bool)
+pub fn taken_from(line: Line<'_>) -> (bool, bool)
     ensures defines { result.0 ≡ defines_first (line_view line.entry) }
     ensures end { result.1 ≡ ends_line (line_view line.entry) }
 {

@@ -1,6 +1,6 @@
 //! What the word `page` does.
 
-ghost use Rattle.std.specs.Prelude.{◌≡◌, ◌⊎◌, ℕ, List, Ok, Option, IfErr, IfOk, None, Some, false};
+ghost use Rattle.std.specs.Prelude.{◌≡◌, ◌⊎◌, ℕ, List, Option, IfErr, IfOk, None, Some, false};
 ghost use Rattle.std.specs.Prelude.{OnErr, OnOk, option_map};
 ghost use Rattle.accesses.specs.Writing.{or_everywhere};
 ghost use Rattle.arguments.specs.Words.{Fits, Refuses, texts};
@@ -104,7 +104,10 @@ fn begun_file<'a, H: Files + AllocGlobal>(
 {
     let read = [Some(words.file.file), words.symbols, words.input];
     match check_outputs(rt, &read, &[Some(words.out)]) {
-        Ok(()) => begin_file(rt, words.out),
+        Ok(()) => match begin_file(rt, words.out) {
+            Ok(file) => Ok(file),
+            Err(refusal) => Err(refusal),
+        },
         Err(why) => Err(why.refusal),
     }
 }
@@ -167,33 +170,21 @@ fn write_run<W: Write>(
     }
 }
 
-/// Ends the file of a page that was written whole, and leaves one that was not.
+/// Leaves the file of a page that was not written whole, and returns why it was not.
 #[tactic(auto, using(crate::proofs::Ends::unwritten_ends))]
-fn end_page<H: Files>(
-    rt: &H,
-    written: Result<Played, Refusal>,
-    file: NewFile<'_, H::File>,
-) -> Result<Played, Refusal>
-    requires { IfErr written EndsFile }
-    ensures ran { IfOk result (λ end. written ≡ Ok end) }
-    ensures refused { IfErr result EndsFile }
+fn unwritten<H: Files>(rt: &H, refusal: Refusal, file: NewFile<'_, H::File>) -> Refusal
+    requires { EndsFile refusal }
+    ensures { EndsFile result }
 {
-    match written {
-        Ok(played) => match file.end(rt) {
-            Ok(()) => Ok(played),
-            Err(refusal) => Err(refusal),
-        },
-        Err(refusal) => {
-            let unwritten = file.abandon(rt);
-            match refusal {
-                Refusal::Write => Err(unwritten),
-                refusal => Err(refusal),
-            }
-        }
+    let why = file.abandon(rt);
+    match refusal {
+        Refusal::Write => why,
+        refusal => refusal,
     }
 }
 
 /// Makes the file of the page, and writes the run of what was loaded over an input.
+#[tactic(auto, using(crate::proofs::Ends::unwritten_ends))]
 fn make_page<H: Files + AllocGlobal>(
     rt: &H,
     words: &PageWords<'_>,
@@ -214,8 +205,13 @@ fn make_page<H: Files + AllocGlobal>(
     };
     match begun_file(rt, words) {
         Ok(mut file) => {
-            let written = write_run(rt.alloc(), words, loaded, &said, until, input, &mut file);
-            end_page(rt, written, file)
+            match write_run(rt.alloc(), words, loaded, &said, until, input, &mut file) {
+                Ok(played) => match file.end(rt) {
+                    Ok(()) => Ok(played),
+                    Err(refusal) => Err(refusal),
+                },
+                Err(refusal) => Err(unwritten(rt, refusal, file)),
+            }
         }
         Err(refusal) => Err(refusal),
     }

@@ -1,13 +1,14 @@
 -- A source with a name changed. Source: mos65.
-use Rattle.std.specs.Prelude.{◌≡◌, ⊤, ℕ, ◌+◌, ◌-◌, ◌==◌, ◌&&◌, nat_lt, Bool, false, if◌then◌else◌, List, [], ◌∷◌, ◌++◌, length, Option}
+use Rattle.std.specs.Prelude.{◌≡◌, ⊤, ℕ, ◌+◌, ◌-◌, ◌==◌, ◌&&◌, nat_lt, Bool, false, if◌then◌else◌, List, [], ◌∷◌, ◌++◌, length, Option, Some}
 use Rattle.model.specs.Source.{Denotes}
 use Rattle.model.specs.State.{Map}
 use Rattle.model.specs.declared.instruction.Profile.{Profile}
+use Rattle.name_uses.specs.Faulty.{faulty_line}
 use Rattle.name_uses.specs.Picked.{picked}
 use Rattle.name_uses.specs.declared.picks.Part.TheVariants.{All}
 use Rattle.name_uses.specs.Uses.{Use, is_name, uses_of}
 use Rattle.source_renaming.specs.declared.fault.RenameFault.{RenameFault}
-use Rattle.source_renaming.specs.declared.fault.RenameFault.TheVariants.{NoName, Taken, Changed, OutOfMemory}
+use Rattle.source_renaming.specs.declared.fault.RenameFault.TheVariants.{NoName, Taken, Faulty, Changed, OutOfMemory}
 
 -- Where a name stands in a source.
 unfoldable pub uses_named : Profile → List ℕ → List ℕ → List Use
@@ -74,6 +75,8 @@ IsChanged bus_map source text = (image : List (Option ℕ)) × Denotes bus_map s
 abbrev pub IsRefused : Map → List ℕ → List ℕ → List ℕ → RenameFault → Type 0
 IsRefused bus_map source old new NoName = is_name bus_map.profile new ≡ false
 IsRefused bus_map source old new Taken = uses_named bus_map.profile source new ≡ [] → ⊥
+IsRefused bus_map source old new (Faulty line)
+    = faulty_line bus_map.profile source old new ≡ Some line
 IsRefused bus_map source old new Changed
     = IsChanged bus_map source (renamed bus_map.profile source old new)
 IsRefused bus_map source old new OutOfMemory = ⊤

@@ -1,7 +1,8 @@
 //! A name changed to another one.
 
-ghost use Rattle.std.specs.Prelude.{◌≡◌, ◌≤◌, ℕ, IfErr, IfOk, List, Option, [], length, true};
+ghost use Rattle.std.specs.Prelude.{◌≡◌, ◌≤◌, ℕ, IfErr, IfOk, List, None, Option, [], length, true};
 ghost use Rattle.model.specs.Source.{Denotes};
+ghost use Rattle.name_uses.specs.Faulty.{faulty_line};
 ghost use Rattle.name_uses.specs.Uses.{is_name};
 ghost use Rattle.name_uses.specs.Views.{use_views};
 ghost use Rattle.source_renaming.specs.Renaming.{IsRefused, renamed, uses_named};
@@ -10,7 +11,7 @@ use crate::checked::keeps_image;
 use crate::fault::RenameFault;
 use crate::text::replaced;
 use bus::MapSpec;
-use name_uses::{NameUse, Part, is_name, name_uses, picked};
+use name_uses::{NameUse, Part, faulty_line, is_name, name_uses, picked};
 use std::alloc::Global;
 
 /// A name changed to another one.
@@ -26,10 +27,16 @@ pub struct Renaming<'a> {
 /// but for the bytes of these uses. If the source denotes an image on the map, the text denotes the
 /// same image.
 ///
-/// Errors: `NoName` if the new name is no name in the map's profile; `Taken` if it stands in the
-/// source already; `Changed` if the source denotes an image and the text would not denote it, as
-/// where a line would have more than 255 bytes; `OutOfMemory` if an allocation fails. Source:
-/// mos65.
+/// # Errors
+///
+/// - `NoName`: the new name is no name in the map's profile.
+/// - `Taken`: the new name stands in the source already.
+/// - `Faulty`: the old or the new name stands in a line whose text has a fault.
+/// - `Changed`: the source denotes an image and the text would not denote it, as where a line would
+///   have more than 255 bytes.
+/// - `OutOfMemory`: an allocation failed.
+///
+/// Source: mos65.
 pub fn rename<'a>(
     alloc: Global,
     map: &MapSpec,
@@ -45,6 +52,9 @@ pub fn rename<'a>(
     // The new name is a name, and stands nowhere in the source.
     ensures named { IfOk result (λ r. is_name map.now.profile new.now ≡ true) }
     ensures free { IfOk result (λ r. uses_named map.now.profile source.now new.now ≡ []) }
+    // Neither name stands in a line whose text has a fault.
+    ensures sound { IfOk result
+        (λ r. faulty_line map.now.profile source.now old.now new.now ≡ None) }
     // What the source denotes, the text denotes too.
     ensures image { IfOk result (λ r. (image : List (Option ℕ))
         → Denotes map.now source.now image → Denotes map.now r.text.items image) }
@@ -57,6 +67,9 @@ pub fn rename<'a>(
     let all = name_uses(alloc, profile, source)?;
     if !picked(alloc, &all, new, Part::All)?.as_slice().is_empty() {
         return Err(RenameFault::Taken);
+    }
+    if let Some(line) = faulty_line(alloc, profile, source, old, new)? {
+        return Err(RenameFault::Faulty(line));
     }
     let uses = picked(alloc, &all, old, Part::All)?;
     let text = replaced(alloc, source, &uses, new)?;

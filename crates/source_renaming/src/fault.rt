@@ -7,6 +7,9 @@ pub enum RenameFault {
     NoName,
     /// The new name stands in the source already.
     Taken,
+    /// The old or the new name stands in a line whose text has a fault: the first such line, by its
+    /// number from 1. Whether it is a name there is not known before the line is mended.
+    Faulty(u32),
     /// The source denotes an image, and with the new name it would not denote the same one, since a
     /// line or the source would have too many bytes.
     Changed,

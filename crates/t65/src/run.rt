@@ -14,7 +14,9 @@ use crate::files::{Manner, run_suites};
 use crate::report::{Reports, begin_report};
 use crate::stop::Stop;
 use crate::words::{TestWords, read_words};
-use arguments::{Refusal, refuse, refuse_file, refused_words, write_text};
+use arguments::{
+    Refusal, WriteFault, is_one_output, refuse, refuse_file, refused_words, write_text,
+};
 use std::io::Write;
 use std::rt::Files;
 use t65_reports::{TAP_BEGIN, plan};
@@ -148,8 +150,50 @@ fn run_reported<H: Files + AllocGlobal, O: Write, E: Write>(
     }
 }
 
-/// Runs the suites of the words, unless a report would replace a file that is read, and returns
-/// the exit status.
+/// Returns whether the report for JUnit and the file for lcov are one file.
+///
+/// Errors: `OutOfMemory` if an allocation fails.
+fn are_one_output<H: Files + AllocGlobal>(rt: &H, words: &TestWords<'_>) -> Result<bool, Refusal> {
+    match (words.junit, words.coverage) {
+        (Some(junit), Some(coverage)) => is_one_output(rt, junit, coverage),
+        _ => Ok(false),
+    }
+}
+
+/// Writes that a file is written already, and returns the exit status.
+fn refuse_same<E: Write>(file: Option<&str>, errors: &mut E) -> u8
+    ensures { result ≡ 4 }
+{
+    match file {
+        Some(file) => refuse_file(Refusal::WriteFile(WriteFault::SameFile), file, errors),
+        None => refuse(Refusal::WriteFile(WriteFault::SameFile), errors),
+    }
+}
+
+/// Runs the suites of the words, unless both reports are one file, and returns the exit status.
+fn run_apart<H: Files + AllocGlobal, O: Write, E: Write>(
+    rt: &H,
+    words: &TestWords<'_>,
+    output: &mut O,
+    errors: &mut E,
+) -> u8
+    ensures status { result ≤ 4 }
+    ensures passed { result ≡ 0
+        → AreTested (test_view words.now) (O.contents output.old) (O.contents output.new) true }
+    ensures failed { result ≡ 1
+        → AreTested (test_view words.now) (O.contents output.old) (O.contents output.new) false }
+    ensures never { result ≢ 2 }
+    ensures quiet { result ≤ 1 → errors.new ≡ errors.old }
+{
+    match are_one_output(rt, words) {
+        Ok(false) => run_reported(rt, words, output, errors),
+        Ok(true) => refuse_same(words.coverage, errors),
+        Err(_) => refuse(Refusal::OutOfMemory, errors),
+    }
+}
+
+/// Runs the suites of the words, unless a report would replace a file that is read or the other
+/// report, and returns the exit status.
 fn run_words<H: Files + AllocGlobal, O: Write, E: Write>(
     rt: &H,
     words: &TestWords<'_>,
@@ -165,7 +209,7 @@ fn run_words<H: Files + AllocGlobal, O: Write, E: Write>(
     ensures quiet { result ≤ 1 → errors.new ≡ errors.old }
 {
     match replaced_file(rt, words) {
-        Ok(None) => run_reported(rt, words, output, errors),
+        Ok(None) => run_apart(rt, words, output, errors),
         Ok(Some(file)) => refuse_replaced(&file, errors),
         Err(_) => refuse(Refusal::OutOfMemory, errors),
     }

@@ -137,20 +137,20 @@ module _ (values : Values) (rows : List (Bor (ℕ × Row))) (i : ℕ) (s : Sessi
 
 -- ---- values
 
-module _ (at : ℕ → Values) (one : Values → Counts → Counts) (failed : Option Values) where
-  pub last_values : (n m k : ℕ) (counts : Counts) → n ≡ m + 1 → is_last failed (at k) ≡ true → counted_in at one failed n k counts ≡ one (at k) counts
+module _ (at : ℕ → Values) (one last : Values → Counts → Counts) (failed : Option Values) where
+  pub last_values : (n m k : ℕ) (counts : Counts) → n ≡ m + 1 → is_last failed (at k) ≡ true → counted_in at one last failed n k counts ≡ last (at k) counts
   unfolding counted_in
   last_values zero m k counts e h = absurd (omega arith)
   last_values (suc n) m k counts e h = rw h refl
 
-  pub next_values : (n m k : ℕ) (counts : Counts) → n ≡ m + 1 → is_last failed (at k) ≡ false → counted_in at one failed m (k + 1) (one (at k) counts) ≡ counted_in at one failed n k counts
+  pub next_values : (n m k : ℕ) (counts : Counts) → n ≡ m + 1 → is_last failed (at k) ≡ false → counted_in at one last failed m (k + 1) (one (at k) counts) ≡ counted_in at one last failed n k counts
   unfolding counted_in
   next_values zero m k counts e h = absurd (omega arith)
   next_values (suc n) m k counts e h =
       let same : n ≡ m = omega arith in
       rw (h, same) refl
 
-  pub no_values : (n k : ℕ) (counts : Counts) → n ≡ 0 → counted_in at one failed n k counts ≡ counts
+  pub no_values : (n k : ℕ) (counts : Counts) → n ≡ 0 → counted_in at one last failed n k counts ≡ counts
   unfolding counted_in
   no_values zero k counts e = refl
   no_values (suc n) k counts e = absurd (omega arith)

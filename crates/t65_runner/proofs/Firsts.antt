@@ -1,15 +1,15 @@
 -- The way over items, over calls, and over the values of ranges.
-use Rattle.std.proofs.Common.{◌≡◌, ◌∙◌, ℕ, zero, suc, ◌+◌, ◌<◌, ◌≤◌, true, false, List, [], ◌∷◌, length, drop, get_or, refl, sym, ap, subst, arith, Option, Some, None}
+use Rattle.std.proofs.Common.{◌≡◌, ◌∙◌, ℕ, zero, suc, ◌+◌, ◌<◌, ◌≤◌, true, false, List, [], ◌∷◌, ◌++◌, length, take, drop, get_or, refl, sym, ap, subst, append-nil, append_assoc, arith, Option, Some, None}
 use Rattle.std.specs.Borrow.{Bor}
 use Rattle.std.specs.Prelude.{is_some}
-use Rattle.std.proofs.lemmas.List.{drop_all, drop_more, get_or-map, length-map}
+use Rattle.std.proofs.lemmas.List.{drop_all, drop_more, get_or-map, length-map, map_more, take_all}
 use Rattle.model.specs.Session.{Session}
 use Rattle.t65_reader.specs.declared.row.Item.{Item}
 use Rattle.t65_reader.specs.RowText.{SeenRow, row_seen}
 use Rattle.t65_reader.specs.declared.row.Choice.{Choice}
 use Rattle.t65_reader.specs.declared.row.Ranges.{Ranges}
 use Rattle.t65_reader.specs.declared.row.Row.{Row}
-use Rattle.t65_runner.specs.Passes.{all_passed, first_from, given_all, given_one, if_given, passed, rows_seen}
+use Rattle.t65_runner.specs.Passes.{all_passed, first_from, given_all, given_one, if_given, passed, rows_run, rows_seen, run_after}
 use Rattle.t65_runner.specs.RangeValues.{four_later, number_before, seed_of, values_at, values_by}
 use Rattle.t65_runner.specs.declared.range_values.Values.{Values}
 
@@ -75,6 +75,43 @@ module _ (values : Values) (rows : List (Bor (ℕ × Row))) (i : ℕ) (s : Sessi
   -- All calls pass.
   pub all_pass : (whole : Option Session) → length rows ≤ i → all_passed values (drop i (rows_seen rows)) s ≡ whole → true ≡ is_some whole
   all_pass whole h left = sym (ap (λ (p : Option Session). is_some p) (sym left ∙ passed-end h))
+
+module _ (values : Values) (rows : List (Bor (ℕ × Row))) (i : ℕ) (s : Session) where
+  abbrev rest_run : Session → List (ℕ × SeenRow)
+  rest_run next = rows_run values (drop (i + 1) (rows_seen rows)) next
+
+  run-next : (row : Bor (ℕ × Row)) → i < length rows → row ≡ get_or rows i row
+      → rows_run values (drop i (rows_seen rows)) s ≡ row_seen row ∷ run_after (passed values (row_seen row).1.call s) rest_run
+  unfolding rows_run
+  run-next row h is = rw (seen_next rows i row h is) refl
+
+  one_more : (row : Bor (ℕ × Row)) → i < length rows → row ≡ get_or rows i row → rows_seen (take (i + 1) rows) ≡ rows_seen (take i rows) ++ row_seen row ∷ []
+  one_more row h is = map_more row_seen rows i row h ∙ ap (λ (r : Bor (ℕ × Row)). rows_seen (take i rows) ++ row_seen r ∷ []) (sym is)
+
+  -- The next call fails.
+  pub run_ends : (row : Bor (ℕ × Row)) (whole : List (ℕ × SeenRow)) → i < length rows → row ≡ get_or rows i row → passed values (row_seen row).1.call s ≡ None
+      → rows_seen (take i rows) ++ rows_run values (drop i (rows_seen rows)) s ≡ whole → rows_seen (take (i + 1) rows) ≡ whole
+  run_ends row whole h is fails left =
+      one_more row h is
+      ∙ (ap (λ (t : List (ℕ × SeenRow)). rows_seen (take i rows) ++ t) (sym (run-next row h is ∙ ap (λ (p : Option Session). row_seen row ∷ run_after p rest_run) fails)) ∙ left)
+
+  -- The next call passes.
+  pub run_goes_on : (row : Bor (ℕ × Row)) (next : Session) (whole : List (ℕ × SeenRow)) → i < length rows → row ≡ get_or rows i row → passed values (row_seen row).1.call s ≡ Some next
+      → rows_seen (take i rows) ++ rows_run values (drop i (rows_seen rows)) s ≡ whole → rows_seen (take (i + 1) rows) ++ rest_run next ≡ whole
+  run_goes_on row next whole h is passes left =
+      ap (λ (t : List (ℕ × SeenRow)). t ++ rest_run next) (one_more row h is)
+      ∙ (append_assoc (rows_seen (take i rows)) (row_seen row ∷ []) (rest_run next)
+      ∙ (ap (λ (t : List (ℕ × SeenRow)). rows_seen (take i rows) ++ t) (sym (run-next row h is ∙ ap (λ (p : Option Session). row_seen row ∷ run_after p rest_run) passes)) ∙ left))
+
+  run-end : length rows ≤ i → rows_run values (drop i (rows_seen rows)) s ≡ []
+  unfolding rows_run
+  run-end h = rw (seen_end rows i h) refl
+
+  -- All calls pass.
+  pub run_whole : (whole : List (ℕ × SeenRow)) → length rows ≤ i → rows_seen (take i rows) ++ rows_run values (drop i (rows_seen rows)) s ≡ whole → rows_seen rows ≡ whole
+  run_whole whole h left =
+      ap (λ (r : List (Bor (ℕ × Row))). rows_seen r) (sym (take_all i rows h))
+      ∙ (sym (append-nil (rows_seen (take i rows))) ∙ (ap (λ (t : List (ℕ × SeenRow)). rows_seen (take i rows) ++ t) (sym (run-end h)) ∙ left))
 
 -- ---- values
 

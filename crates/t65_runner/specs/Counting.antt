@@ -12,7 +12,7 @@ use Rattle.rig.specs.Subroutine.{return_address}
 use Rattle.t65_reader.specs.RowText.{SeenCall, SeenRow}
 use Rattle.t65_reader.specs.declared.row.Request.{Request}
 use Rattle.t65_reader.specs.declared.row.Signal.{Signal}
-use Rattle.t65_runner.specs.Passes.{awaited_of, given_all, ran}
+use Rattle.t65_runner.specs.Passes.{awaited_of, given_all, ran, rows_run}
 use Rattle.t65_runner.specs.Requests.{after_arrival, is_due_in}
 use Rattle.t65_runner.specs.declared.requests.Awaited.{Awaited}
 use Rattle.t65_runner.specs.RangeValues.{count_of, values_at}
@@ -111,22 +111,27 @@ abbrev pub is_last : Option Values → Values → Bool
 is_last None values = false
 is_last (Some failed) values = are_same failed values
 
--- So many calls of a test from a number on, each from a session.
-unfoldable pub counted_in : (ℕ → Values) → (Values → Counts → Counts) → Option Values → ℕ → ℕ
-    → Counts → Counts
-counted_in at one failed zero number counts = counts
-counted_in at one failed (suc n) number counts = if is_last failed (at number)
-    then one (at number) counts
-    else counted_in at one failed n (number + 1) (one (at number) counts)
+-- So many calls of a test from a number on, each from a session; those for the last values are
+-- counted otherwise.
+unfoldable pub counted_in : (ℕ → Values) → (one last : Values → Counts → Counts) → Option Values → ℕ
+    → ℕ → Counts → Counts
+counted_in at one last failed zero number counts = counts
+counted_in at one last failed (suc n) number counts = if is_last failed (at number)
+    then last (at number) counts
+    else counted_in at one last failed n (number + 1) (one (at number) counts)
 
 abbrev pub counted_by : List (ℕ × SeenRow) → Session → Values → Counts → Counts
 counted_by rows s values counts
     = rows_counted values rows (counted_at s counts)
 
+-- Of the calls for values for which a test fails, the first that fails is the last.
+abbrev pub counted_to_failure : List (ℕ × SeenRow) → Session → Values → Counts → Counts
+counted_to_failure rows s values counts = counted_by (rows_run values rows s) s values counts
+
 -- The counts after the rows of a test have been run for its values, up to those for which it fails,
--- each time from a session on.
+-- each time from a session on; for these up to the row that fails.
 unfoldable pub test_counted : SeenRow → List (ℕ × SeenRow) → Session → Option Values → Counts
     → Counts
 test_counted row rows s failed counts
-    = counted_in (values_at row.ranges row.choice) (counted_by rows s) failed
-    (count_of row.ranges row.choice) 0 counts
+    = counted_in (values_at row.ranges row.choice) (counted_by rows s) (counted_to_failure rows s)
+    failed (count_of row.ranges row.choice) 0 counts

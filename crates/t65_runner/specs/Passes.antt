@@ -251,6 +251,16 @@ all_passed values [] s = Some s
 all_passed values (row ∷ rows) s
     = if_given (passed values row.1.call s) (all_passed values rows)
 
+abbrev pub run_after : Option Session → (Session → List (ℕ × SeenRow)) → List (ℕ × SeenRow)
+run_after None rest = []
+run_after (Some s) rest = rest s
+
+-- The rows of some that are run: up to the first whose call fails, and that one.
+unfoldable pub rows_run : Values → List (ℕ × SeenRow) → Session → List (ℕ × SeenRow)
+rows_run values [] s = []
+rows_run values (row ∷ rows) s
+    = row ∷ run_after (passed values row.1.call s) (rows_run values rows)
+
 -- The first of so many numbers for which there is something.
 unfoldable pub first_from : ℕ → ℕ → (ℕ → Option Values) → Option Values
 first_from zero number test = None

@@ -1,12 +1,12 @@
 //! Rows run from the start of a machine.
 
 ghost use Rattle.std.specs.Prelude.{◌≡◌, ◌≢◌, ◌+◌, ◌-◌, [], ◌≤◌, IfErr, IfOk, false, None, Ok, OnOk, Option, true};
-ghost use Rattle.std.specs.Prelude.{is_some, map, Some};
+ghost use Rattle.std.specs.Prelude.{is_some, length, map, take, Some};
 ghost use Rattle.model.specs.State.{State};
 ghost use Rattle.rig.specs.Subroutine.{call_of};
 ghost use Rattle.t65_reader.specs.RowText.{call_view, row_view};
 ghost use Rattle.t65_runner.specs.Passes.{all_passed, failed_values, first_failed, first_from, rows_seen};
-ghost use Rattle.t65_runner.specs.Passes.{awaited_of, called, passed, ran};
+ghost use Rattle.t65_runner.specs.Passes.{awaited_of, called, passed, ran, rows_run};
 ghost use Rattle.t65_runner.specs.RangeValues.{values_at};
 ghost use Rattle.t65_runner.specs.Start.{fresh, IsSince};
 
@@ -151,6 +151,57 @@ fn run_calls(
         }
     }
     Ok(true)
+}
+
+/// Makes the calls of rows one after another, up to the first that fails, and returns how many were
+/// made.
+///
+/// # Errors
+///
+/// `AllocError` if an allocation failed.
+fn run_to_failure(
+    session: &mut Session,
+    rows: &[&(u32, Row)],
+    values: Values,
+) -> Result<usize, AllocError>
+    requires stops { session.old.breaks ≡ [] }
+    ensures run { IfOk result (λ count. rows_seen (take count rows.now)
+        ≡ rows_run values (rows_seen rows.now) session.old) }
+    ensures within { IfOk result (λ count. count ≤ length rows.now) }
+    ensures since { (s : State) → IsSince s session.old → IsSince s session.new }
+    ensures stops { session.new.breaks ≡ [] }
+{
+    for index in 0..rows.len() {
+        if !run_call(session, &rows[index].1.call, values)? {
+            return Ok(index + 1);
+        }
+    }
+    Ok(rows.len())
+}
+
+/// Returns how many of some rows are run for values of ranges from the machine's start: those up to
+/// the first whose call fails. Goes back to the start.
+///
+/// # Errors
+///
+/// `AllocError` if an allocation failed.
+pub fn count_run(
+    alloc: Global,
+    session: &mut Session,
+    map: MapSpec,
+    image: &Image,
+    rows: &[&(u32, Row)],
+    values: Values,
+) -> Result<usize, AllocError>
+    requires { session.old ≡ fresh map image.now }
+    ensures run { IfOk result (λ count. rows_seen (take count rows.now)
+        ≡ rows_run values (rows_seen rows.now) (fresh map image.now)) }
+    ensures within { IfOk result (λ count. count ≤ length rows.now) }
+    ensures back { OnOk result (session.new ≡ fresh map image.now) }
+{
+    let count = run_to_failure(session, rows, values)?;
+    restore(alloc, session, map, image)?;
+    Ok(count)
 }
 
 /// Makes the calls of rows for values of ranges from the machine's start, and goes back there.

@@ -9,11 +9,12 @@ ghost use Rattle.model.specs.Step.{step};
 ghost use Rattle.t65_reader.specs.RowText.{call_view, row_view};
 ghost use Rattle.t65_runner.specs.Counting.{Counted, Part, all_counted, are_same, awaited_in};
 ghost use Rattle.t65_runner.specs.Counting.{call_counted, counted_at, counted_by, counted_on};
+ghost use Rattle.t65_runner.specs.Counting.{counted_to_failure};
 ghost use Rattle.t65_runner.specs.Counting.{is_last, rows_counted, steps_counted, test_counted};
 ghost use Rattle.t65_runner.specs.Start.{IsSince, fresh};
 ghost use Rattle.t65_runner.specs.Passes.{rows_seen};
 
-use crate::bench::{awaited_of, run_entered};
+use crate::bench::{awaited_of, count_run, run_entered};
 use crate::going_back::restore;
 use crate::passes::given_all;
 use crate::range_values::{Values, count_of, four_later, seed_of, values_by};
@@ -180,6 +181,27 @@ fn count_values(
     restore(alloc, session, map, image)
 }
 
+/// Makes the calls of rows for values for which one of them fails, up to that one, from the
+/// machine's start, counts their steps, and goes back there.
+fn count_to_failure(
+    alloc: Global,
+    session: &mut Session,
+    map: MapSpec,
+    image: &Image,
+    rows: &[&(u32, Row)],
+    values: Values,
+    tally: &mut Tally,
+) -> Result<(), AllocError>
+    requires { session.old ≡ fresh map image.now }
+    ensures counted { OnOk result (tally.new
+        ≡ counted_to_failure (rows_seen rows.now) (fresh map image.now) values tally.old) }
+    ensures back { OnOk result (session.new ≡ fresh map image.now) }
+{
+    let count = count_run(alloc, session, map, image, rows, values)?;
+    count_values(alloc, session, map, image, &rows[..count], values, tally)?;
+    Ok(())
+}
+
 fn are_same(one: Values, other: Values) -> bool
     ensures { result ≡ are_same one other }
 {
@@ -201,7 +223,8 @@ fn is_last(failed: Option<Values>, values: Values) -> bool
 
 /// Makes the calls of rows once more from the machine's start, for the values of the ranges of a
 /// row up to those for which it fails, and counts at which addresses steps begin. It goes back to
-/// the start after each time. The rows after one that is not made or does not return are not run.
+/// the start after each time. For the values for which it fails, the rows after the first whose
+/// call fails are not run.
 ///
 /// # Errors
 ///
@@ -225,10 +248,11 @@ pub fn count_test(
     let mut number = seed_of(row.choice);
     for n in 0..count_of(row.ranges, row.choice) {
         let values = values_by(row.ranges, row.choice, n, number);
-        count_values(alloc, session, map, image, rows, values, tally)?;
         if is_last(failed, values) {
+            count_to_failure(alloc, session, map, image, rows, values, tally)?;
             return Ok(());
         }
+        count_values(alloc, session, map, image, rows, values, tally)?;
         number = four_later(number);
     }
     Ok(())

@@ -384,7 +384,13 @@ fn record_text(alloc: Global, file: &str, fault: RecordFault) -> Result<String, 
         (λ words. string_bytes words ≡ no_image_text file.now (Record fault)) }
 {
     let mut words = String::new(alloc);
-    push_place(&mut words, alloc, file, fault.line as u64, fault.column as u64)?;
+    push_place(
+        &mut words,
+        alloc,
+        file,
+        fault.line as u64,
+        fault.column as u64,
+    )?;
     push_kind(&mut words, fault.kind)?;
     Ok(words)
 }

@@ -101,7 +101,11 @@ fn not_mended(
 /// Writes OUT, unless it is the tape under another name.
 ///
 /// Errors: `WriteFile` if OUT is the tape, or cannot be written; `OutOfMemory` if an allocation fails.
-fn write_out<H: Files + AllocGlobal>(rt: &H, words: &MendWords<'_>, text: &[u8]) -> Result<(), Refusal>
+fn write_out<H: Files + AllocGlobal>(
+    rt: &H,
+    words: &MendWords<'_>,
+    text: &[u8],
+) -> Result<(), Refusal>
     ensures { IfErr result EndsWriting }
 {
     if is_one_file(rt, words.tape, words.out) {

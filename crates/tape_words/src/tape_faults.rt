@@ -82,7 +82,13 @@ pub fn fault_text(
         (fault_front file.now (line_of text.now fault.offset) fault.kind) (string_bytes words)) }
 {
     let mut words = String::new(alloc);
-    push_front(&mut words, alloc, file, line_of(text, fault.offset), fault.kind)?;
+    push_front(
+        &mut words,
+        alloc,
+        file,
+        line_of(text, fault.offset),
+        fault.kind,
+    )?;
     let mut meaning = String::new(alloc);
     push_meaning(&mut meaning, text, fault)?;
     meaning.push_str("\n")?;

@@ -1,7 +1,7 @@
-use Rattle.std.proofs.Common.{◌≡◌, ◌∙◌, ap, arith, chars, encode_utf8, length, map-id, sym}
+use Rattle.std.proofs.Common.{◌∙◌, ◌≤◌, ap, arith, chars, encode_utf8, length, map-id, sym}
 use Rattle.std.proofs.lemmas.Iterator.{YieldsList-from_chars}
 use Rattle.std.proofs.lemmas.Iterator.Consumers.{YieldsList-end, YieldsList-so_far}
-use Rattle.arguments.proofs.Shown.{all_parts, more_part, none_short, part_failed, put_part, short_part}
+use Rattle.arguments.proofs.Names.{all_parts, more_part, none_short, part_failed, put_part, short_part}
 use Rattle.arguments.proofs.shown.put_shown.Goals as goal
 use Rattle.arguments.proofs.shown.put_shown.Goals.{then-len-gt-MOST_AT_ONCE+in-Ok, else-len-gt-MOST_AT_ONCE}
 
@@ -27,7 +27,7 @@ loop-character-preserved g c =
           rw w.output-is (record {
             next = tt;
             finite = tt;
-            short = short_part _ _ _ (rw w.text-is at c.push_bytes.ensures) small (omega (arith, w.if-len-gt-MOST_AT_ONCE.false, c.len.ensures.value));
+            short = short_part c.loop-character.text.items _ _ (rw w.text-is at c.push_bytes.ensures) small (omega (arith, w.if-len-gt-MOST_AT_ONCE.false, c.len.ensures.value));
             written = more_part _ _ _ _ _ _ c.in-Some.character c.loop-character.invariant.written shown (rw w.text-is at c.push_bytes.ensures);
           })
     ]

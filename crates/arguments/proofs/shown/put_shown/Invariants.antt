@@ -1,5 +1,5 @@
 use Rattle.std.proofs.Common.{◌≤◌, length}
-use Rattle.arguments.proofs.Shown.{IsPart}
+use Rattle.arguments.proofs.Names.{IsPart}
 use Rattle.arguments.proofs.shown.put_shown.Given as goal
 
 abbrev pub invariant-loop-character : goal.invariant-loop-character

@@ -11,7 +11,7 @@ returns-in-Some g c =
       taken.0,
       taken.1,
       c.in-Some.body.items,
-      taken.2,
+      taken.3,
       h.0,
       subst (λ body. Answers (option_map (λ s. s.now) c.args.seen) body c.args.adapter.now c.args.sent c.answer.new.adapter p.0 p.1 h.0) c.deref.ensures.value h.1,
       h.2,

@@ -1,4 +1,4 @@
-use Rattle.std.proofs.Common.{◌++◌, map, take}
+use Rattle.std.proofs.Common.{◌++◌, map}
 use Rattle.lsp_answers.proofs.Behind.{AreBehind, directive_item}
 use Rattle.lsp_answers.proofs.DefinedSteps.{AreDefined}
 use Rattle.lsp_answers.specs.Lists.{defined, mnemonic_item, name_item}

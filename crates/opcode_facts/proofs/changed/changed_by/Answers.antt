@@ -1,7 +1,7 @@
 use Rattle.std.proofs.Common.{subst, sym}
-use Rattle.mon_dispatch.proofs.Others.{keeps_others}
-use Rattle.mon_dispatch.specs.Changed.{KeepsOthers}
-use Rattle.mon_dispatch.proofs.changed.changed_by.Goals as goal
+use Rattle.opcode_facts.proofs.Others.{keeps_others}
+use Rattle.opcode_facts.specs.Changed.{KeepsOthers}
+use Rattle.opcode_facts.proofs.changed.changed_by.Goals as goal
 
 pub returns-clause-kept : goal.returns-clause-kept
 returns-clause-kept c = λ mode place state is.

@@ -16,7 +16,7 @@ use Rattle.model.specs.declared.operation.ModifyOp.{ModifyOp}
 use Rattle.model.specs.declared.operation.ModifyOp.TheVariants as modify_op
 use Rattle.model.specs.declared.operation.RegisterOp.{RegisterOp}
 use Rattle.model.specs.declared.operation.RegisterOp.TheVariants as register_op
-use Rattle.mon_dispatch.specs.Changed.{KeepsOthers, changed_by}
+use Rattle.opcode_facts.specs.Changed.{KeepsOthers, changed_by}
 
 by_read : (op : ReadOp) (profile : Profile) (mode : Mode) (place : EffectiveAddress) (state : State)
     → KeepsOthers (changed_by profile (operation.Read op)) (operation.Read op) mode place state

@@ -4,9 +4,9 @@ ghost use Rattle.std.specs.Prelude.{◌≡◌};
 ghost use Rattle.model.specs.State.{State};
 ghost use Rattle.model.specs.declared.instruction.EffectiveAddress.{EffectiveAddress};
 ghost use Rattle.model.specs.declared.instruction.Mode.{Mode};
-ghost use Rattle.mon_dispatch.specs.Changed.{KeepsOthers, changed_by, changed_by_modify};
-ghost use Rattle.mon_dispatch.specs.Changed.{changed_by_move, changed_by_read, of_result};
-ghost use Rattle.mon_dispatch.specs.Changed.{of_setting};
+ghost use Rattle.opcode_facts.specs.Changed.{KeepsOthers, changed_by, changed_by_modify};
+ghost use Rattle.opcode_facts.specs.Changed.{changed_by_move, changed_by_read, of_result};
+ghost use Rattle.opcode_facts.specs.Changed.{of_setting};
 
 use model::{Flags, ModifyOp, ReadOp, RegisterOp};
 use optable::{Operation, Profile};
