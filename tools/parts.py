@@ -1,0 +1,115 @@
+"""The part of the program mos65 that a word needs, made from crates/mos65 as it stands.
+
+crates/mos65/src/main.rt has a match whose arms call what serves a route, and src/routes.rt says which
+word has which route. A part keeps the arms of one word, or of `asm`, `dis` and `debug`, and the crates
+which those name. What `asm`, `dis` and `debug` promise is in each, so each answers the session by which
+tools/first-look checks a program."""
+
+import re
+
+from proving import TOP, read, read_crates
+
+SOURCE = f"{TOP}/crates/mos65/src"
+PROMISED = "asm", "dis", "debug"
+ADDED = r'"(\w+)" => Route::(\w+),'
+FUNCTION = r"(?ms)^fn (\w+)\(.*?^}\n"
+MATCH = r"(?ms)^    match (\S+|route_of\(words\)) \{\n(.*?)^    \}\n"
+ARM = r"(?ms)^        ([^\s})].*?) => (.*?),\n(?=        \w|\Z)"
+OTHERS = "        _ => serve_promised(rt, words),\n"
+
+
+def text_of(name):
+    return read(f"{SOURCE}/{name}").decode()
+
+
+def name_of(words):
+    """The part that serves these words, or None where only the whole program does."""
+    if not words or any(it in ("-h", "--help") for it in words):
+        return None
+    name = "debug" if words[0] in PROMISED else words[0]
+    try:
+        make(name)
+    except (OSError, LookupError, TypeError):
+        return None  # no such word, or sources of another form
+    return name
+
+
+def arms_for(arms, route):
+    """The arm of a route: the one that names it, or else the one for all others."""
+    named = [what for pattern, what in arms if re.search(rf"\bRoute::{route}\b", pattern)]
+    return named or [what for pattern, what in arms if pattern == "_"]
+
+
+def cut(text, route):
+    """A function in which a match on a route has become what it does for this one."""
+    found = re.search(MATCH, text)
+    if not found or "Route" not in found[2]:
+        return text
+    what = arms_for(re.findall(ARM, found[2]), route)[0]
+    text = text.replace(found[0], f"    {what}\n")
+    return text.replace(" route: Route,", "").replace("(rt, route, ", "(rt, ")
+
+
+def called_by(text, functions):
+    return [name for name in functions if re.search(rf"\b{name}\(", text)]
+
+
+def with_called(text, functions, route):
+    """The text, with the functions of the program that it calls."""
+    texts, left = {"": text}, called_by(text, functions)
+    while left:
+        name = left.pop()
+        if name not in texts:
+            texts[name] = cut(functions[name], route)
+            left += called_by(texts[name], functions)
+    return "\n".join(texts.values())
+
+
+def serve_word(serve, word, route):
+    """`serve` for one word: what it does for that, and what was promised."""
+    only = f'    if words.is_empty() || words[0] != "{word}" {{\n        return serve_promised(rt, words);\n    }}\n'
+    head, opening, body = cut(serve, route).partition("{\n")
+    return f"{head}{opening}{only}{body}"
+
+
+def serve_promised(serve, others):
+    """`serve` for `asm`, `dis` and `debug` with all their options."""
+    found = re.search(MATCH, serve)
+    arms = re.findall(ARM, found[2])
+    kept = [(it, what) for it, what in arms if not re.search(rf"\bRoute::({'|'.join(others)})\b", it)]
+    rows = "".join(f"        {it} => {what},\n" for it, what in kept)
+    return serve.replace(found[2], rows + OTHERS)
+
+
+def uses_in(text, kept):
+    """The lines of a file that import what stands in `kept`."""
+    uses = re.findall(r"(?m)^use ([^;]*);\n", text)
+    last = lambda use: re.findall(r"\w+", use.rpartition("::")[2])
+    return [use for use in uses if any(re.search(rf"\b{it}\b", kept) for it in last(use))]
+
+
+def crates_in(texts):
+    """The crates that source files import from, each after those below it."""
+    named = {it for text in texts for it in re.findall(r"(?m)^use (\w+)::", text)}
+    own = [it for name, it in read_crates().items() if name in named]
+    return own, [*dict.fromkeys(it for use in own for it in [*use.below, use])]
+
+
+def make(name):
+    """Returns a part's source files by name, its row for crates.txt, and the crates below it."""
+    main, routes = re.sub(r"(?m)^ *///.*\n", "", text_of("main.rt")), text_of("routes.rt")
+    functions = {it[1]: it[0] for it in re.finditer(FUNCTION, main)}
+    added = dict(re.findall(ADDED, routes))
+    serve, begin = functions.pop("serve"), functions.pop("main")
+    if name in added:
+        serve = serve_word(serve, name, added[name])
+    elif name in PROMISED:
+        serve = serve_promised(serve, [*added.values(), "Whole"])
+    else:
+        raise LookupError(name)
+    kept = with_called(f"{serve}\n{begin}", functions, added.get(name))
+    files = {"routes.rt": routes} if "route_of" in kept else {}
+    heads = [f"mod {it[:-3]};\n" for it in files] + [f"use {it};\n" for it in uses_in(main, kept)]
+    files["main.rt"] = "".join([*heads, "\n", kept])
+    own, below = crates_in(files.values())
+    return files, f"mos65: {' '.join(it.name for it in own)}", below
