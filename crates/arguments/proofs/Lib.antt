@@ -5,3 +5,4 @@ pub mod Parsed
 pub mod Writing
 pub mod Refusing
 mod Names
+mod Apart

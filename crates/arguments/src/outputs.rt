@@ -3,7 +3,7 @@
 ghost use Rattle.std.specs.List.{list_any};
 ghost use Rattle.std.specs.Prelude.{◌≡◌, IfErr, IfOk, false, map};
 ghost use Rattle.arguments.specs.Files.{EndsWriting};
-ghost use Rattle.arguments.specs.Outputs.{is_named, named};
+ghost use Rattle.arguments.specs.Outputs.{clash, is_among, is_named, named};
 ghost use Rattle.arguments.specs.declared.write_fault.WriteFault.TheVariants.{LooksLikeTape};
 ghost use Rattle.papertape.specs.Hint.{BeginsTape};
 
@@ -59,6 +59,28 @@ fn check_output_among<'a, H: Files + AllocGlobal>(
     }
 }
 
+/// Checks that a file, where there is one, is neither one that is read nor one that is written
+/// before it.
+fn check_behind<'a, H: Files + AllocGlobal>(
+    rt: &H,
+    file: Option<&'a str>,
+    read: &[Option<&'a str>],
+    before: &[Option<&'a str>],
+) -> Result<(), FileRefusal<'a>>
+    ensures apart { IfOk result (λ _. (is_among (map named read.now) (named file.entry) ≡ false)
+        × (is_among (map named before.now) (named file.entry) ≡ false)) }
+    ensures refused { IfErr result (λ why. EndsWriting why.refusal) }
+{
+    match file {
+        None => Ok(()),
+        Some(name) => {
+            check_output_among(rt, name, read)?;
+            check_output_among(rt, name, before)?;
+            Ok(())
+        }
+    }
+}
+
 /// Checks that no file that is to be written is one that is read, or another that is to be written.
 /// Nothing is opened.
 ///
@@ -69,13 +91,12 @@ pub fn check_outputs<'a, H: Files + AllocGlobal>(
     read: &[Option<&'a str>],
     written: &[Option<&'a str>],
 ) -> Result<(), FileRefusal<'a>>
+    ensures apart { IfOk result
+        (λ _. clash (map named read.now) (map named written.now) ≡ false) }
     ensures refused { IfErr result (λ why. EndsWriting why.refusal) }
 {
     for at in 0..written.len() {
-        if let Some(file) = written[at] {
-            check_output_among(rt, file, read)?;
-            check_output_among(rt, file, &written[..at])?;
-        }
+        check_behind(rt, written[at], read, &written[..at])?;
     }
     Ok(())
 }

@@ -3,7 +3,7 @@
 use std::fs::{File, Files, OpenOptions};
 use std::os::fd::AsRawFd;
 
-/// A file that can be opened anew as often as there are streams.
+/// The file that is opened in the place of each closed stream.
 const NOTHING: &str = "/dev/null";
 
 /// Files in the places of the standard streams that were closed when the program began.
