@@ -1,4 +1,5 @@
 pub mod Chained
+pub mod Ended
 pub mod Filtered
 pub mod Nothing
 pub mod Refused

@@ -1,10 +1,11 @@
 -- Values written one after another.
-use Rattle.std.proofs.Common.{◌≡◌, ◌∙◌, ℕ, ◌+◌, ◌<◌, ◌≤◌, List, [], ◌∷◌, ◌++◌, length, get_or, drop, map, refl, sym, ap, add-one, drop-cons}
+use Rattle.std.proofs.Common.{◌≡◌, ◌∙◌, ℕ, ◌+◌, ◌<◌, ◌≤◌, List, [], ◌∷◌, ◌++◌, length, get_or, drop, append_assoc, map, refl, sym, ap, add-one, drop-cons}
 use Rattle.std.proofs.lemmas.List.{drop_all}
 use Rattle.json_values.specs.Bodies.{IsTextOf}
 use Rattle.lsp.specs.Writing.{AreWritten}
 use Rattle.message_stream.specs.Messages.{framed}
 use Rattle.serde_json.specs.Data.{Data}
+use Rattle.serde_json.specs.Written.{compact_text}
 use Rattle.serde_json.specs.View.{view}
 use Rattle.serde_json.specs.declared.value.Value.{Value}
 
@@ -24,3 +25,14 @@ written_step vs i v within is text behind one more =
     let cons : drop i vs ≡ get_or vs i v ∷ drop (i + 1) vs = rw add-one (drop-cons vs i v within) in
     let e : drop i vs ≡ v ∷ drop (i + 1) vs = cons ∙ ap (λ (x : Value). x ∷ drop (i + 1) vs) (sym is) in
     rw e (written_first (view v) (map view (drop (i + 1) vs)) text behind one more)
+
+-- each value has a text
+pub some_written : (ds : List Data) → (written : List ℕ) × AreWritten ds written
+unfolding AreWritten
+some_written [] = ([], refl)
+some_written (d ∷ ds) = let more = some_written ds in (framed (compact_text d) ++ more.0, (compact_text d, more.0, λ _. refl, more.1, refl))
+
+-- a beginning of one text behind others is a beginning of all of them
+pub front_behind : (before text front rest more : List ℕ) → text ≡ front ++ rest → before ++ (text ++ more) ≡ (before ++ front) ++ (rest ++ more)
+front_behind before text front rest more is =
+    ap (λ (t : List ℕ). before ++ (t ++ more)) is ∙ ap (λ (t : List ℕ). before ++ t) (append_assoc front rest more) ∙ sym (append_assoc before front (rest ++ more))

@@ -1,11 +1,12 @@
 -- The command line of `lsp [--port HHHH] [--profile N|C]`, as clap's definitions describe one, and
 -- what its words ask for. How words are matched with it is clap's to say. Source: mos65.
-use Rattle.std.specs.Prelude.{ℕ, Option, Some, None, List, codes}
+use Rattle.std.specs.Prelude.{ℕ, ◌≡◌, false, Option, Some, None, List, codes}
 use Rattle.arguments.specs.CommandLine.{option_rule, unnamed}
 use Rattle.arguments.specs.Values.{port_asked, profile_asked}
-use Rattle.arguments.specs.Words.{value_in}
+use Rattle.arguments.specs.Words.{Fits, value_in}
 use Rattle.clap.specs.Words.{App, Text, with_rule}
 use Rattle.lsp.specs.declared.words.LspWords.{LspWords}
+use Rattle.model.specs.State.{is_map}
 use Rattle.model.specs.declared.instruction.Profile.{Profile}
 
 abbrev pub lsp_app : App
@@ -31,3 +32,11 @@ lsp_asked words = lsp_by (value_in lsp_app words)
 -- What was read, as what is asked for.
 abbrev pub lsp_view : LspWords → LspAsked
 lsp_view w = record { port = w.port; profile = w.profile }
+
+-- The port makes no map.
+abbrev pub HasNoMap : LspAsked → Type 0
+HasNoMap asked = is_map None asked.port ≡ false
+
+-- The words fit, each value is one that its name can have, and a fact holds of what they ask for.
+abbrev pub Asks : List Text → (LspAsked → Type 0) → Type 0
+Asks words P = (asked : LspAsked) × Fits lsp_app words × (lsp_asked words ≡ Some asked) × P asked

@@ -1,4 +1,5 @@
--- A session of a server: which messages of its input it serves, in which order, and what it writes.
+-- A session of a server: which messages of its input it serves, in which order, what it writes, and
+-- with which status it ends.
 -- Source: Language Server Protocol 3.17, "Base Protocol", "Exit Notification"; the end of the input
 -- after `shutdown`, mos65.
 use Rattle.std.specs.Prelude.{ℕ, ◌≡◌, ◌⊎◌, List, [], Option, None}
@@ -9,7 +10,9 @@ use Rattle.lsp.specs.Messages.{Does}
 use Rattle.lsp.specs.State.{State, start}
 use Rattle.lsp.specs.Writing.{AreWritten}
 use Rattle.lsp.specs.declared.phase.Phase.TheVariants.{ShutDown}
-use Rattle.message_stream.specs.Sessions.{IsEndedBy, IsServedSoFar}
+use Rattle.message_stream.specs.Sessions.{IsCutShort, IsEndedBy, IsServedSoFar}
+use Rattle.message_stream.specs.declared.fault.StreamFault.{StreamFault}
+use Rattle.message_stream.specs.declared.fault.StreamFault.TheVariants.{NoLength, LongHeader, Cut, Read, Write, OutOfMemory}
 use Rattle.model.specs.State.{Map}
 use Rattle.serde_json.specs.Data.{Data}
 
@@ -39,3 +42,28 @@ abbrev pub IsSession : Map → Option (List ℕ) → Option (List ℕ) → ℕ �
     → Option (List ℕ) → Type 0
 IsSession bus_map given left status before after = (written : List ℕ)
     × Ends bus_map given left status written × Appends before after written
+
+-- ---- a session that a fault cuts short
+
+-- The status then: 3 for memory, 4 for the streams and what they hold.
+abbrev pub status_of : StreamFault → ℕ
+status_of NoLength = 4
+status_of LongHeader = 4
+status_of Cut = 4
+status_of Read = 4
+status_of Write = 4
+status_of OutOfMemory = 3
+
+-- All that is written of the messages that were served is appended, and a beginning of what is
+-- written of the next one.
+abbrev pub IsCut : Map → Option (List ℕ) → Option (List ℕ) → StreamFault → Option (List ℕ)
+    → Option (List ℕ) → Type 0
+IsCut bus_map given left fault before after = (written : List ℕ)
+    × IsCutShort (Answers bus_map) given left start fault written × Appends before after written
+
+-- A session with its status: it came to its end, or a fault cut it short.
+abbrev pub IsServed : Map → Option (List ℕ) → Option (List ℕ) → ℕ → Option (List ℕ)
+    → Option (List ℕ) → Type 0
+IsServed bus_map given left status before after
+    = IsSession bus_map given left status before after ⊎ ((fault : StreamFault)
+    × (status ≡ status_of fault) × IsCut bus_map given left fault before after)

@@ -1,13 +1,18 @@
 //! Messages taken from the input, one after another, and answered.
 
-ghost use Rattle.std.specs.Prelude.{◌≡◌, ◌≤◌, [], ℕ, IfOk, IsErr, List};
-ghost use Rattle.std.specs.Prelude.{MatchResult, None, Some, map as each};
+ghost use Rattle.std.specs.Prelude.{◌≡◌, ◌≢◌, ◌≤◌, ◌⊎◌, [], ℕ, Err, IfOk, List, MatchResult};
+ghost use Rattle.std.specs.Prelude.{None, Some};
+ghost use Rattle.std.specs.Prelude.{map as each};
 ghost use Rattle.std.specs.Io.KnownBytes.{Appends};
-ghost use Rattle.arguments.specs.Words.{Fits, Refuses, texts};
-ghost use Rattle.lsp.specs.CommandLine.{LspAsked, lsp_app, lsp_asked, lsp_view};
-ghost use Rattle.lsp.specs.Sessions.{Answers, IsSession, map_for};
+ghost use Rattle.arguments.specs.Words.{AsksForHelp, Fits, Misfits, Refuses, texts};
+ghost use Rattle.lsp.specs.CommandLine.{Asks, HasNoMap, LspAsked, lsp_app, lsp_asked, lsp_view};
+ghost use Rattle.lsp.specs.Sessions.{Answers, IsCut, IsServed, IsSession, map_for, status_of};
 ghost use Rattle.lsp.specs.State.{server_view, start};
 ghost use Rattle.lsp.specs.Writing.{AreWritten};
+ghost use Rattle.message_stream.specs.Sessions.{BeginsTurn};
+ghost use Rattle.message_stream.specs.Taken.{IsUnwritten};
+ghost use Rattle.message_stream.specs.declared.fault.StreamFault.TheVariants.{OutOfMemory};
+ghost use Rattle.model.specs.Writers.{AppendsFront};
 ghost use Rattle.serde_json.specs.View.{view};
 
 use crate::phase::Phase;
@@ -25,17 +30,21 @@ use std::io::{Read, Write};
 /// Writes what is told after a message as messages, if memory did not run out for it, and flushes
 /// the output behind each. Returns no exit status: the session goes on.
 ///
-/// Errors: `Write` if the output fails; `OutOfMemory` if an allocation fails, before or here.
+/// Errors: `Write` if the output fails; `OutOfMemory` if an allocation fails, before or here. A
+/// beginning of the messages was written then.
 fn told<O: Write>(
     alloc: Global,
     values: Result<Vec<Value>, AllocError>,
     output: &mut O,
 ) -> Result<Option<u8>, StreamFault>
     ensures { MatchResult values
-        (λ vs. IfOk result (λ end. (end ≡ None) × (written : List ℕ)
+        (λ vs. MatchResult result (λ end. (end ≡ None) × (written : List ℕ)
         × AreWritten (each view vs.items) written
-        × Appends (O.contents output.old) (O.contents output.new) written))
-        (λ e. IsErr result) }
+        × Appends (O.contents output.old) (O.contents output.new) written)
+        (λ fault. IsUnwritten fault × (written : List ℕ)
+        × AreWritten (each view vs.items) written
+        × AppendsFront (O.contents output.old) (O.contents output.new) written))
+        (λ e. (result ≡ Err OutOfMemory) × (output.new ≡ output.old)) }
 {
     let Ok(values) = values else {
         return Err(StreamFault::OutOfMemory);
@@ -52,7 +61,8 @@ fn told<O: Write>(
 /// Does what the body of a message asks for, and writes what is told then. Returns the exit status
 /// if the message asks for the end.
 ///
-/// Errors: `Write` if the output fails; `OutOfMemory` if an allocation fails.
+/// Errors: `Write` if the output fails; `OutOfMemory` if an allocation fails. A beginning of what
+/// is told was written then.
 fn answer<O: Write>(
     alloc: Global,
     map: &MapSpec,
@@ -60,8 +70,11 @@ fn answer<O: Write>(
     body: Vec<u8>,
     output: &mut O,
 ) -> Result<Option<u8>, StreamFault>
-    ensures { IfOk result (λ end. (written : List ℕ)
+    ensures { MatchResult result (λ end. (written : List ℕ)
         × Answers map.now body.items (server_view server.old) (server_view server.new) end written
+        × Appends (O.contents output.old) (O.contents output.new) written)
+        (λ fault. IsUnwritten fault × (written : List ℕ)
+        × BeginsTurn (Answers map.now) body.items (server_view server.old) written
         × Appends (O.contents output.old) (O.contents output.new) written) }
 {
     let message = value_of(alloc, &body);
@@ -92,8 +105,11 @@ fn attend<R: Read, O: Write>(
 ) -> Result<u8, StreamFault>
     requires empty { incoming.old.bytes ≡ [] }
     requires fresh { server_view server.old ≡ start }
-    ensures session { IfOk result (λ status. IsSession map.now (R.remaining input.old)
-        (R.remaining input.new) status (O.contents output.old) (O.contents output.new)) }
+    ensures session { MatchResult result
+        (λ status. IsSession map.now (R.remaining input.old) (R.remaining input.new) status
+        (O.contents output.old) (O.contents output.new))
+        (λ fault. IsCut map.now (R.remaining input.old) (R.remaining input.new) fault
+        (O.contents output.old) (O.contents output.new)) }
     ensures small { IfOk result (λ status. status ≤ 1) }
 {
     for _ in 0..u64::MAX {
@@ -113,21 +129,29 @@ fn attend<R: Read, O: Write>(
     Err(StreamFault::Read)
 }
 
-/// Tells why a session ends before its end is asked for, and returns the exit status.
-fn cut_off<E: Write>(fault: StreamFault, errors: &mut E) -> u8
-    ensures least { 3 ≤ result }
-    ensures most { result ≤ 4 }
+/// Tells what of the streams cuts a session short, and returns the exit status.
+fn cut_by<E: Write>(reason: &str, errors: &mut E) -> u8
+    ensures { result ≡ 4 }
 {
-    let reason = match fault {
-        StreamFault::NoLength => "a header of the input gives no length of a message",
-        StreamFault::LongHeader => "a header of the input has more than 4096 bytes",
-        StreamFault::Cut => "the input ends before exit",
-        StreamFault::Read => "the input cannot be read",
-        StreamFault::Write => "the output cannot be written",
-        StreamFault::OutOfMemory => return refuse(Refusal::OutOfMemory, errors),
-    };
     put_all(&[b"mos65: ", reason.as_bytes(), b"\n"], errors);
     4
+}
+
+/// Tells why a session ends before its end is asked for, and returns the exit status.
+fn cut_off<E: Write>(fault: StreamFault, errors: &mut E) -> u8
+    ensures { result ≡ status_of fault }
+{
+    match fault {
+        StreamFault::NoLength => cut_by(
+            "a header of the input gives no length of a message",
+            errors,
+        ),
+        StreamFault::LongHeader => cut_by("a header of the input has more than 4096 bytes", errors),
+        StreamFault::Cut => cut_by("the input ends before exit", errors),
+        StreamFault::Read => cut_by("the input cannot be read", errors),
+        StreamFault::Write => cut_by("the output cannot be written", errors),
+        StreamFault::OutOfMemory => refuse(Refusal::OutOfMemory, errors),
+    }
 }
 
 /// Serves a session on the map of the words, and returns the exit status.
@@ -138,9 +162,10 @@ fn done<R: Read, O: Write, E: Write>(
     output: &mut O,
     errors: &mut E,
 ) -> u8
-    ensures session { result ≤ 1 → IsSession (map_for (lsp_view words.now))
+    ensures session { result ≢ 2 → IsServed (map_for (lsp_view words.now))
         (R.remaining input.old) (R.remaining input.new) result (O.contents output.old)
         (O.contents output.new) }
+    ensures wrong { result ≡ 2 → HasNoMap (lsp_view words.now) }
     ensures status { result ≤ 4 }
     ensures quiet { result ≤ 1 → errors.new ≡ errors.old }
     ensures unread { result ≡ 2 → input.new ≡ input.old }
@@ -171,18 +196,36 @@ pub fn lsp<H: AllocGlobal, R: Read, O: Write, E: Write>(
     output: &mut O,
     errors: &mut E,
 ) -> u8
-    // Words that fit the command line, with right values: up to the end all messages that were read
-    // are answered in their order, and nothing else is written.
+    // Words that fit the command line, with right values, and a map: all messages that were read
+    // are answered in their order, and nothing else is written; up to the end, or up to a fault,
+    // before which a beginning of the next answer was written. The status says which.
     ensures session { (a : LspAsked) → lsp_asked (texts words.entry.now) ≡ Some a
-        → Fits lsp_app (texts words.entry.now) → result ≤ 1 → IsSession (map_for a)
+        → Fits lsp_app (texts words.entry.now) → result ≢ 2 → IsServed (map_for a)
         (R.remaining input.old) (R.remaining input.new) result (O.contents output.old)
         (O.contents output.new) }
+    // 0 means that a session came to its end so, or that help was asked for; 1, that a session
+    // came to its end so.
+    ensures right { result ≡ 0 → AsksForHelp lsp_app (texts words.entry.now)
+        ⊎ Asks (texts words.entry.now) (λ a. IsSession (map_for a) (R.remaining input.old)
+        (R.remaining input.new) 0 (O.contents output.old) (O.contents output.new)) }
+    ensures early { result ≡ 1 → Asks (texts words.entry.now) (λ a. IsSession (map_for a)
+        (R.remaining input.old) (R.remaining input.new) 1 (O.contents output.old)
+        (O.contents output.new)) }
+    // 2 means that the words do not fit, that a value is wrong, or that the port makes no map.
+    ensures wrong { result ≡ 2 → Misfits lsp_app (texts words.entry.now)
+        ⊎ ((Fits lsp_app (texts words.entry.now)
+        × (lsp_asked (texts words.entry.now) ≡ None))
+        ⊎ Asks (texts words.entry.now) HasNoMap) }
+    // 4 means that the streams or what they hold cut a session short, or that help was asked for.
+    ensures cut { result ≡ 4 → AsksForHelp lsp_app (texts words.entry.now)
+        ⊎ Asks (texts words.entry.now) (λ a. IsServed (map_for a) (R.remaining input.old)
+        (R.remaining input.new) 4 (O.contents output.old) (O.contents output.new)) }
     // Other words read nothing, and write nothing on the output but help.
     ensures refused { Refuses lsp_app (texts words.entry.now)
         (lsp_asked (texts words.entry.now) ≡ None) result (input.new ≡ input.old)
         (output.new ≡ output.old) }
     ensures status { result ≤ 4 }
-    // After `exit` nothing is written on the error stream.
+    // If a session came to its end, nothing is written on the error stream.
     ensures quiet { result ≤ 1 → errors.new ≡ errors.old }
     // If the words or the map are wrong, nothing is read and nothing is answered.
     ensures unread { result ≡ 2 → input.new ≡ input.old }
