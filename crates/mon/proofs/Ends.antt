@@ -1,14 +1,19 @@
 -- Why no session begins.
-use Rattle.std.proofs.Common.{◌≡◌, ◌⊎◌, ℕ, inl, inr, subst, List, Option, None, Some, Bor, option_map, unwrap_or}
+use Rattle.std.proofs.Common.{◌≡◌, ◌⊎◌, ℕ, Bool, ◌++◌, inl, inr, refl, subst, List, Option, None, Some, Err, Bor, option_map, unwrap_or}
+use Rattle.std.specs.Prelude.{⊤}
+use Rattle.std.specs.Io.KnownBytes.{Appends}
 use Rattle.arguments.specs.FaultLines.{file_line, load_text}
 use Rattle.arguments.specs.Statuses.{status_of}
 use Rattle.arguments.specs.Asked.{FileAsked}
 use Rattle.arguments.specs.declared.load_fault.LoadFault.TheVariants.{Refused}
 use Rattle.arguments.specs.declared.refusal.Refusal.{Refusal}
-use Rattle.arguments.specs.declared.refusal.Refusal.TheVariants.{OutOfMemory}
+use Rattle.arguments.specs.declared.refusal.ReadFault.TheVariants.{Other}
+use Rattle.arguments.specs.declared.refusal.Refusal.TheVariants.{OutOfMemory, Read, Write}
 use Rattle.loading.proofs.Ends.{memory_ends}
 use Rattle.loading.specs.Told.{Heard, IsUnloaded, Tells}
-use Rattle.mon.specs.Done.{IsUnnamed}
+use Rattle.mon.specs.Attended.{AttendsInPart, IsAttendedSoFar}
+use Rattle.mon.specs.Done.{Attends, EndsSession, IsUnnamed, opening}
+use Rattle.mon.specs.declared.seat.Seat.{Seat}
 use Rattle.mon.specs.Starts.{EndsNamed}
 
 -- Memory ran out: the line names no file.
@@ -30,3 +35,17 @@ pub ends_named : (symbols : Option (Bor (List ℕ))) (other : Bor (List ℕ)) (f
     → IsUnloaded file heard status Alone ⊎ (IsUnnamed (option_map (λ s. s.now) symbols) file heard status Alone ⊎ Begun)
 ends_named symbols other file heard fault status A B (inl memory) is told alone = inl (memory_unloads file heard (unwrap_or symbols other).now fault status A memory is told alone)
 ends_named symbols other file heard fault status A B (inr ends) is told alone = inr (inl (unnamed_ends symbols other file heard fault status A ends is told alone))
+
+-- How a session ended with a fault.
+pub attends_err : (prompts : Bool) (first last : Seat) (given left held now : Option (List ℕ))
+    (fault : Refusal) → EndsSession fault
+    → (fault ≡ Read Other → (written : List ℕ)
+    × IsAttendedSoFar prompts given left first last written
+    × Appends held now (opening prompts first ++ written))
+    → AttendsInPart prompts (opening prompts first) first given left held now
+    → Attends {X = ⊤} prompts first given left held now (Err fault)
+attends_err prompts first last given left held now OutOfMemory ends unread broken = broken
+attends_err prompts first last given left held now Write ends unread broken = broken
+attends_err prompts first last given left held now (Read Other) ends unread broken =
+    let h = unread refl in (last, h.0, h.1, h.2)
+attends_err prompts first last given left held now fault ends unread broken = absurd ends

@@ -4,7 +4,7 @@ use Rattle.std.proofs.lemmas.Bool.{cases_lt, lt-ltb}
 use Rattle.std.proofs.lemmas.List.{take_all}
 use Rattle.std.specs.Io.BufRead.{ends_with_byte, strip_last}
 use Rattle.model.specs.TextLines.{ended_lines_of}
-use Rattle.mon.specs.Attended.{AnswersLine, IsAttended, IsNoted, prompt_of, IsAttendedSoFar, ServesBy, ServesLine, ServesLines}
+use Rattle.mon.specs.Attended.{AnswersLine, IsAttended, IsAttendedInPart, IsAttendedSoFar, IsNoted, ServesBy, ServesLine, ServesLines, prompt_of}
 use Rattle.mon_files.specs.Asked.{SeenPage, page_in, page_line}
 use Rattle.mon_line_parts.specs.Reading.{skip}
 use Rattle.mon.specs.Files.{SeenFiling, ServesFiles, filing_at, filing_in, no_file}
@@ -140,6 +140,23 @@ shows_so_far prompts given left a b c w p q = (
   q.2,
   q.3,
   shows_lines (prompt_of prompts) (ended_lines_of q.0) false a b c q.2 p q.4,
+)
+
+pub shows_in_part : (prompts : Bool) (given left : Option (List ℕ)) (a b c : Seat) (w : List ℕ)
+    → Rests a b → IsAttendedInPart prompts given left b c w
+    → IsAttendedInPart prompts given left a c w
+shows_in_part prompts given left a b c w p q = (
+  q.0,
+  q.1,
+  q.2,
+  q.3,
+  elim q.4 [
+    | inl some ↦ inl (some.0, some.1, some.2, some.3, shows_lines (prompt_of prompts) some.0 some.3 a b c q.2 p some.4)
+    | inr all ↦
+        let e = all.2 in
+        let served = shows_lines (prompt_of prompts) (ended_lines_of q.0) false a b e.2 e.3 p e.5 in
+        inr (all.0, all.1, (e.0, e.1, e.2, e.3, e.4, served, e.6, e.7))
+  ],
 )
 
 -- lines of which none ends the session, and then more of them

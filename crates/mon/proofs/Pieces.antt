@@ -1,11 +1,14 @@
 -- Bytes one after another are served as the lines that they make.
-use Rattle.std.proofs.Common.{◌≡◌, ◌≤◌, ◌<◌, ◌∙◌, ℕ, ◌+◌, Bool, true, false, eqb, List, [], ◌∷◌, ◌++◌, refl, sym, ap, subst, length, take, arith, append_assoc, append-nil, length-append, length-take, Result, Ok, Err, IfOk, get_or, drop, drop-cons, take-append-drop, take-suc, add-one}
+use Rattle.std.proofs.Common.{◌≡◌, ◌≤◌, ◌<◌, ◌∙◌, ℕ, ◌+◌, Bool, true, false, cond, eqb, List, [], ◌∷◌, ◌++◌, refl, sym, ap, subst, length, take, arith, append_assoc, append-nil, length-append, length-take, Option, Result, Ok, Err, IfOk, IfErr, inl, inr, get_or, drop, drop-cons, take-append-drop, take-suc, add-one}
 use Rattle.std.proofs.lemmas.Bool.{ne_eqb}
 use Rattle.std.proofs.lemmas.List.{take_all, take-append-le}
 use Rattle.std.specs.Io.BufRead.{strip_last}
+use Rattle.std.specs.Io.KnownBytes.{Appends}
 use Rattle.model.specs.TextLines.{ended_lines_of, lines_from, no_line}
-use Rattle.mon.specs.Attended.{EndsLines, ServesLine, ServesLines, input_lines, line_at_end}
-use Rattle.mon.specs.Pieces.{GoesOn, IsOver, Piece, ServesPiece}
+use Rattle.model.specs.Writers.{AppendsFront}
+use Rattle.model.proofs.Written.{front_none}
+use Rattle.mon.specs.Attended.{EndsLines, ServesLine, ServesLines, ServesSome, input_lines, line_at_end}
+use Rattle.mon.specs.Pieces.{BreaksBytes, BreaksLine, GoesOn, IsOver, Piece, ServesPiece}
 use Rattle.mon.specs.Seats.{Rests, answer_text, without_screen}
 use Rattle.mon.specs.declared.seat.Seat.{Seat}
 use Rattle.mon.proofs.LinesServed.{line_alone, line_kept, line_on, line_over, lines_more, lines_then, no_lines, none_served}
@@ -36,6 +39,49 @@ from_none : (ending : List ℕ → List (List ℕ)) (begun : List ℕ)
     → lines_from ending begun [] ≡ ending begun
 unfolding lines_from
 from_none ending begun = refl
+
+-- one line, whether it ends the session or not
+one_line : (prompt line : List ℕ) (is_over : Bool) (a b : Seat) (said : List ℕ)
+    → ServesLine line is_over a b said
+    → ServesLines prompt (line ∷ []) is_over a b (answer_text is_over prompt b said)
+one_line prompt line true a b said p = line_over prompt line [] a b said p
+one_line prompt line false a b said p = line_on prompt line a b said p
+
+-- more bytes end more lines
+from_more : (begun bytes rest : List ℕ) → (later : List (List ℕ))
+    × (lines_from no_line begun (bytes ++ rest) ≡ lines_from no_line begun bytes ++ later)
+unfolding lines_from
+from_more begun [] rest = (lines_from no_line begun rest, refl)
+from_more begun (b ∷ bytes) rest =
+    by (eqb b 10) (from_more [] bytes rest) (from_more (begun ++ b ∷ []) bytes rest)
+  where
+    line : List ℕ
+    line = strip_last 13 begun
+
+    more : List ℕ
+    more = begun ++ b ∷ []
+
+    by : (t : Bool)
+        → (later : List (List ℕ)) × (lines_from no_line [] (bytes ++ rest) ≡ lines_from no_line [] bytes ++ later)
+        → (later : List (List ℕ)) × (lines_from no_line more (bytes ++ rest) ≡ lines_from no_line more bytes ++ later)
+        → (later : List (List ℕ)) × (cond t (line ∷ lines_from no_line [] (bytes ++ rest)) (lines_from no_line more (bytes ++ rest))
+        ≡ cond t (line ∷ lines_from no_line [] bytes) (lines_from no_line more bytes) ++ later)
+    by true p q = (p.0, ap (λ l. line ∷ l) p.1)
+    by false p q = q
+
+pub some_more : (prompt told rest : List ℕ) (first last : Seat) (written : List ℕ)
+    → ServesSome prompt told first last written → ServesSome prompt (told ++ rest) first last written
+some_more prompt told rest first last written s =
+    let more = from_more [] told rest in
+    (s.0, s.1 ++ more.0, more.1 ∙ ap (λ l. l ++ more.0) s.2 ∙ append_assoc s.0 s.1 more.0, s.3, s.4)
+
+-- all of a text is a beginning of it
+pub front_all : (a b : Option (List ℕ)) (text : List ℕ) → Appends a b text → AppendsFront a b text
+front_all a b text p = (text, [], sym (append-nil text), p)
+
+-- no bytes, and no line of them
+pub some_none : (prompt : List ℕ) (first : Seat) → ServesSome prompt [] first first []
+some_none prompt first = ([], [], from_none no_line [], false, no_lines prompt first)
 
 module _ (prompt told kept : List ℕ) (first now : Seat) (before : List ℕ)
     (g : GoesOn prompt told kept first now before) where
@@ -94,10 +140,44 @@ module _ (prompt told kept : List ℕ) (first now : Seat) (before : List ℕ)
   pub so_far : ServesLines prompt (ended_lines_of told) false first now before
   so_far = subst (λ l. ServesLines prompt l false first now before) (sym ended) g.served
 
+  -- and so some of them
+  pub all_some : ServesSome prompt told first now before
+  all_some = (
+    ended_lines_of told,
+    [],
+    sym (append-nil (ended_lines_of told)),
+    false,
+    so_far,
+  )
+
   whole : input_lines told ≡ ended_lines_of told ++ line_at_end g.begun
   whole = ap input_lines (sym (append-nil told)) ∙ g.cut line_at_end []
       ∙ ap (λ l. g.lines ++ l) (from_none line_at_end g.begun)
       ∙ ap (λ l. l ++ line_at_end g.begun) (sym ended)
+
+  -- some bytes of which no line is served
+  pub some_kept : (bytes : List ℕ) → ServesSome prompt (told ++ bytes) first now (before ++ [])
+  some_kept bytes = (
+    g.lines,
+    lines_from no_line g.begun bytes,
+    g.cut no_line bytes,
+    false,
+    subst (λ w. ServesLines prompt g.lines false first now w) (sym (append-nil before)) g.served,
+  )
+
+  -- or a line that has ended
+  pub some_line : (is_over : Bool) (new : Seat) (said : List ℕ)
+      → ServesLine (strip_last 13 kept) is_over now new said
+      → ServesSome prompt (told ++ 10 ∷ []) first new (before ++ answer_text is_over prompt new said)
+  some_line is_over new said p = (
+    g.lines ++ strip_last 13 g.begun ∷ [],
+    [],
+    g.cut no_line (10 ∷ []) ∙ ap (λ l. g.lines ++ l) (from_line no_line g.begun [] ∙ ap (λ l. strip_last 13 g.begun ∷ l) (from_none no_line []))
+        ∙ sym (append-nil (g.lines ++ strip_last 13 g.begun ∷ [])),
+    is_over,
+    lines_more prompt g.lines (strip_last 13 g.begun ∷ []) is_over first now new before (answer_text is_over prompt new said) g.served
+        (one_line prompt (strip_last 13 g.begun) is_over now new said (line_kept g.begun is_over now new said (subst (λ k. ServesLine (strip_last 13 k) is_over now new said) g.front p))),
+  )
 
   -- at the end no line is begun
   pub ends_none : (line_end : List ℕ) (last : Seat) → kept ≡ [] → Rests (without_screen now) last
@@ -175,6 +255,32 @@ fed_of prompt (Ok is_over) byte kept more old new Wrote e p none = (
 )
 fed_of prompt (Err fault) byte kept more old new Wrote e p none = tt
 
+-- an LF whose line is not answered whole
+line_broken : (prompt : List ℕ) (byte : ℕ) (kept : List ℕ) (old : Seat) (held now : Option (List ℕ))
+    → byte ≡ 10 → BreaksLine prompt (strip_last 13 kept) old held now
+    → BreaksBytes prompt (byte ∷ []) kept old held now
+line_broken prompt byte kept old held now e (inl same) = (
+  [],
+  λ told first before g. (old, some_kept prompt told kept first old before g (byte ∷ [])),
+  λ _. subst (λ (x : Option (List ℕ)). AppendsFront held x []) (sym same) (front_none held []),
+)
+line_broken prompt byte kept old held now e (inr p) = (
+  answer_text p.0 prompt p.1 p.2,
+  λ told first before g. (
+    p.1,
+    subst (λ b. ServesSome prompt (told ++ b ∷ []) first p.1 (before ++ answer_text p.0 prompt p.1 p.2)) (sym e)
+        (some_line prompt told kept first old before g p.0 p.1 p.2 p.3),
+  ),
+  λ empty. subst (λ t. AppendsFront held now (answer_text p.0 prompt p.1 (t ++ p.2))) empty p.4,
+)
+
+pub broken_of : (prompt : List ℕ) (r : Result Bool Refusal) (byte : ℕ) (kept : List ℕ) (old : Seat)
+    (held now : Option (List ℕ)) → byte ≡ 10
+    → IfErr r (λ _. BreaksLine prompt (strip_last 13 kept) old held now)
+    → IfErr r (λ _. BreaksBytes prompt (byte ∷ []) kept old held now)
+broken_of prompt (Ok is_over) byte kept old held now e p = tt
+broken_of prompt (Err fault) byte kept old held now e p = line_broken prompt byte kept old held now e p
+
 pub kept_room : (begun : List ℕ) (b : ℕ) → length (take 257 begun) < 257
     → take 257 begun ++ b ∷ [] ≡ take 257 (begun ++ b ∷ [])
 kept_room begun b h =
@@ -199,6 +305,10 @@ around told bytes rest i h =
     ∙ ap (λ l. told ++ l) (sym (append_assoc (take i bytes) (get_or bytes i 0 ∷ drop (i + 1) bytes) rest) ∙ ap (λ l. l ++ rest) all) ∙ sym (append_assoc told bytes rest)
 
 -- whatever the result, what holds anyway
+pub if_err_anyway : {X E : Type 0} (r : Result X E) (P : Type 0) → P → IfErr r (λ _. P)
+if_err_anyway (Ok x) P p = tt
+if_err_anyway (Err e) P p = p
+
 pub if_ok_anyway : {X E : Type 0} (r : Result X E) (P : Type 0) → P → IfOk r (λ _. P)
 if_ok_anyway (Ok x) P p = p
 if_ok_anyway (Err e) P p = tt

@@ -4,6 +4,7 @@ use Rattle.std.specs.Prelude.{ℕ, ◌≡◌, ◌<◌, ◌≤◌, ◌⊎◌, Boo
 use Rattle.std.specs.Io.BufRead.{strip_last}
 use Rattle.std.specs.Io.KnownBytes.{Consumes, IsAtEnd}
 use Rattle.model.specs.TextLines.{ended_lines_of, lines_from}
+use Rattle.model.specs.Writers.{AppendsFront}
 use Rattle.mon.specs.declared.wording.TheConstants.{PROMPT}
 use Rattle.mon_dispatch.specs.Lines.{IsTooLong, Says, Serves}
 use Rattle.mon_files.specs.Asked.{SeenPage, page_line}
@@ -117,3 +118,27 @@ abbrev pub IsAttendedSoFar : Bool → Option (List ℕ) → Option (List ℕ) �
 IsAttendedSoFar prompts given left old new written = (told : List ℕ) × Consumes given left told
     × (rest : List ℕ) × (written ≡ prompt_of prompts ++ rest)
     × ServesLines (prompt_of prompts) (ended_lines_of told) false old new rest
+
+-- Some of the lines that have ended in some bytes were served, from the first on.
+abbrev pub ServesSome : List ℕ → List ℕ → Seat → Seat → List ℕ → Type 0
+ServesSome prompt told old new written = (lines : List (List ℕ)) × (later : List (List ℕ))
+    × (ended_lines_of told ≡ lines ++ later)
+    × (is_over : Bool) × ServesLines prompt lines is_over old new written
+
+-- Of what a reader gave, some of the complete lines were served, from the first on; or it gave its
+-- whole input, and the lines of that were served.
+abbrev pub IsAttendedInPart : Bool → Option (List ℕ) → Option (List ℕ) → Seat → Seat → List ℕ
+    → Type 0
+IsAttendedInPart prompts given left old new written = (told : List ℕ) × Consumes given left told
+    × (rest : List ℕ) × (written ≡ prompt_of prompts ++ rest)
+    × (ServesSome (prompt_of prompts) told old new rest
+    ⊎ ((is_over : Bool) × IsAtEnd left
+    × EndsLines (prompt_of prompts) (line_end_of prompts) told is_over old new rest))
+
+-- So much was served, and a beginning of what is written of it was written, behind what is shown
+-- first.
+abbrev pub AttendsInPart : Bool → List ℕ → Seat → Option (List ℕ) → Option (List ℕ)
+    → Option (List ℕ) → Option (List ℕ) → Type 0
+AttendsInPart prompts shown first given left held now = (last : Seat) × (written : List ℕ)
+    × IsAttendedInPart prompts given left first last written
+    × AppendsFront held now (shown ++ written)

@@ -1,8 +1,8 @@
 -- What the word `mon` did, by its exit status. Source: mos65.
-use Rattle.std.specs.Prelude.{◌≡◌, ◌⊎◌, ⊤, ℕ, Bool, true, List, [], ◌++◌, Option, Some, None}
+use Rattle.std.specs.Prelude.{◌≡◌, ◌⊎◌, ⊤, ℕ, Bool, true, List, [], ◌++◌, Option, Some, None, Result, Ok, Err}
 use Rattle.std.specs.Io.KnownBytes.{Appends}
 use Rattle.arguments.specs.Asked.{FileAsked}
-use Rattle.arguments.specs.FaultLines.{file_line}
+use Rattle.arguments.specs.FaultLines.{fault_line, file_line}
 use Rattle.arguments.specs.Statuses.{status_of}
 use Rattle.arguments.specs.declared.refusal.ReadFault.TheVariants.{Other}
 use Rattle.arguments.specs.declared.refusal.Refusal.{Refusal}
@@ -11,7 +11,7 @@ use Rattle.arguments_play.specs.Mon.{MonAsked, mon_view}
 use Rattle.clap.specs.Words.{Text}
 use Rattle.loading.specs.Loads.{EndsNames}
 use Rattle.loading.specs.Told.{Heard, IsUnloaded, Tells}
-use Rattle.mon.specs.Attended.{IsAttended}
+use Rattle.mon.specs.Attended.{AttendsInPart, IsAttended, IsAttendedSoFar}
 use Rattle.mon.specs.Greeting.{greeting_of}
 use Rattle.mon.specs.Seats.{drawn}
 use Rattle.mon.specs.Starts.{StartsMon}
@@ -43,11 +43,6 @@ EndsAnswer OutOfMemory = ⊤
 EndsAnswer Write = ⊤
 EndsAnswer fault = ⊥
 
--- The exit status of a session: 0 at the end of its input or at `quit`, 3 if memory ran out, 4 if a
--- stream failed.
-abbrev pub IsEnded : ℕ → Type 0
-IsEnded status = (status ≡ 0) ⊎ ((status ≡ 3) ⊎ (status ≡ 4))
-
 -- The size of a screen: the one that is asked for, otherwise any that a screen can have.
 abbrev pub IsSizeFor : Option (ℕ × ℕ) → Size → Type 0
 IsSizeFor None size = ⊤
@@ -71,14 +66,35 @@ opening prompts seat = drawn seat.view seat.desk (seat.desk.text.items
     ++ (greeting_of prompts seat.desk.session.current seat.desk.places.names
     ++ shown_text seat.desk.session.current seat.desk.places.names None))
 
--- A session ended at a seat. With the status 0 the lines of the input were served at it, and the
--- output, whose bytes were `old`, got what is said of them.
-abbrev pub EndsAt : Bool → Seat → Option (List ℕ) → Option (List ℕ) → Option (List ℕ)
-    → Option (List ℕ) → ℕ → Type 0
-EndsAt prompts first given left old new status = IsEnded status
-    × (status ≡ 0 → (last : Seat) × (written : List ℕ)
+-- What a session at a seat wrote of what it read, by how it ended. `Ok`: its lines were served up
+-- to `quit` or to the end of the input, and what is said of them was written. `Read`: the complete
+-- lines that were read were served, and what is said of them was written. `Write` and
+-- `OutOfMemory`: a beginning was written of what is said of lines that were read. It ends with no
+-- other fault.
+abbrev pub Attends : {X : Type 0} → Bool → Seat → Option (List ℕ) → Option (List ℕ)
+    → Option (List ℕ) → Option (List ℕ) → Result X Refusal → Type 0
+Attends prompts first given left held now (Ok done) = (last : Seat) × (written : List ℕ)
     × IsAttended prompts given left first last written
-    × Appends old new (opening prompts first ++ written))
+    × Appends held now (opening prompts first ++ written)
+Attends prompts first given left held now (Err (Read Other)) = (last : Seat) × (written : List ℕ)
+    × IsAttendedSoFar prompts given left first last written
+    × Appends held now (opening prompts first ++ written)
+Attends prompts first given left held now (Err Write)
+    = AttendsInPart prompts (opening prompts first) first given left held now
+Attends prompts first given left held now (Err OutOfMemory)
+    = AttendsInPart prompts (opening prompts first) first given left held now
+Attends prompts first given left held now (Err fault) = ⊥
+
+-- The exit status is 0, or that of the fault, which the error stream got.
+abbrev pub TellsEnd : {X : Type 0} → Heard → ℕ → Result X Refusal → Type 0
+TellsEnd heard status (Ok done) = status ≡ 0
+TellsEnd heard status (Err fault) = (status ≡ status_of fault) × Tells heard (fault_line fault)
+
+-- A session ended at a seat, as the status says.
+abbrev pub EndsAt : Bool → Seat → Option (List ℕ) → Option (List ℕ) → Option (List ℕ)
+    → Option (List ℕ) → Heard → ℕ → Type 0
+EndsAt prompts first given left held now heard status = (outcome : Result ⊤ Refusal)
+    × Attends prompts first given left held now outcome × TellsEnd heard status outcome
 
 -- What was done for words: no session began, and the streams were left alone, `Alone`; or one began
 -- at its seat, with some input given, and ended so, with some input left. Prompts are written if
@@ -90,4 +106,4 @@ IsDone asked given left old new heard status Alone = IsUnloaded asked.file heard
     ⊎ ((seat : Seat) × StartsMon asked seat.desk seat.loaded × (seat.notes.items ≡ [])
     × (mon_view seat.words.now ≡ asked) × StartsView asked seat.desk seat.view
     × (prompts : Bool) × (asked.prompts ≡ true → prompts ≡ true)
-    × EndsAt prompts seat given left old new status))
+    × EndsAt prompts seat given left old new heard status))

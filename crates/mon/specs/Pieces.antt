@@ -1,8 +1,10 @@
 -- What was served of an input that comes in pieces, where the beginning of a line is kept.
 -- Source: mos65.
-use Rattle.std.specs.Prelude.{ℕ, ◌≡◌, Bool, true, false, List, [], ◌++◌, take}
+use Rattle.std.specs.Prelude.{ℕ, ◌≡◌, ◌⊎◌, Bool, true, false, List, [], ◌++◌, take, Option}
 use Rattle.model.specs.TextLines.{lines_from}
-use Rattle.mon.specs.Attended.{ServesLines}
+use Rattle.model.specs.Writers.{AppendsFront}
+use Rattle.mon.specs.Attended.{EndsLines, ServesLine, ServesLines, ServesSome}
+use Rattle.mon.specs.Seats.{answer_text}
 use Rattle.mon.specs.declared.seat.Seat.{Seat}
 
 -- The lines that have ended in some bytes were served, and none of them ended the session. Of the
@@ -45,3 +47,34 @@ ServesPiece piece = (told : List ℕ) (first : Seat) (before : List ℕ)
     → GoesOn piece.prompt told piece.kept first piece.old before
     → LeadsTo piece.is_over piece.prompt (told ++ piece.bytes) piece.kept_then first piece.new
     (before ++ piece.written)
+
+-- ---- a failure
+
+-- A line is not answered whole: nothing was written of it, or a beginning of what is written.
+abbrev pub BreaksLine : List ℕ → List ℕ → Seat → Option (List ℕ) → Option (List ℕ) → Type 0
+BreaksLine prompt line old held now = (now ≡ held)
+    ⊎ ((is_over : Bool) × (new : Seat) × (said : List ℕ) × ServesLine line is_over old new said
+    × AppendsFront held now (answer_text is_over prompt new (old.desk.text.items ++ said)))
+
+-- Some bytes are not served whole: whatever was served before them, some of the lines that have
+-- ended then were served, and so much is written of those in the bytes.
+abbrev pub BreaksPiece : List ℕ → List ℕ → List ℕ → Seat → List ℕ → Type 0
+BreaksPiece prompt bytes kept old written = (told : List ℕ) (first : Seat) (before : List ℕ)
+    → GoesOn prompt told kept first old before
+    → (last : Seat) × ServesSome prompt (told ++ bytes) first last (before ++ written)
+
+-- So much is written, of which a beginning was written.
+abbrev pub BreaksBytes : List ℕ → List ℕ → List ℕ → Seat → Option (List ℕ) → Option (List ℕ)
+    → Type 0
+BreaksBytes prompt bytes kept old held now = (more : List ℕ)
+    × BreaksPiece prompt bytes kept old more
+    × (old.desk.text.items ≡ [] → AppendsFront held now more)
+
+-- What is left at the end of the input is not served whole: nothing was written of it, or a
+-- beginning of what is written.
+abbrev pub BreaksEnd : List ℕ → List ℕ → List ℕ → Seat → Option (List ℕ) → Option (List ℕ) → Type 0
+BreaksEnd prompt line_end kept old held now = (now ≡ held)
+    ⊎ ((rest : List ℕ) × AppendsFront held now (old.desk.text.items ++ (line_end ++ rest))
+    × ((told : List ℕ) (first : Seat) (before : List ℕ)
+    → GoesOn prompt told kept first old before → (is_over : Bool) × (new : Seat)
+    × EndsLines prompt line_end told is_over first new (before ++ (line_end ++ rest))))

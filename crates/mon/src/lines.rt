@@ -3,10 +3,10 @@
 ghost use Rattle.std.specs.Prelude.{◌≡◌, ◌∷◌, ◌++◌, [], ℕ, List, Bool, Ok, Err, IfErr, IfOk, OnOk};
 ghost use Rattle.std.specs.Io.BufRead.{strip_last};
 ghost use Rattle.std.specs.Io.KnownBytes.{Appends};
-ghost use Rattle.mon.specs.Attended.{EndsLines, IsAttended, IsAttendedSoFar, ServesLine};
-ghost use Rattle.mon.specs.Attended.{line_end_of, prompt_of};
+ghost use Rattle.mon.specs.Attended.{AttendsInPart, EndsLines, IsAttended, IsAttendedSoFar};
+ghost use Rattle.mon.specs.Attended.{ServesLine, line_end_of, prompt_of};
 ghost use Rattle.mon.specs.Done.{EndsAnswer, EndsSession};
-ghost use Rattle.mon.specs.Pieces.{GoesOn, Piece, ServesPiece};
+ghost use Rattle.mon.specs.Pieces.{BreaksBytes, BreaksEnd, BreaksLine, GoesOn, Piece, ServesPiece};
 ghost use Rattle.mon.specs.Seats.{answer_text};
 ghost use Rattle.mon.specs.declared.seat.Seat.{Seat};
 
@@ -46,6 +46,8 @@ fn serve_begun<H: Files + AllocGlobal, W: Write>(
         (prompt_of prompts) seat.new (seat.old.desk.text.items ++ said))) }
     ensures cleared { IfOk result (λ _. begun.new.items ≡ []) }
     ensures written { IfOk result (λ _. seat.new.desk.text.items ≡ []) }
+    ensures broken { IfErr result (λ _. BreaksLine (prompt_of prompts)
+        (strip_last 13 begun.old.items) seat.old (W.contents writer.old) (W.contents writer.new)) }
     ensures refused { IfErr result EndsAnswer }
 {
     let is_over = serve_line(rt, seat, line_of(begun))?;
@@ -78,6 +80,8 @@ fn serve_byte<H: Files + AllocGlobal, W: Write>(
         → Appends (W.contents writer.old) (W.contents writer.new) more)) }
     ensures written { IfOk result
         (λ _. seat.old.desk.text.items ≡ [] → seat.new.desk.text.items ≡ []) }
+    ensures broken { IfErr result (λ _. BreaksBytes (prompt_of prompts) (byte ∷ [])
+        begun.old.items seat.old (W.contents writer.old) (W.contents writer.new)) }
     ensures refused { IfErr result EndsAnswer }
 {
     if byte == b'\n' {
@@ -112,6 +116,8 @@ fn serve_bytes<H: Files + AllocGlobal, W: Write>(
         → Appends (W.contents writer.old) (W.contents writer.new) more)) }
     ensures written { IfOk result
         (λ _. seat.old.desk.text.items ≡ [] → seat.new.desk.text.items ≡ []) }
+    ensures broken { IfErr result (λ _. BreaksBytes (prompt_of prompts) bytes.now
+        begun.old.items seat.old (W.contents writer.old) (W.contents writer.new)) }
     ensures refused { IfErr result EndsAnswer }
 {
     for byte in bytes {
@@ -138,6 +144,8 @@ fn serve_last<H: Files + AllocGlobal, W: Write>(
         → (is_over : Bool) × EndsLines (prompt_of prompts) (line_end_of prompts) told is_over
         first seat.new (before ++ (line_end_of prompts ++ rest)))) }
     ensures written { IfOk result (λ _. seat.new.desk.text.items ≡ []) }
+    ensures broken { IfErr result (λ _. BreaksEnd (prompt_of prompts) (line_end_of prompts)
+        begun.old.items seat.old (W.contents writer.old) (W.contents writer.new)) }
     ensures refused { IfErr result EndsAnswer }
 {
     say_if(seat, prompts, "\n")?;
@@ -157,6 +165,8 @@ fn serve_last<H: Files + AllocGlobal, W: Write>(
 /// - `Read`: a read failed. The complete lines read so far have been served.
 /// - `Write`: a write or a flush failed.
 /// - `OutOfMemory`: an allocation failed.
+///
+/// At the last two, a beginning of what is said of lines that were read was written.
 pub fn attend<H: Files + AllocGlobal, R: Read, W: Write>(
     rt: &H,
     seat: &mut Seat<'_>,
@@ -174,6 +184,9 @@ pub fn attend<H: Files + AllocGlobal, R: Read, W: Write>(
         seat.new written
         × Appends (W.contents writer.old) (W.contents writer.new)
         (seat.old.desk.text.items ++ written) }
+    ensures broken { IfErr result (λ _. AttendsInPart prompts seat.old.desk.text.items seat.old
+        (R.remaining reader.old) (R.remaining reader.new)
+        (W.contents writer.old) (W.contents writer.new)) }
     ensures written { IfOk result (λ _. seat.new.desk.text.items ≡ []) }
     ensures refused { IfErr result EndsSession }
 {

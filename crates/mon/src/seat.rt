@@ -3,6 +3,7 @@
 ghost use Rattle.std.specs.Prelude.{◌≡◌, ◌++◌, [], ℕ, IfErr, IfOk, List, Ok, OnOk};
 ghost use Rattle.std.specs.Prelude.{if◌then◌else◌};
 ghost use Rattle.std.specs.Io.KnownBytes.{Appends};
+ghost use Rattle.model.specs.Writers.{AppendsFront};
 ghost use Rattle.mon.specs.Attended.{AnswersLine, IsNoted, IsShown, ServesLine, ServesOther};
 ghost use Rattle.mon.specs.Attended.{prompt_of};
 ghost use Rattle.mon.specs.Done.{EndsAnswer};
@@ -13,7 +14,7 @@ ghost use Rattle.mon_files.specs.Asked.{page_view};
 use crate::files::serve_files;
 use crate::notes::{Note, note_line, placed_at};
 use crate::wording::PROMPT;
-use arguments::Refusal;
+use arguments::{Refusal, write_text};
 use arguments_play::MonWords;
 use mon_dispatch::serve;
 use mon_files::{Known, PageLine, page_line, show_page};
@@ -59,18 +60,24 @@ pub fn say_if(seat: &mut Seat<'_>, is_asked: bool, words: &str) -> Result<(), Re
 }
 
 /// Writes and flushes the text of the desk, which has none afterwards.
+///
+/// Errors: `Write` if a write or the flush fails: a beginning of the text was then written.
 pub fn put_text<W: Write>(seat: &mut Seat<'_>, writer: &mut W) -> Result<(), Refusal>
     ensures rests { Rests seat.old seat.new }
     ensures written { IfOk result (λ _. Appends (W.contents writer.old) (W.contents writer.new)
         seat.old.desk.text.items) }
     ensures cleared { IfOk result (λ _. seat.new.desk.text.items ≡ []) }
+    ensures begun { IfErr result (λ _. AppendsFront (W.contents writer.old) (W.contents writer.new)
+        seat.old.desk.text.items) }
     ensures refused { IfErr result EndsAnswer }
 {
-    if writer.write_all(seat.desk.text.as_slice()).is_err() || writer.flush().is_err() {
-        return Err(Refusal::Write);
+    match write_text(writer, seat.desk.text.as_slice()) {
+        Ok(()) => {
+            seat.desk.text.clear();
+            Ok(())
+        }
+        Err(_) => Err(Refusal::Write),
     }
-    seat.desk.text.clear();
-    Ok(())
 }
 
 /// Puts a screen in place of the text, which it shows, if a screen is drawn.

@@ -12,7 +12,7 @@ ghost use Rattle.loading.specs.Loads.{IsLoaded};
 ghost use Rattle.model.specs.Event.{start};
 ghost use Rattle.model.specs.Session.{new_session};
 ghost use Rattle.model.specs.State.{is_map};
-ghost use Rattle.mon.specs.Attended.{IsAttended, IsAttendedSoFar};
+ghost use Rattle.mon.specs.Attended.{AttendsInPart, IsAttended, IsAttendedSoFar};
 ghost use Rattle.mon.specs.Done.{EndsAnswer, EndsAt, EndsSession, IsDone, opening};
 ghost use Rattle.mon.specs.Seats.{Rests};
 
@@ -58,6 +58,9 @@ fn serve<H: Files + AllocGlobal, R: Read, O: Write>(
         seat.new written
         × Appends (O.contents output.old) (O.contents output.new)
         (opening prompts seat.old ++ written) }
+    ensures broken { IfErr result (λ _. AttendsInPart prompts (opening prompts seat.old) seat.old
+        (R.remaining input.old) (R.remaining input.new)
+        (O.contents output.old) (O.contents output.new)) }
     ensures written { IfOk result (λ _. seat.new.desk.text.items ≡ []) }
     ensures refused { IfErr result EndsSession }
 {
@@ -75,7 +78,10 @@ fn served<H: Files + AllocGlobal, R: Read, O: Write, E: Write>(
     errors: &mut E,
 ) -> u8
     ensures ended { EndsAt prompts seat.old (R.remaining input.old) (R.remaining input.new)
-        (O.contents output.old) (O.contents output.new) result }
+        (O.contents output.old) (O.contents output.new) (record {
+          held = E.contents errors.old;
+          now = E.contents errors.new;
+        }) result }
     ensures quiet { result ≡ 0 → errors.new ≡ errors.old }
 {
     match serve(rt, seat, prompts, input, output) {
@@ -175,7 +181,8 @@ pub fn mon<H: Env + Files + AllocGlobal, R: Read + IsTerminal, O: Write, E: Writ
 ) -> u8
     // Words that fit the command line, with right values: a session began on their file and ended,
     // or none began and the streams are unchanged, as the status says. At 0 the session has served
-    // the lines of the input, and has written what is said of them and nothing else.
+    // the lines of the input, and has written what is said of them and nothing else. Where a stream
+    // or memory fails, it has written a beginning of that.
     ensures done { (a : MonAsked) → asked (texts words.entry.now) ≡ Some a
         → Fits mon (texts words.entry.now)
         → IsDone a (R.remaining input.old) (R.remaining input.new)

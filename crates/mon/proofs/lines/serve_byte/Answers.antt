@@ -2,7 +2,7 @@ use Rattle.std.proofs.Common.{◌∙◌, ◌++◌, ◌∷◌, [], ap, arith, len
 use Rattle.std.proofs.KnownBytes.{Appends-nil}
 use Rattle.std.specs.Io.KnownBytes.{Appends}
 use Rattle.mon.specs.Attended.{prompt_of}
-use Rattle.mon.proofs.Pieces.{byte_on, fed_of, kept_full, kept_room}
+use Rattle.mon.proofs.Pieces.{broken_of, byte_on, fed_of, kept_full, kept_room}
 use Rattle.mon.proofs.lines.serve_byte.Goals as goal
 
 pub returns-then-byte-eq10-clause-fed : goal.returns-then-byte-eq10-clause-fed
@@ -30,3 +30,9 @@ returns-else-len-lt257-clause-fed g c = (
       (s.front ∙ kept_full s.begun c.args.byte full),
   λ _. Appends-nil _,
 )
+
+pub returns-then-byte-eq10-clause-broken : goal.returns-then-byte-eq10-clause-broken
+returns-then-byte-eq10-clause-broken g c =
+    broken_of (prompt_of c.args.prompts) c.serve_begun.result c.args.byte c.args.begun.now.items c.args.seat.now
+    (g.W.Write.contents c.args.writer.now) (g.W.Write.contents c.serve_begun.new.writer) c.if-byte-eq10.true
+    c.serve_begun.ensures.broken

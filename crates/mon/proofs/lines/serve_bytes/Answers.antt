@@ -2,9 +2,10 @@ use Rattle.std.proofs.Common.{◌∙◌, ◌+◌, ◌++◌, ◌∷◌, [], appen
 use Rattle.std.proofs.KnownBytes.{Appends-nil, Appends-trans}
 use Rattle.std.proofs.lemmas.List.{take_all}
 use Rattle.model.specs.TextLines.{lines_from}
-use Rattle.mon.specs.Attended.{ServesLines, prompt_of}
-use Rattle.mon.specs.Pieces.{GoesOn}
-use Rattle.mon.proofs.Pieces.{around, one_taken}
+use Rattle.model.proofs.Written.{front_after}
+use Rattle.mon.specs.Attended.{ServesLines, ServesSome, prompt_of}
+use Rattle.mon.specs.Pieces.{BreaksBytes, GoesOn}
+use Rattle.mon.proofs.Pieces.{around, if_err_anyway, one_taken, some_more}
 use Rattle.mon.proofs.lines.serve_bytes.Goals as goal
 
 pub loop-byte-init : goal.loop-byte-init
@@ -62,3 +63,25 @@ returns-clause-fed g c =
       λ told first before s. subst (λ l. GoesOn (prompt_of c.args.prompts) (told ++ l) c.loop-byte.begun.items first c.loop-byte.seat (before ++ inv.0)) (take_all i bytes c.loop-byte-test.false) (inv.1 told first before s),
       inv.2,
     )
+
+pub returns-in_err-serve_byte-clause-broken : goal.returns-in_err-serve_byte-clause-broken
+returns-in_err-serve_byte-clause-broken g c =
+    let i = c.loop-byte.byte-index in
+    let bytes = c.args.bytes.now in
+    let prompt = prompt_of c.args.prompts in
+    let inv = c.loop-byte.invariant.fed in
+    let broken = c.in_err-serve_byte.ensures.broken in
+    let all : BreaksBytes prompt bytes c.args.begun.now.items c.args.seat.now (g.W.Write.contents c.args.writer.now) (g.W.Write.contents c.serve_byte.new.writer) = (
+      inv.0 ++ broken.0,
+      λ told first before s.
+          let front = (told ++ take i bytes) ++ get_or bytes i 0 ∷ [] in
+          let b = broken.1 (told ++ take i bytes) first (before ++ inv.0) (inv.1 told first before s) in (
+            b.0,
+            subst (λ l. ServesSome prompt l first b.0 (before ++ (inv.0 ++ broken.0)))
+                (around told bytes [] i c.loop-byte-test.true ∙ append-nil (told ++ bytes))
+                (some_more prompt front (drop (i + 1) bytes ++ []) first b.0 (before ++ (inv.0 ++ broken.0))
+                (subst (λ w. ServesSome prompt front first b.0 w) (append_assoc before inv.0 broken.0) b.1)),
+          ),
+      λ empty. front_after _ _ _ inv.0 broken.0 (inv.2 empty) (broken.2 (c.loop-byte.invariant.written empty)),
+    ) in
+    if_err_anyway _ _ all

@@ -1,11 +1,13 @@
-use Rattle.std.proofs.Common.{◌∙◌, ◌++◌, [], ap, append_assoc, append-nil, false, refl, sym, subst, ◌<◌, length}
+use Rattle.std.proofs.Common.{◌∙◌, ◌++◌, [], ap, append_assoc, append-nil, false, inl, inr, refl, sym, subst, ◌<◌, length}
 use Rattle.std.proofs.lemmas.Bool.{eqb-false, eqb-true}
-use Rattle.std.proofs.lemmas.Result.{IfOk-weaker}
+use Rattle.std.proofs.lemmas.Result.{IfErr-weaker, IfOk-weaker}
 use Rattle.std.specs.Io.KnownBytes.{Appends}
+use Rattle.model.specs.Writers.{AppendsFront}
 use Rattle.mon.specs.Attended.{line_end_of, prompt_of}
-use Rattle.mon.proofs.Pieces.{ends_line, ends_none, length_some, length_zero, shown_on}
+use Rattle.mon.proofs.Pieces.{ends_line, ends_none, if_err_anyway, length_some, length_zero, shown_on}
 use Rattle.mon.proofs.lines.serve_last.Goals as goal
-use Rattle.mon.proofs.LinesServed.{plain_line}
+use Rattle.mon.proofs.LinesServed.{plain_line, rests_same}
+use Rattle.mon.specs.Pieces.{BreaksEnd}
 use Rattle.mon.specs.Seats.{without_screen}
 use Rattle.std.specs.Io.BufRead.{strip_last}
 
@@ -48,3 +50,53 @@ returns-clause-served g c =
             is_over last said some served.1,
       ),
     )
+
+pub returns-in_err-say_if-clause-broken : goal.returns-in_err-say_if-clause-broken
+returns-in_err-say_if-clause-broken g c = if_err_anyway _ _ (inl refl)
+
+pub returns-then-is_empty-clause-broken : goal.returns-then-is_empty-clause-broken
+returns-then-is_empty-clause-broken g c =
+    let kept = c.args.begun.now.items in
+    let first = c.args.seat.now in
+    let prompt = prompt_of c.args.prompts in
+    let line_end = line_end_of c.args.prompts in
+    let between = c.say_if.new.seat in
+    let none = length_zero kept (eqb-true _ _ (sym c.if-is_empty.ensures)) in
+    IfErr-weaker c.put_text.result _ _ (λ _ begun. inr (
+      [],
+      subst (AppendsFront (g.W.Write.contents c.args.writer.now) (g.W.Write.contents c.put_text.new.writer))
+          (c.in_ok-say_if.ensures.said ∙ ap (λ t. first.desk.text.items ++ t) (sym (append-nil line_end))) begun,
+      λ told start before s. (
+        false,
+        without_screen between,
+        ends_none prompt told kept start between before (shown_on prompt told kept start first before s between c.say_if.ensures.rests) line_end
+            (without_screen between) none (rests_same (without_screen between)),
+      ),
+    )) c.put_text.ensures.begun
+
+pub returns-in_err-serve_begun-clause-broken : goal.returns-in_err-serve_begun-clause-broken
+returns-in_err-serve_begun-clause-broken g c =
+    let kept = c.args.begun.now.items in
+    let first = c.args.seat.now in
+    let prompt = prompt_of c.args.prompts in
+    let line_end = line_end_of c.args.prompts in
+    let between = c.say_if.new.seat in
+    let some : 0 < length kept = length_some kept (eqb-false _ _ (sym c.if-is_empty.ensures)) in
+    let broken : BreaksEnd prompt line_end kept first (g.W.Write.contents c.args.writer.now) (g.W.Write.contents c.serve_begun.new.writer)
+    = elim c.in_err-serve_begun.ensures.broken [
+      | inl same ↦ inl same
+      | inr p ↦ inr (
+        p.2,
+        subst (AppendsFront (g.W.Write.contents c.args.writer.now) (g.W.Write.contents c.serve_begun.new.writer))
+            (plain_line (strip_last 13 kept) p.0 (without_screen between) p.1 p.2 (between.desk.text.items ++ p.2) refl p.3
+            ∙ ap (λ t. t ++ p.2) c.in_ok-say_if.ensures.said ∙ append_assoc first.desk.text.items line_end p.2)
+            p.4,
+        λ told start before s. (
+          p.0,
+          p.1,
+          ends_line prompt told kept start between before (shown_on prompt told kept start first before s between c.say_if.ensures.rests) line_end
+              p.0 p.1 p.2 some p.3,
+        ),
+      )
+    ] in
+    if_err_anyway _ _ broken

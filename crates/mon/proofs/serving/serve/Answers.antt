@@ -1,7 +1,13 @@
-use Rattle.std.proofs.Common.{subst, ap, ◌++◌}
-use Rattle.std.proofs.lemmas.Result.{IfOk-weaker}
+use Rattle.std.proofs.Common.{[], ◌++◌, ap, inl, refl, subst}
+use Rattle.std.proofs.KnownBytes.{Consumes-nil}
+use Rattle.std.proofs.lemmas.Result.{IfErr-weaker, IfOk-weaker}
 use Rattle.std.specs.Io.KnownBytes.{Appends}
-use Rattle.mon.proofs.LinesServed.{shows_attended, shows_so_far}
+use Rattle.model.specs.Writers.{AppendsFront}
+use Rattle.model.proofs.Written.{front_none}
+use Rattle.mon.specs.Attended.{AttendsInPart, prompt_of}
+use Rattle.mon.specs.Done.{opening}
+use Rattle.mon.proofs.LinesServed.{shows_attended, shows_in_part, shows_so_far}
+use Rattle.mon.proofs.Pieces.{if_err_anyway, some_none}
 use Rattle.mon.proofs.serving.serve.Goals as goal
 
 pub returns-clause-attended : goal.returns-clause-attended
@@ -27,3 +33,25 @@ returns-clause-unread g c unread =
       subst (Appends (g.O.Write.contents c.args.output.now) (g.O.Write.contents c.attend.new.writer))
           (ap (λ t. t ++ h.0) c.in_ok-say_opening.ensures.said) h.2,
     )
+
+-- nothing was written
+pub returns-in_err-say_opening-clause-broken : goal.returns-in_err-say_opening-clause-broken
+returns-in_err-say_opening-clause-broken g c =
+    let first = c.args.seat.now in
+    let prompt = prompt_of c.args.prompts in
+    let none : AttendsInPart c.args.prompts (opening c.args.prompts first) first (g.R.Read.remaining c.args.input.now) (g.R.Read.remaining c.args.input.now) (g.O.Write.contents c.args.output.now) (g.O.Write.contents c.args.output.now)
+    = (first, prompt ++ [], ([], Consumes-nil _, [], refl, inl (some_none prompt first)), front_none _ _) in
+    if_err_anyway _ _ none
+
+pub returns-clause-broken : goal.returns-clause-broken
+returns-clause-broken g c =
+    let first = c.args.seat.now in
+    let begun = c.say_opening.new.seat in
+    let prompts = c.args.prompts in
+    IfErr-weaker c.attend.result _ _ (λ _ h. (
+      h.0,
+      h.1,
+      shows_in_part prompts (g.R.Read.remaining c.args.input.now) (g.R.Read.remaining c.attend.new.reader) first begun h.0 h.1 c.in_ok-say_opening.ensures.rests h.2,
+      subst (AppendsFront (g.O.Write.contents c.args.output.now) (g.O.Write.contents c.attend.new.writer))
+          (ap (λ t. t ++ h.1) c.in_ok-say_opening.ensures.said) h.3,
+    )) c.attend.ensures.broken
