@@ -16,7 +16,7 @@ use lsp::lsp;
 use mon::mon;
 use page_words::page;
 use program::{process_words, program, unreadable_words, words_of};
-use running::run_program;
+use running::{Interruptible, open_requests, run_program};
 use standard_streams::{Retrying, take_closed};
 use std::io;
 use std::process::ExitCode;
@@ -76,7 +76,7 @@ fn play(rt: &HostRuntime, route: Route, words: &[&str]) -> u8 {
             rt,
             words,
             &mut Retrying::new(rt.reader()),
-            &mut io::writer(rt),
+            &mut Interruptible::new(io::writer(rt), open_requests(rt)),
             &mut rt.stderr(),
         ),
         _ => trace_program(

@@ -1,4 +1,5 @@
 pub mod Places
+pub mod Requests
 pub mod Runs
 pub mod Statuses
 pub mod Told

@@ -8,7 +8,7 @@ use Rattle.model.specs.FaultTexts.{event_fault_text}
 use Rattle.model.specs.Text.{hex_address, hex_byte}
 use Rattle.model.specs.declared.event.EventFault.{EventFault}
 use Rattle.model.specs.declared.event.EventFault.TheVariants.{ConsoleFull, Undocumented}
-use Rattle.running.specs.declared.wording.TheConstants.{AFTER, BREAK_AT, CONSOLE_FULL, CYCLES, FROM, NO_INSTRUCTION, NO_PLACE, NO_RESET, NO_VECTOR, PROGRAM, RAN_INTO, STEP, STEPS, STOPPED, UNWRITTEN}
+use Rattle.running.specs.declared.wording.TheConstants.{AFTER, AFTER_CYCLES, BREAK_AT, CONSOLE_FULL, CYCLES, CYCLES_END, FROM, INTERRUPTED, NO_INSTRUCTION, NO_PLACE, NO_RESET, NO_VECTOR, PROGRAM, RAN_INTO, STEP, STEPS, STOPPED, UNWRITTEN}
 use Rattle.source_map.specs.Lines.{PlacesView, line_at, places_of}
 use Rattle.source_map.specs.Names.{Near, name_near}
 
@@ -92,6 +92,15 @@ ending_line site ending steps pc = []
 abbrev pub cycles_line : ℕ → ℕ → List ℕ
 cycles_line cycles steps = PROGRAM.now ++ decimal cycles ++ CYCLES.now
     ++ (decimal steps ++ step_word steps)
+
+-- Where a run stood when it was interrupted, and at which cycle. `site` is what is said of that
+-- address.
+abbrev pub interrupted_text : ℕ → List ℕ
+interrupted_text pc = INTERRUPTED.now ++ hex_address pc
+
+unfoldable pub interrupted_line : List ℕ → ℕ → ℕ → List ℕ
+interrupted_line site pc cycles = interrupted_text pc
+    ++ (site ++ (AFTER_CYCLES.now ++ decimal cycles ++ CYCLES_END.now))
 
 -- A word that stands for no place.
 abbrev pub no_place_line : List ℕ → List ℕ

@@ -5,17 +5,17 @@ ghost use Rattle.std.specs.Prelude.{option_map};
 ghost use Rattle.model.specs.FaultTexts.{event_fault_text};
 ghost use Rattle.model.specs.Text.{hex_byte};
 ghost use Rattle.model.specs.Writers.{AppendsFront};
-ghost use Rattle.running.specs.Runs.{TellsEnding};
+ghost use Rattle.running.specs.Runs.{TellsEnding, TellsInterrupted, heard_of};
 ghost use Rattle.running.specs.Statuses.{status_of_ending};
 ghost use Rattle.running.specs.Told.{IsSite, break_text, came_text, cycles_line, ending_line};
-ghost use Rattle.running.specs.Told.{place_of_ending, refused_line, step_word, stop_text};
-ghost use Rattle.running.specs.Told.{stray_line, stray_text};
+ghost use Rattle.running.specs.Told.{interrupted_line, interrupted_text, place_of_ending, refused_line};
+ghost use Rattle.running.specs.Told.{step_word, stop_text, stray_line, stray_text};
 ghost use Rattle.running.specs.declared.wording.TheConstants as the_text;
 
 use crate::site::site_of;
 use crate::wording::{
-    AFTER, BREAK_AT, CONSOLE_FULL, CYCLES, FROM, NO_INSTRUCTION, NO_RESET, NO_VECTOR, PROGRAM,
-    RAN_INTO, STEP, STEPS, STOPPED, UNWRITTEN,
+    AFTER, AFTER_CYCLES, BREAK_AT, CONSOLE_FULL, CYCLES, CYCLES_END, FROM, INTERRUPTED,
+    NO_INSTRUCTION, NO_RESET, NO_VECTOR, PROGRAM, RAN_INTO, STEP, STEPS, STOPPED, UNWRITTEN,
 };
 use arguments::{put_three, put_two};
 use assembler::Assembly;
@@ -234,10 +234,8 @@ pub fn tell_ending<E: Write>(
     errors: &mut E,
 )
     ensures quiet { status_of_ending played.ending 0 ≡ 0 → errors.new ≡ errors.old }
-    ensures told { TellsEnding file.now (option_map (λ a. a.now) assembly.entry) (record {
-      held = E.contents errors.old;
-      now = E.contents errors.new;
-    }) played.ending played.steps pc }
+    ensures told { TellsEnding file.now (option_map (λ a. a.now) assembly.entry)
+        (heard_of (E.contents errors.old) (E.contents errors.new)) played.ending played.steps pc }
 {
     let site = site_of_ending(alloc, file, assembly, played.ending, pc);
     put_ending(played, pc, site.as_slice(), errors);
@@ -274,4 +272,57 @@ pub fn tell_cycles<E: Write>(played: Played, session: &Session, errors: &mut E)
         steps_text(played.steps).as_slice(),
         errors,
     );
+}
+
+/// Returns where a run was interrupted, as a line begins.
+fn interrupted_text(pc: u16) -> Text
+    ensures { result.items ≡ interrupted_text pc }
+{
+    let mut text = Text::new();
+    push_bytes(&mut text, INTERRUPTED.as_bytes());
+    push_hex_address(&mut text, pc);
+    text
+}
+
+/// Returns at which cycle a run was interrupted, as its line ends.
+fn at_cycle_text(cycles: u64) -> Text
+    ensures { result.items
+        ≡ the_text.AFTER_CYCLES.now ++ decimal cycles ++ the_text.CYCLES_END.now }
+{
+    let mut text = Text::new();
+    push_bytes(&mut text, AFTER_CYCLES.as_bytes());
+    push_decimal(&mut text, cycles);
+    push_bytes(&mut text, CYCLES_END.as_bytes());
+    text
+}
+
+/// Writes where a run was interrupted, with what the source says of the address.
+#[tactic(auto, unfolding(crate::specs::Told::interrupted_line))]
+fn put_interrupted<E: Write>(pc: u16, cycles: u64, site: &[u8], errors: &mut E)
+    ensures { AppendsFront (E.contents errors.old) (E.contents errors.new)
+        (interrupted_line site.now pc cycles) }
+{
+    put_three(
+        interrupted_text(pc).as_slice(),
+        site,
+        at_cycle_text(cycles).as_slice(),
+        errors,
+    );
+}
+
+/// Writes where a run was interrupted, or a beginning of that line if a write fails. What the
+/// source says of the place is left out where memory runs out.
+pub fn tell_interrupted<E: Write>(
+    alloc: Global,
+    file: &str,
+    assembly: Option<&Assembly>,
+    pc: u16,
+    cycles: u64,
+    errors: &mut E,
+)
+    ensures { TellsInterrupted file.now (option_map (λ a. a.now) assembly.entry)
+        (heard_of (E.contents errors.old) (E.contents errors.new)) pc cycles }
+{
+    let site = site_of(alloc, file, assembly, pc);
+    put_interrupted(pc, cycles, site.as_slice(), errors);
 }

@@ -7,10 +7,12 @@ ghost use Rattle.arguments_play.specs.Run.{RunAsked, asked, run, run_view};
 ghost use Rattle.loading.specs.Place.{names_of};
 ghost use Rattle.model.specs.State.{input_waits, is_map};
 ghost use Rattle.running.specs.Places.{place_asked};
-ghost use Rattle.running.specs.Runs.{IsDone, RanIfFound, RanTo, Start, TellsEnd};
+ghost use Rattle.running.specs.Runs.{IsDone, RanIfFound, RanOrInterrupted, Start, TellsEnd};
+ghost use Rattle.running.specs.Runs.{TellsInterrupted, heard_of, streams_of};
 ghost use Rattle.running.specs.Statuses.{status_of_ending};
 
-use crate::ended::{status_of_ending, tell_cycles, tell_ending};
+use crate::ended::{status_of_ending, tell_cycles, tell_ending, tell_interrupted};
+use crate::interruptible::Interruptible;
 use crate::started::{place_named, refusal_of};
 use accesses::Written;
 use arguments::{refuse, refused_words};
@@ -33,10 +35,9 @@ fn tell_end<E: Write>(
     errors: &mut E,
 )
     ensures told { TellsEnd words.now.tells_cycles words.now.file.file.now
-        (option_map (λ a. a.now) assembly.entry) (record {
-          held = E.contents errors.old;
-          now = E.contents errors.new;
-        }) played.ending played.steps session.now.current }
+        (option_map (λ a. a.now) assembly.entry)
+        (heard_of (E.contents errors.old) (E.contents errors.new))
+        played.ending played.steps session.now.current }
     ensures quiet { words.now.tells_cycles ≡ false → status_of_ending played.ending 0 ≡ 0
         → errors.new ≡ errors.old }
 {
@@ -59,10 +60,9 @@ fn ended<E: Write>(
     ensures status { result ≡ status_of_ending played.ending
         (if words.now.is_status_of_a then session.now.current.regs.a else 0) }
     ensures told { TellsEnd words.now.tells_cycles words.now.file.file.now
-        (option_map (λ a. a.now) assembly.entry) (record {
-          held = E.contents errors.old;
-          now = E.contents errors.new;
-        }) played.ending played.steps session.now.current }
+        (option_map (λ a. a.now) assembly.entry)
+        (heard_of (E.contents errors.old) (E.contents errors.new))
+        played.ending played.steps session.now.current }
     ensures quiet { words.now.tells_cycles ≡ false → result ≡ 0 → errors.new ≡ errors.old }
 {
     tell_end(alloc, words, assembly, played, session, errors);
@@ -74,8 +74,28 @@ fn ended<E: Write>(
     status_of_ending(played.ending, status)
 }
 
+/// Tells where a run was interrupted, and returns the exit status.
+fn interrupted<E: Write>(
+    alloc: Global,
+    words: &RunWords<'_>,
+    assembly: Option<&Assembly>,
+    session: &Session,
+    errors: &mut E,
+) -> u8
+    ensures status { result ≡ 130 }
+    ensures told { TellsInterrupted words.now.file.file.now
+        (option_map (λ a. a.now) assembly.entry)
+        (heard_of (E.contents errors.old) (E.contents errors.new))
+        session.now.current.regs.pc session.now.current.cycles }
+{
+    let pc = session.regs().pc;
+    let cycles = session.cycles();
+    tell_interrupted(alloc, words.file.file, assembly, pc, cycles, errors);
+    130
+}
+
 /// Runs a session up to a place, if there is one, and returns the exit status.
-fn run_to<R: Read, O: Write, E: Write>(
+fn run_to<R: Read, W: Write, S: Read, E: Write>(
     alloc: Global,
     words: &RunWords<'_>,
     assembly: Option<&Assembly>,
@@ -83,36 +103,38 @@ fn run_to<R: Read, O: Write, E: Write>(
     written: Written,
     until: Option<u16>,
     input: &mut R,
-    output: &mut O,
+    output: &mut Interruptible<W, S>,
     errors: &mut E,
 ) -> u8
     requires idle { input_waits session.old.current.bus ≡ false }
     requires silent { session.old.current.bus.out ≡ [] }
-    ensures ran { RanTo (run_view words.now) (option_map (λ a. a.now) assembly.entry) until
-        (record { session = session.old; written = written }) (record {
-          given = R.remaining input.old;
-          left = R.remaining input.new;
-          held = O.contents output.old;
-          now = O.contents output.new;
-        }) (record {
-          held = E.contents errors.old;
-          now = E.contents errors.new;
-        }) result }
+    ensures ran { RanOrInterrupted (run_view words.now)
+        (option_map (λ a. a.now) assembly.entry) until
+        (record { session = session.old; written = written })
+        (streams_of (R.remaining input.old) (R.remaining input.new)
+        (W.contents output.old.inner) (W.contents output.new.inner)) output.new.interrupted
+        (heard_of (E.contents errors.old) (E.contents errors.new)) result }
     ensures quiet { words.now.tells_cycles ≡ false → result ≡ 0 → errors.new ≡ errors.old }
 {
     match play(session, written, until, words.steps, input, output) {
         Ok(played) => ended(alloc, words, assembly, played, session, errors),
-        Err(fault) => refuse(refusal_of(fault), errors),
+        Err(fault) => {
+            if output.was_interrupted() {
+                interrupted(alloc, words, assembly, session, errors)
+            } else {
+                refuse(refusal_of(fault), errors)
+            }
+        }
     }
 }
 
 /// Runs what was loaded up to the place of the words, and returns the exit status.
-fn run_loaded<R: Read, O: Write, E: Write>(
+fn run_loaded<R: Read, W: Write, S: Read, E: Write>(
     alloc: Global,
     words: &RunWords<'_>,
     loaded: Loaded,
     input: &mut R,
-    output: &mut O,
+    output: &mut Interruptible<W, S>,
     errors: &mut E,
 ) -> u8
     requires idle { input_waits loaded.session.current.bus ≡ false }
@@ -122,15 +144,11 @@ fn run_loaded<R: Read, O: Write, E: Write>(
         (record {
           session = loaded.session;
           written = or_everywhere words.now.is_free loaded.written;
-        }) (record {
-          given = R.remaining input.old;
-          left = R.remaining input.new;
-          held = O.contents output.old;
-          now = O.contents output.new;
-        }) (record {
-          held = E.contents errors.old;
-          now = E.contents errors.new;
-        }) result ((input.new ≡ input.old) × (output.new ≡ output.old)) }
+        })
+        (streams_of (R.remaining input.old) (R.remaining input.new)
+        (W.contents output.old.inner) (W.contents output.new.inner)) output.new.interrupted
+        (heard_of (E.contents errors.old) (E.contents errors.new)) result
+        ((input.new ≡ input.old) × (output.new ≡ output.old)) }
     ensures quiet { words.now.tells_cycles ≡ false → result ≡ 0 → errors.new ≡ errors.old }
 {
     let until = match place_named(&loaded, words.until, errors) {
@@ -157,22 +175,18 @@ fn run_loaded<R: Read, O: Write, E: Write>(
 }
 
 /// Loads the file of the words and runs it, and returns the exit status.
-fn run_words<H: Files + AllocGlobal, R: Read, O: Write, E: Write>(
+fn run_words<H: Files + AllocGlobal, R: Read, W: Write, S: Read, E: Write>(
     rt: &H,
     words: &RunWords<'_>,
     input: &mut R,
-    output: &mut O,
+    output: &mut Interruptible<W, S>,
     errors: &mut E,
 ) -> u8
-    ensures done { IsDone (run_view words.now) (record {
-      given = R.remaining input.old;
-      left = R.remaining input.new;
-      held = O.contents output.old;
-      now = O.contents output.new;
-    }) (record {
-      held = E.contents errors.old;
-      now = E.contents errors.new;
-    }) result ((input.new ≡ input.old) × (output.new ≡ output.old)) }
+    ensures done { IsDone (run_view words.now)
+        (streams_of (R.remaining input.old) (R.remaining input.new)
+        (W.contents output.old.inner) (W.contents output.new.inner)) output.new.interrupted
+        (heard_of (E.contents errors.old) (E.contents errors.new)) result
+        ((input.new ≡ input.old) × (output.new ≡ output.old)) }
     ensures bad_map { is_map words.now.file.rom words.now.file.port ≡ false → result ≡ 2 }
     ensures quiet { words.now.tells_cycles ≡ false → result ≡ 0 → errors.new ≡ errors.old }
 {
@@ -190,30 +204,27 @@ fn run_words<H: Files + AllocGlobal, R: Read, O: Write, E: Write>(
 /// - 13: nothing stands where the program runs, or at the vector of its BRK. With `--free` a run
 ///   does not end there.
 /// - 1: the source or the tape is rejected. 2: the words, the place or the map are wrong. 3: memory
-///   ran out. 4: reading or writing failed.
+///   ran out. 4: reading or writing failed. 130: the run was interrupted.
 ///
 /// The program's output goes to `output`. For each status but those of the first line a line on
 /// `errors` says why; that it cannot be written changes no status.
-pub fn run_program<H: Files + AllocGlobal, R: Read, O: Write, E: Write>(
+pub fn run_program<H: Files + AllocGlobal, R: Read, W: Write, S: Read, E: Write>(
     rt: &H,
     words: &[&str],
     input: &mut R,
-    output: &mut O,
+    output: &mut Interruptible<W, S>,
     errors: &mut E,
 ) -> u8
     // Words that fit the command line, with right values: their file was loaded and ran by the
     // definition of a run, or it was not and the streams are unchanged, as the status says. The
-    // error stream gets why, or how the run ended.
+    // error stream gets why, or how the run ended. Only a writer that was interrupted breaks a run
+    // off, with the status 130.
     ensures done { (a : RunAsked) → asked (texts words.entry.now) ≡ Some a
-        → Fits run (texts words.entry.now) → IsDone a (record {
-          given = R.remaining input.old;
-          left = R.remaining input.new;
-          held = O.contents output.old;
-          now = O.contents output.new;
-        }) (record {
-          held = E.contents errors.old;
-          now = E.contents errors.new;
-        }) result ((input.new ≡ input.old) × (output.new ≡ output.old)) }
+        → Fits run (texts words.entry.now) → IsDone a
+        (streams_of (R.remaining input.old) (R.remaining input.new)
+        (W.contents output.old.inner) (W.contents output.new.inner)) output.new.interrupted
+        (heard_of (E.contents errors.old) (E.contents errors.new)) result
+        ((input.new ≡ input.old) × (output.new ≡ output.old)) }
     // Other words read nothing, and write nothing on the output but help.
     ensures refused { Refuses run (texts words.entry.now) (asked (texts words.entry.now) ≡ None)
         result (input.new ≡ input.old) (output.new ≡ output.old) }

@@ -35,3 +35,11 @@ pub const FROM: &str = ", from ";
 pub const NO_RESET: &str = "; nothing stands at FFFC\n";
 
 pub const NO_PLACE: &str = " is no name of the source and no address\n";
+
+/// How the line begins that says where a run was interrupted.
+pub const INTERRUPTED: &str = "mos65: interrupted at ";
+
+/// What stands before the cycles at which a run was interrupted, and behind them.
+pub const AFTER_CYCLES: &str = ", after ";
+
+pub const CYCLES_END: &str = " cycles\n";

@@ -1,5 +1,5 @@
 -- Parts of a run, one after another.
-use Rattle.std.proofs.Common.{◌≡◌, ◌∙◌, ◌++◌, ℕ, Bool, false, true, List, [], Option, None, Some, Result, Ok, Err, IfOk, OnOk, refl, sym, ap, ap₂, append_assoc, subst}
+use Rattle.std.proofs.Common.{◌≡◌, ◌∙◌, ◌++◌, ℕ, Bool, false, true, List, [], Option, None, Some, Result, Ok, Err, IfOk, refl, sym, ap, ap₂, append_assoc, subst}
 use Rattle.std.proofs.KnownBytes.{Appends-trans, Consumes-nil, Consumes-trans}
 use Rattle.console.proofs.Turning.{ran_as, whole_input}
 use Rattle.console.specs.Playing.{Outcome, Play, begun, played}
@@ -12,13 +12,14 @@ use Rattle.console.specs.declared.turn.Player.{Player}
 use Rattle.model.specs.Session.{Session}
 use Rattle.accesses.specs.Writing.{or_everywhere}
 use Rattle.arguments.specs.declared.refusal.Refusal.{Refusal}
+use Rattle.std.specs.Prelude.{is_some}
 use Rattle.std.specs.Io.KnownBytes.{Appends}
 use Rattle.trace_rows.specs.declared.sites.Sites.{Sites}
 use Rattle.arguments_play.specs.Trace.{TraceAsked}
 use Rattle.tracing.specs.Beginnings.{AreSites, first_written}
 use Rattle.tracing.specs.Gathered.{Gathered, Gathers, none_gathered, text_at_end}
 use Rattle.tracing.specs.Texts.{GotText, Noted, by_steps, no_text, note_step, pass_step}
-use Rattle.tracing.specs.Traces.{Begin, EndsAt, WentOn, WroteNotes, gathered_at, is_begun, noted_after, play_of, reached, trace_noted, traced, traced_after}
+use Rattle.tracing.specs.Traces.{Begin, EndsAt, WentOn, WroteNotes, gathered_at, has_begun, is_begun, noted_after, play_of, reached, trace_noted, traced, traced_after}
 
 pub once_none : (b : Bool) → EndsOnce b b []
 once_none b is = (refl, is)
@@ -57,7 +58,7 @@ pub reached_if_made : (from : Option ℕ) (s t : Session) (before after : Player
 reached_if_made from s t before after given left g h (Ok end) away went = reached_later from s t before after given left g h end away went
 reached_if_made from s t before after given left g h (Err fault) away went = tt
 
-abbrev noting : Option ℕ → ℕ → Gathered → Play → Noted
+abbrev pub noting : Option ℕ → ℕ → Gathered → Play → Noted
 noting to limit g p = by_steps note_step to limit p (no_text g)
 
 -- From the place on, the rest of a run is the trace.
@@ -122,30 +123,45 @@ traced_none from to limit s t a b given left g h first end other is went = recor
       );
 }
 
+-- A trace notes something where it begins.
+noted_if : (to : Option ℕ) (limit steps : ℕ) (g : Gathered) (why : Ending) (p : Play) → is_some (noted_after to limit g (record { steps = steps; ending = why; play = p })) ≡ has_begun why
+noted_if to limit steps g Until p = refl
+noted_if to limit steps g Rest p = refl
+noted_if to limit steps g InputOver p = refl
+noted_if to limit steps g Limit p = refl
+noted_if to limit steps g (Unwritten from) p = refl
+noted_if to limit steps g NoReset p = refl
+noted_if to limit steps g NoVector p = refl
+noted_if to limit steps g (Refused fault) p = refl
+
+pub begun_as : (from to : Option ℕ) (limit : ℕ) (g : Gathered) (p : Play) (n : Option Noted) → trace_noted from to limit g p ≡ n → is_some n ≡ has_begun (reached from p).ending
+begun_as from to limit g p n is =
+    let o = reached from p in sym (ap (λ (m : Option Noted). is_some m) is) ∙ noted_if to limit o.steps (gathered_at from g p) o.ending o.play
+
 -- A whole trace, from a session where nothing is remembered.
 pub whole_trace : (part : Play → Outcome) (makes : Play → Option Noted) (s t : Session) (a b : Player) (given left held now : Option (List ℕ)) (written : List Bool) (end : Played) (n : Option Noted) → known a ≡ first_known written → EndsAt b.is_over left
     → WentOn part makes s a given left end t b n → GotText n held now
-    → (input : List ℕ) × (rest : List ℕ) × AreBytesOf given input × AreBytesOf left rest × RanAs (part (begun s written input)) end t rest × GotText (makes (begun s written input)) held now
+    → (input : List ℕ) × (rest : List ℕ) × AreBytesOf given input × AreBytesOf left rest × RanAs (part (begun s written input)) end t rest × GotText (makes (begun s written input)) held now × (makes (begun s written input) ≡ n)
 whole_trace part makes s t a b given left held now written end n none over went got =
-    let whole = whole_input given left went.told b.is_over (λ input rest. RanAs (part (begun s written input)) end t rest × GotText (makes (begun s written input)) held now) went.consumes over
+    let whole = whole_input given left went.told b.is_over (λ input rest. RanAs (part (begun s written input)) end t rest × GotText (makes (begun s written input)) held now × (makes (begun s written input) ≡ n)) went.consumes over
     (λ rest may.
-    let there = went.leads rest may in (
+    let there = went.leads rest may in
+    let noted : makes (begun s written (went.told ++ rest)) ≡ n = ap (λ (k : Known). makes (play_at s k (went.told ++ rest))) (sym none) ∙ there.1 in (
       ran_as (part (begun s written (went.told ++ rest))) end.steps end.ending t (known b) rest
           (ap (λ (k : Known). part (play_at s k (went.told ++ rest))) (sym none) ∙ there.0),
-      subst (λ (m : Option Noted). GotText m held now) (sym (ap (λ (k : Known). makes (play_at s k (went.told ++ rest))) (sym none) ∙ there.1)) got,
+      subst (λ (m : Option Noted). GotText m held now) (sym noted) got,
+      noted,
     )) in
-    (whole.0, whole.1, whole.2, whole.3, whole.4.0, whole.4.1)
+    (whole.0, whole.1, whole.2, whole.3, whole.4.0, whole.4.1, whole.4.2)
 
--- A trace whose steps were made, if they were.
-pub whole_on : (from to : Option ℕ) (limit : ℕ) (s t u : Session) (a b c : Player) (given mid left held now : Option (List ℕ)) (written : List Bool) (g h : Gathered) (first : Played) (r : Result Played Refusal)
-    → known a ≡ first_known written → first.ending ≡ Until → WentOn (reached from) (gathered_at from g) s a given mid first t b h
-    → IfOk r (λ end. (n : Noted) × WentOn (played to limit) (noting to limit h) t b mid left end u c n × GotText (Some n) held now) → OnOk r (EndsAt c.is_over left)
-    → IfOk r (λ end. (input : List ℕ) × (rest : List ℕ) × AreBytesOf given input × AreBytesOf left rest × RanAs (traced from to limit (begun s written input)) end u rest
-    × GotText (trace_noted from to limit g (begun s written input)) held now)
-whole_on from to limit s t u a b c given mid left held now written g h first (Ok end) none until went on over =
-    whole_trace (traced from to limit) (trace_noted from to limit g) s u a c given left held now written end (Some on.0) none over
-    (traced_on from to limit s t u a b c given mid left g h on.0 first end until went on.1) on.2
-whole_on from to limit s t u a b c given mid left held now written g h first (Err refusal) none until went on over = tt
+-- And whether it began.
+pub whole_told : (from to : Option ℕ) (limit : ℕ) (g : Gathered) (s t : Session) (a b : Player) (given left held now : Option (List ℕ)) (written : List Bool) (end : Played) (n : Option Noted) (flag : Bool) → flag ≡ is_some n → known a ≡ first_known written → EndsAt b.is_over left
+    → WentOn (traced from to limit) (trace_noted from to limit g) s a given left end t b n → GotText n held now
+    → (input : List ℕ) × (rest : List ℕ) × AreBytesOf given input × AreBytesOf left rest × RanAs (traced from to limit (begun s written input)) end t rest × GotText (trace_noted from to limit g (begun s written input)) held now
+    × (flag ≡ has_begun (reached from (begun s written input)).ending)
+whole_told from to limit g s t a b given left held now written end n flag is none over went got =
+    let whole = whole_trace (traced from to limit) (trace_noted from to limit g) s t a b given left held now written end n none over went got in
+    (whole.0, whole.1, whole.2, whole.3, whole.4, whole.5, is ∙ begun_as from to limit g (begun s written whole.0) n whole.6)
 
 -- The text at the end: what went to the writer before, and then the rest.
 pub got_text : (held mid now : Option (List ℕ)) (before sheet text : List ℕ) (g : Gathered) → before ≡ [] → Gathers held mid before sheet text → Appends mid now (text_at_end g sheet)
@@ -156,21 +172,16 @@ got_text held mid now before sheet text g none gathers ended = (
   Appends-trans held mid now gathers.written (text_at_end g sheet) gathers.appends ended,
 )
 
--- A trace that is as long as was asked for.
-pub as_long : (a : TraceAsked) (b : Begin) (from to : Option ℕ) (limit steps : ℕ) (t : Session) (given left held now : Option (List ℕ)) (end : Played) → limit ≡ steps
-    → ((input : List ℕ) × (rest : List ℕ) × AreBytesOf given input × AreBytesOf left rest × RanAs (traced from to limit (play_of a b input)) end t rest × WroteNotes a b (λ g. trace_noted from to limit g (play_of a b input)) held now)
-    → (input : List ℕ) × (rest : List ℕ) × AreBytesOf given input × AreBytesOf left rest × RanAs (traced from to steps (play_of a b input)) end t rest × WroteNotes a b (λ g. trace_noted from to steps g (play_of a b input)) held now
-as_long a b from to limit steps t given left held now end same run =
-    subst (λ n. (input : List ℕ) × (rest : List ℕ) × AreBytesOf given input × AreBytesOf left rest × RanAs (traced from to n (play_of a b input)) end t rest × WroteNotes a b (λ g. trace_noted from to n g (play_of a b input)) held now) same run
-
 -- Nothing was gathered before the trace of a file.
-pub wrote_notes : (a : TraceAsked) (b : Begin) (from to : Option ℕ) (limit : ℕ) (t : Session) (written : List Bool) (given left held now : Option (List ℕ)) (g : Gathered) (r : Result Played Refusal)
+pub wrote_notes : (a : TraceAsked) (b : Begin) (from to : Option ℕ) (limit : ℕ) (t : Session) (written : List Bool) (given left held now : Option (List ℕ)) (g : Gathered) (end : Played) (flag : Bool)
     → ((sites : Sites) × AreSites b.assembly sites × (g ≡ none_gathered a sites (first_written a.finds_unwritten b.written)))
     → written ≡ or_everywhere a.is_free b.written
-    → IfOk r (λ end. (input : List ℕ) × (rest : List ℕ) × AreBytesOf given input × AreBytesOf left rest × RanAs (traced from to limit (begun b.session written input)) end t rest × GotText (trace_noted from to limit g (begun b.session written input)) held now)
-    → IfOk r (λ end. (input : List ℕ) × (rest : List ℕ) × AreBytesOf given input × AreBytesOf left rest × RanAs (traced from to limit (play_of a b input)) end t rest × WroteNotes a b (λ h. trace_noted from to limit h (play_of a b input)) held now)
-wrote_notes a b from to limit t written given left held now g (Err refusal) new is run = tt
-wrote_notes a b from to limit t written given left held now g (Ok end) new is run =
+    → ((input : List ℕ) × (rest : List ℕ) × AreBytesOf given input × AreBytesOf left rest × RanAs (traced from to limit (begun b.session written input)) end t rest × GotText (trace_noted from to limit g (begun b.session written input)) held now
+    × (flag ≡ has_begun (reached from (begun b.session written input)).ending))
+    → (input : List ℕ) × (rest : List ℕ) × AreBytesOf given input × AreBytesOf left rest × RanAs (traced from to limit (play_of a b input)) end t rest × WroteNotes a b (λ h. trace_noted from to limit h (play_of a b input)) held now
+    × (flag ≡ has_begun (reached from (play_of a b input)).ending)
+wrote_notes a b from to limit t written given left held now g end flag new is run =
     let made = subst (λ w. RanAs (traced from to limit (begun b.session w run.0)) end t run.1) is run.4 in
     let got = subst (λ w. GotText (trace_noted from to limit g (begun b.session w run.0)) held now) is run.5 in
-    (run.0, run.1, run.2, run.3, made, (new.0, new.1, subst (λ h. GotText (trace_noted from to limit h (play_of a b run.0)) held now) new.2 got))
+    let began = subst (λ w. flag ≡ has_begun (reached from (begun b.session w run.0)).ending) is run.6 in
+    (run.0, run.1, run.2, run.3, made, (new.0, new.1, subst (λ h. GotText (trace_noted from to limit h (play_of a b run.0)) held now) new.2 got), began)

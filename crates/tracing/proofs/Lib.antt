@@ -3,6 +3,8 @@ mod Done
 mod Gathering
 mod Going
 mod Keeping
+mod Cutting
+mod Refusing
 mod Making
 mod Noting
 mod Telling

@@ -55,6 +55,10 @@ module _ {A : Type 0} (each : State → State → A → A) (until : Option ℕ) 
       ∙ made_turn each until (limit - steps) (limit - (steps + 1)) (play_at t memo (told2 ++ rest)) b less
       ∙ ap next (turn rest may)
 
+  pub noted_turn_made : (rest : List ℕ) → MayCome over2 rest
+      → by_steps each until limit (play_at s first ((told ++ told2) ++ rest)) a ≡ by_turn each until t.current (turn_to ending u memo2 rest) b (λ q c. by_steps each until (limit - (steps + 1)) q c)
+  noted_turn_made rest may = one_turn rest may
+
   pub makes_on : (c : A) → c ≡ each t.current u.current b → ending ≡ None → is_at until u.current ≡ false → MakesOn each until limit s first (told ++ told2) over2 (steps + 1) u memo2 a c
   makes_on c is none off = record {
     makes = λ rest may.

@@ -1,21 +1,21 @@
 -- What a tracer gathers of a step, one part after another.
-use Rattle.std.proofs.Common.{◌≡◌, ◌∙◌, ◌++◌, ℕ, Bool, true, false, List, [], ◌∷◌, Option, Result, OnOk, refl, sym, ap, subst, append-nil}
+use Rattle.std.proofs.Common.{◌≡◌, ◌∙◌, ◌++◌, ℕ, Bool, true, false, List, [], ◌∷◌, Option, Result, OnOk, sym, ap, subst, append-nil, append_assoc}
 use Rattle.std.proofs.lemmas.Grind.{flat_map-append}
 use Rattle.accesses.specs.Moments.{entered}
 use Rattle.accesses.specs.declared.moment.Moment.{Moment}
 use Rattle.model.specs.State.{State}
-use Rattle.arguments.specs.declared.refusal.Refusal.{Refusal}
 use Rattle.trace_rows.specs.Findings.{finding_row}
 use Rattle.trace_rows.specs.declared.sites.Sites.{Sites}
 use Rattle.trace_rows.specs.declared.unwritten.Finding.{Finding}
 use Rattle.trace_rows.specs.declared.unwritten.Part.{Part}
 use Rattle.trace_rows.specs.declared.unwritten.Part.TheVariants.{Code, Data}
 use Rattle.arguments_play.specs.Trace.{TraceAsked, trace_view}
-use Rattle.tracing.specs.Gathered.{Gathered, Gathers, counted, counted_here, counted_step, cycles_of, findings, gathered, is_told, marked, reads_text, row_text, step_of, text_of_step, told, with_told}
+use Rattle.tracing.specs.Gathered.{Gathered, counted, counted_here, counted_step, cycles_of, findings, gathered, is_told, marked, reads_text, row_text, step_of, text_of_step, told, with_told}
 use Rattle.tracing.specs.Notes.{code_of, left_at}
 use Rattle.tracing.specs.declared.notes.Ahead.{Ahead}
 use Rattle.tracing.specs.declared.tracer.Tracer.{Tracer}
-use Rattle.tracing.proofs.Gathering.{gathers_both, gathers_none, ok_then}
+use Rattle.tracing.specs.declared.sheet.Sheet.{Sheet}
+use Rattle.tracing.proofs.Gathering.{ok_then}
 use Rattle.tracing.proofs.Telling.{told_not, told_yes}
 
 -- Marked by what counts as written, once and again.
@@ -35,52 +35,55 @@ pub same_number : (a b : Tracer) (w : Option (List Bool)) → gathered b ≡ mar
 same_number a b w e = ap (λ (g : Gathered). g.all.visits) e
 
 -- A read that is not told, and one that is.
-pub none_told : (state : State) (sites : Sites) (moment : Moment) (finding : Finding) (w : Option (List Bool)) (held : Option (List ℕ)) (text : List ℕ)
+pub none_told : (state : State) (sites : Sites) (moment : Moment) (finding : Finding) (w : Option (List Bool)) (text : List ℕ)
     → is_told state.bus.map w finding.address ≡ false
-    → Gathers held held text text (findings state sites moment finding.step finding.part (told state.bus.map w (finding.address ∷ [])))
-none_told state sites moment finding w held text off =
-    subst (λ ys. Gathers held held text text (findings state sites moment finding.step finding.part ys)) (sym (told_not state.bus.map w finding.address off)) (gathers_none held held text text refl refl)
+    → text ≡ text ++ findings state sites moment finding.step finding.part (told state.bus.map w (finding.address ∷ []))
+none_told state sites moment finding w text off =
+    sym (ap (λ ys. text ++ findings state sites moment finding.step finding.part ys) (told_not state.bus.map w finding.address off) ∙ append-nil text)
 
-pub one_told : (state : State) (sites : Sites) (moment : Moment) (finding : Finding) (w : Option (List Bool)) (held now : Option (List ℕ)) (before after : List ℕ)
-    → is_told state.bus.map w finding.address ≡ true → Gathers held now before after (finding_row state sites moment finding)
-    → Gathers held now before after (findings state sites moment finding.step finding.part (told state.bus.map w (finding.address ∷ [])))
-one_told state sites moment finding w held now before after on row =
-    subst (λ ys. Gathers held now before after (findings state sites moment finding.step finding.part ys)) (sym (told_yes state.bus.map w finding.address on))
-    (subst (Gathers held now before after) (sym (append-nil (finding_row state sites moment finding))) row)
+pub one_told : (state : State) (sites : Sites) (moment : Moment) (finding : Finding) (w : Option (List Bool)) (before after : List ℕ)
+    → is_told state.bus.map w finding.address ≡ true → after ≡ before ++ finding_row state sites moment finding
+    → after ≡ before ++ findings state sites moment finding.step finding.part (told state.bus.map w (finding.address ∷ []))
+one_told state sites moment finding w before after on row =
+    row ∙ ap (λ xs. before ++ xs) (sym (ap (λ ys. findings state sites moment finding.step finding.part ys) (told_yes state.bus.map w finding.address on) ∙ append-nil (finding_row state sites moment finding)))
+
+-- One text behind another.
+pub text_both : (before between after one two : List ℕ) → between ≡ before ++ one → after ≡ between ++ two → after ≡ before ++ (one ++ two)
+text_both before between after one two first second = second ∙ ap (λ xs. xs ++ two) first ∙ append_assoc before one two
 
 -- Reads at some addresses, and then at others.
-pub findings_both : (state : State) (sites : Sites) (moment : Moment) (number : ℕ) (part : Part) (xs ys : List ℕ) (held mid now : Option (List ℕ)) (before between after : List ℕ)
-    → Gathers held mid before between (findings state sites moment number part xs) → Gathers mid now between after (findings state sites moment number part ys)
-    → Gathers held now before after (findings state sites moment number part (xs ++ ys))
-findings_both state sites moment number part xs ys held mid now before between after first second =
+pub findings_both : (state : State) (sites : Sites) (moment : Moment) (number : ℕ) (part : Part) (xs ys : List ℕ) (before between after : List ℕ)
+    → between ≡ before ++ findings state sites moment number part xs → after ≡ between ++ findings state sites moment number part ys
+    → after ≡ before ++ findings state sites moment number part (xs ++ ys)
+findings_both state sites moment number part xs ys before between after first second =
     let row : ℕ → List ℕ = λ address. finding_row state sites moment (record { step = number; address = address; part = part }) in
-    subst (Gathers held now before after) (sym (flat_map-append row xs ys)) (gathers_both held mid now before between after _ _ first second)
+    text_both before between after _ _ first second ∙ ap (λ zs. before ++ zs) (sym (flat_map-append row xs ys))
 
 -- The reads of an instruction, and then of its data.
-pub reads_gathered : {A : Type 0} (is_entry : Bool) (state : State) (sites sites2 : Sites) (number number2 : ℕ) (ahead : Ahead) (w v : Option (List Bool)) (code : List ℕ)
-    (r : Result A Refusal) (held mid now : Option (List ℕ)) (before between after : List ℕ)
+pub reads_gathered : {A E : Type 0} (is_entry : Bool) (state : State) (sites sites2 : Sites) (number number2 : ℕ) (ahead : Ahead) (w v : Option (List Bool)) (code : List ℕ)
+    (r : Result A E) (before between after : List ℕ)
     → is_entry ≡ false → sites2 ≡ sites → number2 ≡ number → v ≡ with_told state.bus.map w code → code ≡ code_of ahead.moment
-    → Gathers held mid before between (findings state sites ahead.moment number Code (told state.bus.map w code))
-    → OnOk r (Gathers mid now between after (findings state sites2 ahead.moment number2 Data (told state.bus.map v ahead.reads.items)))
-    → OnOk r (Gathers held now before after (reads_text is_entry state sites number ahead w))
-reads_gathered is_entry state sites sites2 number number2 ahead w v code r held mid now before between after plain sites_are number_is here is_code first second =
-    let T : Sites → ℕ → Option (List Bool) → Type 0 = λ s n u. Gathers mid now between after (findings state s ahead.moment n Data (told state.bus.map u ahead.reads.items)) in
-    let ran = subst (λ ys. Gathers held mid before between (findings state sites ahead.moment number Code (told state.bus.map w ys))) is_code first in
+    → between ≡ before ++ findings state sites ahead.moment number Code (told state.bus.map w code)
+    → OnOk r (after ≡ between ++ findings state sites2 ahead.moment number2 Data (told state.bus.map v ahead.reads.items))
+    → OnOk r (after ≡ before ++ reads_text is_entry state sites number ahead w)
+reads_gathered is_entry state sites sites2 number number2 ahead w v code r before between after plain sites_are number_is here is_code first second =
+    let T : Sites → ℕ → Option (List Bool) → Type 0 = λ s n u. after ≡ between ++ findings state s ahead.moment n Data (told state.bus.map u ahead.reads.items) in
+    let ran = subst (λ ys. between ≡ before ++ findings state sites ahead.moment number Code (told state.bus.map w ys)) is_code first in
     let there : v ≡ with_told state.bus.map w (code_of ahead.moment) = here ∙ ap (with_told state.bus.map w) is_code in
-    subst (λ b. OnOk r (Gathers held now before after (reads_text b state sites number ahead w))) (sym plain)
-    (ok_then r (T sites2 number2 v) (Gathers held now before after (reads_text false state sites number ahead w))
-    (λ more. gathers_both held mid now before between after _ _ ran
+    subst (λ b. OnOk r (after ≡ before ++ reads_text b state sites number ahead w)) (sym plain)
+    (ok_then r (T sites2 number2 v) (after ≡ before ++ reads_text false state sites number ahead w)
+    (λ more. text_both before between after _ _ ran
     (subst (λ u. T sites number u) there (subst (λ n. T sites n v) number_is (subst (λ s. T s number2 v) sites_are more)))) second)
 
 -- The reads of a step, and then its row.
-pub step_gathered : {A : Type 0} (state : State) (ahead : Ahead) (t c d n : Tracer) (is_entry : Bool) (cycles : ℕ) (w v : Option (List Bool)) (stores : List ℕ) (r : Result A Refusal) (held mid now : Option (List ℕ)) (after : List ℕ)
+pub step_gathered : {A E : Type 0} (state : State) (ahead : Ahead) (t c d n : Tracer) (is_entry : Bool) (cycles : ℕ) (w v : Option (List Bool)) (stores : List ℕ) (r : Result A E) (after : List ℕ)
     → is_entry ≡ entered ahead.moment state → cycles ≡ cycles_of ahead.moment state
     → gathered c ≡ counted_step is_entry ahead.moment.regs.pc cycles (gathered t) → c.sheet ≡ t.sheet
-    → gathered d ≡ marked w (gathered c) → Gathers held mid c.sheet.text.items d.sheet.text.items (reads_text is_entry state c.sites c.all.visits ahead c.written)
+    → gathered d ≡ marked w (gathered c) → d.sheet.text.items ≡ c.sheet.text.items ++ reads_text is_entry state c.sites c.all.visits ahead c.written
     → gathered n ≡ marked v (gathered d) → n.sheet ≡ d.sheet → stores ≡ left_at state (trace_view d.words.now).file is_entry ahead
-    → OnOk r (Gathers mid now n.sheet.text.items after (row_text (trace_view n.words.now) state n.sites (record { moment = ahead.moment; is_entry = is_entry; stores = record { items = stores } })))
-    → OnOk r (Gathers held now t.sheet.text.items after (text_of_step state ahead (gathered t)))
-step_gathered state ahead t c d n is_entry cycles w v stores r held mid now after is took counts sheet reads read left sheet2 stored row =
+    → OnOk r (after ≡ n.sheet.text.items ++ row_text (trace_view n.words.now) state n.sites (record { moment = ahead.moment; is_entry = is_entry; stores = record { items = stores } }))
+    → OnOk r (after ≡ t.sheet.text.items ++ text_of_step state ahead (gathered t))
+step_gathered state ahead t c d n is_entry cycles w v stores r after is took counts sheet reads read left sheet2 stored row =
     let at : Bool = entered ahead.moment state in
     let took_so : ℕ = cycles_of ahead.moment state in
     let file : trace_view d.words.now ≡ trace_view t.words.now = same_asked c d w reads ∙ ap (λ (g : Gathered). g.asked) counts in
@@ -97,8 +100,8 @@ step_gathered state ahead t c d n is_entry cycles w v stores r held mid now afte
     ∙ ap (λ s. row_text (trace_view t.words.now) state s (record { moment = ahead.moment; is_entry = is_entry; stores = record { items = stores } })) sites
     ∙ ap (λ b. row_text (trace_view t.words.now) state t.sites (record { moment = ahead.moment; is_entry = b; stores = record { items = stores } })) is
     ∙ ap (λ xs. row_text (trace_view t.words.now) state t.sites (record { moment = ahead.moment; is_entry = at; stores = record { items = xs } })) stores_are in
-    let told_here = subst (λ xs. Gathers held mid t.sheet.text.items d.sheet.text.items xs) text
-    (subst (λ s. Gathers held mid s.text.items d.sheet.text.items (reads_text is_entry state c.sites c.all.visits ahead c.written)) sheet read) in
-    ok_then r _ _ (λ more. gathers_both held mid now t.sheet.text.items d.sheet.text.items after _ _ told_here
-    (subst (λ xs. Gathers mid now d.sheet.text.items after xs) made
-    (subst (λ s. Gathers mid now s.text.items after (row_text (trace_view n.words.now) state n.sites (record { moment = ahead.moment; is_entry = is_entry; stores = record { items = stores } }))) sheet2 more))) row
+    let told_here = subst (λ xs. d.sheet.text.items ≡ t.sheet.text.items ++ xs) text
+    (subst (λ (s : Sheet). d.sheet.text.items ≡ s.text.items ++ reads_text is_entry state c.sites c.all.visits ahead c.written) sheet read) in
+    ok_then r _ _ (λ more. text_both t.sheet.text.items d.sheet.text.items after _ _ told_here
+    (subst (λ xs. after ≡ d.sheet.text.items ++ xs) made
+    (subst (λ (s : Sheet). after ≡ s.text.items ++ row_text (trace_view n.words.now) state n.sites (record { moment = ahead.moment; is_entry = is_entry; stores = record { items = stores } })) sheet2 more))) row

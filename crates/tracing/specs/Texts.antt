@@ -5,6 +5,7 @@ use Rattle.std.specs.Io.KnownBytes.{Appends}
 use Rattle.console.specs.Playing.{Play, Turn, is_at, turn_of}
 use Rattle.console.specs.declared.ending.Ending.{Ending}
 use Rattle.model.specs.State.{State}
+use Rattle.model.specs.Writers.{AppendsFront}
 use Rattle.tracing.specs.Gathered.{Gathered, ahead_of, gathered, noted_here, passed, text_at_end, text_of_step}
 use Rattle.tracing.specs.declared.tracer.Tracer.{Tracer}
 
@@ -82,3 +83,7 @@ IsText (Some n) whole = EndsAs n whole
 -- A writer got the text of what was noted.
 abbrev pub GotText : Option Noted → Option (List ℕ) → Option (List ℕ) → Type 0
 GotText noted held now = (whole : List ℕ) × IsText noted whole × Appends held now whole
+
+-- A writer got a beginning of it.
+abbrev pub GotFront : Option Noted → Option (List ℕ) → Option (List ℕ) → Type 0
+GotFront noted held now = (whole : List ℕ) × IsText noted whole × AppendsFront held now whole

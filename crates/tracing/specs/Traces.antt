@@ -1,11 +1,11 @@
 -- Where a trace leads, what it writes, and how its exit status tells of it. No clause can say which
 -- image and names a file stands for. Source: mos65.
-use Rattle.std.specs.Prelude.{◌≡◌, ◌⊎◌, ⊤, ℕ, true, Bool, if◌then◌else◌, List, ◌++◌, Option, Some, None, Result, Ok, Err}
-use Rattle.std.specs.Io.KnownBytes.{Consumes, IsAtEnd}
+use Rattle.std.specs.Prelude.{◌≡◌, ◌⊎◌, ⊤, ℕ, true, false, Bool, codes, if◌then◌else◌, List, [], ◌∷◌, ◌++◌, Option, Some, None, Result, Ok, Err}
+use Rattle.std.specs.Io.KnownBytes.{Appends, Consumes, IsAtEnd}
 use Rattle.accesses.specs.Writing.{bytes_in, or_everywhere}
 use Rattle.assembler.specs.Assembly.{AssemblyView}
 use Rattle.console.specs.Playing.{Outcome, Play, begun, is_at, played}
-use Rattle.console.specs.Turns.{EndsOnce, EndsWith, MayCome, TurnsTo, known, play_at}
+use Rattle.console.specs.Turns.{CutTurn, EndsOnce, EndsWith, MayCome, TurnsTo, known, play_at}
 use Rattle.console.specs.Written.{AreBytesOf}
 use Rattle.console.specs.declared.ending.Ending.{Ending}
 use Rattle.console.specs.declared.ending.Ending.TheVariants.{Until}
@@ -18,21 +18,25 @@ use Rattle.loading.specs.declared.loaded.Loaded.{Loaded}
 use Rattle.model.specs.Event.{start}
 use Rattle.model.specs.Session.{Session, new_session}
 use Rattle.model.specs.State.{State}
+use Rattle.model.specs.Writers.{AppendsFront}
+use Rattle.arguments.specs.FaultLines.{fault_line, file_line}
+use Rattle.arguments.specs.Outputs.{clash}
 use Rattle.arguments.specs.Statuses.{status_of}
 use Rattle.arguments.specs.declared.refusal.ReadFault.TheVariants.{Other}
 use Rattle.arguments.specs.declared.refusal.Refusal.{Refusal}
-use Rattle.arguments.specs.declared.refusal.Refusal.TheVariants.{OutOfMemory, Read, Write}
+use Rattle.arguments.specs.declared.refusal.Refusal.TheVariants.{OutOfMemory, Read, Write, WriteFile}
 use Rattle.running.specs.Places.{place_asked}
 use Rattle.loading.specs.Told.{Heard, Tells}
-use Rattle.running.specs.Runs.{Streams}
+use Rattle.running.specs.Runs.{Streams, TellsEnding}
 use Rattle.running.specs.Statuses.{status_of_ending}
 use Rattle.running.specs.Told.{unplaced_line}
 use Rattle.trace_rows.specs.declared.sites.Sites.{Sites}
 use Rattle.arguments_play.specs.Trace.{TraceAsked}
 use Rattle.tracing.specs.Beginnings.{AreSites, first_written}
-use Rattle.tracing.specs.Gathered.{Gathered, Gathers, gathered, none_gathered}
-use Rattle.tracing.specs.Texts.{GotText, Noted, TurnNoted, TurnPassed, by_steps, no_text, note_step, pass_step}
+use Rattle.tracing.specs.Gathered.{Gathered, Gathers, ahead_of, gathered, none_gathered, text_of_step}
+use Rattle.tracing.specs.Texts.{GotFront, GotText, Noted, TurnNoted, TurnPassed, by_steps, no_text, note_step, pass_step}
 use Rattle.tracing.specs.declared.tracer.Tracer.{Tracer}
+use Rattle.tracing.specs.declared.wording.TheConstants.{NOT_BEGUN}
 
 -- ---- a trace
 
@@ -99,8 +103,25 @@ pub record WentOn {A : Type 0} (part : Play → Outcome) (makes : Play → A) (s
       ≡ record { steps = end.steps; ending = end.ending; play = play_at t (known after) rest })
       × (makes (play_at s (known before) (told ++ rest)) ≡ made)
 
--- A turn was made in a session, from what its player remembered: what it read, and where that leads,
--- whatever comes after it.
+-- What a session has put out begins what a run does.
+abbrev pub CutIn : Outcome → Session → Type 0
+CutIn end t = (more : List ℕ) × (end.play.session.current.bus.out ≡ t.current.bus.out ++ more)
+
+-- A part of a run was cut short in a session, from what its player remembered: what it read; and
+-- whatever comes after it, that what the session has put out begins what that part puts out, and
+-- what is so of that which its steps make of something.
+pub record WasCut {A : Type 0} (part : Play → Outcome) (makes : Play → A) (IsBegun : A → Type 0)
+    (s : Session) (before : Player) (given left : Option (List ℕ)) (t : Session)
+    (is_over : Bool) : Type 0 where
+  pub told : List ℕ
+  pub consumes : Consumes given left told
+  pub once : EndsOnce before.is_over is_over told
+  pub leads : (rest : List ℕ) → MayCome is_over rest
+      → CutIn (part (play_at s (known before) (told ++ rest))) t
+      × IsBegun (makes (play_at s (known before) (told ++ rest)))
+
+-- A turn was made in a session, from what its player remembered: what it read, and where that
+-- leads, whatever comes after it.
 pub record Turned (ending : Option Ending) (s : Session) (before : Player)
     (given left : Option (List ℕ)) (t : Session) (after : Player) (told : List ℕ) : Type 0 where
   pub consumes : Consumes given left told
@@ -122,6 +143,35 @@ NotedTurn ending s before a streams t after b = (told : List ℕ) × (text : Lis
     × Turned ending s before streams.given streams.left t after told
     × TurnNoted ending s.current t.current (gathered a) (gathered b) text
     × Gathers streams.held streams.now a.sheet.text.items b.sheet.text.items text
+
+-- A turn that failed: what it read, and that it was cut short.
+pub record TurnCut (s : Session) (before : Player) (given left : Option (List ℕ)) (t : Session)
+    (after : Player) (told : List ℕ) : Type 0 where
+  pub consumes : Consumes given left told
+  pub over : EndsWith before.is_over after.is_over given left
+  pub once : EndsOnce before.is_over after.is_over told
+  pub cut : (rest : List ℕ) → MayCome after.is_over rest
+      → CutTurn (play_at s (known before) (told ++ rest)) told rest t
+
+-- Of so much text a front was gathered: what a writer got, and what is on the sheet.
+pub record GathersFront (held now : Option (List ℕ)) (before after text : List ℕ) : Type 0 where
+  pub written : List ℕ
+  pub lost : List ℕ
+  pub appends : Appends held now written
+  pub whole : written ++ (after ++ lost) ≡ before ++ text
+
+-- Nothing was noted of it; or its step was made and noted, and a front of the step's text gathered.
+abbrev pub NoteCut : Session → Player → Gathered → Session → Player → List ℕ → List ℕ → Type 0
+NoteCut s before g t after told text = (text ≡ [])
+    ⊎ (TurnsTo s (known before) told after.is_over None t (known after)
+    × (text ≡ text_of_step t.current (ahead_of g s.current) g))
+
+-- A turn of the trace that failed.
+abbrev pub NotedCut : Session → Player → Tracer → Streams → Session → Player → Tracer → Type 0
+NotedCut s before a streams t after b = (told : List ℕ) × (text : List ℕ)
+    × TurnCut s before streams.given streams.left t after told
+    × NoteCut s before (gathered a) t after told text
+    × GathersFront streams.held streams.now a.sheet.text.items b.sheet.text.items text
 
 -- ---- what the word does
 
@@ -151,23 +201,73 @@ abbrev pub WroteNotes : TraceAsked → Begin → (Gathered → Option Noted)
 WroteNotes a b notes held now = (sites : Sites) × AreSites b.assembly sites
     × GotText (notes (none_gathered a sites (first_written a.finds_unwritten b.written))) held now
 
--- Memory ran out, or a stream failed.
+-- A writer got nothing, or a beginning of that text.
+abbrev pub WroteFront : TraceAsked → Begin → (Gathered → Option Noted)
+    → Option (List ℕ) → Option (List ℕ) → Type 0
+WroteFront a b notes held now = Appends held now [] ⊎ ((sites : Sites) × AreSites b.assembly sites
+    × GotFront (notes (none_gathered a sites (first_written a.finds_unwritten b.written))) held now)
+
+-- The file for lcov has not the name of the file that is run, or of the file of names.
+abbrev pub IsApart : TraceAsked → Type 0
+IsApart a = clash (Some a.file.file ∷ a.symbols ∷ []) (a.lcov ∷ []) ≡ false
+
+-- Memory ran out, a stream failed, or the file for lcov cannot be written.
 abbrev pub IsOfStreams : Refusal → Type 0
 IsOfStreams OutOfMemory = ⊤
 IsOfStreams (Read Other) = ⊤
 IsOfStreams Write = ⊤
+IsOfStreams (WriteFile why) = ⊤
 IsOfStreams refusal = ⊥
 
+-- A trace began, if its run came to the place.
+abbrev pub has_begun : Ending → Bool
+has_begun Until = true
+has_begun why = false
+
+-- That the program ended before its trace began, if it did.
+abbrev pub unbegun_text : Bool → List ℕ
+unbegun_text true = []
+unbegun_text false = NOT_BEGUN.now ++ codes "\n"
+
+-- The error stream got what the program puts out; that the trace did not begin, if it did not; and
+-- why the run did not come to its end.
+abbrev pub TellsTrace : TraceAsked → Option AssemblyView → Heard → Ending → Outcome → Type 0
+TellsTrace a assembly heard begun end = (out : Option (List ℕ)) × (said : Option (List ℕ))
+    × Appends heard.held out end.play.session.current.bus.out
+    × AppendsFront out said (unbegun_text (has_begun begun))
+    × TellsEnding a.file.file assembly (record { held = said; now = heard.now })
+    end.ending end.steps end.play.session.current.regs.pc
+
+-- Why a trace was cut short: the file for lcov is named.
+abbrev pub cut_line : Option (List ℕ) → Refusal → List ℕ
+cut_line (Some file) (WriteFile why) = file_line file (WriteFile why)
+cut_line (Some file) refusal = fault_line refusal
+cut_line None refusal = fault_line refusal
+
+-- The error stream got a beginning of what the program puts out, and why the trace was cut short.
+abbrev pub TellsCut : TraceAsked → Heard → Outcome → Refusal → Type 0
+TellsCut a heard end refusal = (out : Option (List ℕ))
+    × AppendsFront heard.held out end.play.session.current.bus.out
+    × AppendsFront out heard.now (cut_line a.lcov refusal)
+
 -- A session was traced by the definition of a trace over some input, which is the reader's if its
--- bytes are known: what was not asked for is left, and what was noted was written.
-abbrev pub IsTraced : TraceAsked → Begin → Option ℕ → Option ℕ → Streams → Result Outcome Refusal
-    → Type 0
-IsTraced a b from to streams (Ok end) = (input : List ℕ)
+-- bytes are known: what was not asked for is left, what was noted was written, and the error stream
+-- got the program's output and how it ended; the file for lcov has a name of its own. Or memory ran
+-- out, a stream failed, or the file for lcov was not written: then both got a beginning of what
+-- they get of such a trace.
+abbrev pub IsTraced : TraceAsked → Begin → Option ℕ → Option ℕ → Streams → Heard
+    → Result Outcome Refusal → Type 0
+IsTraced a b from to streams heard (Ok end) = (input : List ℕ)
     × (end ≡ traced from to a.steps (play_of a b input))
     × AreBytesOf streams.given input × AreBytesOf streams.left end.play.input
     × WroteNotes a b (λ g. trace_noted from to a.steps g (play_of a b input))
     streams.held streams.now
-IsTraced a b from to streams (Err refusal) = IsOfStreams refusal
+    × TellsTrace a b.assembly heard (reached from (play_of a b input)).ending end × IsApart a
+IsTraced a b from to streams heard (Err refusal) = IsOfStreams refusal
+    × ((input : List ℕ) × AreBytesOf streams.given input
+    × WroteFront a b (λ g. trace_noted from to a.steps g (play_of a b input))
+    streams.held streams.now
+    × TellsCut a heard (traced from to a.steps (play_of a b input)) refusal)
 
 -- The exit status of a trace: 0 where the program came to its end, or to the end of the trace.
 abbrev pub status_of_trace : Result Outcome Refusal → ℕ
@@ -175,15 +275,16 @@ status_of_trace (Ok end) = status_of_ending end.ending 0
 status_of_trace (Err refusal) = status_of refusal
 
 -- A session was traced from one place to another.
-abbrev pub TracedTo : TraceAsked → Begin → Option ℕ → Option ℕ → Streams → ℕ → Type 0
-TracedTo a b from to streams status = (outcome : Result Outcome Refusal)
-    × IsTraced a b from to streams outcome × (status ≡ status_of_trace outcome)
+abbrev pub TracedTo : TraceAsked → Begin → Option ℕ → Option ℕ → Streams → Heard → ℕ → Type 0
+TracedTo a b from to streams heard status = (outcome : Result Outcome Refusal)
+    × IsTraced a b from to streams heard outcome × (status ≡ status_of_trace outcome)
 
 -- A session was traced between the places of the words, if they are found; otherwise the streams
 -- were left alone, `Alone`, and the error stream got which word is no place.
 abbrev pub TracedIfFound : TraceAsked → Begin → Result (Option ℕ) ℕ → Result (Option ℕ) ℕ
     → Streams → Heard → ℕ → Type 0 → Type 0
-TracedIfFound a b (Ok from) (Ok to) streams heard status Alone = TracedTo a b from to streams status
+TracedIfFound a b (Ok from) (Ok to) streams heard status Alone
+    = TracedTo a b from to streams heard status
 TracedIfFound a b (Ok from) (Err refused) streams heard status Alone
     = (status ≡ refused) × Tells heard (unplaced_line a.to) × Alone
 TracedIfFound a b (Err refused) to streams heard status Alone

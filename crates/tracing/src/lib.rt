@@ -12,5 +12,6 @@ mod sheet;
 mod trace;
 mod tracer;
 mod turns;
+mod wording;
 
 pub use trace::trace_program;

@@ -1,25 +1,30 @@
 //! How often the lines of a source were run, written to a file for lcov.
 
-ghost use Rattle.std.specs.Prelude.{IfErr};
-ghost use Rattle.tracing.specs.Traces.{IsOfStreams};
+ghost use Rattle.std.specs.Prelude.{IfErr, IfOk};
+ghost use Rattle.arguments_play.specs.Trace.{trace_view};
+ghost use Rattle.tracing.specs.Traces.{IsApart, IsOfStreams};
 
 use accesses::Tally;
-use arguments::{Refusal, is_one_file, write_file};
+use arguments::{Refusal, check_outputs, write_file};
 use arguments_play::TraceWords;
 use assembler::Assembly;
 use lcov::push_record;
 use std::alloc::{AllocError, Global};
 use std::rt::Files;
 
-/// Checks that the file for lcov, if one is asked for, is not the file to run.
+/// Checks that the file for lcov, if one is asked for, is neither the file to run nor the file of
+/// names.
 ///
-/// Errors: `Write` where it is.
+/// Errors: `WriteFile` with `SameFile` where it is one of them, `OutOfMemory` if an allocation
+/// fails.
+#[tactic(auto, using(crate::proofs::Refusing::ends_writing))]
 pub fn check_lines<H: Files + AllocGlobal>(rt: &H, words: &TraceWords<'_>) -> Result<(), Refusal>
-    ensures { IfErr result IsOfStreams }
+    ensures apart { IfOk result (λ _. IsApart (trace_view words.now)) }
+    ensures fault { IfErr result IsOfStreams }
 {
-    match words.lcov {
-        Some(path) if is_one_file(rt, words.file.file, path) => Err(Refusal::Write),
-        _ => Ok(()),
+    match check_outputs(rt, &[Some(words.file.file), words.symbols], &[words.lcov]) {
+        Ok(()) => Ok(()),
+        Err(why) => Err(why.refusal),
     }
 }
 
@@ -39,7 +44,9 @@ fn lines_text(
 
 /// Writes how often each line was run, if a file for that is asked for.
 ///
-/// Errors: `OutOfMemory` if an allocation fails, `Write` if the file cannot be written.
+/// Errors: `OutOfMemory` if an allocation fails, `WriteFile` if the file cannot be written; what it
+/// held before is then still there.
+#[tactic(auto, using(crate::proofs::Refusing::ends_writing))]
 pub fn write_lines<H: Files + AllocGlobal>(
     rt: &H,
     words: &TraceWords<'_>,
@@ -56,7 +63,6 @@ pub fn write_lines<H: Files + AllocGlobal>(
     };
     match write_file(rt, path, &text) {
         Ok(()) => Ok(()),
-        Err(Refusal::OutOfMemory) => Err(Refusal::OutOfMemory),
-        Err(_) => Err(Refusal::Write),
+        Err(fault) => Err(fault),
     }
 }

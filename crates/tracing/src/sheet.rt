@@ -1,11 +1,11 @@
 //! Text on its way to a writer.
 
-ghost use Rattle.std.specs.Prelude.{◌≡◌, ◌≤◌, ◌<◌, [], IsOk, OnErr, OnOk, Err, length};
-ghost use Rattle.std.specs.Io.KnownBytes.{Appends};
+ghost use Rattle.std.specs.Prelude.{◌≡◌, [], OnErr, OnOk, Err};
+ghost use Rattle.model.specs.Writers.{AppendsFront, Writes};
 ghost use Rattle.arguments.specs.declared.refusal.Refusal.{Refusal};
 ghost use Rattle.tracing.specs.Gathered.{Gathers};
 
-use arguments::Refusal;
+use arguments::{Refusal, put, write_text};
 use std::alloc::{AllocError, Global};
 use std::io::Write;
 
@@ -28,49 +28,67 @@ impl Sheet {
         }
     }
 
-    /// Writes the text that was gathered.
+    /// Writes the text that was gathered. The sheet is empty then, even after an error.
     ///
-    /// Errors: `Write` if it cannot be written.
+    /// Errors: `Write` if it cannot be written; a beginning of it was written.
     #[tactic(auto, using(crate::proofs::Gathering::gathers_all))]
-    pub fn write_out<O: Write>(&mut self, output: &mut O) -> Result<(), Refusal>
-        ensures written { OnOk result (Appends (O.contents output.old) (O.contents output.new)
-            self.old.text.items) }
+    fn write_out<O: Write>(&mut self, output: &mut O) -> Result<(), Refusal>
+        ensures writes { Writes (O.contents output.old) (O.contents output.new)
+            self.old.text.items result }
         ensures emptied { self.new.text.items ≡ [] }
         ensures fault { OnErr result (result ≡ Err Refusal.Write) }
         ensures gathered { OnOk result (Gathers (O.contents output.old) (O.contents output.new)
             self.old.text.items self.new.text.items []) }
     {
-        let written = output.write_all(self.text.as_slice());
+        let written = put(output, self.text.as_slice());
         self.text.clear();
-        written.map_err(|_| Refusal::Write)
+        match written {
+            Ok(()) => Ok(()),
+            Err(_) => Err(Refusal::Write),
+        }
     }
 
-    /// Ends a row: writes the text that was gathered if it is enough. Otherwise nothing changes,
-    /// nor if the row could not be gathered.
+    /// Writes the text that was gathered, and flushes it. The sheet is empty then.
     ///
-    /// Errors: `OutOfMemory` if the row could not be gathered, `Write` if it cannot be written.
-    #[tactic(auto, using(crate::proofs::Gathering::gathers_none))]
+    /// Errors: `Write` if it cannot be written; a beginning of it was written.
+    pub fn write_all<O: Write>(&mut self, output: &mut O) -> Result<(), Refusal>
+        ensures writes { Writes (O.contents output.old) (O.contents output.new)
+            self.old.text.items result }
+        ensures fault { OnErr result (result ≡ Err Refusal.Write) }
+    {
+        let written = write_text(output, self.text.as_slice());
+        self.text.clear();
+        match written {
+            Ok(()) => Ok(()),
+            Err(_) => Err(Refusal::Write),
+        }
+    }
+
+    /// Ends the rows of a step: writes the text that was gathered if it is enough. Otherwise
+    /// nothing changes. After an error the sheet is empty.
+    ///
+    /// Errors: `OutOfMemory` if the rows could not be gathered; they and what was gathered before
+    /// are not written. `Write` if the text cannot be written; a beginning of it was written.
+    #[tactic(auto, using(crate::proofs::Gathering::gathers_none, crate::proofs::Gathering::cut_of))]
     pub fn end_row<O: Write>(
         &mut self,
         row: Result<(), AllocError>,
         output: &mut O,
     ) -> Result<(), Refusal>
         ensures memory { OnErr row (result ≡ Err Refusal.OutOfMemory) }
-        ensures memory_text { OnErr row (self.new.text.items ≡ self.old.text.items) }
         ensures memory_output { OnErr row (output.new ≡ output.old) }
-        ensures little { length self.old.text.items < 16384 → OnOk row (IsOk result) }
-        ensures little_text { length self.old.text.items < 16384
-            → self.new.text.items ≡ self.old.text.items }
-        ensures little_output { length self.old.text.items < 16384 → output.new ≡ output.old }
-        ensures written { 16384 ≤ length self.old.text.items → OnOk result
-            (Appends (O.contents output.old) (O.contents output.new) self.old.text.items) }
-        ensures emptied { 16384 ≤ length self.old.text.items → OnOk row (self.new.text.items ≡ []) }
+        ensures emptied { OnErr result (self.new.text.items ≡ []) }
         ensures fault { OnOk row (OnErr result (result ≡ Err Refusal.Write)) }
         ensures gathered { OnOk result (Gathers (O.contents output.old) (O.contents output.new)
             self.old.text.items self.new.text.items []) }
+        ensures cut { OnOk row (OnErr result (AppendsFront (O.contents output.old)
+            (O.contents output.new) self.old.text.items)) }
     {
         match row {
-            Err(_) => Err(Refusal::OutOfMemory),
+            Err(_) => {
+                self.text.clear();
+                Err(Refusal::OutOfMemory)
+            }
             Ok(()) if self.text.len() < FULL => Ok(()),
             Ok(()) => self.write_out(output),
         }

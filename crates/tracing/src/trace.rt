@@ -1,30 +1,36 @@
 //! What the word `trace` does.
 
-ghost use Rattle.std.specs.Prelude.{◌≡◌, ◌≤◌, ◌⊎◌, [], ◌∷◌, ℕ, List, None, IfErr, IfOk, OnOk};
-ghost use Rattle.std.specs.Prelude.{Some, false, option_map};
+ghost use Rattle.std.specs.Prelude.{◌≡◌, ◌≤◌, ◌⊎◌, ⊤, [], ◌∷◌, ◌++◌, ℕ, List, None, IfErr, IfOk};
+ghost use Rattle.std.specs.Prelude.{OnErr, OnOk, Some, false, option_map};
 ghost use Rattle.accesses.specs.Writing.{or_everywhere};
+ghost use Rattle.arguments.specs.Statuses.{status_of};
 ghost use Rattle.arguments.specs.Words.{Fits, Refuses, texts};
 ghost use Rattle.console.specs.Playing.{begun, is_at, played};
 ghost use Rattle.console.specs.Taking.{Waits};
 ghost use Rattle.console.specs.Written.{AreBytesOf, RanAs};
 ghost use Rattle.loading.specs.Place.{names_of};
 ghost use Rattle.model.specs.State.{input_waits, is_map};
+ghost use Rattle.model.specs.Writers.{AppendsFront, Writes};
 ghost use Rattle.running.specs.Places.{place_asked};
+ghost use Rattle.running.specs.Runs.{heard_of, streams_of};
 ghost use Rattle.trace_rows.specs.declared.sites.Sites.{Sites};
 ghost use Rattle.arguments_play.specs.Trace.{TraceAsked, asked, trace, trace_view};
 ghost use Rattle.tracing.specs.Beginnings.{AreSites, first_written};
 ghost use Rattle.tracing.specs.Gathered.{Gathers, gathered, none_gathered};
-ghost use Rattle.tracing.specs.Texts.{GotText, Noted, by_steps, no_text, note_step, noted_in};
-ghost use Rattle.tracing.specs.Texts.{pass_step};
-ghost use Rattle.tracing.specs.Traces.{EndsAt, IsDone, IsOfStreams, TracedIfFound, TracedTo};
-ghost use Rattle.tracing.specs.Traces.{WentOn, WroteNotes, begin_view, gathered_at, is_begun};
-ghost use Rattle.tracing.specs.Traces.{play_of, reached, trace_noted, traced};
+ghost use Rattle.tracing.specs.Texts.{GotFront, GotText, Noted, by_steps, no_text, note_step};
+ghost use Rattle.tracing.specs.Texts.{noted_in, pass_step};
+ghost use Rattle.tracing.specs.Traces.{CutIn, EndsAt, GathersFront, IsApart, IsDone, IsOfStreams};
+ghost use Rattle.tracing.specs.Traces.{TracedIfFound, TracedTo, WasCut, WentOn, WroteFront};
+ghost use Rattle.tracing.specs.Traces.{WroteNotes};
+ghost use Rattle.tracing.specs.Traces.{begin_view, cut_line, gathered_at, has_begun, is_begun};
+ghost use Rattle.tracing.specs.Traces.{play_of, reached, trace_noted, traced, unbegun_text};
 
 use crate::lines::{check_lines, write_lines};
 use crate::tracer::Tracer;
 use crate::turns::{noted_turn, passed_turn};
+use crate::wording::NOT_BEGUN;
 use accesses::Written;
-use arguments::{Refusal, refuse, refused_words};
+use arguments::{Refusal, put_two, refuse, refuse_file, refused_words};
 use arguments_play::{TraceWords, read_trace_words};
 use console::{Ending, Played, Player, begin, ending_after};
 use debugger::Session;
@@ -78,10 +84,16 @@ fn run_to_place<R: Read, E: Write>(
         (λ p. by_steps pass_step place 18446744073709551615 p (gathered tracer.old))
         session.old player.old (R.remaining input.old) (R.remaining input.new)
         end session.new player.new (gathered tracer.new)) }
+    ensures err { OnErr result (WasCut (played place 18446744073709551615) (λ p. p) (λ _. ⊤)
+        session.old player.old (R.remaining input.old) (R.remaining input.new) session.new
+        player.new.is_over) }
     ensures fault { IfErr result IsOfStreams }
     ensures sheet { tracer.new.sheet ≡ tracer.old.sheet }
     ensures waits { OnOk result (Waits session.new.current player.new.waiting) }
-    ensures over { OnOk result (EndsAt player.new.is_over (R.remaining input.new)) }
+    ensures over { EndsAt player.new.is_over (R.remaining input.new) }
+    ensures output { (text : List ℕ)
+        × (session.new.current.bus.out ≡ session.old.current.bus.out ++ text)
+        × Writes (E.contents errors.old) (E.contents errors.new) text result }
 {
     for steps in 0..u64::MAX {
         match passed_turn(tracer, session, player, input, errors) {
@@ -117,10 +129,16 @@ fn run_to_start<R: Read, E: Write>(
     ensures ok { IfOk result (λ end. WentOn (reached from) (gathered_at from (gathered tracer.old))
         session.old player.old (R.remaining input.old) (R.remaining input.new)
         end session.new player.new (gathered tracer.new)) }
+    ensures err { OnErr result (WasCut (reached from) (λ p. p) (λ _. ⊤)
+        session.old player.old (R.remaining input.old) (R.remaining input.new) session.new
+        player.new.is_over) }
     ensures fault { IfErr result IsOfStreams }
     ensures sheet { tracer.new.sheet ≡ tracer.old.sheet }
     ensures waits { OnOk result (Waits session.new.current player.new.waiting) }
-    ensures over { OnOk result (EndsAt player.new.is_over (R.remaining input.new)) }
+    ensures over { EndsAt player.new.is_over (R.remaining input.new) }
+    ensures output { (text : List ℕ)
+        × (session.new.current.bus.out ≡ session.old.current.bus.out ++ text)
+        × Writes (E.contents errors.old) (E.contents errors.new) text result }
 {
     if is_begun(from, session) {
         return Ok(Played {
@@ -151,8 +169,19 @@ fn run_noting<R: Read, O: Write, E: Write>(
         end session.new player.new (noted_in tracer.new text)
         × Gathers (O.contents output.old) (O.contents output.new)
         tracer.old.sheet.text.items tracer.new.sheet.text.items text) }
+    // At an error a front of a text was gathered that the trace's begins with.
+    ensures err { OnErr result ((text : List ℕ) × WasCut (played to limit)
+        (λ p. by_steps note_step to limit p (no_text (gathered tracer.old)))
+        (λ n. (more : List ℕ) × (n.text ≡ text ++ more))
+        session.old player.old (R.remaining input.old) (R.remaining input.new) session.new
+        player.new.is_over
+        × GathersFront (O.contents output.old) (O.contents output.new)
+        tracer.old.sheet.text.items tracer.new.sheet.text.items text) }
     ensures fault { IfErr result IsOfStreams }
-    ensures over { OnOk result (EndsAt player.new.is_over (R.remaining input.new)) }
+    ensures over { EndsAt player.new.is_over (R.remaining input.new) }
+    ensures output { (text : List ℕ)
+        × (session.new.current.bus.out ≡ session.old.current.bus.out ++ text)
+        × Writes (E.contents errors.old) (E.contents errors.new) text result }
 {
     for steps in 0..limit {
         match noted_turn(tracer, session, player, input, output, errors) {
@@ -252,16 +281,37 @@ fn trace_on<R: Read, O: Write, E: Write>(
         session.old player.old (R.remaining input.old) (R.remaining input.new)
         end session.new player.new noted
         × GotText (Some noted) (O.contents output.old) (O.contents output.new)) }
+    ensures err { OnErr result (WasCut (played span.to span.limit)
+        (λ p. by_steps note_step span.to span.limit p (no_text (gathered tracer.old)))
+        (λ n. GotFront (Some n) (O.contents output.old) (O.contents output.new))
+        session.old player.old (R.remaining input.old) (R.remaining input.new) session.new
+        player.new.is_over) }
     ensures fault { IfErr result IsOfStreams }
-    ensures over { OnOk result (EndsAt player.new.is_over (R.remaining input.new)) }
+    ensures over { EndsAt player.new.is_over (R.remaining input.new) }
+    ensures output { (text : List ℕ)
+        × (session.new.current.bus.out ≡ session.old.current.bus.out ++ text)
+        × Writes (E.contents errors.old) (E.contents errors.new) text result }
 {
-    let played = run_noting(
+    let run = run_noting(
         tracer, session, player, span.to, span.limit, input, output, errors,
     );
-    let written = tracer.finish(alloc, output);
-    let played = played?;
-    written?;
-    Ok(played)
+    match run {
+        Ok(played) => match tracer.finish(alloc, output) {
+            Ok(()) => Ok(played),
+            Err(fault) => Err(fault),
+        },
+        Err(fault) => {
+            tracer.write_cut(output);
+            Err(fault)
+        }
+    }
+}
+
+/// How a trace ended, and whether its run came to the place where it begins.
+#[derive(Clone, Copy)]
+struct Traced {
+    played: Played,
+    has_begun: bool,
 }
 
 /// Runs a session, and traces it from one place to another.
@@ -274,35 +324,55 @@ fn trace_between<R: Read, O: Write, E: Write>(
     input: &mut R,
     output: &mut O,
     errors: &mut E,
-) -> Result<Played, Refusal>
+) -> Result<Traced, Refusal>
     requires waits { input_waits session.old.current.bus ≡ false }
     requires sheet { tracer.old.sheet.text.items ≡ [] }
     // The trace is the definition's over some input, which is the reader's if its bytes are known;
     // what it did not ask for is left. The writer got what the definition notes.
     ensures ok { IfOk result (λ end. (told : List ℕ) × (left : List ℕ)
         × AreBytesOf (R.remaining input.old) told × AreBytesOf (R.remaining input.new) left
-        × RanAs (traced span.from span.to span.limit (begun session.old written told)) end
+        × RanAs (traced span.from span.to span.limit (begun session.old written told)) end.played
         session.new left × GotText (trace_noted span.from span.to span.limit (gathered tracer.old)
+        (begun session.old written told)) (O.contents output.old) (O.contents output.new)
+        × (end.has_begun ≡ has_begun (reached span.from (begun session.old written told)).ending)) }
+    // At an error a beginning of such a trace was made, and a beginning of its text was written.
+    ensures err { OnErr result ((told : List ℕ) × AreBytesOf (R.remaining input.old) told
+        × CutIn (traced span.from span.to span.limit (begun session.old written told)) session.new
+        × GotFront (trace_noted span.from span.to span.limit (gathered tracer.old)
         (begun session.old written told)) (O.contents output.old) (O.contents output.new)) }
     ensures fault { IfErr result IsOfStreams }
+    ensures output { (text : List ℕ)
+        × (session.new.current.bus.out ≡ session.old.current.bus.out ++ text)
+        × Writes (E.contents errors.old) (E.contents errors.new) text result }
 {
     let mut player = begin(session, written);
-    let reached = run_to_start(tracer, session, &mut player, span.from, input, errors)?;
+    let reached = match run_to_start(tracer, session, &mut player, span.from, input, errors) {
+        Ok(reached) => reached,
+        Err(fault) => return Err(fault),
+    };
     match reached.ending {
-        Ending::Until => trace_on(
-            alloc,
-            tracer,
-            session,
-            &mut player,
-            span,
-            input,
-            output,
-            errors,
-        ),
-        ending => {
-            let _ = writeln!(errors, "mos65: the program ended before the trace began");
-            Ok(Played { steps: 0, ending })
+        Ending::Until => {
+            match trace_on(
+                alloc,
+                tracer,
+                session,
+                &mut player,
+                span,
+                input,
+                output,
+                errors,
+            ) {
+                Ok(played) => Ok(Traced {
+                    played,
+                    has_begun: true,
+                }),
+                Err(fault) => Err(fault),
+            }
         }
+        ending => Ok(Traced {
+            played: Played { steps: 0, ending },
+            has_begun: false,
+        }),
     }
 }
 
@@ -315,24 +385,39 @@ fn trace_span<H: Files + AllocGlobal, R: Read, O: Write, E: Write>(
     input: &mut R,
     output: &mut O,
     errors: &mut E,
-) -> Result<Played, Refusal>
+) -> Result<Traced, Refusal>
     requires { input_waits loaded.old.session.current.bus ≡ false }
     ensures ok { IfOk result (λ end. (told : List ℕ) × (left : List ℕ)
         × AreBytesOf (R.remaining input.old) told × AreBytesOf (R.remaining input.new) left
         × RanAs (traced span.from span.to span.limit
-        (play_of (trace_view words.now) (begin_view loaded.old) told)) end loaded.new.session left
+        (play_of (trace_view words.now) (begin_view loaded.old) told)) end.played
+        loaded.new.session left
         × WroteNotes (trace_view words.now) (begin_view loaded.old)
         (λ g. trace_noted span.from span.to span.limit g
         (play_of (trace_view words.now) (begin_view loaded.old) told))
+        (O.contents output.old) (O.contents output.new)
+        × (end.has_begun ≡ has_begun (reached span.from
+        (play_of (trace_view words.now) (begin_view loaded.old) told)).ending)) }
+    ensures err { OnErr result ((told : List ℕ) × AreBytesOf (R.remaining input.old) told
+        × CutIn (traced span.from span.to span.limit
+        (play_of (trace_view words.now) (begin_view loaded.old) told)) loaded.new.session
+        × WroteFront (trace_view words.now) (begin_view loaded.old)
+        (λ g. trace_noted span.from span.to span.limit g
+        (play_of (trace_view words.now) (begin_view loaded.old) told))
         (O.contents output.old) (O.contents output.new)) }
+    ensures apart { IfOk result (λ _. IsApart (trace_view words.now)) }
     ensures fault { IfErr result IsOfStreams }
+    ensures assembly { loaded.new.assembly ≡ loaded.old.assembly }
+    ensures output { (text : List ℕ) × (loaded.new.session.current.bus.out
+        ≡ loaded.old.session.current.bus.out ++ text)
+        × Writes (E.contents errors.old) (E.contents errors.new) text result }
 {
     let alloc = rt.alloc();
     check_lines(rt, words)?;
     let mut tracer = make_tracer(alloc, words, loaded)?;
     let written = copied(alloc, &loaded.written)?.or_everywhere(words.is_free);
     let session = &mut loaded.session;
-    let played = trace_between(
+    let traced = trace_between(
         alloc,
         &mut tracer,
         session,
@@ -343,7 +428,39 @@ fn trace_span<H: Files + AllocGlobal, R: Read, O: Write, E: Write>(
         errors,
     )?;
     write_lines(rt, words, loaded.assembly.as_ref(), tracer.tally())?;
-    Ok(played)
+    Ok(traced)
+}
+
+/// Writes that the program ended before its trace began, if it did.
+fn tell_unbegun<E: Write>(has_begun: bool, errors: &mut E)
+    ensures { AppendsFront (E.contents errors.old) (E.contents errors.new)
+        (unbegun_text has_begun) }
+{
+    if !has_begun {
+        put_two(NOT_BEGUN.as_bytes(), b"\n", errors);
+    }
+}
+
+/// Writes why a trace was cut short, and returns the exit status. The file for lcov is named.
+fn tell_cut<E: Write>(refusal: Refusal, lcov: Option<&str>, errors: &mut E) -> u8
+    ensures status { result ≡ status_of refusal }
+    ensures told { AppendsFront (E.contents errors.old) (E.contents errors.new)
+        (cut_line (option_map (λ s. s.now) lcov.entry) refusal) }
+{
+    match lcov {
+        Some(file) => match refusal {
+            Refusal::WriteFile(_) => refuse_file(refusal, file, errors),
+            Refusal::Words
+            | Refusal::Map(_)
+            | Refusal::Source(_)
+            | Refusal::Tape(_)
+            | Refusal::Session(_)
+            | Refusal::OutOfMemory
+            | Refusal::Read(_)
+            | Refusal::Write => refuse(refusal, errors),
+        },
+        None => refuse(refusal, errors),
+    }
 }
 
 /// Traces what was loaded, tells how that ended, and returns the exit status.
@@ -357,23 +474,23 @@ fn trace_told<H: Files + AllocGlobal, R: Read, O: Write, E: Write>(
     errors: &mut E,
 ) -> u8
     requires idle { input_waits loaded.old.session.current.bus ≡ false }
+    requires silent { loaded.old.session.current.bus.out ≡ [] }
     requires limit { span.limit ≡ words.now.steps }
-    ensures { TracedTo (trace_view words.now) (begin_view loaded.old) span.from span.to (record {
-      given = R.remaining input.old;
-      left = R.remaining input.new;
-      held = O.contents output.old;
-      now = O.contents output.new;
-    }) result }
+    ensures { TracedTo (trace_view words.now) (begin_view loaded.old) span.from span.to
+        (streams_of (R.remaining input.old) (R.remaining input.new) (O.contents output.old)
+        (O.contents output.new)) (heard_of (E.contents errors.old) (E.contents errors.new))
+        result }
 {
     match trace_span(rt, words, loaded, span, input, output, errors) {
-        Ok(played) => {
+        Ok(traced) => {
+            tell_unbegun(traced.has_begun, errors);
             let alloc = rt.alloc();
             let pc = loaded.session.regs().pc;
             let assembly = loaded.assembly.as_ref();
-            tell_ending(alloc, words.file.file, assembly, played, pc, errors);
-            status_of_ending(played.ending, 0)
+            tell_ending(alloc, words.file.file, assembly, traced.played, pc, errors);
+            status_of_ending(traced.played.ending, 0)
         }
-        Err(refusal) => refuse(refusal, errors),
+        Err(refusal) => tell_cut(refusal, words.lcov, errors),
     }
 }
 
@@ -386,19 +503,14 @@ fn trace_loaded<H: Files + AllocGlobal, R: Read, O: Write, E: Write>(
     output: &mut O,
     errors: &mut E,
 ) -> u8
-    requires { input_waits loaded.old.session.current.bus ≡ false }
+    requires idle { input_waits loaded.old.session.current.bus ≡ false }
+    requires silent { loaded.old.session.current.bus.out ≡ [] }
     ensures { TracedIfFound (trace_view words.now) (begin_view loaded.old)
         (place_asked (names_of loaded.old.assembly) (trace_view words.now).from)
         (place_asked (names_of loaded.old.assembly) (trace_view words.now).to)
-        (record {
-          given = R.remaining input.old;
-          left = R.remaining input.new;
-          held = O.contents output.old;
-          now = O.contents output.new;
-        }) (record {
-          held = E.contents errors.old;
-          now = E.contents errors.new;
-        }) result ((input.new ≡ input.old) × (output.new ≡ output.old)) }
+        (streams_of (R.remaining input.old) (R.remaining input.new) (O.contents output.old)
+        (O.contents output.new)) (heard_of (E.contents errors.old) (E.contents errors.new))
+        result ((input.new ≡ input.old) × (output.new ≡ output.old)) }
 {
     let from = match place_named(loaded, words.from, errors) {
         Ok(from) => from,
@@ -424,15 +536,10 @@ fn trace_words<H: Files + AllocGlobal, R: Read, O: Write, E: Write>(
     output: &mut O,
     errors: &mut E,
 ) -> u8
-    ensures done { IsDone (trace_view words.now) (record {
-      given = R.remaining input.old;
-      left = R.remaining input.new;
-      held = O.contents output.old;
-      now = O.contents output.new;
-    }) (record {
-      held = E.contents errors.old;
-      now = E.contents errors.new;
-    }) result ((input.new ≡ input.old) × (output.new ≡ output.old)) }
+    ensures done { IsDone (trace_view words.now)
+        (streams_of (R.remaining input.old) (R.remaining input.new) (O.contents output.old)
+        (O.contents output.new)) (heard_of (E.contents errors.old) (E.contents errors.new))
+        result ((input.new ≡ input.old) × (output.new ≡ output.old)) }
     ensures bad_map { is_map words.now.file.rom words.now.file.port ≡ false → result ≡ 2 }
 {
     match load_named(rt, &words.file, words.symbols) {
@@ -446,7 +553,7 @@ fn trace_words<H: Files + AllocGlobal, R: Read, O: Write, E: Write>(
 /// The statuses are those of `run`, and 10 if `--steps` ended the trace. Rows, or what was counted
 /// or found, go to `output`, and the program's own output to `errors`. How often each line was run
 /// goes to its file when the trace has ended; the status is 4 where that cannot be written, or is
-/// the file to run.
+/// the file to run or the file of names.
 pub fn trace_program<H: Files + AllocGlobal, R: Read, O: Write, E: Write>(
     rt: &H,
     words: &[&str],
@@ -456,17 +563,13 @@ pub fn trace_program<H: Files + AllocGlobal, R: Read, O: Write, E: Write>(
 ) -> u8
     // Words that fit the command line, with right values: their file was loaded and traced by the
     // definition of a trace, and what that notes was written; or it was not and the streams are
-    // unchanged, as the status says.
+    // unchanged, as the status says. Where a stream or memory failed, a beginning of what such a
+    // trace notes was written. The error stream gets the program's output, and why it ended.
     ensures done { (a : TraceAsked) → asked (texts words.entry.now) ≡ Some a
-        → Fits trace (texts words.entry.now) → IsDone a (record {
-          given = R.remaining input.old;
-          left = R.remaining input.new;
-          held = O.contents output.old;
-          now = O.contents output.new;
-        }) (record {
-          held = E.contents errors.old;
-          now = E.contents errors.new;
-        }) result ((input.new ≡ input.old) × (output.new ≡ output.old)) }
+        → Fits trace (texts words.entry.now) → IsDone a
+        (streams_of (R.remaining input.old) (R.remaining input.new) (O.contents output.old)
+        (O.contents output.new)) (heard_of (E.contents errors.old) (E.contents errors.new))
+        result ((input.new ≡ input.old) × (output.new ≡ output.old)) }
     // Other words read nothing, and write nothing on the output but help.
     ensures refused { Refuses trace (texts words.entry.now) (asked (texts words.entry.now) ≡ None)
         result (input.new ≡ input.old) (output.new ≡ output.old) }

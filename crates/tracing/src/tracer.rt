@@ -1,8 +1,8 @@
 //! What a trace gathers while its program runs.
 
-ghost use Rattle.std.specs.Prelude.{◌≡◌, ◌⊎◌, [], ◌∷◌, Err, IfErr, IfOk, OnErr, OnOk, true};
-ghost use Rattle.std.specs.Prelude.{option_map};
-ghost use Rattle.std.specs.Io.KnownBytes.{Appends};
+ghost use Rattle.std.specs.Prelude.{◌≡◌, ◌⊎◌, [], ◌∷◌, ◌++◌, Err, IfErr, IfOk, OnErr, OnOk};
+ghost use Rattle.std.specs.Prelude.{option_map, true};
+ghost use Rattle.model.specs.Writers.{AppendsFront, Writes};
 ghost use Rattle.arguments.specs.declared.refusal.Refusal.{Refusal};
 ghost use Rattle.arguments_play.specs.Trace.{trace_view};
 ghost use Rattle.tracing.specs.Gathered.{Gathers, TouchesNoOther, ahead_of, counted, counted_here};
@@ -19,7 +19,7 @@ use accesses::{Addresses, Count, Moment, Tally, Written};
 use arguments::Refusal;
 use arguments_play::TraceWords;
 use debugger::Session;
-use std::alloc::Global;
+use std::alloc::{AllocError, Global};
 use std::io::Write;
 use trace_rows::{Finding, Part, Sites, Step, push_counts, push_finding, push_step};
 
@@ -147,56 +147,47 @@ impl<'a> Tracer<'a> {
         }
     }
 
-    /// Writes a row for an address that a step has read, if nobody ever wrote there. It counts as
+    /// Appends a row for an address that a step has read, if nobody ever wrote there. It counts as
     /// written from then on.
     ///
-    /// Errors: `OutOfMemory` if an allocation fails, `Write` if the row cannot be written.
-    fn tell_read<O: Write>(
+    /// Errors: `AllocError` if an allocation fails.
+    fn tell_read(
         &mut self,
         session: &Session,
         moment: &Moment,
         finding: Finding,
-        output: &mut O,
-    ) -> Result<(), Refusal>
+    ) -> Result<(), AllocError>
         ensures written { OnOk result (self.new.written ≡ with_told session.now.current.bus.map
             self.old.written (finding.address ∷ [])) }
-        ensures gathered { OnOk result (Gathers (O.contents output.old) (O.contents output.new)
-            self.old.sheet.text.items self.new.sheet.text.items
-            (findings session.now.current self.old.sites moment.now finding.step finding.part
-            (told session.now.current.bus.map self.old.written (finding.address ∷ [])))) }
+        ensures text { OnOk result (self.new.sheet.text.items ≡ self.old.sheet.text.items
+            ++ findings session.now.current self.old.sites moment.now finding.step finding.part
+            (told session.now.current.bus.map self.old.written (finding.address ∷ []))) }
         ensures rest { gathered self.new ≡ marked self.new.written (gathered self.old) }
-        ensures fault { OnErr result ((result ≡ Err Refusal.OutOfMemory)
-            ⊎ (result ≡ Err Refusal.Write)) }
     {
         if !self.is_told(session, finding.address) {
             return Ok(());
         }
         self.note_written(finding.address);
-        let row = push_finding(&mut self.sheet.text, session, &self.sites, moment, finding);
-        self.sheet.end_row(row, output)
+        push_finding(&mut self.sheet.text, session, &self.sites, moment, finding)
     }
 
-    /// Writes a row for each of the addresses that a step has read where nobody ever wrote. Each
+    /// Appends a row for each of the addresses that a step has read where nobody ever wrote. Each
     /// address is told once.
     ///
-    /// Errors: `OutOfMemory` if an allocation fails, `Write` if a row cannot be written.
-    fn tell_unwritten<O: Write>(
+    /// Errors: `AllocError` if an allocation fails.
+    fn tell_unwritten(
         &mut self,
         session: &Session,
         moment: &Moment,
         addresses: &Addresses,
         part: Part,
-        output: &mut O,
-    ) -> Result<(), Refusal>
+    ) -> Result<(), AllocError>
         ensures written { OnOk result (self.new.written ≡ with_told session.now.current.bus.map
             self.old.written addresses.now.items) }
-        ensures gathered { OnOk result (Gathers (O.contents output.old) (O.contents output.new)
-            self.old.sheet.text.items self.new.sheet.text.items
-            (findings session.now.current self.old.sites moment.now self.old.all.visits part
-            (told session.now.current.bus.map self.old.written addresses.now.items))) }
+        ensures text { OnOk result (self.new.sheet.text.items ≡ self.old.sheet.text.items
+            ++ findings session.now.current self.old.sites moment.now self.old.all.visits part
+            (told session.now.current.bus.map self.old.written addresses.now.items)) }
         ensures rest { gathered self.new ≡ marked self.new.written (gathered self.old) }
-        ensures fault { OnErr result ((result ≡ Err Refusal.OutOfMemory)
-            ⊎ (result ≡ Err Refusal.Write)) }
     {
         let step = self.all.visits;
         for address in addresses.as_slice() {
@@ -205,38 +196,34 @@ impl<'a> Tracer<'a> {
                 address: *address,
                 part,
             };
-            self.tell_read(session, moment, finding, output)?;
+            self.tell_read(session, moment, finding)?;
         }
         Ok(())
     }
 
-    /// Writes a row for each of the addresses that a step has read where nobody ever wrote: for an
+    /// Appends a row for each of the addresses that a step has read where nobody ever wrote: for an
     /// interrupt entry of its vector, otherwise of its instruction, and then of its data.
     ///
-    /// Errors: `OutOfMemory` if an allocation fails, `Write` if a row cannot be written.
-    fn tell_reads<O: Write>(
+    /// Errors: `AllocError` if an allocation fails.
+    fn tell_reads(
         &mut self,
         session: &Session,
         ahead: &Ahead,
         is_entry: bool,
-        output: &mut O,
-    ) -> Result<(), Refusal>
+    ) -> Result<(), AllocError>
         ensures written { OnOk result (self.new.written
             ≡ with_reads is_entry session.now.current.bus.map ahead.now self.old.written) }
-        ensures gathered { OnOk result (Gathers (O.contents output.old) (O.contents output.new)
-            self.old.sheet.text.items self.new.sheet.text.items
-            (reads_text is_entry session.now.current self.old.sites self.old.all.visits ahead.now
-            self.old.written)) }
+        ensures text { OnOk result (self.new.sheet.text.items ≡ self.old.sheet.text.items
+            ++ reads_text is_entry session.now.current self.old.sites self.old.all.visits ahead.now
+            self.old.written) }
         ensures rest { gathered self.new ≡ marked self.new.written (gathered self.old) }
-        ensures fault { OnErr result ((result ≡ Err Refusal.OutOfMemory)
-            ⊎ (result ≡ Err Refusal.Write)) }
     {
         let moment = &ahead.moment;
         if is_entry {
-            return self.tell_unwritten(session, moment, &entry_reads(), Part::Vector, output);
+            return self.tell_unwritten(session, moment, &entry_reads(), Part::Vector);
         }
-        self.tell_unwritten(session, moment, &code_of(moment), Part::Code, output)?;
-        self.tell_unwritten(session, moment, &ahead.reads, Part::Data, output)
+        self.tell_unwritten(session, moment, &code_of(moment), Part::Code)?;
+        self.tell_unwritten(session, moment, &ahead.reads, Part::Data)
     }
 
     /// Notes that a step has left bytes at addresses.
@@ -250,30 +237,26 @@ impl<'a> Tracer<'a> {
         }
     }
 
-    /// Writes the row of a step, unless counts or unwritten memory are asked for in its place.
+    /// Appends the row of a step, unless counts or unwritten memory are asked for in its place.
     ///
-    /// Errors: `OutOfMemory` if an allocation fails, `Write` if the row cannot be written.
-    fn write_row<O: Write>(
-        &mut self,
-        session: &Session,
-        step: &Step,
-        output: &mut O,
-    ) -> Result<(), Refusal>
-        ensures gathered { OnOk result (Gathers (O.contents output.old) (O.contents output.new)
-            self.old.sheet.text.items self.new.sheet.text.items
-            (row_text (trace_view self.old.words.now) session.now.current self.old.sites
-            step.now)) }
+    /// Errors: `AllocError` if an allocation fails.
+    fn push_row(&mut self, session: &Session, step: &Step) -> Result<(), AllocError>
+        ensures text { OnOk result (self.new.sheet.text.items ≡ self.old.sheet.text.items
+            ++ row_text (trace_view self.old.words.now) session.now.current self.old.sites
+            step.now) }
         ensures same { gathered self.new ≡ gathered self.old }
-        ensures fault { OnErr result ((result ≡ Err Refusal.OutOfMemory)
-            ⊎ (result ≡ Err Refusal.Write)) }
     {
         if self.words.counts || self.words.finds_unwritten {
             return Ok(());
         }
         let shows_stores = self.words.shows_stores;
-        let text = &mut self.sheet.text;
-        let row = push_step(text, session, &self.sites, step, shows_stores);
-        self.sheet.end_row(row, output)
+        push_step(
+            &mut self.sheet.text,
+            session,
+            &self.sites,
+            step,
+            shows_stores,
+        )
     }
 
     /// Notes a step that was made before the trace began: where it stored, and nothing else. The
@@ -288,30 +271,22 @@ impl<'a> Tracer<'a> {
         self.note_stores(&stores);
     }
 
-    /// Notes a step that was made: writes its row, or counts it, or looks for what it has read
-    /// where nobody ever wrote, as the words ask for. The session is in the state after the step.
+    /// Counts a step that was made, looks for what it has read where nobody ever wrote, and appends
+    /// its row, as the words ask for. The session is in the state after the step.
     ///
-    /// Errors: `OutOfMemory` if an allocation fails, `Write` if a row cannot be written.
-    pub fn note<O: Write>(
-        &mut self,
-        session: &Session,
-        ahead: Ahead,
-        output: &mut O,
-    ) -> Result<(), Refusal>
+    /// Errors: `AllocError` if an allocation fails.
+    fn gather(&mut self, session: &Session, ahead: Ahead) -> Result<(), AllocError>
         ensures counted { gathered self.new ≡ marked self.new.written
             (counted_here session.now.current ahead (gathered self.old)) }
         ensures noted { OnOk result (gathered self.new
             ≡ noted_here session.now.current ahead (gathered self.old)) }
-        ensures gathered { OnOk result (Gathers (O.contents output.old) (O.contents output.new)
-            self.old.sheet.text.items self.new.sheet.text.items
-            (text_of_step session.now.current ahead (gathered self.old))) }
-        ensures fault { OnErr result ((result ≡ Err Refusal.OutOfMemory)
-            ⊎ (result ≡ Err Refusal.Write)) }
+        ensures text { OnOk result (self.new.sheet.text.items ≡ self.old.sheet.text.items
+            ++ text_of_step session.now.current ahead (gathered self.old)) }
     {
         let is_entry = ahead.moment.was_entered(session);
         let cycles = session.cycles().saturating_sub(ahead.moment.cycles);
         self.count(is_entry, ahead.moment.regs.pc, cycles);
-        self.tell_reads(session, &ahead, is_entry, output)?;
+        self.tell_reads(session, &ahead, is_entry)?;
         let stores = left_at(session, &self.words.file, is_entry, &ahead);
         self.note_stores(&stores);
         let step = Step {
@@ -319,7 +294,34 @@ impl<'a> Tracer<'a> {
             is_entry,
             stores,
         };
-        self.write_row(session, &step, output)
+        self.push_row(session, &step)
+    }
+
+    /// Notes a step that was made, and writes what was gathered if it is enough. The session is in
+    /// the state after the step. After an error the sheet is empty.
+    ///
+    /// Errors: `OutOfMemory` if an allocation fails, `Write` if what was gathered cannot be
+    /// written.
+    pub fn note<O: Write>(
+        &mut self,
+        session: &Session,
+        ahead: Ahead,
+        output: &mut O,
+    ) -> Result<(), Refusal>
+        ensures noted { OnOk result (gathered self.new
+            ≡ noted_here session.now.current ahead (gathered self.old)) }
+        ensures gathered { OnOk result (Gathers (O.contents output.old) (O.contents output.new)
+            self.old.sheet.text.items self.new.sheet.text.items
+            (text_of_step session.now.current ahead (gathered self.old))) }
+        ensures cut { OnErr result (AppendsFront (O.contents output.old) (O.contents output.new)
+            (self.old.sheet.text.items
+            ++ text_of_step session.now.current ahead (gathered self.old))) }
+        ensures emptied { OnErr result (self.new.sheet.text.items ≡ []) }
+        ensures fault { OnErr result ((result ≡ Err Refusal.OutOfMemory)
+            ⊎ (result ≡ Err Refusal.Write)) }
+    {
+        let row = self.gather(session, ahead);
+        self.sheet.end_row(row, output)
     }
 
     /// Appends the counts to what was gathered, if they are asked for.
@@ -344,15 +346,22 @@ impl<'a> Tracer<'a> {
     ///
     /// Errors: `OutOfMemory` if an allocation fails, `Write` if it cannot be written.
     pub fn finish<O: Write>(&mut self, alloc: Global, output: &mut O) -> Result<(), Refusal>
-        ensures text { OnOk result (Appends (O.contents output.old) (O.contents output.new)
-            (text_at_end (gathered self.old) self.old.sheet.text.items)) }
-        ensures emptied { OnOk result (self.new.sheet.text.items ≡ []) }
+        ensures writes { Writes (O.contents output.old) (O.contents output.new)
+            (text_at_end (gathered self.old) self.old.sheet.text.items) result }
         ensures same { gathered self.new ≡ gathered self.old }
         ensures fault { OnErr result ((result ≡ Err Refusal.OutOfMemory)
             ⊎ (result ≡ Err Refusal.Write)) }
     {
         self.tell_counts(alloc)?;
-        self.sheet.write_out(output)?;
-        output.flush().map_err(|_| Refusal::Write)
+        self.sheet.write_all(output)
+    }
+
+    /// Writes what was gathered of a trace that is cut short, or a beginning of it: no counts.
+    #[tactic(auto, using(crate::proofs::Gathering::writes_front))]
+    pub fn write_cut<O: Write>(&mut self, output: &mut O)
+        ensures { AppendsFront (O.contents output.old) (O.contents output.new)
+            self.old.sheet.text.items }
+    {
+        let _ = self.sheet.write_all(output);
     }
 }

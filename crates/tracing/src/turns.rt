@@ -1,11 +1,14 @@
 //! A turn of a trace, and what is noted of its step.
 
-ghost use Rattle.std.specs.Prelude.{◌≡◌, [], IfErr, IfOk, None, OnOk, false, true};
+ghost use Rattle.std.specs.Prelude.{◌≡◌, ◌++◌, ℕ, [], IfErr, IfOk, List, None, OnErr, OnOk, false};
+ghost use Rattle.std.specs.Prelude.{true};
 ghost use Rattle.console.specs.Taking.{Waits};
 ghost use Rattle.console.specs.Turns.{TurnsTo, known};
+ghost use Rattle.model.specs.Writers.{Writes};
+ghost use Rattle.running.specs.Runs.{streams_of};
 ghost use Rattle.tracing.specs.Gathered.{ahead_of, gathered, noted_here, text_of_step};
 ghost use Rattle.tracing.specs.Texts.{pass_step};
-ghost use Rattle.tracing.specs.Traces.{EndsAt, IsOfStreams, NotedTurn, PassedTurn};
+ghost use Rattle.tracing.specs.Traces.{IsOfStreams, NotedCut, NotedTurn, PassedTurn, TurnCut};
 
 use crate::tracer::Tracer;
 use arguments::Refusal;
@@ -25,6 +28,7 @@ fn take_unnoted_turn(tracer: &Tracer<'_>, session: &mut Session, player: &mut Pl
     ensures not { result ≡ false → (session.new ≡ session.old) × (player.new ≡ player.old) }
     ensures waits { Waits session.new.current player.new.waiting }
     ensures over { player.new.is_over ≡ player.old.is_over }
+    ensures output { session.new.current.bus.out ≡ session.old.current.bus.out }
 {
     if !tracer.touches_no_other(session) {
         return false;
@@ -47,6 +51,7 @@ fn take_counted_turn(tracer: &mut Tracer<'_>, session: &mut Session, player: &mu
         × (tracer.new ≡ tracer.old) }
     ensures waits { Waits session.new.current player.new.waiting }
     ensures over { player.new.is_over ≡ player.old.is_over }
+    ensures output { session.new.current.bus.out ≡ session.old.current.bus.out }
 {
     if !tracer.has_no_rows() {
         return false;
@@ -76,8 +81,14 @@ pub fn passed_turn<R: Read, E: Write>(
     requires waits { Waits session.old.current player.old.waiting }
     ensures ok { IfOk result (λ ending. PassedTurn ending session.old player.old tracer.old
         (R.remaining input.old) (R.remaining input.new) session.new player.new tracer.new) }
+    // At an error the turn was cut short.
+    ensures err { OnErr result ((told : List ℕ) × TurnCut session.old player.old
+        (R.remaining input.old) (R.remaining input.new) session.new player.new told) }
     ensures fault { IfErr result IsOfStreams }
     ensures sheet { tracer.new.sheet ≡ tracer.old.sheet }
+    ensures output { (text : List ℕ)
+        × (session.new.current.bus.out ≡ session.old.current.bus.out ++ text)
+        × Writes (E.contents errors.old) (E.contents errors.new) text result }
     ensures waits { OnOk result (Waits session.new.current player.new.waiting) }
 {
     if take_unnoted_turn(tracer, session, player) {
@@ -97,8 +108,14 @@ fn pass_slowly<R: Read, E: Write>(
     requires waits { Waits session.old.current player.old.waiting }
     ensures ok { IfOk result (λ ending. PassedTurn ending session.old player.old tracer.old
         (R.remaining input.old) (R.remaining input.new) session.new player.new tracer.new) }
+    // At an error the turn was cut short.
+    ensures err { OnErr result ((told : List ℕ) × TurnCut session.old player.old
+        (R.remaining input.old) (R.remaining input.new) session.new player.new told) }
     ensures fault { IfErr result IsOfStreams }
     ensures sheet { tracer.new.sheet ≡ tracer.old.sheet }
+    ensures output { (text : List ℕ)
+        × (session.new.current.bus.out ≡ session.old.current.bus.out ++ text)
+        × Writes (E.contents errors.old) (E.contents errors.new) text result }
     ensures waits { OnOk result (Waits session.new.current player.new.waiting) }
 {
     let ahead = tracer.look_ahead(session);
@@ -122,13 +139,17 @@ pub fn noted_turn<R: Read, O: Write, E: Write>(
     errors: &mut E,
 ) -> Result<Option<Ending>, Refusal>
     requires waits { Waits session.old.current player.old.waiting }
-    ensures ok { IfOk result (λ ending. NotedTurn ending session.old player.old tracer.old (record {
-      given = R.remaining input.old;
-      left = R.remaining input.new;
-      held = O.contents output.old;
-      now = O.contents output.new;
-    }) session.new player.new tracer.new) }
+    ensures ok { IfOk result (λ ending. NotedTurn ending session.old player.old tracer.old
+        (streams_of (R.remaining input.old) (R.remaining input.new) (O.contents output.old)
+        (O.contents output.new)) session.new player.new tracer.new) }
+    // At an error the turn was cut short, or its text.
+    ensures err { OnErr result (NotedCut session.old player.old tracer.old
+        (streams_of (R.remaining input.old) (R.remaining input.new) (O.contents output.old)
+        (O.contents output.new)) session.new player.new tracer.new) }
     ensures fault { IfErr result IsOfStreams }
+    ensures output { (text : List ℕ)
+        × (session.new.current.bus.out ≡ session.old.current.bus.out ++ text)
+        × Writes (E.contents errors.old) (E.contents errors.new) text result }
     ensures waits { OnOk result (Waits session.new.current player.new.waiting) }
 {
     if take_counted_turn(tracer, session, player) {
@@ -147,13 +168,17 @@ fn note_slowly<R: Read, O: Write, E: Write>(
     errors: &mut E,
 ) -> Result<Option<Ending>, Refusal>
     requires waits { Waits session.old.current player.old.waiting }
-    ensures ok { IfOk result (λ ending. NotedTurn ending session.old player.old tracer.old (record {
-      given = R.remaining input.old;
-      left = R.remaining input.new;
-      held = O.contents output.old;
-      now = O.contents output.new;
-    }) session.new player.new tracer.new) }
+    ensures ok { IfOk result (λ ending. NotedTurn ending session.old player.old tracer.old
+        (streams_of (R.remaining input.old) (R.remaining input.new) (O.contents output.old)
+        (O.contents output.new)) session.new player.new tracer.new) }
+    // At an error the turn was cut short, or its text.
+    ensures err { OnErr result (NotedCut session.old player.old tracer.old
+        (streams_of (R.remaining input.old) (R.remaining input.new) (O.contents output.old)
+        (O.contents output.new)) session.new player.new tracer.new) }
     ensures fault { IfErr result IsOfStreams }
+    ensures output { (text : List ℕ)
+        × (session.new.current.bus.out ≡ session.old.current.bus.out ++ text)
+        × Writes (E.contents errors.old) (E.contents errors.new) text result }
     ensures waits { OnOk result (Waits session.new.current player.new.waiting) }
 {
     let ahead = tracer.look_ahead(session);
@@ -162,6 +187,8 @@ fn note_slowly<R: Read, O: Write, E: Write>(
         Ok(Some(ending)) => return Ok(Some(ending)),
         Err(fault) => return Err(refusal_of(fault)),
     }
-    tracer.note(session, ahead, output)?;
-    Ok(None)
+    match tracer.note(session, ahead, output) {
+        Ok(()) => Ok(None),
+        Err(fault) => Err(fault),
+    }
 }

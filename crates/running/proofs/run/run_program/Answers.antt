@@ -12,9 +12,9 @@ returns-in-Ok-clause-done g c a h fits =
     subst (λ (b : RunAsked). IsDone b (record {
       given = g.R.Read.remaining c.args.input.now;
       left = g.R.Read.remaining c.run_words.new.input;
-      held = g.O.Write.contents c.args.output.now;
-      now = g.O.Write.contents c.run_words.new.output;
-    }) (record {
+      held = g.W.Write.contents c.args.output.now.inner;
+      now = g.W.Write.contents c.run_words.new.output.inner;
+    }) c.run_words.new.output.interrupted (record {
       held = g.E.Write.contents c.args.errors.now;
       now = g.E.Write.contents c.run_words.new.errors;
     }) c.run_words.result ((c.run_words.new.input ≡ c.args.input.now) × (c.run_words.new.output ≡ c.args.output.now)))

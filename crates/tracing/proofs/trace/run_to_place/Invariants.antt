@@ -1,5 +1,5 @@
-use Rattle.std.proofs.Common.{◌≡◌, List, ℕ}
-use Rattle.std.specs.Io.KnownBytes.{Consumes}
+use Rattle.std.proofs.Common.{◌≡◌, ◌++◌, List, ℕ}
+use Rattle.std.specs.Io.KnownBytes.{Appends, Consumes}
 use Rattle.console.proofs.Turning.{RunsOn}
 use Rattle.console.specs.Taking.{Waits}
 use Rattle.console.specs.Turns.{EndsOnce, known}
@@ -10,7 +10,7 @@ use Rattle.tracing.proofs.Making.{MakesOn}
 use Rattle.tracing.proofs.trace.run_to_place.Given as goal
 
 abbrev pub invariant-loop-steps : goal.invariant-loop-steps
-invariant-loop-steps g l = (told : List ℕ) × record {
+invariant-loop-steps g l = (told : List ℕ) × (put : List ℕ) × record {
   consumes : Consumes (g.R.Read.remaining l.fn.input) (g.R.Read.remaining l.input) told;
   once : EndsOnce l.fn.player.is_over l.player.is_over told;
   waits : Waits l.session.current l.player.waiting;
@@ -18,4 +18,6 @@ invariant-loop-steps g l = (told : List ℕ) × record {
   runs : RunsOn l.fn.place 18446744073709551615 l.fn.session (known l.fn.player) told l.player.is_over l.steps l.session (known l.player);
   makes : MakesOn pass_step l.fn.place 18446744073709551615 l.fn.session (known l.fn.player) told l.player.is_over l.steps l.session (known l.player) (gathered l.fn.tracer) (gathered l.tracer);
   sheet : l.tracer.sheet ≡ l.fn.tracer.sheet;
+  out : l.session.current.bus.out ≡ l.fn.session.current.bus.out ++ put;
+  appends : Appends (g.E.Write.contents l.fn.errors) (g.E.Write.contents l.errors) put;
 }

@@ -1,9 +1,9 @@
-use Rattle.std.proofs.Common.{◌≡◌, refl}
+use Rattle.std.proofs.Common.{◌≡◌, ◌∙◌, refl}
 use Rattle.loading.specs.Place.{names_of}
 use Rattle.running.specs.Places.{place_asked}
 use Rattle.arguments_play.specs.Trace.{trace_view}
 use Rattle.tracing.specs.Traces.{begin_view}
-use Rattle.tracing.proofs.Done.{told_second, traced_between, unfound_from, unfound_to}
+use Rattle.tracing.proofs.Done.{told_second, traced_between, traced_quiet, unfound_from, unfound_to}
 use Rattle.tracing.proofs.trace.trace_loaded.Goals as goal
 
 pub returns-in-Err : goal.returns-in-Err
@@ -46,4 +46,11 @@ returns g c =
       held = g.E.Write.contents c.args.errors.now;
       now = g.E.Write.contents c.trace_told.new.errors;
     }) c.trace_told.result
-    ((c.trace_told.new.input ≡ c.args.input.now) × (c.trace_told.new.output ≡ c.args.output.now)) c.in-Ok.ensures.place c.in-Ok-place_named.ensures.place c.trace_told.ensures
+    ((c.trace_told.new.input ≡ c.args.input.now) × (c.trace_told.new.output ≡ c.args.output.now)) c.in-Ok.ensures.place c.in-Ok-place_named.ensures.place
+    (traced_quiet g.E.Write.contents a (begin_view c.args.loaded.now) c.in-Ok.from c.in-Ok-place_named.to (record {
+      given = g.R.Read.remaining c.args.input.now;
+      left = g.R.Read.remaining c.trace_told.new.input;
+      held = g.O.Write.contents c.args.output.now;
+      now = g.O.Write.contents c.trace_told.new.output;
+    }) c.args.errors.now c.place_named-2.new.errors (g.E.Write.contents c.trace_told.new.errors) c.trace_told.result
+    (c.in-Ok-place_named.ensures.quiet ∙ c.in-Ok.ensures.quiet) c.trace_told.ensures)

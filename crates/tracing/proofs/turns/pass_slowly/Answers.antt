@@ -14,3 +14,7 @@ returns-clause-ok g c =
     let s = c.args.session.now.current in
     let t = c.take_turn.new.session.current in
     (turn.0, turned None _ _ _ _ _ _ turn.0 turn.1 turn.2 turn.3 turn.4, c.pass.ensures.passed ∙ ap (λ x. passed t x (gathered c.args.tracer.now)) c.look_ahead-ahead.ensures)
+
+pub returns-in-Err-clause-err : goal.returns-in-Err-clause-err
+returns-in-Err-clause-err g c =
+    let cut = c.in-Err.ensures.err in (cut.0, record { consumes = cut.1; over = cut.2; once = cut.3; cut = cut.4 })

@@ -1,11 +1,19 @@
-use Rattle.std.proofs.Common.{◌∙◌, ◌-◌, ap}
-use Rattle.tracing.proofs.Noting.{step_gathered}
+use Rattle.tracing.specs.Gathered.{gathered, text_of_step}
+use Rattle.tracing.proofs.Gathering.{row_cut, row_gathered, row_noted}
 use Rattle.tracing.proofs.tracer.Tracer.note.Goals as goal
+
+pub returns-clause-noted : goal.returns-clause-noted
+returns-clause-noted g c =
+    row_noted c.gather-row.result c.end_row.result _ c.gather-row.ensures.noted c.end_row.ensures.memory
 
 pub returns-clause-gathered : goal.returns-clause-gathered
 returns-clause-gathered g c =
-    step_gathered c.args.session.now.current c.args.ahead c.args.self.now c.count.new.self c.tell_reads.new.self c.note_stores.new.self c.was_entered-is_entry.result c.saturating_sub-cycles.result _ _
-    c.left_at-stores.result.items c.write_row.result _ (g.O.Write.contents c.tell_reads.new.output) _ _
-    c.was_entered-is_entry.ensures (c.saturating_sub-cycles.ensures ∙ ap (λ n. n - c.args.ahead.moment.cycles) c.cycles.ensures)
-    c.count.ensures.counted c.count.ensures.sheet
-    c.tell_reads.ensures.rest c.in_ok-tell_reads.ensures.gathered c.note_stores.ensures.marked c.note_stores.ensures.sheet c.left_at-stores.ensures c.write_row.ensures.gathered
+    row_gathered c.gather-row.result c.end_row.result (g.O.Write.contents c.args.output.now) (g.O.Write.contents c.end_row.new.output)
+    c.args.self.now.sheet.text.items c.gather-row.new.self.sheet.text.items c.end_row.new.self.text.items
+    (text_of_step c.args.session.now.current c.args.ahead (gathered c.args.self.now)) c.gather-row.ensures.text c.end_row.ensures.memory c.end_row.ensures.gathered
+
+pub returns-clause-cut : goal.returns-clause-cut
+returns-clause-cut g c =
+    row_cut g.O.Write.contents c.gather-row.result c.end_row.result c.args.output.now c.end_row.new.output
+    c.args.self.now.sheet.text.items c.gather-row.new.self.sheet.text.items
+    (text_of_step c.args.session.now.current c.args.ahead (gathered c.args.self.now)) c.gather-row.ensures.text c.end_row.ensures.memory_output c.end_row.ensures.cut

@@ -1,24 +1,23 @@
-use Rattle.std.proofs.Common.{◌∙◌, ◌<◌, ◌≤◌, ◌++◌, ◌∷◌, [], append-nil, drop, get_or, length, ap, refl, subst, sym}
+use Rattle.std.proofs.Common.{◌≡◌, ◌∙◌, ◌<◌, ◌≤◌, ◌++◌, ◌∷◌, [], append-nil, drop, get_or, length, ap, refl, subst, sym}
 use Rattle.std.proofs.Math.ListN.{drop_of_length-le}
-use Rattle.tracing.specs.Gathered.{Gathers, findings, told, with_all_written, with_told}
-use Rattle.tracing.proofs.Gathering.{gathers_none}
+use Rattle.tracing.specs.Gathered.{findings, told, with_all_written, with_told}
 use Rattle.tracing.proofs.Noting.{findings_both, marked_on, same_sites}
 use Rattle.tracing.proofs.Telling.{told_none, told_on, written_all, written_none}
 use Rattle.tracing.proofs.tracer.Tracer.tell_unwritten.Goals as goal
 
 pub loop-address-init : goal.loop-address-init
-loop-address-init g c = (
+loop-address-init c = (
   [],
   record {
     written = sym (written_none c.args.self.now.written);
     rest = refl;
-    text = gathers_none _ _ _ _ refl refl;
+    text = sym (append-nil c.args.self.now.sheet.text.items);
     same = refl;
   },
 )
 
 pub loop-address-preserved : goal.loop-address-preserved
-loop-address-preserved g c =
+loop-address-preserved c =
     let l = c.loop-address in
     let i = l.address-index in
     let inv = l.invariant in
@@ -33,21 +32,19 @@ loop-address-preserved g c =
     let here = ok.written ∙ ap (λ ys. with_told m w (get_or ys i 0 ∷ [])) value in
     let one = told m w (get_or xs i 0 ∷ []) in
     let number = c.args.self.now.all.visits in
-    let mid = g.O.Write.contents l.output in
-    let now = g.O.Write.contents c.tell_read.new.output in
-    let found = subst (λ s. Gathers mid now l.self.sheet.text.items v.sheet.text.items (findings state s c.args.moment.now number c.args.part one)) (same_sites c.args.self.now l.self _ inv.1.same)
-    (subst (λ ys. Gathers mid now l.self.sheet.text.items v.sheet.text.items (findings state l.self.sites c.args.moment.now number c.args.part (told m w (get_or ys i 0 ∷ [])))) value ok.gathered) in (
+    let found = subst (λ s. v.sheet.text.items ≡ l.self.sheet.text.items ++ findings state s c.args.moment.now number c.args.part one) (same_sites c.args.self.now l.self _ inv.1.same)
+    (subst (λ ys. v.sheet.text.items ≡ l.self.sheet.text.items ++ findings state l.self.sites c.args.moment.now number c.args.part (told m w (get_or ys i 0 ∷ []))) value ok.text) in (
       inv.0 ++ one,
       record {
         written = here ∙ ap (λ u. with_all_written u one) inv.1.written ∙ written_all c.args.self.now.written inv.0 one;
         rest = told_on m w v.written inv.0 xs i within here ∙ inv.1.rest;
-        text = findings_both state c.args.self.now.sites c.args.moment.now number c.args.part inv.0 one _ mid now _ l.self.sheet.text.items _ inv.1.text found;
+        text = findings_both state c.args.self.now.sites c.args.moment.now number c.args.part inv.0 one _ l.self.sheet.text.items _ inv.1.text found;
         same = marked_on c.args.self.now l.self v inv.1.same c.tell_read.ensures.rest;
       },
     )
 
 pub returns-clause-written : goal.returns-clause-written
-returns-clause-written g c =
+returns-clause-written c =
     let l = c.loop-address in
     let i = l.address-index in
     let inv = l.invariant in
@@ -57,8 +54,8 @@ returns-clause-written g c =
     let all = sym (append-nil inv.0) ∙ ap (λ ys. inv.0 ++ ys) (sym (told_none m l.self.written (drop i xs) (drop_of_length-le xs past))) ∙ inv.1.rest in
     inv.1.written ∙ ap (with_all_written c.args.self.now.written) all
 
-pub returns-clause-gathered : goal.returns-clause-gathered
-returns-clause-gathered g c =
+pub returns-clause-text : goal.returns-clause-text
+returns-clause-text c =
     let l = c.loop-address in
     let i = l.address-index in
     let inv = l.invariant in
@@ -66,8 +63,8 @@ returns-clause-gathered g c =
     let state = c.args.session.now.current in
     let past = subst (λ ys. length ys ≤ i) c.as_slice-address-items.ensures.value c.loop-address-test.false in
     let all = sym (append-nil inv.0) ∙ ap (λ ys. inv.0 ++ ys) (sym (told_none state.bus.map l.self.written (drop i xs) (drop_of_length-le xs past))) ∙ inv.1.rest in
-    subst (λ ys. Gathers (g.O.Write.contents c.args.output.now) (g.O.Write.contents l.output) c.args.self.now.sheet.text.items l.self.sheet.text.items
-    (findings state c.args.self.now.sites c.args.moment.now c.args.self.now.all.visits c.args.part ys)) all inv.1.text
+    subst (λ ys. l.self.sheet.text.items ≡ c.args.self.now.sheet.text.items
+    ++ findings state c.args.self.now.sites c.args.moment.now c.args.self.now.all.visits c.args.part ys) all inv.1.text
 
 pub returns-in_err-tell_read-clause-rest : goal.returns-in_err-tell_read-clause-rest
-returns-in_err-tell_read-clause-rest g c = marked_on c.args.self.now c.loop-address.self c.tell_read.new.self c.loop-address.invariant.1.same c.tell_read.ensures.rest
+returns-in_err-tell_read-clause-rest c = marked_on c.args.self.now c.loop-address.self c.tell_read.new.self c.loop-address.invariant.1.same c.tell_read.ensures.rest
