@@ -1,15 +1,16 @@
--- What the file for lcov gets. Source: mos65.
-use Rattle.std.specs.Prelude.{ℕ, Bool, true, false, List, [], Option, None, Some}
+-- What is told beside TAP: the report for JUnit, and the records for lcov. Source: mos65.
+use Rattle.std.specs.Prelude.{ℕ, Bool, true, false, List, [], Option, None, Some, option_map}
 use Rattle.accesses.specs.Tallies.{Counts, no_counts}
 use Rattle.arguments.specs.declared.file_options.FileForm.{FileForm}
 use Rattle.arguments.specs.declared.file_options.FileForm.TheVariants.{Source}
 use Rattle.lcov.specs.Records.{record_text}
+use Rattle.t65.specs.declared.report.Report.{Report}
+use Rattle.t65_reports.specs.Junit.{ReportTold, report_told}
 use Rattle.t65_suites.specs.declared.prepared.Prepared.{Prepared}
 
--- What a file holds, if there is one and that is known.
-abbrev pub held : {F : Type 0} → (F → Option (List ℕ)) → Option F → Option (List ℕ)
-held contents None = None
-held contents (Some file) = contents file
+-- The report, where one is asked for.
+abbrev pub told_in : Report → Option ReportTold
+told_in report = option_map (λ f. report_told f.junit) report.file
 
 -- Steps are counted from none on, where a file is asked for.
 abbrev pub counts_begun : Bool → Option Counts

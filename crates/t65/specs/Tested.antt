@@ -1,11 +1,12 @@
 -- What TAP tells of the tests of a suite, and what they come to. Source: mos65.
-use Rattle.std.specs.Prelude.{◌≡◌, ℕ, ◌+◌, ◌-◌, ◌^◌, ◌%◌, ◌&&◌, length, min, Bool, true, false, is_none, if◌then◌else◌, List, [], ◌∷◌, ◌++◌, Option, option_map}
+use Rattle.std.specs.Prelude.{◌≡◌, ℕ, ◌+◌, ◌-◌, ◌^◌, ◌&&◌, min, Bool, true, false, is_none, if◌then◌else◌, List, [], ◌∷◌, ◌++◌, Option, option_map}
 use Rattle.clap.specs.Words.{Text}
 use Rattle.t65_suites.specs.Prepared.{Ground, ground_in}
 use Rattle.t65_reader.specs.RowText.{SeenRow}
 use Rattle.t65_failures.specs.Failures.{detail_text}
 use Rattle.t65_reports.specs.Lines.{line_at, lines_after, next_after}
-use Rattle.t65_reports.specs.Reports.{summary_text, tap_case}
+use Rattle.t65_reports.specs.Junit.{ReportTold, with_test}
+use Rattle.t65_reports.specs.Reports.{junit_case, summary_text, tap_case}
 use Rattle.t65_reports.specs.declared.reports.Score.{Score}
 use Rattle.t65_runner.specs.Passes.{first_failed, rows_seen}
 use Rattle.t65_runner.specs.Start.{fresh}
@@ -33,10 +34,6 @@ why bench row = option_map (detail_text bench.bus_map bench.image bench.places r
 abbrev pub plus : ℕ → ℕ → ℕ
 plus count more = min (count + more) (2 ^ 64 - 1)
 
--- The place behind a text in a file.
-abbrev pub moved : ℕ → List ℕ → ℕ
-moved place text = (place + length text) % 2 ^ 64
-
 -- What TAP tells of tests after so many others: of each row its line of the file, whose lines from the
 -- one with the number `next` on are left, and why it fails, if it does.
 unfoldable pub rows_text : Ground → Text → ℕ → ℕ → List (List ℕ) → List (ℕ × SeenRow) → List ℕ
@@ -45,6 +42,15 @@ rows_text bench name count next lines (row ∷ rows)
     = tap_case (plus count 1) name row.0 (line_at row.0 next lines) (why bench row)
     ++ rows_text bench name (plus count 1) (next_after row.0 next lines)
     (lines_after row.0 next lines) rows
+
+-- What the report for JUnit gets of the same tests: of each row its text, and whether it passes.
+unfoldable pub rows_reported : Ground → Text → ℕ → List (List ℕ) → List (ℕ × SeenRow) → ReportTold
+    → ReportTold
+rows_reported bench name next lines [] report = report
+rows_reported bench name next lines (row ∷ rows) report = rows_reported bench name
+    (next_after row.0 next lines) (lines_after row.0 next lines) rows
+    (with_test (is_none (failure_of bench row))
+    (junit_case name row.0 (line_at row.0 next lines) (why bench row)) report)
 
 -- ---- what they come to
 

@@ -2,6 +2,7 @@
 use Rattle.std.specs.Prelude.{◌≡◌, ◌⊎◌, ℕ, ◌&&◌, Bool, true, false, List, [], ◌∷◌, ◌++◌, Option}
 use Rattle.std.specs.Io.KnownBytes.{Appends}
 use Rattle.model.specs.TextLines.{lines_of}
+use Rattle.model.specs.Writers.{AppendsFront}
 use Rattle.t65_reader.specs.declared.row.Part.TheVariants.{Test}
 use Rattle.t65_reports.specs.Reports.{plan_text, tap_fault}
 use Rattle.t65_reports.specs.declared.wording.TheConstants.{TAP_BEGIN}
@@ -85,6 +86,13 @@ pub record IsRun (manner : Manner) (suite : SuiteAsked) (count : ℕ) (old new :
   pub passes_is : outcome.passes ≡ tally.all_pass
   pub written : Appends old new outcome.text
 
+-- A suite was begun after so many tests, and a stream got a beginning of what TAP tells of it.
+pub record IsBegun (manner : Manner) (suite : SuiteAsked) (count : ℕ) (old new : Option (List ℕ))
+    : Type 0 where
+  pub outcome : Outcome
+  pub is : IsOutcome manner suite count outcome
+  pub written : AppendsFront old new outcome.text
+
 -- Suites were run one after another, and a stream got what TAP tells of them.
 pub record AreRun (manner : Manner) (suites : List SuiteAsked) (old new : Option (List ℕ))
     (count : ℕ) (passes : Bool) : Type 0 where
@@ -94,17 +102,29 @@ pub record AreRun (manner : Manner) (suites : List SuiteAsked) (old new : Option
   pub passes_is : all.passes ≡ passes
   pub written : Appends old new all.text
 
--- A stream got the text of TAP: its first line, what is told of the suites, and how many tests there
--- are.
-abbrev pub Tells : Option (List ℕ) → Option (List ℕ) → Outcome → Type 0
-Tells old new all = Appends old new (TAP_BEGIN.now ++ (all.text ++ plan_text all.count))
+-- A stream got a beginning of what TAP tells of suites.
+pub record AreBegun (manner : Manner) (suites : List SuiteAsked) (old new : Option (List ℕ))
+    : Type 0 where
+  pub all : Outcome
+  pub are : AreOutcomes manner 0 suites all
+  pub written : AppendsFront old new all.text
+
+-- The text of TAP: its first line, what is told of the suites, and how many tests there are.
+abbrev pub tap_of : Outcome → List ℕ
+tap_of all = TAP_BEGIN.now ++ (all.text ++ plan_text all.count)
 
 -- The suites that are asked for were tested, and told of on a stream; all of their tests pass, or
 -- not.
 abbrev pub AreTested : TestAsked → Option (List ℕ) → Option (List ℕ) → Bool → Type 0
 AreTested asked old new passes = (all : Outcome)
     × AreOutcomes (manner_of asked) 0 (suites_of asked.reading asked.sources asked.files) all
-    × (all.passes ≡ passes) × Tells old new all
+    × (all.passes ≡ passes) × Appends old new (tap_of all)
+
+-- A stream got a beginning of what is told of the suites that are asked for.
+abbrev pub HasBegun : TestAsked → Option (List ℕ) → Option (List ℕ) → Type 0
+HasBegun asked old new = (all : Outcome)
+    × AreOutcomes (manner_of asked) 0 (suites_of asked.reading asked.sources asked.files) all
+    × AppendsFront old new (tap_of all)
 
 -- Neither report has the name of a file that is read by a name of the words.
 pub record AreKept (asked : TestAsked) : Type 0 where

@@ -1,53 +1,56 @@
 //! Which lines of the sources were run, as lcov reads it. An image has no lines.
 
-ghost use Rattle.std.specs.Prelude.{◌≡◌, IfOk, None, OnOk, is_some};
-ghost use Rattle.std.specs.Io.KnownBytes.{Appends};
+ghost use Rattle.std.specs.Prelude.{◌≡◌, ◌++◌, [], IfOk, None, OnOk, is_some};
 ghost use Rattle.std.specs.Option.{option_map};
 ghost use Rattle.lcov.specs.Records.{record_text};
-ghost use Rattle.t65.specs.Covered.{counts_begun, held, record_of};
+ghost use Rattle.t65.specs.Covered.{counts_begun, record_of};
 ghost use Rattle.t65_reader.specs.RowText.{row_view};
 ghost use Rattle.t65_runner.specs.Counting.{test_counted};
 ghost use Rattle.t65_runner.specs.Passes.{rows_seen};
 ghost use Rattle.t65_runner.specs.Start.{fresh};
 
+use crate::report::path_of;
 use crate::stop::Stop;
 use accesses::Tally;
-use arguments::{FileForm, Refusal};
+use arguments::{FileForm, write_file};
 use debugger::Session;
 use lcov::push_record;
 use std::alloc::{AllocError, Global};
-use std::fs::File;
-use std::io::Write;
 use std::rt::Files;
 use t65_reader::Row;
 use t65_runner::{Values, count_test};
 use t65_suites::Prepared;
 
-/// A file for lcov with a record for each suite that was tested; nothing is written and nothing
-/// counted where none is asked for.
+/// What is written for lcov: a record for each suite that was tested; nothing is counted where no
+/// file is asked for.
 #[derive(Drop)]
-pub struct Coverage<F: Write + Drop> {
-    file: Option<F>,
+pub struct Coverage {
+    path: Option<String>,
+    /// The records of the suites that have ended.
+    text: Vec<u8>,
     /// How often steps began at each address, in the tests of the suite so far.
     counts: Option<Tally>,
 }
 
-/// Begins a file for lcov of that name, if one is asked for. A file that is there is replaced.
+/// Begins what is written for lcov to a file of that name, if that is asked for. The file stays as
+/// it is.
 ///
-/// Errors: `Write` if the file cannot be written.
-pub fn begin_coverage<H: Files>(rt: &H, path: Option<&str>) -> Result<Coverage<H::File>, Refusal>
-    // There is a file where one is asked for, and nothing is counted yet.
-    ensures file { IfOk result (λ coverage. is_some coverage.file ≡ is_some path.entry) }
+/// Errors: `AllocError` if an allocation fails.
+pub fn begin_coverage(alloc: Global, path: Option<&str>) -> Result<Coverage, AllocError>
+    // There is no record yet, and nothing is counted.
+    ensures path { IfOk result (λ coverage. is_some coverage.path ≡ is_some path.entry) }
+    ensures text { IfOk result (λ coverage. coverage.text.items ≡ []) }
     ensures counts { IfOk result (λ coverage. coverage.counts ≡ None) }
 {
-    let file = match path {
+    let path = match path {
         None => None,
-        Some(path) => match File::create(rt, path) {
-            Ok(file) => Some(file),
-            Err(error) => return Err(Refusal::unwritable(&error)),
-        },
+        Some(path) => Some(path_of(alloc, path)?),
     };
-    Ok(Coverage { file, counts: None })
+    Ok(Coverage {
+        path,
+        text: Vec::new(alloc),
+        counts: None,
+    })
 }
 
 /// Returns a count of nothing, if steps are to be counted.
@@ -91,29 +94,16 @@ fn record_of(
     }
 }
 
-/// Writes a text at the end of a file, if there is one.
-fn append<F: Write + Drop>(file: &mut Option<F>, text: &[u8]) -> Result<(), Stop>
-    ensures { OnOk result
-        (Appends (held F.contents file.old) (held F.contents file.new) text.now) }
-{
-    match file {
-        None => Ok(()),
-        Some(file) => match file.write_all(text) {
-            Ok(()) => Ok(()),
-            Err(_) => Err(Stop::Coverage),
-        },
-    }
-}
-
-impl<F: Write + Drop> Coverage<F> {
+impl Coverage {
     /// Begins a suite.
     ///
     /// Errors: `AllocError` if an allocation fails.
     pub fn begin_suite(&mut self, alloc: Global) -> Result<(), AllocError>
-        ensures file { self.new.file ≡ self.old.file }
-        ensures counts { OnOk result (self.new.counts ≡ counts_begun (is_some self.old.file)) }
+        ensures path { self.new.path ≡ self.old.path }
+        ensures text { self.new.text ≡ self.old.text }
+        ensures counts { OnOk result (self.new.counts ≡ counts_begun (is_some self.old.path)) }
     {
-        let counts = counts_begun(alloc, self.file.is_some())?;
+        let counts = counts_begun(alloc, self.path.is_some())?;
         self.counts = counts;
         Ok(())
     }
@@ -134,7 +124,8 @@ impl<F: Write + Drop> Coverage<F> {
         requires { session.old ≡ fresh prepared.now.map prepared.now.assembly.image }
         ensures back { OnOk result
             (session.new ≡ fresh prepared.now.map prepared.now.assembly.image) }
-        ensures file { self.new.file ≡ self.old.file }
+        ensures path { self.new.path ≡ self.old.path }
+        ensures text { self.new.text ≡ self.old.text }
         ensures counts { OnOk result (self.new.counts ≡ option_map (test_counted
             (row_view row.now) (rows_seen rows.now)
             (fresh prepared.now.map prepared.now.assembly.image) failed) self.old.counts) }
@@ -157,16 +148,30 @@ impl<F: Write + Drop> Coverage<F> {
         }
     }
 
-    /// Ends a suite: writes the record of its source, if it has one and that is asked for.
+    /// Ends a suite: appends the record of its source, if it has one and its steps were counted.
     ///
-    /// Errors: `OutOfMemory` if an allocation fails, `Coverage` if the file cannot be written.
-    pub fn end_suite(&mut self, alloc: Global, prepared: &Prepared) -> Result<(), Stop>
-        // The file gets the record of the suite behind those of the suites before it.
-        ensures written { OnOk result (Appends (held F.contents self.old.file)
-            (held F.contents self.new.file) (record_of prepared.now self.old.counts)) }
+    /// Errors: `AllocError` if an allocation fails.
+    pub fn end_suite(&mut self, alloc: Global, prepared: &Prepared) -> Result<(), AllocError>
+        // The record of the suite stands behind those of the suites before it.
+        ensures told { OnOk result (self.new.text.items
+            ≡ self.old.text.items ++ record_of prepared.now self.old.counts) }
+        ensures path { self.new.path ≡ self.old.path }
         ensures counts { self.new.counts ≡ self.old.counts }
     {
-        let text = record_of(alloc, prepared, self.counts.as_ref())?;
-        append(&mut self.file, &text)
+        let record = record_of(alloc, prepared, self.counts.as_ref())?;
+        self.text.extend_from_slice(&record)
+    }
+
+    /// Writes the records to the file, if one is asked for: after the last suite.
+    ///
+    /// Errors: `Coverage` if the file cannot be written.
+    pub fn finish<H: Files + AllocGlobal>(&self, rt: &H) -> Result<(), Stop> {
+        match &self.path {
+            None => Ok(()),
+            Some(path) => match write_file(rt, path.as_str(), self.text.as_slice()) {
+                Ok(()) => Ok(()),
+                Err(refusal) => Err(Stop::of_coverage(refusal)),
+            },
+        }
     }
 }

@@ -1,16 +1,17 @@
 //! Suites, run and told of one after another.
 
-ghost use Rattle.std.specs.Prelude.{◌≡◌, ◌++◌, ◌&&◌, ℕ, List, IfOk, OnOk, false, map};
+ghost use Rattle.std.specs.Prelude.{◌≡◌, ◌⊎◌, ◌++◌, ◌&&◌, ℕ, List, IfErr, IfOk, MatchResult, false, map};
 ghost use Rattle.std.specs.Prelude.{string_bytes};
 ghost use Rattle.std.specs.Io.KnownBytes.{Appends};
 ghost use Rattle.model.specs.TextLines.{lines_of};
-ghost use Rattle.t65_reports.specs.Reports.{tap_fault};
+ghost use Rattle.model.specs.Writers.{AppendsFront, Writes};
+ghost use Rattle.t65_reports.specs.Reports.{junit_fault, tap_fault};
 ghost use Rattle.t65_suites.specs.Suites.{name_of, suite_view};
 ghost use Rattle.t65.specs.Tested.{fresh_tally, rows_text, summary_if, tally_after};
 ghost use Rattle.t65_suites.specs.Prepared.{ground_in};
 ghost use Rattle.t65.specs.Tested.{tally_rows};
 ghost use Rattle.t65_suites.specs.Prepared.{tests_in};
-ghost use Rattle.t65.specs.Told.{AreRun, IsFaultText, IsRun};
+ghost use Rattle.t65.specs.Told.{AreBegun, AreRun, IsBegun, IsFaultText, IsRun};
 
 use crate::report::Reports;
 use crate::rows::{Told, run_rows, write_told};
@@ -18,7 +19,7 @@ use crate::stop::Stop;
 use crate::tally::{Tally, fresh_tally, tally_after};
 use arguments::write_text;
 use std::alloc::{AllocError, Global};
-use std::io::{Seek, Write};
+use std::io::Write;
 use std::rt::Files;
 use t65_reader::Part;
 use t65_reports::{Score, junit_fault, summary, tap_fault};
@@ -42,8 +43,8 @@ fn write_summary<O: Write>(
     score: Score,
     output: &mut O,
 ) -> Result<(), Stop>
-    ensures { OnOk result (Appends (O.contents output.old) (O.contents output.new)
-        (summary_if is_summary name.now score)) }
+    ensures { Writes (O.contents output.old) (O.contents output.new)
+        (summary_if is_summary name.now score) result }
 {
     if !is_summary {
         return Ok(());
@@ -54,14 +55,14 @@ fn write_summary<O: Write>(
 }
 
 /// Runs the rows of a suite that was prepared, after so many tests, and sums them up.
-fn run_tested<O: Write, F: Write + Seek + Drop>(
-    alloc: Global,
+fn run_tested<H: Files + AllocGlobal, O: Write>(
+    rt: &H,
     prepared: &Prepared,
     is_summary: bool,
     name: &str,
     count: u64,
     output: &mut O,
-    reports: &mut Reports<F>,
+    reports: &mut Reports,
 ) -> Result<Tally, Stop>
     ensures tally { IfOk result (λ tally. tally ≡ tally_rows (ground_in prepared.now)
         (fresh_tally count) (tests_in prepared.now)) }
@@ -69,15 +70,20 @@ fn run_tested<O: Write, F: Write + Seek + Drop>(
         (rows_text (ground_in prepared.now) name.now count 1
         (lines_of prepared.now.text.items) (tests_in prepared.now)
         ++ summary_if is_summary name.now tally.score)) }
+    ensures begun { IfErr result (λ _. AppendsFront (O.contents output.old) (O.contents output.new)
+        (rows_text (ground_in prepared.now) name.now count 1
+        (lines_of prepared.now.text.items) (tests_in prepared.now)
+        ++ summary_if is_summary name.now (tally_rows (ground_in prepared.now)
+        (fresh_tally count) (tests_in prepared.now)).score)) }
 {
-    let tests = rows_of(alloc, &prepared.rows, Part::Test)?;
-    reports.junit.begin_suite(alloc, name, tests.len())?;
-    reports.coverage.begin_suite(alloc)?;
+    let tests = rows_of(rt.alloc(), &prepared.rows, Part::Test)?;
+    reports.junit.begin_suite(rt.alloc(), name, tests.len())?;
+    reports.coverage.begin_suite(rt.alloc())?;
     let first = fresh_tally(count);
-    let tally = run_rows(alloc, prepared, &tests, name, first, output, reports)?;
-    reports.coverage.end_suite(alloc, prepared)?;
-    reports.junit.end_suite();
-    write_summary(alloc, is_summary, name, tally.score, output)?;
+    let tally = run_rows(rt, prepared, &tests, name, first, output, reports)?;
+    reports.coverage.end_suite(rt.alloc(), prepared)?;
+    reports.junit.end_suite(rt.alloc())?;
+    write_summary(rt.alloc(), is_summary, name, tally.score, output)?;
     Ok(tally)
 }
 
@@ -88,10 +94,13 @@ fn untested(
     suite: Suite<'_>,
     fault: &FileFault,
 ) -> Result<Told, AllocError>
-    ensures tap { IfOk result (λ told. (title : List ℕ) × (remarks : List ℕ)
+    ensures texts { IfOk result (λ told. (title : List ℕ) × (remarks : List ℕ)
         × (string_bytes told.tap
         ≡ tap_fault number (name_of (suite_view suite.entry)) title remarks)
-        × IsFaultText fault.now title remarks) }
+        × IsFaultText fault.now title remarks
+        × (string_bytes told.junit
+        ≡ junit_fault (name_of (suite_view suite.entry)) title remarks)) }
+    ensures fails { IfOk result (λ told. told.passes ≡ false) }
 {
     let title = title_of(alloc, fault)?;
     let remarks = remarks_of(alloc, suite, fault)?;
@@ -110,14 +119,14 @@ fn untested_tally(count: u64) -> Tally
 }
 
 /// Tells of a suite that cannot be tested, after so many tests: as a test that fails.
-fn run_untested<O: Write, F: Write + Seek + Drop>(
-    alloc: Global,
+fn run_untested<H: Files + AllocGlobal, O: Write>(
+    rt: &H,
     suite: Suite<'_>,
     is_summary: bool,
     count: u64,
     fault: &FileFault,
     output: &mut O,
-    reports: &mut Reports<F>,
+    reports: &mut Reports,
 ) -> Result<Tally, Stop>
     ensures tally { IfOk result (λ tally. tally ≡ tally_after false 0 (fresh_tally count)) }
     ensures written { IfOk result (λ tally. (title : List ℕ) × (remarks : List ℕ)
@@ -125,13 +134,22 @@ fn run_untested<O: Write, F: Write + Seek + Drop>(
         (tap_fault tally.count (name_of (suite_view suite.entry)) title remarks
         ++ summary_if is_summary (name_of (suite_view suite.entry)) tally.score)
         × IsFaultText fault.now title remarks) }
+    // Where memory ran out before there was a text, nothing was written.
+    ensures begun { IfErr result (λ _. (output.new ≡ output.old)
+        ⊎ ((title : List ℕ) × (remarks : List ℕ)
+        × AppendsFront (O.contents output.old) (O.contents output.new)
+        (tap_fault (tally_after false 0 (fresh_tally count)).count
+        (name_of (suite_view suite.entry)) title remarks
+        ++ summary_if is_summary (name_of (suite_view suite.entry))
+        (tally_after false 0 (fresh_tally count)).score)
+        × IsFaultText fault.now title remarks)) }
 {
     let tally = untested_tally(count);
-    let told = untested(alloc, tally.count, suite, fault)?;
-    reports.junit.begin_suite(alloc, suite.name(), 1)?;
-    write_told(alloc, suite.name(), &told, output, reports)?;
-    reports.junit.end_suite();
-    write_summary(alloc, is_summary, suite.name(), tally.score, output)?;
+    let told = untested(rt.alloc(), tally.count, suite, fault)?;
+    reports.junit.begin_suite(rt.alloc(), suite.name(), 1)?;
+    write_told(rt, &told, output, reports)?;
+    reports.junit.end_suite(rt.alloc())?;
+    write_summary(rt.alloc(), is_summary, suite.name(), tally.score, output)?;
     Ok(tally)
 }
 
@@ -143,17 +161,18 @@ fn run_suite<H: Files + AllocGlobal, O: Write>(
     manner: Manner,
     count: u64,
     output: &mut O,
-    reports: &mut Reports<H::File>,
+    reports: &mut Reports,
 ) -> Result<Tally, Stop>
-    ensures { IfOk result (IsRun manner (suite_view suite.entry) count (O.contents output.old)
+    ensures { MatchResult result (IsRun manner (suite_view suite.entry) count
+        (O.contents output.old) (O.contents output.new))
+        (λ _. IsBegun manner (suite_view suite.entry) count (O.contents output.old)
         (O.contents output.new)) }
 {
-    let alloc = rt.alloc();
     let is_summary = manner.is_summary;
     match prepare(rt, suite, manner.steps) {
         Ok(prepared) => {
             run_tested(
-                alloc,
+                rt,
                 &prepared,
                 is_summary,
                 suite.name(),
@@ -166,7 +185,7 @@ fn run_suite<H: Files + AllocGlobal, O: Write>(
             if is_memory(&fault) {
                 return Err(Stop::OutOfMemory);
             }
-            run_untested(alloc, suite, is_summary, count, &fault, output, reports)
+            run_untested(rt, suite, is_summary, count, &fault, output, reports)
         }
     }
 }
@@ -176,18 +195,20 @@ fn run_suite<H: Files + AllocGlobal, O: Write>(
 ///
 /// # Errors
 ///
-/// `OutOfMemory` if an allocation fails, `Output`, `Report` and `Coverage` if these cannot be
-/// written. What cannot be read, assembled or loaded is a test that fails, and the other suites are
-/// run.
+/// `OutOfMemory` if an allocation fails, `Output` and `Report` if these cannot be written: the
+/// output has then a beginning of what is told of the suites. What cannot be read, assembled or
+/// loaded is a test that fails, and the other suites are run.
 pub fn run_suites<H: Files + AllocGlobal, O: Write>(
     rt: &H,
     suites: &[Suite<'_>],
     manner: Manner,
     output: &mut O,
-    reports: &mut Reports<H::File>,
+    reports: &mut Reports,
 ) -> Result<(u64, bool), Stop>
-    ensures { IfOk result (λ end. AreRun manner (map suite_view suites.now)
-        (O.contents output.old) (O.contents output.new) end.0 end.1) }
+    ensures { MatchResult result (λ end. AreRun manner (map suite_view suites.now)
+        (O.contents output.old) (O.contents output.new) end.0 end.1)
+        (λ _. AreBegun manner (map suite_view suites.now) (O.contents output.old)
+        (O.contents output.new)) }
 {
     let mut count = 0u64;
     let mut all_pass = true;

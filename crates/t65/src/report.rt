@@ -1,162 +1,190 @@
-//! What is written in files beside TAP: a report for JUnit, which is a whole file after each test,
-//! and which lines were run.
+//! What is written in files beside TAP: a report for JUnit, and which lines were run.
 //!
-//! Behind the last test stand the ends of its suite and of the report. The next test is written
-//! over them, with the same ends behind it, and the number of failures into the suite's head, which
-//! leaves room for it. So what was done can be read where the program is stopped.
+//! Both are kept as texts. The report is a whole file after each test, and is written whole: after
+//! the first test, then each time when a sixteenth of it or more is not in the file, and at the
+//! end. So all writes together are as long as some seventeen reports, however many tests there are.
 
-ghost use Rattle.std.specs.Prelude.{◌≡◌, IfOk, OnOk, if◌then◌else◌, length};
-ghost use Rattle.t65_reports.specs.Reports.{suite_head};
-ghost use Rattle.t65.specs.Tested.{moved, plus};
+ghost use Rattle.std.specs.Prelude.{◌≡◌, IfOk, OnOk};
+ghost use Rattle.std.specs.Option.{option_map};
+ghost use Rattle.t65_reports.specs.Junit.{no_suite, report_told, with_end, with_suite, with_test};
+ghost use Rattle.t65.specs.Covered.{told_in};
 
 use crate::coverage::Coverage;
 use crate::stop::Stop;
-use arguments::Refusal;
-use std::alloc::Global;
-use std::fs::File;
-use std::io;
-use std::io::{Seek, SeekFrom, Write};
+use arguments::write_file;
+use std::alloc::{AllocError, Global};
 use std::rt::Files;
-use t65_reports::{JUNIT_BEGIN, JUNIT_END, SUITE_END, suite_head};
+use t65_reports::Junit;
 
-/// A report for JUnit in a file; nothing is written where none is asked for.
+/// A report for JUnit, and how much of it is in its file.
 #[derive(Drop)]
-pub struct Report<F: Write + Seek + Drop> {
-    file: Option<F>,
-    /// Where the head of the last suite begins.
-    head: u64,
-    /// Where the next test or suite begins.
-    end: u64,
-    tests: usize,
-    failed: usize,
+pub struct ReportFile {
+    path: String,
+    junit: Junit,
+    /// How many bytes are told of tests.
+    told: usize,
+    /// How many of these are not in the file.
+    unwritten: usize,
+}
+
+/// A report for JUnit; nothing is told where none is asked for.
+#[derive(Drop)]
+pub struct Report {
+    file: Option<ReportFile>,
 }
 
 /// What is written in files.
 #[derive(Drop)]
-pub struct Reports<F: Write + Seek + Drop> {
-    pub junit: Report<F>,
-    pub coverage: Coverage<F>,
+pub struct Reports {
+    pub junit: Report,
+    pub coverage: Coverage,
 }
 
-/// Writes bytes at a place of a file.
-fn write_at<F: Write + Seek>(file: &mut F, at: u64, bytes: &[u8]) -> io::Result<()> {
-    file.seek(SeekFrom::Start(at))?;
-    file.write_all(bytes)
-}
-
-/// Creates the file of a report that has no suite.
-fn created<H: Files>(rt: &H, path: &str) -> io::Result<H::File> {
-    let mut file = File::create(rt, path)?;
-    write_at(&mut file, 0, JUNIT_BEGIN.as_bytes())?;
-    file.write_all(JUNIT_END.as_bytes())?;
-    Ok(file)
-}
-
-/// Begins a report in a file of that name, if one is asked for. A file that is there is replaced.
+/// Returns a path that is there already, as one of its own.
 ///
-/// Errors: `Write` if the file cannot be written, or has no places, as a pipe.
-pub fn begin_report<H: Files>(rt: &H, path: Option<&str>) -> Result<Report<H::File>, Refusal>
-    // The first suite begins behind the beginning.
-    ensures end { IfOk result (λ report. report.end ≡ length JUNIT_BEGIN.now) }
+/// Errors: `AllocError` if an allocation fails.
+pub fn path_of(alloc: Global, path: &str) -> Result<String, AllocError> {
+    let mut copy = String::new(alloc);
+    copy.push_str(path)?;
+    Ok(copy)
+}
+
+/// Begins a report for the file of that name. The file stays as it is.
+fn begin_file(alloc: Global, path: &str) -> Result<ReportFile, AllocError>
+    ensures { IfOk result (λ file. report_told file.junit ≡ no_suite) }
 {
-    let file = match path {
-        None => None,
-        Some(path) => match created(rt, path) {
-            Ok(file) => Some(file),
-            Err(error) => return Err(Refusal::unwritable(&error)),
-        },
-    };
-    Ok(Report {
-        file,
-        head: 0,
-        end: JUNIT_BEGIN.len() as u64,
-        tests: 0,
-        failed: 0,
+    Ok(ReportFile {
+        path: path_of(alloc, path)?,
+        junit: Junit::new(alloc),
+        told: 0,
+        unwritten: 0,
     })
 }
 
-impl<F: Write + Seek + Drop> Report<F> {
-    /// Writes a text at the end, and the ends of the suite and of the report behind it.
-    fn write_end(&mut self, alloc: Global, text: &str) -> Result<(), Stop>
-        ensures end { OnOk result (self.new.end ≡ moved self.old.end text.now) }
-        ensures head { self.new.head ≡ self.old.head }
-        ensures tests { self.new.tests ≡ self.old.tests }
-        ensures failed { self.new.failed ≡ self.old.failed }
-    {
-        let mut whole = String::new(alloc);
-        whole.push_str(text)?;
-        whole.push_str(SUITE_END)?;
-        whole.push_str(JUNIT_END)?;
-        if let Some(file) = &mut self.file {
-            write_at(file, self.end, whole.as_bytes()).map_err(|_| Stop::Report)?;
+/// Begins a report for the file of that name, if one is asked for. The file stays as it is.
+///
+/// Errors: `AllocError` if an allocation fails.
+pub fn begin_report(alloc: Global, path: Option<&str>) -> Result<Report, AllocError>
+    // There is a report where one is asked for, and it has no suite.
+    ensures { IfOk result
+        (λ report. told_in report ≡ option_map (λ _. no_suite) path.entry) }
+{
+    match path {
+        None => Ok(Report { file: None }),
+        Some(path) => {
+            let file = begin_file(alloc, path)?;
+            Ok(Report { file: Some(file) })
         }
-        self.end = self.end.wrapping_add(text.len() as u64);
-        Ok(())
     }
+}
 
-    /// Begins a suite of so many tests: writes its head, and the ends behind it.
-    ///
-    /// Errors: `OutOfMemory` if an allocation fails, `Report` if the file cannot be written.
-    pub fn begin_suite(&mut self, alloc: Global, name: &str, tests: usize) -> Result<(), Stop>
-        // The head stands where the suite before it ended, and the first test behind the head.
-        ensures head { OnOk result (self.new.head ≡ self.old.end) }
-        ensures end { OnOk result
-            (self.new.end ≡ moved self.old.end (suite_head name.now tests 0)) }
-        ensures tests { OnOk result (self.new.tests ≡ tests) }
-        ensures failed { OnOk result (self.new.failed ≡ 0) }
+impl ReportFile {
+    /// Writes the report to its file.
+    fn write<H: Files + AllocGlobal>(&mut self, rt: &H) -> Result<(), Stop>
+        ensures { report_told self.new.junit ≡ report_told self.old.junit }
     {
-        let head = suite_head(alloc, name, tests, 0)?;
-        self.head = self.end;
-        self.tests = tests;
-        self.failed = 0;
-        self.write_end(alloc, &head)
-    }
-
-    /// Writes the head of the suite again, with one more failure.
-    fn count_failure(&mut self, alloc: Global, name: &str) -> Result<(), Stop>
-        ensures failed { self.new.failed ≡ plus self.old.failed 1 }
-        ensures end { self.new.end ≡ self.old.end }
-        ensures head { self.new.head ≡ self.old.head }
-        ensures tests { self.new.tests ≡ self.old.tests }
-    {
-        self.failed = self.failed.saturating_add(1);
-        let head = suite_head(alloc, name, self.tests, self.failed)?;
-        if let Some(file) = &mut self.file {
-            write_at(file, self.head, head.as_bytes()).map_err(|_| Stop::Report)?;
+        let text = self.junit.text(rt.alloc())?;
+        match write_file(rt, self.path.as_str(), text.as_bytes()) {
+            Ok(()) => {
+                self.unwritten = 0;
+                Ok(())
+            }
+            Err(refusal) => Err(Stop::of_report(refusal)),
         }
-        Ok(())
     }
 
-    /// Writes the text of a test of a suite, which passes or not, and the ends behind it.
-    ///
-    /// Errors: `OutOfMemory` if an allocation fails, `Report` if the file cannot be written.
-    pub fn push_test(
+    /// Appends the text of a test, and writes the report if much of it is not in its file.
+    fn push_test<H: Files + AllocGlobal>(
         &mut self,
-        alloc: Global,
-        name: &str,
+        rt: &H,
         text: &str,
         passes: bool,
     ) -> Result<(), Stop>
-        // The next test begins behind this one, and the suite's head stays where it is.
-        ensures end { OnOk result (self.new.end ≡ moved self.old.end text.now) }
-        ensures head { self.new.head ≡ self.old.head }
-        ensures tests { self.new.tests ≡ self.old.tests }
-        ensures failed { OnOk result (self.new.failed
-            ≡ (if passes then self.old.failed else plus self.old.failed 1)) }
+        ensures { OnOk result (report_told self.new.junit
+            ≡ with_test passes text.now (report_told self.old.junit)) }
     {
-        self.write_end(alloc, text)?;
-        if passes {
-            Ok(())
+        self.junit.push_test(text, passes)?;
+        self.told = self.told.saturating_add(text.len());
+        self.unwritten = self.unwritten.saturating_add(text.len());
+        if self.unwritten >= self.told / 16 {
+            self.write(rt)
         } else {
-            self.count_failure(alloc, name)
+            Ok(())
+        }
+    }
+}
+
+impl Report {
+    /// Begins a suite of so many tests.
+    ///
+    /// Errors: `AllocError` if an allocation fails.
+    pub fn begin_suite(&mut self, alloc: Global, name: &str, tests: usize) -> Result<(), AllocError>
+        ensures { OnOk result (told_in self.new
+            ≡ option_map (with_suite name.now tests) (told_in self.old)) }
+    {
+        match &mut self.file {
+            None => Ok(()),
+            Some(file) => file.junit.begin_suite(alloc, name, tests),
         }
     }
 
-    /// Ends a suite: the next one begins behind its end.
-    pub fn end_suite(&mut self)
-        ensures end { self.new.end ≡ moved self.old.end SUITE_END.now }
-        ensures head { self.new.head ≡ self.old.head }
+    /// Appends the text of a test of the suite, which passes or not, and writes the report if much
+    /// of it is not in its file.
+    ///
+    /// Errors: `OutOfMemory` if an allocation fails, `Report` if the file cannot be written.
+    pub fn push_test<H: Files + AllocGlobal>(
+        &mut self,
+        rt: &H,
+        text: &str,
+        passes: bool,
+    ) -> Result<(), Stop>
+        ensures { OnOk result (told_in self.new
+            ≡ option_map (with_test passes text.now) (told_in self.old)) }
     {
-        self.end = self.end.wrapping_add(SUITE_END.len() as u64);
+        match &mut self.file {
+            None => Ok(()),
+            Some(file) => file.push_test(rt, text, passes),
+        }
+    }
+
+    /// Ends the suite.
+    ///
+    /// Errors: `AllocError` if an allocation fails.
+    pub fn end_suite(&mut self, alloc: Global) -> Result<(), AllocError>
+        ensures { OnOk result (told_in self.new ≡ option_map with_end (told_in self.old)) }
+    {
+        match &mut self.file {
+            None => Ok(()),
+            Some(file) => file.junit.end_suite(alloc),
+        }
+    }
+
+    /// Writes the report to its file, if some of it is not there yet.
+    ///
+    /// Errors: `OutOfMemory` if an allocation fails, `Report` if the file cannot be written.
+    pub fn finish<H: Files + AllocGlobal>(&mut self, rt: &H) -> Result<(), Stop>
+        ensures { told_in self.new ≡ told_in self.old }
+    {
+        match &mut self.file {
+            None => Ok(()),
+            Some(file) => {
+                if file.unwritten == 0 {
+                    Ok(())
+                } else {
+                    file.write(rt)
+                }
+            }
+        }
+    }
+}
+
+impl Reports {
+    /// Writes what is not in its file yet: the records for lcov, and the report for JUnit.
+    ///
+    /// Errors: `OutOfMemory` if an allocation fails, `Report` and `Coverage` if these cannot be
+    /// written.
+    pub fn finish<H: Files + AllocGlobal>(&mut self, rt: &H) -> Result<(), Stop> {
+        self.coverage.finish(rt)?;
+        self.junit.finish(rt)
     }
 }

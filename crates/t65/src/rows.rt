@@ -1,14 +1,16 @@
 //! The rows of a suite, run and told of one after another.
 
 ghost use Rattle.std.specs.Prelude.{◌≡◌, ◌+◌, IfOk, OnOk, is_none, is_some, map, string_bytes};
-ghost use Rattle.std.specs.Io.KnownBytes.{Appends};
 ghost use Rattle.std.specs.Option.{option_map};
 ghost use Rattle.model.specs.TextLines.{lines_of};
+ghost use Rattle.model.specs.Writers.{Writes};
 ghost use Rattle.t65_reader.specs.RowText.{numbered_view};
 ghost use Rattle.t65_failures.specs.Failures.{detail_text};
-ghost use Rattle.t65_reports.specs.Reports.{tap_case};
+ghost use Rattle.t65_reports.specs.Junit.{with_test};
+ghost use Rattle.t65_reports.specs.Reports.{junit_case, tap_case};
 ghost use Rattle.t65_runner.specs.Start.{fresh};
-ghost use Rattle.t65.specs.Tested.{IsAround, failure_of, plus, rows_text, run_of};
+ghost use Rattle.t65.specs.Covered.{told_in};
+ghost use Rattle.t65.specs.Tested.{IsAround, failure_of, plus, rows_reported, rows_text, run_of};
 ghost use Rattle.t65_suites.specs.Prepared.{ground_in};
 ghost use Rattle.t65.specs.Tested.{tally_rows, why};
 ghost use Rattle.t65_runner.specs.Passes.{rows_seen};
@@ -20,7 +22,8 @@ use crate::tally::{Tally, tally_after};
 use arguments::write_text;
 use debugger::Session;
 use std::alloc::{AllocError, Global};
-use std::io::{Seek, Write};
+use std::io::Write;
+use std::rt::Files;
 use t65_failures::{Bench, detail_of};
 use t65_reader::{Ranges, Row};
 use t65_reports::{Case, RowLines, junit_case, tap_case};
@@ -66,6 +69,9 @@ fn texts_of(
     ensures tap { IfOk result (λ told. string_bytes told.tap
         ≡ tap_case number case.entry.file.now case.entry.line case.entry.text.now
         (option_map (λ why. why.now) detail.entry)) }
+    ensures junit { IfOk result (λ told. string_bytes told.junit
+        ≡ junit_case case.entry.file.now case.entry.line case.entry.text.now
+        (option_map (λ why. why.now) detail.entry)) }
     ensures passes { IfOk result (λ told. told.passes ≡ is_none detail.entry) }
 {
     Ok(Told {
@@ -91,7 +97,7 @@ fn run_for<'a>(
 }
 
 /// Runs a test from the start of the machine, goes back there, and returns the row's texts.
-fn run_row<F: Write + Drop>(
+fn run_row(
     alloc: Global,
     session: &mut Session,
     prepared: &Prepared,
@@ -99,7 +105,7 @@ fn run_row<F: Write + Drop>(
     number: u64,
     case: Case<'_>,
     row: &(u32, Row),
-    coverage: &mut Coverage<F>,
+    coverage: &mut Coverage,
 ) -> Result<Told, AllocError>
     requires start { session.old ≡ fresh prepared.now.map prepared.now.assembly.image }
     requires around { IsAround prepared.now around.now }
@@ -107,6 +113,9 @@ fn run_row<F: Write + Drop>(
         (session.new ≡ fresh prepared.now.map prepared.now.assembly.image) }
     ensures tap { IfOk result (λ told. string_bytes told.tap
         ≡ tap_case number case.entry.file.now case.entry.line case.entry.text.now
+        (why (ground_in prepared.now) (numbered_view row.now))) }
+    ensures junit { IfOk result (λ told. string_bytes told.junit
+        ≡ junit_case case.entry.file.now case.entry.line case.entry.text.now
         (why (ground_in prepared.now) (numbered_view row.now))) }
     ensures passes { IfOk result (λ told. told.passes
         ≡ is_none (failure_of (ground_in prepared.now) (numbered_view row.now))) }
@@ -125,26 +134,31 @@ fn run_row<F: Write + Drop>(
 }
 
 /// Writes the texts of a test: into the report, and then on the output, which is flushed.
-pub fn write_told<O: Write, F: Write + Seek + Drop>(
-    alloc: Global,
-    name: &str,
+///
+/// Where memory runs out, or the report or the output cannot be written, the output has a beginning
+/// of the text of TAP.
+pub fn write_told<H: Files + AllocGlobal, O: Write>(
+    rt: &H,
     told: &Told,
     output: &mut O,
-    reports: &mut Reports<F>,
+    reports: &mut Reports,
 ) -> Result<(), Stop>
-    ensures { OnOk result (Appends (O.contents output.old) (O.contents output.new)
-        (string_bytes told.now.tap)) }
+    ensures written { Writes (O.contents output.old) (O.contents output.new)
+        (string_bytes told.now.tap) result }
+    ensures report { OnOk result (told_in reports.new.junit ≡ option_map
+        (with_test told.now.passes (string_bytes told.now.junit)) (told_in reports.old.junit)) }
 {
-    let junit = told.junit.as_str();
-    reports.junit.push_test(alloc, name, junit, told.passes)?;
+    reports
+        .junit
+        .push_test(rt, told.junit.as_str(), told.passes)?;
     write_text(output, told.tap.as_bytes())?;
     Ok(())
 }
 
 /// Runs tests, each from the start of the machine. The texts of a row are written, and the output
 /// is flushed, before the next row runs.
-fn run_each<O: Write, F: Write + Seek + Drop>(
-    alloc: Global,
+fn run_each<H: Files + AllocGlobal, O: Write>(
+    rt: &H,
     session: &mut Session,
     prepared: &Prepared,
     around: &Around<'_>,
@@ -152,13 +166,16 @@ fn run_each<O: Write, F: Write + Seek + Drop>(
     name: &str,
     tally: Tally,
     output: &mut O,
-    reports: &mut Reports<F>,
+    reports: &mut Reports,
 ) -> Result<Tally, Stop>
     requires start { session.old ≡ fresh prepared.now.map prepared.now.assembly.image }
     requires around { IsAround prepared.now around.now }
-    ensures written { OnOk result (Appends (O.contents output.old) (O.contents output.new)
+    ensures written { Writes (O.contents output.old) (O.contents output.new)
         (rows_text (ground_in prepared.now) name.now tally.count 1
-        (lines_of prepared.now.text.items) (rows_seen tests.now))) }
+        (lines_of prepared.now.text.items) (rows_seen tests.now)) result }
+    ensures report { OnOk result (told_in reports.new.junit ≡ option_map
+        (rows_reported (ground_in prepared.now) name.now 1 (lines_of prepared.now.text.items)
+        (rows_seen tests.now)) (told_in reports.old.junit)) }
     ensures tally { IfOk result (λ all. all
         ≡ tally_rows (ground_in prepared.now) tally (rows_seen tests.now)) }
 {
@@ -176,9 +193,16 @@ fn run_each<O: Write, F: Write + Seek + Drop>(
         let row = tests[index];
         let coverage = &mut reports.coverage;
         let told = run_row(
-            alloc, session, prepared, around, number, case, row, coverage,
+            rt.alloc(),
+            session,
+            prepared,
+            around,
+            number,
+            case,
+            row,
+            coverage,
         )?;
-        write_told(alloc, name, &told, output, reports)?;
+        write_told(rt, &told, output, reports)?;
         so_far = tally_after(told.passes, tests[index].1.points, so_far);
     }
     Ok(so_far)
@@ -189,28 +213,31 @@ fn run_each<O: Write, F: Write + Seek + Drop>(
 ///
 /// # Errors
 ///
-/// `OutOfMemory` if an allocation fails, `Output`, `Report` and `Coverage` if these cannot be
-/// written.
-pub fn run_rows<O: Write, F: Write + Seek + Drop>(
-    alloc: Global,
+/// `OutOfMemory` if an allocation fails, `Output` and `Report` if these cannot be written: the
+/// output has then a beginning of the texts of all rows.
+pub fn run_rows<H: Files + AllocGlobal, O: Write>(
+    rt: &H,
     prepared: &Prepared,
     tests: &[&(u32, Row)],
     name: &str,
     tally: Tally,
     output: &mut O,
-    reports: &mut Reports<F>,
+    reports: &mut Reports,
 ) -> Result<Tally, Stop>
-    ensures written { OnOk result (Appends (O.contents output.old) (O.contents output.new)
+    ensures written { Writes (O.contents output.old) (O.contents output.new)
         (rows_text (ground_in prepared.now) name.now tally.count 1
-        (lines_of prepared.now.text.items) (rows_seen tests.now))) }
+        (lines_of prepared.now.text.items) (rows_seen tests.now)) result }
+    ensures report { OnOk result (told_in reports.new.junit ≡ option_map
+        (rows_reported (ground_in prepared.now) name.now 1 (lines_of prepared.now.text.items)
+        (rows_seen tests.now)) (told_in reports.old.junit)) }
     ensures tally { IfOk result (λ all. all ≡ tally_rows (ground_in prepared.now) tally
         (rows_seen tests.now)) }
 {
-    let around = Around::new(alloc, &prepared.rows)?;
-    match Session::new(alloc, prepared.map, prepared.assembly.image(), HISTORY) {
+    let around = Around::new(rt.alloc(), &prepared.rows)?;
+    match Session::new(rt.alloc(), prepared.map, prepared.assembly.image(), HISTORY) {
         Ok(mut session) => {
             run_each(
-                alloc,
+                rt,
                 &mut session,
                 prepared,
                 &around,

@@ -3,7 +3,7 @@
 ghost use Rattle.std.specs.Prelude.{◌≡◌};
 ghost use Rattle.t65.specs.declared.stop.Stop.TheVariants as stop;
 
-use arguments::NotWritten;
+use arguments::{NotWritten, Refusal, WriteFault};
 use std::alloc::AllocError;
 
 /// Why no more tests are run.
@@ -13,10 +13,37 @@ pub enum Stop {
     OutOfMemory,
     /// The output cannot be written.
     Output,
-    /// The report cannot be written.
-    Report,
-    /// The file for lcov cannot be written.
-    Coverage,
+    /// The report cannot be written, for this reason.
+    Report(WriteFault),
+    /// The file for lcov cannot be written, for this reason.
+    Coverage(WriteFault),
+}
+
+/// Returns why a file cannot be written, or `None` where memory ran out.
+fn write_fault(refusal: Refusal) -> Option<WriteFault> {
+    match refusal {
+        Refusal::OutOfMemory => None,
+        Refusal::WriteFile(fault) => Some(fault),
+        _ => Some(WriteFault::Other),
+    }
+}
+
+impl Stop {
+    /// Returns why no more tests are run where the report is refused.
+    pub fn of_report(refusal: Refusal) -> Stop {
+        match write_fault(refusal) {
+            None => Stop::OutOfMemory,
+            Some(fault) => Stop::Report(fault),
+        }
+    }
+
+    /// Returns why no more tests are run where the file for lcov is refused.
+    pub fn of_coverage(refusal: Refusal) -> Stop {
+        match write_fault(refusal) {
+            None => Stop::OutOfMemory,
+            Some(fault) => Stop::Coverage(fault),
+        }
+    }
 }
 
 impl From<AllocError> for Stop {

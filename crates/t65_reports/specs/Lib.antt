@@ -1,2 +1,3 @@
+pub mod Junit
 pub mod Lines
 pub mod Reports

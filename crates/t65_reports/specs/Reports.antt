@@ -5,7 +5,6 @@ use Rattle.std.specs.Option.{is_some}
 use Rattle.std.specs.Str.Lines.{lines}
 use Rattle.std.specs.List.{flat_map, prefix_len, suffix_len}
 use Rattle.t65_reports.specs.declared.wording.TheConstants.{CASE, CASE_END, CASE_FAILS, CASE_PASSES, FAILS, FAILURES, FAULT_NAME, LINE, PASSES, QUOTE, SUITE, TAG_END, TESTS}
-use Rattle.t65_failures.specs.Steps.{blanks}
 use Rattle.t65_values.specs.Visible.{visible}
 use Rattle.t65_reports.specs.declared.reports.Score.{Score}
 
@@ -33,8 +32,12 @@ row_of line = without_end_blanks (without_front_blanks (before_comment false lin
 abbrev pub tap_byte : ℕ → List ℕ
 tap_byte b = if (b == 35) || (b == 92) then 92 ∷ (visible b ∷ []) else visible b ∷ []
 
+-- A name, and why a file cannot be tested.
+abbrev pub tap_name : List ℕ → List ℕ
+tap_name name = flat_map tap_byte name
+
 abbrev pub tap_text : List ℕ → List ℕ
-tap_text text = flat_map tap_byte (row_of text)
+tap_text text = tap_name (row_of text)
 
 abbrev pub verdict : Bool → List ℕ
 verdict true = FAILS.now
@@ -44,7 +47,7 @@ verdict false = PASSES.now
 -- line, and its text.
 unfoldable pub tap_row : Bool → ℕ → List ℕ → ℕ → List ℕ → List ℕ
 tap_row failed count file line text = verdict failed ++ decimal count ++ codes " - "
-    ++ tap_text file ++ codes ":" ++ decimal line ++ codes " " ++ tap_text text ++ 10 ∷ []
+    ++ tap_name file ++ codes ":" ++ decimal line ++ codes " " ++ tap_text text ++ 10 ∷ []
 
 -- A line of why a row fails, as TAP has it.
 abbrev pub tap_comment : List ℕ → List ℕ
@@ -62,8 +65,8 @@ tap_case count file line text why
 
 -- The row of TAP for a file that cannot be tested, by the number of that test among all.
 unfoldable pub tap_title : ℕ → List ℕ → List ℕ → List ℕ
-tap_title number file title = FAILS.now ++ decimal number ++ codes " - " ++ tap_text file
-    ++ codes ": " ++ tap_text title ++ 10 ∷ []
+tap_title number file title = FAILS.now ++ decimal number ++ codes " - " ++ tap_name file
+    ++ codes ": " ++ tap_name title ++ 10 ∷ []
 
 -- What TAP tells of such a file: why, in a few words, and remarks.
 abbrev pub tap_fault : ℕ → List ℕ → List ℕ → List ℕ → List ℕ
@@ -76,7 +79,7 @@ score_text score = decimal score.passed ++ codes " passed, " ++ decimal score.fa
 
 -- A comment of TAP: what the tests of a file have come to.
 abbrev pub summary_text : List ℕ → Score → List ℕ
-summary_text file score = codes "# " ++ tap_text file ++ codes ": " ++ score_text score
+summary_text file score = codes "# " ++ tap_name file ++ codes ": " ++ score_text score
 
 -- How many tests there are.
 abbrev pub plan_text : ℕ → List ℕ
@@ -84,11 +87,17 @@ plan_text count = codes "1.." ++ decimal count ++ codes "\n"
 
 -- ---- JUnit
 
--- A byte as XML has it between tags and in values.
+-- A byte as XML has it in values.
+abbrev pub value_byte : ℕ → List ℕ
+value_byte b = if b == 38 then codes "&amp;" else if b == 60 then codes "&lt;"
+    else if b == 62 then codes "&gt;" else if b == 34 then codes "&quot;" else visible b ∷ []
+
+abbrev pub xml_value : List ℕ → List ℕ
+xml_value text = flat_map value_byte text
+
+-- Between tags lines end where they do.
 abbrev pub xml_byte : ℕ → List ℕ
-xml_byte b = if b == 38 then codes "&amp;" else if b == 60 then codes "&lt;"
-    else if b == 62 then codes "&gt;" else if b == 34 then codes "&quot;"
-    else if b == 10 then 10 ∷ [] else visible b ∷ []
+xml_byte b = if b == 10 then 10 ∷ [] else value_byte b
 
 abbrev pub xml : List ℕ → List ℕ
 xml text = flat_map xml_byte text
@@ -100,20 +109,15 @@ abbrev pub numbers_text : ℕ → ℕ → List ℕ
 numbers_text tests failed
     = TESTS.now ++ decimal tests ++ FAILURES.now ++ decimal failed ++ QUOTE.now
 
--- Blanks make the text as long as it is where all tests fail, so that it can be written again in
--- its place.
-unfoldable pub counts_text : ℕ → ℕ → List ℕ
-counts_text tests failed = numbers_text tests failed
-    ++ blanks (length (decimal tests) - length (decimal failed)) ++ codes ">\n"
-
--- The head of a file of so many tests, of which so many fail.
+-- The head of a suite of so many tests, of which so many fail.
 unfoldable pub suite_head : List ℕ → ℕ → ℕ → List ℕ
-suite_head file tests failed = SUITE.now ++ xml file ++ counts_text tests failed
+suite_head file tests failed
+    = SUITE.now ++ xml_value file ++ numbers_text tests failed ++ codes ">\n"
 
 -- Why a test fails, in a few words and in all.
 abbrev pub case_fails : List ℕ → List ℕ → List ℕ
 case_fails message why
-    = CASE_FAILS.now ++ xml message ++ TAG_END.now ++ xml why ++ CASE_END.now
+    = CASE_FAILS.now ++ xml_value message ++ TAG_END.now ++ xml why ++ CASE_END.now
 
 abbrev pub case_end : Option (List ℕ) → List ℕ
 case_end None = CASE_PASSES.now
@@ -123,15 +127,15 @@ abbrev pub line_text : ℕ → List ℕ
 line_text line = LINE.now ++ decimal line ++ codes ": "
 
 unfoldable pub case_front : List ℕ → ℕ → List ℕ → List ℕ
-case_front file line text = CASE.now ++ xml file
-    ++ line_text line ++ xml (row_of text)
+case_front file line text = CASE.now ++ xml_value file
+    ++ line_text line ++ xml_value (row_of text)
 
 -- What is told of a row: the file, the line, its text, and why it fails, if it does.
 abbrev pub junit_case : List ℕ → ℕ → List ℕ → Option (List ℕ) → List ℕ
 junit_case file line text why = case_front file line text ++ case_end why
 
 abbrev pub fault_front : List ℕ → List ℕ
-fault_front file = CASE.now ++ xml file ++ FAULT_NAME.now
+fault_front file = CASE.now ++ xml_value file ++ FAULT_NAME.now
 
 -- What is told of a file that cannot be tested: a test of its own, which fails.
 abbrev pub junit_fault : List ℕ → List ℕ → List ℕ → List ℕ

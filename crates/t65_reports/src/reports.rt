@@ -1,22 +1,22 @@
 //! TAP and JUnit: a test's text is made when it has ended.
 
-ghost use Rattle.std.specs.Prelude.{◌≡◌, ◌-◌, ◌==◌, ◌&&◌, ◌++◌, if◌then◌else◌, false};
-ghost use Rattle.std.specs.Prelude.{decimal, length, not, string_bytes, IfOk, OnOk};
+ghost use Rattle.std.specs.Prelude.{◌≡◌, ◌==◌, ◌&&◌, ◌++◌, if◌then◌else◌, false};
+ghost use Rattle.std.specs.Prelude.{not, string_bytes, IfOk, OnOk};
 ghost use Rattle.std.specs.List.{prefix_len};
 ghost use Rattle.std.specs.Option.{option_map};
 ghost use Rattle.t65_reports.specs.Reports.{before_comment, case_end, case_fails, case_front};
-ghost use Rattle.t65_reports.specs.Reports.{counts_text, fault_front, first_line, junit_case};
+ghost use Rattle.t65_reports.specs.Reports.{fault_front, first_line, junit_case};
 ghost use Rattle.t65_reports.specs.Reports.{junit_fault, line_text, numbers_text, plan_text, row_of, score_text};
 ghost use Rattle.t65_reports.specs.Reports.{suite_head, summary_text, tap_byte, tap_case};
-ghost use Rattle.t65_reports.specs.Reports.{tap_comment, tap_detail, tap_fault, tap_row, tap_text};
-ghost use Rattle.t65_reports.specs.Reports.{tap_title, xml, xml_byte};
+ghost use Rattle.t65_reports.specs.Reports.{tap_comment, tap_detail, tap_fault, tap_name, tap_row};
+ghost use Rattle.t65_reports.specs.Reports.{tap_text, tap_title, value_byte, xml, xml_byte};
+ghost use Rattle.t65_reports.specs.Reports.{xml_value};
 
 use crate::wording::{
     CASE, CASE_END, CASE_FAILS, CASE_PASSES, FAILS, FAILURES, FAULT_NAME, LINE, PASSES, QUOTE,
     SUITE, TAG_END, TESTS,
 };
 use std::alloc::{AllocError, Global};
-use t65_failures::push_blanks;
 use t65_values::push_visible;
 
 /// A row that was run, as it is told of.
@@ -89,32 +89,65 @@ fn push_tap_byte(text: &mut String, byte: u8) -> Result<(), AllocError>
     push_visible(text, byte)
 }
 
-/// Appends a row's text for TAP, where `#` and `\` have `\` before them.
-fn push_description(text: &mut String, line: &[u8]) -> Result<(), AllocError>
-    ensures { OnOk result (string_bytes text.new ≡ string_bytes text.old ++ tap_text line.now) }
+/// Appends a name for TAP, where `#` and `\` have `\` before them.
+fn push_tap_name(text: &mut String, name: &[u8]) -> Result<(), AllocError>
+    ensures { OnOk result (string_bytes text.new ≡ string_bytes text.old ++ tap_name name.now) }
 {
-    let row = row_of(line);
-    for byte in row {
+    for byte in name {
         push_tap_byte(text, *byte)?;
     }
     Ok(())
 }
 
-/// Appends a byte as XML has it between tags and in values.
-fn push_xml_byte(text: &mut String, byte: u8) -> Result<(), AllocError>
-    ensures { OnOk result (string_bytes text.new ≡ string_bytes text.old ++ xml_byte byte) }
+/// Appends a row's text without its comment for TAP.
+fn push_description(text: &mut String, line: &[u8]) -> Result<(), AllocError>
+    ensures { OnOk result (string_bytes text.new ≡ string_bytes text.old ++ tap_text line.now) }
+{
+    push_tap_name(text, row_of(line))
+}
+
+/// Appends a byte as XML has it in values.
+fn push_value_byte(text: &mut String, byte: u8) -> Result<(), AllocError>
+    ensures { OnOk result (string_bytes text.new ≡ string_bytes text.old ++ value_byte byte) }
 {
     match byte {
         b'&' => text.push_str("&amp;"),
         b'<' => text.push_str("&lt;"),
         b'>' => text.push_str("&gt;"),
         b'"' => text.push_str("&quot;"),
-        b'\n' => text.push('\n'),
         other => push_visible(text, other),
     }
 }
 
-/// Appends bytes as XML has them between tags and in values.
+/// Appends bytes as XML has them in values.
+fn push_value(text: &mut String, bytes: &[u8]) -> Result<(), AllocError>
+    ensures { OnOk result (string_bytes text.new ≡ string_bytes text.old ++ xml_value bytes.now) }
+{
+    for byte in bytes {
+        push_value_byte(text, *byte)?;
+    }
+    Ok(())
+}
+
+/// Appends a name as XML has it in values.
+fn push_name(text: &mut String, name: &str) -> Result<(), AllocError>
+    ensures { OnOk result (string_bytes text.new ≡ string_bytes text.old ++ xml_value name.now) }
+{
+    push_value(text, name.as_bytes())
+}
+
+/// Appends a byte as XML has it between tags.
+fn push_xml_byte(text: &mut String, byte: u8) -> Result<(), AllocError>
+    ensures { OnOk result (string_bytes text.new ≡ string_bytes text.old ++ xml_byte byte) }
+{
+    if byte == b'\n' {
+        text.push('\n')
+    } else {
+        push_value_byte(text, byte)
+    }
+}
+
+/// Appends bytes as XML has them between tags.
 fn push_xml(text: &mut String, bytes: &[u8]) -> Result<(), AllocError>
     ensures { OnOk result (string_bytes text.new ≡ string_bytes text.old ++ xml bytes.now) }
 {
@@ -124,7 +157,7 @@ fn push_xml(text: &mut String, bytes: &[u8]) -> Result<(), AllocError>
     Ok(())
 }
 
-/// Appends a text as XML has it between tags and in values.
+/// Appends a text as XML has it between tags.
 fn push_xml_text(text: &mut String, other: &str) -> Result<(), AllocError>
     ensures { OnOk result (string_bytes text.new ≡ string_bytes text.old ++ xml other.now) }
 {
@@ -146,48 +179,12 @@ fn first_line(text: &[u8]) -> &[u8]
     &text[..line_len(text)]
 }
 
-/// Returns the digits of a number.
-fn digits_of(alloc: Global, number: usize) -> Result<String, AllocError>
-    ensures { IfOk result (λ text. string_bytes text ≡ decimal number) }
-{
-    let mut text = String::new(alloc);
-    write!(text, "{number}")?;
-    Ok(text)
-}
-
-/// Returns how many digits fewer a number of failures has than that of all tests.
-fn room_for(alloc: Global, tests: usize, failed: usize) -> Result<usize, AllocError>
-    ensures { IfOk result (λ room. room ≡ length (decimal tests) - length (decimal failed)) }
-{
-    let all = digits_of(alloc, tests)?;
-    let few = digits_of(alloc, failed)?;
-    Ok(all.len().saturating_sub(few.len()))
-}
-
-/// Appends how many tests a file has, and how many of them fail.
+/// Appends how many tests a suite has, and how many of them fail.
 fn push_numbers(text: &mut String, tests: usize, failed: usize) -> Result<(), AllocError>
     ensures { OnOk result (string_bytes text.new
         ≡ string_bytes text.old ++ numbers_text tests failed) }
 {
     write!(text, "{}{tests}{}{failed}{}", TESTS, FAILURES, QUOTE)
-}
-
-/// Appends how many tests a file has, and how many of them fail, and ends its head. Blanks make the
-/// head as long as it is where all fail.
-#[tactic(auto, unfolding(crate::specs::Reports::counts_text))]
-fn push_counts(
-    alloc: Global,
-    text: &mut String,
-    tests: usize,
-    failed: usize,
-) -> Result<(), AllocError>
-    ensures { OnOk result (string_bytes text.new
-        ≡ string_bytes text.old ++ counts_text tests failed) }
-{
-    let room = room_for(alloc, tests, failed)?;
-    push_numbers(text, tests, failed)?;
-    push_blanks(text, room)?;
-    text.push_str(">\n")
 }
 
 /// Appends the number of a row's line.
@@ -197,31 +194,31 @@ fn push_line(text: &mut String, line: u32) -> Result<(), AllocError>
     write!(text, "{}{line}: ", LINE)
 }
 
-/// Returns the head of a file of so many tests, of which so many fail so far, in the report for
-/// JUnit. It is as long for each number that fail.
+/// Appends the head of a suite of so many tests, of which so many fail so far.
 ///
 /// Errors: `AllocError` if an allocation fails.
 #[tactic(auto, unfolding(crate::specs::Reports::suite_head))]
-pub fn suite_head(
-    alloc: Global,
+pub fn push_suite_head(
+    junit: &mut String,
     file: &str,
     tests: usize,
     failed: usize,
-) -> Result<String, AllocError>
-    ensures { IfOk result (λ text. string_bytes text ≡ suite_head file.now tests failed) }
+) -> Result<(), AllocError>
+    ensures { OnOk result (string_bytes junit.new
+        ≡ string_bytes junit.old ++ suite_head file.now tests failed) }
 {
-    let mut junit = String::new(alloc);
     junit.push_str(SUITE)?;
-    push_xml_text(&mut junit, file)?;
-    push_counts(alloc, &mut junit, tests, failed)?;
-    Ok(junit)
+    push_name(junit, file)?;
+    push_numbers(junit, tests, failed)?;
+    junit.push_str(">\n")
 }
 
 /// Appends a row's text without its comment as XML has it in values.
 fn push_xml_row(text: &mut String, line: &[u8]) -> Result<(), AllocError>
-    ensures { OnOk result (string_bytes text.new ≡ string_bytes text.old ++ xml (row_of line.now)) }
+    ensures { OnOk result
+        (string_bytes text.new ≡ string_bytes text.old ++ xml_value (row_of line.now)) }
 {
-    push_xml(text, row_of(line))
+    push_value(text, row_of(line))
 }
 
 /// Appends the row of TAP that tells of a row, by its number among all rows, whether it passes.
@@ -237,7 +234,7 @@ fn push_tap_row(
 {
     tap.push_str(if failed { FAILS } else { PASSES })?;
     write!(tap, "{count} - ")?;
-    push_description(tap, case.file.as_bytes())?;
+    push_tap_name(tap, case.file.as_bytes())?;
     write!(tap, ":{} ", case.line)?;
     push_description(tap, case.text)?;
     tap.push('\n')
@@ -293,9 +290,9 @@ fn push_tap_title(tap: &mut String, number: u64, file: &str, title: &str) -> Res
 {
     tap.push_str(FAILS)?;
     write!(tap, "{number} - ")?;
-    push_description(tap, file.as_bytes())?;
+    push_tap_name(tap, file.as_bytes())?;
     tap.push_str(": ")?;
-    push_description(tap, title.as_bytes())?;
+    push_tap_name(tap, title.as_bytes())?;
     tap.push('\n')
 }
 
@@ -339,7 +336,7 @@ pub fn summary(alloc: Global, file: &str, score: Score) -> Result<String, AllocE
 {
     let mut tap = String::new(alloc);
     tap.push_str("# ")?;
-    push_description(&mut tap, file.as_bytes())?;
+    push_tap_name(&mut tap, file.as_bytes())?;
     tap.push_str(": ")?;
     push_score(&mut tap, score)?;
     Ok(tap)
@@ -362,7 +359,7 @@ fn push_case_front(junit: &mut String, case: Case<'_>) -> Result<(), AllocError>
         ++ case_front case.entry.file.now case.entry.line case.entry.text.now) }
 {
     junit.push_str(CASE)?;
-    push_xml_text(junit, case.file)?;
+    push_name(junit, case.file)?;
     push_line(junit, case.line)?;
     push_xml_row(junit, case.text)?;
     Ok(())
@@ -375,7 +372,7 @@ fn push_failure(junit: &mut String, message: &[u8], detail: &str) -> Result<(), 
         ≡ string_bytes junit.old ++ case_fails message.now detail.now) }
 {
     junit.push_str(CASE_FAILS)?;
-    push_xml(junit, message)?;
+    push_value(junit, message)?;
     junit.push_str(TAG_END)?;
     push_xml_text(junit, detail)?;
     junit.push_str(CASE_END)?;
@@ -413,7 +410,7 @@ fn push_fault_front(junit: &mut String, file: &str) -> Result<(), AllocError>
         ≡ string_bytes junit.old ++ fault_front file.now) }
 {
     junit.push_str(CASE)?;
-    push_xml_text(junit, file)?;
+    push_name(junit, file)?;
     junit.push_str(FAULT_NAME)?;
     Ok(())
 }

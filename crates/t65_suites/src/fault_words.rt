@@ -7,7 +7,7 @@ use crate::fault::{FileFault, TestFault};
 use crate::names::text_of;
 use crate::suites::Suite;
 use crate::wording::{AT_PORT, NO_IMAGE, NO_ROW, NO_SOURCE, TOO_LARGE};
-use arguments::{LoadFault, Refusal, put_fault_line, refuse_file, tell_no_image};
+use arguments::{LoadFault, Refusal, put_fault_line, refuse_file, shown_name, tell_no_image};
 use loading::NamedFault;
 use std::alloc::{AllocError, Global};
 use std::io::Write;
@@ -219,9 +219,13 @@ pub fn remarks_of(alloc: Global, suite: Suite<'_>, fault: &FileFault) -> Result<
 {
     let mut told = Vec::new(alloc);
     match fault {
-        FileFault::InRows(fault) => tell_rows(suite.rows, *fault, &mut told),
+        FileFault::InRows(fault) => {
+            let rows = shown_name(alloc, suite.rows)?;
+            tell_rows(&rows, *fault, &mut told);
+        }
         FileFault::InProgram(path, fault) => {
-            tell_program(path, suite.reading.symbols, fault, &mut told)
+            let path = shown_name(alloc, path)?;
+            tell_program(&path, suite.reading.symbols, fault, &mut told);
         }
     }
     shown_text(alloc, &told)

@@ -12,7 +12,7 @@ use crate::fault::TestFault;
 use crate::head::read_head;
 use crate::names::{copied, path_of, read_rows_text};
 use crate::suites::{Reading, Suite, suites_of};
-use arguments::{Refusal, is_one_file};
+use arguments::{Refusal, is_one_output};
 use std::rt::Files;
 
 /// Returns the path of the file that a suite's rows are run on.
@@ -60,7 +60,7 @@ fn replaced_file<H: Files + AllocGlobal>(
         (λ found. found ≡ None → bytes_eq file.now report.now ≡ false) }
     ensures found { IfOk result (λ found. IfSome found (λ path. string_bytes path ≡ file.now)) }
 {
-    if is_one_file(rt, file, report) {
+    if is_one_output(rt, file, report)? {
         let path = copied(rt.alloc(), file)?;
         Ok(Some(path))
     } else {
@@ -81,7 +81,7 @@ fn replaced_own<H: Files + AllocGlobal>(
 {
     match source_of(rt, suite)? {
         Some(path) => {
-            if is_one_file(rt, &path, report) {
+            if is_one_output(rt, &path, report)? {
                 Ok(Some(path))
             } else {
                 Ok(None)

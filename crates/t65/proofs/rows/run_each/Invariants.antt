@@ -2,7 +2,9 @@ use Rattle.std.proofs.Common.{◌≡◌, drop}
 use Rattle.model.specs.TextLines.{lines_of}
 use Rattle.t65_reports.specs.Lines.{lines_left}
 use Rattle.t65_runner.specs.Start.{fresh}
-use Rattle.t65.specs.Tested.{rows_text, tally_rows}
+use Rattle.std.specs.Option.{option_map}
+use Rattle.t65.specs.Covered.{told_in}
+use Rattle.t65.specs.Tested.{rows_reported, rows_text, tally_rows}
 use Rattle.t65_suites.specs.Prepared.{ground_in}
 use Rattle.t65.proofs.Walk.{TextLeft}
 use Rattle.t65.proofs.rows.run_each.Given as goal
@@ -14,5 +16,7 @@ invariant-loop-index g l = record {
   told : TextLeft (g.O.Write.contents l.fn.output) (g.O.Write.contents l.output)
       (rows_text (ground_in l.prepared) l.name l.so_far.count l.lines.next (lines_left l.lines) (rows_seen (drop l.index l.tests)))
       (rows_text (ground_in l.prepared) l.name l.fn.tally.count 1 (lines_of l.prepared.text.items) (rows_seen l.tests));
+  reported : option_map (rows_reported (ground_in l.prepared) l.name l.lines.next (lines_left l.lines) (rows_seen (drop l.index l.tests))) (told_in l.reports.junit)
+      ≡ option_map (rows_reported (ground_in l.prepared) l.name 1 (lines_of l.prepared.text.items) (rows_seen l.tests)) (told_in l.fn.reports.junit);
   counted : tally_rows (ground_in l.prepared) l.so_far (rows_seen (drop l.index l.tests)) ≡ tally_rows (ground_in l.prepared) l.fn.tally (rows_seen l.tests);
 }
