@@ -7,18 +7,21 @@ ghost use Rattle.running.specs.Requests.{Came, NoneCame};
 use std::fs::File;
 use std::io::{ErrorKind, Read, Write};
 use std::rt::{Env, Files};
-use std::{env, io};
+use std::{io, str};
 
 /// The variable of the environment that names the file whose first byte interrupts a run.
 const VARIABLE: &str = "MOS65_INTERRUPT";
 
+/// How many bytes the name of that file may have.
+const LONGEST: usize = 4096;
+
 /// Opens the file whose first byte interrupts a run, if the environment names one. Where it cannot
-/// be opened, and where memory runs out, there is none.
-pub fn open_requests<H: Env + Files + AllocGlobal>(rt: &H) -> Option<H::File> {
-    let Ok(name) = env::var(rt, VARIABLE) else {
-        return None;
-    };
-    File::open(rt, name.as_str()).ok()
+/// be opened there is none. Without a name no memory is asked for.
+pub fn open_requests<H: Env + Files>(rt: &H) -> Option<H::File> {
+    let mut name = [0u8; LONGEST];
+    let length = rt.var(VARIABLE, &mut name).ok()?;
+    let name = str::from_utf8(&name[..length]).ok()?;
+    File::open(rt, name).ok()
 }
 
 /// A writer that writes what another one does, and can be told to break off: its flush fails once
