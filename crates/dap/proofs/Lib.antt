@@ -1,3 +1,4 @@
 mod Refusals
 mod Runs
 mod Sent
+mod Words
