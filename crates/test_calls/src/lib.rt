@@ -1,5 +1,5 @@
-//! Worked examples of the machine, its session and the assembler, as calls. Each is a test; there
-//! is no other code. `tests/sessions.md` and `tests/sources.md` have what command lines show.
+//! Worked examples of the machine, its session, the assembler, tapes and the engine, as calls. Each
+//! is a test; there is no other code. The pages of `tests` have what command lines show.
 #![tactic(auto)]
 
 #[cfg(test)]
@@ -7,8 +7,12 @@ mod common;
 #[cfg(test)]
 mod history;
 #[cfg(test)]
+mod multiplication;
+#[cfg(test)]
 mod saved;
 #[cfg(test)]
 mod sources;
+#[cfg(test)]
+mod tapes;
 #[cfg(test)]
 mod tests;

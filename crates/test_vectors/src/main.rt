@@ -1,8 +1,10 @@
 //! Compares the opcode table and single steps of the machine with what the tools of others gave;
-//! lists and assembles again.
+//! lists and assembles again; and says what reading each tape gives that is named on the command
+//! line.
 #![tactic(auto)]
 
 mod listing_counts;
+mod tapes;
 
 use anyhow::Result;
 use bus::{Image, MapSpec};
@@ -11,8 +13,9 @@ use listing_counts::write_counts;
 use model::Setting;
 use optable::{decode, encode, mnemonic_of};
 use std::alloc::Global;
-use std::fs;
 use std::rt::Files;
+use std::{env, fs};
+use tapes::report_tape;
 
 /// The cycles of the reset with which a machine starts.
 const RESET_CYCLES: u64 = 7;
@@ -173,5 +176,8 @@ fn main(rt: HostRuntime) -> Result<()> {
         }
     }
     println!(rt; "steps: {count} compared")?;
+    for name in env::args(&rt)?.skip(1) {
+        report_tape(&rt, name.as_str())?;
+    }
     write_counts(rt)
 }

@@ -1,16 +1,11 @@
-//! Reads each tape that is named on the command line, at once and byte by byte, and says what
-//! reading it gives.
-#![tactic(auto)]
+//! Reads tapes, at once and byte by byte, and says what reading them gives.
 
 use anyhow::Result;
 use bus::Image;
 use papertape::{TapeFault, TapeReader, read_tape, write_tape};
 use std::alloc::Global;
+use std::fs;
 use std::rt::Files;
-use std::{env, fs};
-
-#[cfg(test)]
-mod tests;
 
 /// How many addresses of an image have a byte.
 fn size(image: &Image) -> usize {
@@ -39,8 +34,8 @@ fn wanted<R: Files + AllocGlobal>(rt: &R, name: &str) -> Result<(Vec<u8>, &'stat
     Ok((fs::read(rt, same.as_str())?, "the same"))
 }
 
-/// Reads one tape in both ways, and writes back what was read byte by byte.
-fn report<R: Files + AllocGlobal + Print>(rt: &R, name: &str) -> Result<()> {
+/// Reads the tape `NAME.ptp` in both ways, and writes back what was read byte by byte.
+pub fn report_tape<R: Files + AllocGlobal + Print>(rt: &R, name: &str) -> Result<()> {
     let path = format!(in rt.alloc(); "{name}.ptp")?;
     let text = fs::read(rt, path.as_str())?;
     let at_once = read_tape(rt.alloc(), &text);
@@ -62,13 +57,6 @@ fn report<R: Files + AllocGlobal + Print>(rt: &R, name: &str) -> Result<()> {
         println!(rt; "{name}: ok, {bytes} bytes, written back {words}")?;
     } else {
         println!(rt; "{name}: ok, {bytes} bytes, written back otherwise")?;
-    }
-    Ok(())
-}
-
-fn main(rt: HostRuntime) -> Result<()> {
-    for name in env::args(&rt)?.skip(1) {
-        report(&rt, name.as_str())?;
     }
     Ok(())
 }

@@ -1,7 +1,6 @@
 //! The calls on tapes, each once and in pieces. Tapes whose texts and faults are known from outside
-//! stand in `data`, which the program reads.
+//! stand in `crates/test_vectors/data`.
 
-use crate::read_by_bytes;
 use bus::Image;
 use papertape::{
     TapeFault, TapeFaultKind, TapeReadFault, TapeReader, read_pieces, read_tape, read_tape_from,
@@ -17,6 +16,15 @@ const PROGRAM_TAPE: &[u8; 38] = b";060200A9418D00F000026F\r\n;0000010001\r\n";
 
 const MANUAL_TAPE: &[u8; 74] =
     b";180000FFEEDDCCBBAA0099887766554433221122334455667788990AFC\r\n;0000010001\r\n";
+
+/// Reads a tape by a reader that is fed one byte at a time.
+fn read_by_bytes(alloc: Global, text: &[u8]) -> Result<Image, TapeFault> {
+    let mut reader = TapeReader::new(alloc)?;
+    for at in 0..text.len() {
+        reader.feed(&text[at..at + 1])?;
+    }
+    reader.finish()
+}
 
 fn program(alloc: Global) -> Result<Image, Fail> {
     let mut image = Image::new(alloc)?;
