@@ -140,8 +140,8 @@ fn served(
     })
 }
 
-/// Serves a session, and says what the call answers, how many bytes were not read, whether each reply
-/// was flushed before the reader was asked again, and what was written.
+/// Serves a session, and says what the call answers, how many bytes were not read, whether each
+/// reply was flushed before the reader was asked again, and what was written.
 fn report<R: AllocGlobal + Print>(rt: &R, session: &Session) -> Result<()> {
     let waiting = Cell::new(0);
     let mut lines = LimitedReader {
