@@ -1,4 +1,4 @@
-//! Worked examples of the machine, its session, the assembler, tapes and the engine, as calls. Each
+//! Worked examples of the machine, its session, the assembler and tapes, as calls. Each
 //! is a test; there is no other code. The pages of `tests` have what command lines show.
 #![tactic(auto)]
 
