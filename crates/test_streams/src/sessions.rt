@@ -154,14 +154,14 @@ fn report<R: AllocGlobal + Print>(rt: &R, session: &Session) -> Result<()> {
     let (most, room) = (session.most, session.room);
     let mut replies = LimitedWriter::new(rt.alloc(), most, room, session.flushes, &waiting);
     let answer = served(rt.alloc(), session.call, &mut lines, &mut replies)?;
-    let left = lines.rest.len();
+    let (name, left, text) = (session.name, lines.rest.len(), replies.text());
     let how = if lines.is_early {
         "a reply waits at a read"
     } else {
         "flushed before each read"
     };
-    println!(rt; "{}: {answer:?}, {left} bytes unread, {how}", session.name)?;
-    println!(rt; "    {:?}", replies.text())?;
+    println!(rt; "{name}: {answer:?}, {left} bytes unread, {how}")?;
+    println!(rt; "    {text:?}")?;
     Ok(())
 }
 
