@@ -170,7 +170,7 @@ class Watch:
         """Counts what is proved of the program, before a build."""
         proving.sum_up(crates, f"{TOP}/crates")
         wanted = [*program.below, program]
-        self.before, self.total = sum(it.is_proved() for it in wanted), len(wanted)
+        self.before, self.total = len(proving.proved(wanted)), len(wanted)
         self.proof.note(self.before, self.total, self.began)
 
     def look(self, build):
@@ -182,7 +182,7 @@ class Watch:
             raise Ended("ended: the folder of the cache is gone")
         build.at_once = self.most if self.proof.is_waited_for() else self.least
         self.look_at_sources()
-        done = self.before + len(build.passed)
+        done = self.before + build.count()
         self.proof.note(done, self.total, self.began)
 
     def look_at_sources(self):

@@ -5,6 +5,12 @@ each other. Here each crate is proved in a workspace of its own: a crates.txt, c
 and of those below it, links to the libraries built from them, and its own out/, which is moved
 there and back. out/ can be moved: the same kit can use it at any path.
 
+A crate counts as proved where its own files, the kit and the built libraries below it are those that
+its proof read. So an edit has a crate above proved again only where a library below that comes out
+changed: a comment in a source file changes none. `rt` itself goes by the sources of all crates below,
+so such a library is given the sum that `rt` looks for. With a kit that does not say that sum, a crate
+is proved again after each edit below it.
+
 All of this stands in a folder of the user's cache, one for each clone:
 
     logs/NAME.log   what the tools printed about a crate
@@ -18,7 +24,10 @@ All of this stands in a folder of the user's cache, one for each clone:
 
 import ctypes
 import fcntl
+import functools
 import hashlib
+import importlib.machinery
+import importlib.util
 import os
 import re
 import shutil
@@ -32,6 +41,7 @@ TOP = os.path.dirname(os.path.dirname(os.path.realpath(__file__)))
 MEMORY_OF_A_JOB = 3_000_000_000
 SIZE_OF_JOB = 20_000  # bytes of a crate's source for each job after the first
 NOT_BUILT = 125
+SUMS_KEPT = 20  # of the sources that came to one proof
 MUST_FAIL = "must-fail"
 PR_SET_PDEATHSIG, PR_SET_CHILD_SUBREAPER = 1, 36
 SYSTEM = ctypes.CDLL(None)
@@ -78,6 +88,9 @@ class Crate:
         self.is_program = os.path.isfile(f"{self.folder}/src/main.rt")
         self.is_archive = "staticlib" in row.partition(":")[0].split()
 
+    def is_library(self):
+        return not self.is_program and not self.is_archive
+
     def has_tests(self):
         files = (file for file in files_of(f"{self.folder}/src") if file.endswith(".rt"))
         return any(re.search(rb"#\s*\[[^]]*\btest\b", read(it)) for it in files)
@@ -95,14 +108,71 @@ class Crate:
         is_file = self.is_program or self.is_archive
         return f"{self.program()}.proved" if is_file else f"{self.folder}/out/rlib/proved"
 
-    def proof(self):
-        """What the mark holds once the crate is proved, and built."""
-        is_file = self.is_program or self.is_archive
-        is_built = is_file and os.path.isfile(self.program())
-        return self.sum + (hashlib.sha256(read(self.program())).hexdigest() if is_built else "")
+    def made(self):
+        """The sum of what was built: the program or the archive, or None where it is not there, or all
+        files of the library, or the sources where the kit keeps it elsewhere."""
+        if not self.is_library():
+            return sum_of([self.program()], TOP)
+        folder = f"{self.folder}/out/rlib/{self.name}.rlib"
+        return sum_of([*files_of(folder)], folder) or self.sum
+
+    def stamp(self):
+        """The sum that `rt` gave its library."""
+        file = f"{self.folder}/out/rlib/stamp"
+        return read(file).decode() if os.path.isfile(file) else None
+
+    def key(self, made):
+        """The sum of what its proof reads, where `made` has what those below were built into."""
+        below = sorted((it.name, made[it.name]) for it in self.below)
+        return hashlib.sha256(repr((self.own, below)).encode()).hexdigest()
+
+    def noted(self):
+        """What its mark has: the key by which it was proved, what was built then, and the sums of the
+        sources that came to that."""
+        try:
+            key, made, *sums = read(self.mark()).decode().split()
+        except (OSError, ValueError):
+            return None, None, []
+        return key, made, sums
+
+    def note(self, key, made, sums):
+        write(self.mark(), "".join(f"{it}\n" for it in [key, made, *sums[-SUMS_KEPT:]]))
+
+    def proved_over(self, made, is_by_content):
+        """What it was built into, where it is proved over what `made` has of those below, or None. If
+        not `is_by_content`, it has to be from these sources, and those below too."""
+        key, own, sums = self.noted()
+        if key != self.key(made) or not (self.sum in sums or is_by_content):
+            return None
+        return own if self.is_library() or own == self.made() else None
 
     def is_proved(self):
-        return os.path.isfile(self.mark()) and read(self.mark()).decode() == self.proof()
+        return self.name in proved([*self.below, self])
+
+
+def proved(crates):
+    """What each of these crates that is proved was built into, by name. Each comes after those below."""
+    found, is_by_content = {}, kit_library() is not None
+    for crate in crates:
+        if all(it.name in found for it in crate.below):
+            found[crate.name] = crate.proved_over(found, is_by_content)
+            if not found[crate.name]:
+                del found[crate.name]
+    return found
+
+
+def sum_of(files, top):
+    """The sum of these files, with their names below a folder; or None where one is not there."""
+    found = hashlib.sha256()
+    try:
+        for file in files:
+            found.update(repr((os.path.relpath(file, top), os.path.getsize(file))).encode())
+            with open(file, "rb") as it:
+                while part := it.read(1 << 20):
+                    found.update(part)
+    except OSError:
+        return None
+    return found.hexdigest() if files else None
 
 
 def read(file):
@@ -156,8 +226,35 @@ def kit():
     return ran.stdout
 
 
+def kit_library():
+    """The file with the kit's own functions for crates, or None where the kit has another form."""
+    rt = shutil.which("rt")
+    file = f"{os.path.dirname(os.path.realpath(rt))}/rtlib.py" if rt else ""
+    return file if os.path.isfile(file) else None
+
+
+def stamps_of(crates, top):
+    """The sum by which `rt` knows each library as built from the sources below `top`, by name. None are
+    found where the kit has another form."""
+    try:
+        loader = importlib.machinery.SourceFileLoader("rtlib", kit_library())
+        kit_of = importlib.util.module_from_spec(importlib.util.spec_from_loader("rtlib", loader))
+        loader.exec_module(kit_of)
+        # Each of these goes through every path that leads to a crate.
+        for name in ("below", "stamp"):
+            setattr(kit_of.Crate, name, functools.cache(getattr(kit_of.Crate, name)))
+        known, found = {}, {}
+        for it in crates:
+            folder = f"{top}/crates/{it.name}"
+            known[folder] = known.get(folder) or kit_of.Crate(folder, top, known)
+            found[it.name] = known[folder].stamp()
+        return found
+    except (Exception, SystemExit):  # whatever another kit's functions do
+        return {}
+
+
 def sum_up(crates, sources):
-    """Gives each crate the sum of what it is proved from: its files, those below it, and the kit."""
+    """Gives each crate the sum of its files and the kit, and the sum of these and of those below it."""
     version = kit()
     for crate in crates.values():
         found = hashlib.sha256(version + crate.row.encode())
@@ -166,6 +263,7 @@ def sum_up(crates, sources):
             inside = os.path.relpath(file, folder)
             if not inside.startswith((f"{MUST_FAIL}/", "out/")):
                 found.update(repr((inside, read(file))).encode())
+        crate.own = found.hexdigest()
         for it in crate.uses:
             found.update(it.sum.encode())
         crate.sum = found.hexdigest()
@@ -185,6 +283,12 @@ def copy_sources(crates, top, to):
     for crate in crates:
         leave = lambda at, names: [it for it in names if it == "out"]
         shutil.copytree(f"{top}/crates/{crate.name}", f"{to}/{crate.name}", ignore=leave)
+
+
+def lay_sources(crates, top, to):
+    """Copies the crates and their rows as `rt` reads them."""
+    copy_sources(crates, top, f"{to}/crates")
+    write(f"{to}/crates.txt", "".join(f"{it.row}\n" for it in crates))
 
 
 def can_write(folder):
@@ -284,17 +388,20 @@ class Workspace:
     """The workspace in which one crate is proved."""
 
     def __init__(self, room, crate):
-        self.crate, self.sources = crate, f"{room}/sources"
+        self.crate, self.sources = crate, f"{room}/sources/crates"
         self.top = f"{room}/work/{crate.name}"
         self.folder = f"{self.top}/crates/{crate.name}"
 
-    def fill(self, bodies):
-        """Lays the crate and those below it there, with these wrong bodies where any are given."""
+    def fill(self, bodies, stamps):
+        """Lays the crate and those below it there, with these wrong bodies where any are given. The
+        libraries below get the sums by which `rt` knows them."""
         crates = [*self.crate.below, self.crate]
         write(f"{self.top}/crates.txt", "".join(f"{it.row}\n" for it in crates))
         for it in crates:
             shutil.copytree(f"{self.sources}/{it.name}", f"{self.top}/crates/{it.name}")
         for it in self.crate.below:
+            if it.name in stamps and it.stamp() != stamps[it.name]:
+                write(f"{it.folder}/out/rlib/stamp", stamps[it.name])
             built = f"{self.top}/crates/{it.name}/out/rlib"
             shutil.copytree(f"{it.folder}/out/rlib", built, copy_function=link_or_copy)
         if os.path.isdir(f"{self.crate.folder}/out"):
@@ -328,12 +435,13 @@ class Run:
 
     is_low = False  # whether it is to leave the processors to others
 
-    def __init__(self, room, crate, steps, jobs):
+    def __init__(self, room, crate, steps, jobs, stamps):
         self.crate, self.jobs, self.steps = crate, jobs, [*steps]
+        self.builds = ["lib"] in steps
         self.log, self.seconds, self.status = f"{room}/logs/{crate.name}.log", 0, None
         self.is_new = not os.path.isdir(f"{crate.folder}/out/incremental")
         self.space = Workspace(room, crate)
-        self.space.fill(crate.bodies() if any(it[0] == MUST_FAIL for it in steps) else None)
+        self.space.fill(crate.bodies() if any(it[0] == MUST_FAIL for it in steps) else None, stamps)
         open(self.log, "wb").close()
         self.begin()
 
@@ -412,11 +520,16 @@ def end_all(runs):
 class Build:
     """Proves crates side by side, those first that the longest chain of others waits for."""
 
-    def __init__(self, room, plan, seconds, at_once, goes_on=False):
+    def __init__(self, room, plan, seconds, at_once, goes_on=False, known=None):
         """`plan` has the steps of each crate, each crate after those below it. Where the build
-        `goes_on`, a crate that fails stops only those above it."""
+        `goes_on`, a crate that fails stops only those above it. `known` has sums of sources by name: a
+        crate is not tested where what its proof reads is as it was for these."""
         self.room, self.plan, self.at_once, self.goes_on = room, plan, at_once, goes_on
         self.left, self.running, self.passed, self.failed = [*plan], [], [], []
+        self.kept, self.known, self.steps = [], known or {}, {}
+        crates = dict.fromkeys(it for crate in plan for it in [*crate.below, crate])
+        self.made = proved(crates)
+        self.stamps = stamps_of([it for it in crates if it.is_library()], f"{room}/sources")
         self.seconds = {it: seconds.get(it.name) or len(read_all(it)) / 1000 for it in plan}
         self.chain = {}
         for crate in reversed([*plan]):
@@ -438,7 +551,24 @@ class Build:
         jobs = max(1, idle // count, min(needed, idle + self.at_once // 4))
         return min(jobs, 1 + len(read_all(crate)) // SIZE_OF_JOB)
 
+    def judge(self, crate):
+        """Finds what is left of a crate's steps, once those below it are built, and takes it as done
+        where that is nothing."""
+        own = crate.proved_over(self.made, bool(self.stamps))
+        sums = crate.noted()[2]
+        done = ["lib", "run"] * bool(own)
+        done += ["test", "fmt"] * bool(own and self.known.get(crate.name) in sums)
+        self.steps[crate] = [it for it in self.plan[crate] if it[0] not in done]
+        if not self.steps[crate]:
+            self.left.remove(crate)
+            self.kept.append(crate)
+            self.made[crate.name] = own
+            crate.note(crate.key(self.made), own, [*(it for it in sums if it != crate.sum), crate.sum])
+
     def begin_ready(self):
+        while new := [it for it in self.ready() if it not in self.steps]:
+            for it in new:
+                self.judge(it)
         ready = self.ready()
         for at, crate in enumerate(ready):
             idle = self.at_once - sum(it.jobs for it in self.running)
@@ -446,7 +576,7 @@ class Build:
                 return
             jobs = self.jobs_for(crate, len(ready) - at, idle)
             self.left.remove(crate)
-            self.running.append(Run(self.room, crate, self.plan[crate], jobs))
+            self.running.append(Run(self.room, crate, self.steps[crate], jobs, self.stamps))
 
     def collect(self):
         for run in [*self.running]:
@@ -455,26 +585,40 @@ class Build:
                 run.space.give_back()
                 (self.failed if run.status else self.passed).append(run)
                 if not run.status:
-                    write(run.crate.mark(), run.crate.proof())
+                    self.note(run)
+
+    def note(self, run):
+        """Notes what a crate is proved from. Where `rt` gives a library another sum than was found, none
+        is given one from then on, and so each crate above is proved again."""
+        crate = run.crate
+        if run.builds and crate.stamp() != self.stamps.get(crate.name):
+            self.stamps = {}
+        made = crate.made()
+        self.made[crate.name] = made
+        if made:
+            crate.note(crate.key(self.made), made, [crate.sum])
+
+    def count(self):
+        """How many crates of the plan are done."""
+        return len(self.passed) + len(self.kept)
 
     def run(self, show):
-        """Returns the runs that failed: the first alone, unless the build goes on."""
+        """Runs to the end, or until a crate has failed, unless the build goes on."""
         SYSTEM.prctl(PR_SET_CHILD_SUBREAPER, 1)
         try:
             while self.running or self.ready():
                 self.begin_ready()
-                show(len(self.passed))
+                show(self.count())
                 Stop.pause(0.1)
                 self.collect()
                 if self.failed and not self.goes_on:
                     break
-            show(len(self.passed))
+            show(self.count())
         finally:
             end_all(self.running)
             SYSTEM.prctl(PR_SET_CHILD_SUBREAPER, 0)
             for it in self.running:
                 it.space.give_back()
-        return self.failed
 
 
 def read_all(crate):
