@@ -5,12 +5,6 @@ each other. Here each crate is proved in a workspace of its own: a crates.txt, c
 and of those below it, links to the libraries built from them, and its own out/, which is moved
 there and back. out/ can be moved: the same kit can use it at any path.
 
-A crate counts as proved where its own files, the kit and the built libraries below it are those that
-its proof read. So an edit has a crate above proved again only where a library below that comes out
-changed: a comment in a source file changes none. `rt` itself goes by the sources of all crates below,
-so such a library is given the sum that `rt` looks for. With a kit that does not say that sum, a crate
-is proved again after each edit below it.
-
 All of this stands in a folder of the user's cache, one for each clone:
 
     logs/NAME.log   what the tools printed about a crate
@@ -20,6 +14,12 @@ All of this stands in a folder of the user's cache, one for each clone:
     first-look      the program without proof, of tools/first-look
     proof.NAME      what tools/background.py keeps
     proved          the sums of the crates that were proved and tested, for `tools/prove changed`
+
+A crate counts as proved where its own files, the kit and the built libraries below it are those that
+its proof read. So an edit has a crate above proved again only where a library below it comes out
+changed, which a comment in a source file does not do. `rt` itself goes by the sources of all crates
+below, so a library that stays is given the sum that `rt` looks for. With a kit that does not say that
+sum, a crate is proved again after each edit below it.
 """
 
 import ctypes
@@ -141,10 +141,10 @@ class Crate:
     def proved_over(self, made, is_by_content):
         """What it was built into, where it is proved over what `made` has of those below, or None. If
         not `is_by_content`, it has to be from these sources, and those below too."""
-        key, own, sums = self.noted()
+        key, built, sums = self.noted()
         if key != self.key(made) or not (self.sum in sums or is_by_content):
             return None
-        return own if self.is_library() or own == self.made() else None
+        return built if self.is_library() or built == self.made() else None
 
     def is_proved(self):
         return self.name in proved([*self.below, self])
@@ -154,10 +154,9 @@ def proved(crates):
     """What each of these crates that is proved was built into, by name. Each comes after those below."""
     found, is_by_content = {}, kit_library() is not None
     for crate in crates:
-        if all(it.name in found for it in crate.below):
-            found[crate.name] = crate.proved_over(found, is_by_content)
-            if not found[crate.name]:
-                del found[crate.name]
+        is_over_proved = all(it.name in found for it in crate.below)
+        if is_over_proved and (built := crate.proved_over(found, is_by_content)):
+            found[crate.name] = built
     return found
 
 
@@ -554,16 +553,16 @@ class Build:
     def judge(self, crate):
         """Finds what is left of a crate's steps, once those below it are built, and takes it as done
         where that is nothing."""
-        own = crate.proved_over(self.made, bool(self.stamps))
+        built = crate.proved_over(self.made, bool(self.stamps))
         sums = crate.noted()[2]
-        done = ["lib", "run"] * bool(own)
-        done += ["test", "fmt"] * bool(own and self.known.get(crate.name) in sums)
+        done = ["lib", "run"] * bool(built)
+        done += ["test", "fmt"] * bool(built and self.known.get(crate.name) in sums)
         self.steps[crate] = [it for it in self.plan[crate] if it[0] not in done]
         if not self.steps[crate]:
             self.left.remove(crate)
             self.kept.append(crate)
-            self.made[crate.name] = own
-            crate.note(crate.key(self.made), own, [*(it for it in sums if it != crate.sum), crate.sum])
+            self.made[crate.name] = built
+            crate.note(crate.key(self.made), built, [*(it for it in sums if it != crate.sum), crate.sum])
 
     def begin_ready(self):
         while new := [it for it in self.ready() if it not in self.steps]:
@@ -593,10 +592,9 @@ class Build:
         crate = run.crate
         if run.builds and crate.stamp() != self.stamps.get(crate.name):
             self.stamps = {}
-        made = crate.made()
-        self.made[crate.name] = made
-        if made:
-            crate.note(crate.key(self.made), made, [crate.sum])
+        self.made[crate.name] = crate.made()
+        if self.made[crate.name]:
+            crate.note(crate.key(self.made), self.made[crate.name], [crate.sum])
 
     def count(self):
         """How many crates of the plan are done."""
