@@ -1,5 +1,6 @@
 //! Makes each library call that its words name, and prints whether it was served. So a script can
-//! make each allocation of one call fail in turn.
+//! make each allocation of one call fail in turn. With `speed` as its first word it runs a program
+//! for a clock beside it.
 #![tactic(auto)]
 
 ghost use Rattle.std.specs.Prelude.{◌≡◌};
@@ -17,6 +18,8 @@ use std::alloc::Global;
 use std::process::ExitCode;
 use std::{env, io};
 use thiserror::Error;
+
+mod speed;
 
 /// A source with tokens, expressions, names and data of each kind.
 const SOURCE: &[u8] =
@@ -239,8 +242,24 @@ fn run(rt: &HostRuntime) -> io::Result<u8> {
     Ok(0)
 }
 
+/// Whether the first word is `speed`.
+fn is_for_speed(rt: &HostRuntime) -> io::Result<bool> {
+    match env::args(rt)?.nth(1) {
+        Some(word) => Ok(word.as_str() == "speed"),
+        None => Ok(false),
+    }
+}
+
+/// Does what the words ask for, and returns the exit status.
+fn serve(rt: &HostRuntime) -> io::Result<u8> {
+    if is_for_speed(rt)? {
+        return Ok(u8::from(speed::run(rt).is_err()));
+    }
+    run(rt)
+}
+
 fn main(rt: HostRuntime) -> ExitCode {
-    match run(&rt) {
+    match serve(&rt) {
         Ok(status) => ExitCode::from(status),
         Err(error) => {
             let is_memory = error.kind() == io::ErrorKind::OutOfMemory;

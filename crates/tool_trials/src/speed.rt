@@ -1,7 +1,5 @@
 //! Runs the program of tools/bench.s, as ca65 makes it in bench.bin, in a session, for a clock
-//! beside it. The words are numbers: 0 for a run and 1 for single events, how many states are held,
-//! how many breakpoints and how many watches are set, 1 for profile C, and the most steps.
-#![tactic(auto)]
+//! beside it.
 
 use anyhow::Result;
 use bus::{Image, MapSpec};
@@ -62,10 +60,10 @@ fn step_by_step(session: &mut Session, steps: u32) -> u32 {
     steps
 }
 
-/// The words as numbers. A word that is not a number is rejected.
+/// The words behind `speed` as numbers. A word that is not a number is rejected.
 fn numbers(rt: &HostRuntime) -> Result<Vec<u32>> {
     let mut numbers = Vec::new(rt.alloc());
-    for word in env::args(rt)?.skip(1) {
+    for word in env::args(rt)?.skip(2) {
         let Ok(number) = word.parse::<u32>() else {
             return Err(io::Error::from(io::ErrorKind::InvalidInput))?;
         };
@@ -100,9 +98,12 @@ fn left(session: &Session) -> (u64, u8) {
     (session.cycles(), session.regs().a)
 }
 
-fn main(rt: HostRuntime) -> Result<()> {
-    let words = numbers(&rt)?;
-    let program = fs::read(&rt, "bench.bin")?;
+/// Runs the program as the numbers behind `speed` say: 0 for a run and 1 for single events, how
+/// many states are held, how many breakpoints and how many watches are set, 1 for profile C, and
+/// the most steps. Prints how many steps were made, with the cycles and A.
+pub fn run(rt: &HostRuntime) -> Result<()> {
+    let words = numbers(rt)?;
+    let program = fs::read(rt, "bench.bin")?;
     let (history, breaks, watches) = (number(&words, 1), number(&words, 2), number(&words, 3));
     let map = map_of(number(&words, 4))?;
     let mut session = at_the_start(rt.alloc(), &program, history, breaks, watches, map)?;
