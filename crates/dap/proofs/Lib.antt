@@ -1,3 +1,4 @@
+mod Fitting
 mod Refusals
 mod Runs
 mod Sent

@@ -1,6 +1,8 @@
 -- What a refused request leaves.
 use Rattle.std.proofs.Common.{Option, Some, None, refl}
-use Rattle.dap.specs.Adapter.{CountsIfRefused, StaysIfRefused}
+use Rattle.std.proofs.Common.{Global}
+use Rattle.std.specs.Prelude.{String}
+use Rattle.dap.specs.Adapter.{CountsIfRefused, Stays, StaysIfRefused}
 use Rattle.dap_messages.specs.declared.counting.Counting.{Counting}
 use Rattle.dap_session.proofs.Stays.{shows_same}
 use Rattle.dap_session.specs.declared.fault.Fault.{Fault}
@@ -14,3 +16,9 @@ stays_same f None = tt
 pub counts_same : (f : Fault) (n : Option Counting) → CountsIfRefused f n n
 counts_same (fault.Refused words) n = refl
 counts_same fault.OutOfMemory n = tt
+
+pub stays_so : (words : String Global) (old new : Option Seat) → StaysIfRefused (fault.Refused words) old new → Stays old new
+stays_so words (Some old) (Some new) stays = stays
+stays_so words None None stays = tt
+stays_so words (Some old) None stays = absurd stays
+stays_so words None (Some new) stays = absurd stays

@@ -1,11 +1,12 @@
 -- Runs that go on.
-use Rattle.std.proofs.Common.{◌≡◌, ◌∙◌, ℕ, ◌+◌, ◌<◌, ◌≤◌, suc, Bool, true, false, ◌||◌, List, [], ◌++◌, length, drop, get_or, map, Option, Some, None, refl, sym, ap}
-use Rattle.std.proofs.lemmas.List.{at_drop_all, at_drop_more}
+use Rattle.std.proofs.Common.{◌≡◌, ◌∙◌, ℕ, ◌+◌, ◌-◌, ◌<◌, ◌≤◌, suc, Bool, true, false, ◌||◌, List, [], ◌++◌, length, append_assoc, drop, get_or, inr, map, Option, Some, None, refl, subst, sym, ap, take}
+use Rattle.std.proofs.lemmas.List.{at_drop_all, at_drop_more, length-map, take-map}
 use Rattle.std.specs.List.{list_any}
 use Rattle.clap.specs.Words.{Text}
-use Rattle.dap.specs.Slices.{GoesOn, MayRunOn, RunsOn, says_no_stop}
-use Rattle.dap.specs.Attended.{Turns}
-use Rattle.dap.specs.Sent.{AreSent}
+use Rattle.dap.specs.Slices.{GoesOn, IsRun, IsRunCut, MayRunOn, RunsOn, but_last, says_no_stop}
+use Rattle.dap.specs.Attended.{Turns, status_of}
+use Rattle.dap.specs.Sent.{AreBegun}
+use Rattle.message_stream.specs.Sessions.{BeginsTurn}
 use Rattle.dap.specs.Served.{Answers, ServesBody}
 use Rattle.dap_messages.specs.Messages.{Said, said_of}
 use Rattle.dap_messages.specs.declared.message.Message.{Message}
@@ -26,6 +27,11 @@ any_more ms i m h is = at_drop_more (λ x. list_any says_no_stop (map said_of x)
 pub any_end : (ms : List Message) (i : ℕ) → length ms ≤ i → list_any says_no_stop (map said_of (drop i ms)) ≡ false
 any_end ms i h = at_drop_all (λ x. list_any says_no_stop (map said_of x)) ms i h
 
+-- the messages but the last say what all say but for the last
+pub said_rest : (ms rest : List Message) (n : ℕ) → n ≡ length ms → rest ≡ take (n - 1) ms → map said_of rest ≡ but_last (map said_of ms)
+said_rest ms rest n count is =
+    ap (map said_of) is ∙ sym (take-map said_of (n - 1) ms) ∙ ap (λ (k : ℕ). take (k - 1) (map said_of ms)) (count ∙ sym (length-map ms said_of))
+
 pub may_not : (seen : Option Text) → MayRunOn seen 0
 may_not None = refl
 may_not (Some file) = tt
@@ -38,6 +44,28 @@ pub turn_goes_on : (seen : Option Text) (body : List ℕ) (a : Adapter) (n : ℕ
 unfolding Turns
 turn_goes_on seen body a n b m written h = (false, h, refl)
 
-pub answers : (seen : Option Text) (body : List ℕ) (a : Adapter) (n : ℕ) (request : Data) (said : List Said) (b : Adapter) (end : Bool) (again : ℕ) (last : List Said) (c : Adapter) (k : ℕ) (front : List ℕ) (m : ℕ) (behind : List ℕ) → ServesBody body a b request said end → MayRunOn seen again → RunsOn again request said b n last c k front → AreSent k request last m behind → Answers seen body a n c m end (front ++ behind)
+pub answers : (seen : Option Text) (body : List ℕ) (a : Adapter) (n : ℕ) (request : Data) (said : List Said) (b : Adapter) (end : Bool) (c : Adapter) (m : ℕ) (written : List ℕ) → ServesBody body a b request said end → IsRun seen request said b n c m written → Answers seen body a n c m end written
 unfolding Answers
-answers seen body a n request said b end again last c k front m behind serves may runs sent = (request, said, b, serves, again, may, last, k, front, behind, runs, sent, refl)
+answers seen body a n request said b end c m written serves runs = (request, said, b, serves, runs)
+
+-- ---- beginnings
+
+-- A beginning of what is sent is one of a run.
+pub run_begun : (seen : Option Text) (request : Data) (said : List Said) (b : Adapter) (n again : ℕ) (last : List Said) (c : Adapter) (k : ℕ) (front behind : List ℕ) → MayRunOn seen again → RunsOn again request said b n last c k front → AreBegun k request last behind → IsRunCut seen request said b n (front ++ behind)
+run_begun seen request said b n again last c k front behind may runs begun = (again, may, last, c, k, front, behind, runs, begun, refl)
+
+-- What was written of a run that is cut short is a beginning of an answer.
+begins_by : (seen : Option Text) (body : List ℕ) (a : Adapter) (n : ℕ) (request : Data) (said : List Said) (b : Adapter) (end : Bool) (again : ℕ) (last : List Said) (c : Adapter) (k : ℕ) (front behind : List ℕ) → ServesBody body a b request said end → MayRunOn seen again → RunsOn again request said b n last c k front → AreBegun k request last behind → BeginsTurn (Turns seen) body (a, n) (front ++ behind)
+unfolding Turns
+begins_by seen body a n request said b end again last c k front behind serves may runs begun = inr (
+  (c, begun.0),
+  status_of end,
+  front ++ begun.1,
+  begun.2,
+  (end, answers seen body a n request said b end c begun.0 (front ++ begun.1) serves (again, may, last, k, front, begun.1, runs, begun.3, refl), refl),
+  ap (λ (l : List ℕ). front ++ l) begun.4 ∙ sym (append_assoc front behind begun.2),
+)
+
+pub begins : (seen : Option Text) (body : List ℕ) (a : Adapter) (n : ℕ) (request : Data) (said : List Said) (b : Adapter) (end : Bool) (written : List ℕ) → ServesBody body a b request said end → IsRunCut seen request said b n written → BeginsTurn (Turns seen) body (a, n) written
+begins seen body a n request said b end written serves cut =
+    subst (BeginsTurn (Turns seen) body (a, n)) (sym cut.9) (begins_by seen body a n request said b end cut.0 cut.2 cut.3 cut.4 cut.5 cut.6 serves cut.1 cut.7 cut.8)

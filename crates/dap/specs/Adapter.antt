@@ -9,6 +9,7 @@ use Rattle.dap_messages.specs.declared.request.SessionRequest.{SessionRequest}
 use Rattle.dap_session.specs.Answered.{AreAnswers, all_done}
 use Rattle.dap_session.specs.Begun.{IsLaunched}
 use Rattle.dap_session.specs.Console.{ShowsIfRefused, over}
+use Rattle.dap_session.specs.Refusals.{MayRefuse}
 use Rattle.dap_session.specs.declared.fault.Fault.{Fault}
 use Rattle.dap_session.specs.declared.fault.Fault.TheVariants as fault
 use Rattle.dap_session.specs.declared.seat.Seat.{Seat}
@@ -94,13 +95,40 @@ end_said false = []
 abbrev pub IsRefused : Bool → List Said → Type 0
 IsRefused is_end said = (words : List ℕ) × (said ≡ refused words ∷ end_said is_end)
 
+-- ---- when a request is refused
+
+-- No program was launched, or the session refuses it.
+abbrev pub MayRefuseIn : SessionRequest → Data → Option Seat → Type 0
+MayRefuseIn asked request (Some seat) = MayRefuse asked request seat.desk
+MayRefuseIn asked request None = ⊤
+
+-- A launch that comes again, or that names no program that can be loaded; `initialize` that comes
+-- again, and what is no request.
+abbrev pub MayRefuseBegun : Request → Data → Option Seat → Type 0
+MayRefuseBegun to.Disconnect request seat = ⊥
+MayRefuseBegun (to.InSession asked) request seat = MayRefuseIn asked request seat
+MayRefuseBegun asked request seat = ⊤
+
+-- `initialize` comes first.
+abbrev pub MayRefuseFirst : Request → Type 0
+MayRefuseFirst to.Initialize = ⊥
+MayRefuseFirst asked = ⊤
+
+abbrev pub MayRefuseBy : Option Counting → Request → Data → Option Seat → Type 0
+MayRefuseBy None asked request seat = MayRefuseFirst asked
+MayRefuseBy (Some counting) asked request seat = MayRefuseBegun asked request seat
+
+-- ---- what is said of a request
+
 -- A session stays what it is, but for the text of what was said last.
 abbrev pub Stays : Option Seat → Option Seat → Type 0
 Stays (Some old) (Some new) = ShowsOnly old.desk new.desk
 Stays None None = ⊤
 Stays old new = ⊥
 
--- What is asked for is done, and this is said; or it is refused, and nothing is changed.
+-- What is asked for is done, and this is said; or it is refused, which it may be then, and nothing
+-- is changed.
 abbrev pub Serves : Request → Data → Adapter → Adapter → List Said → Type 0
 Serves asked request old new said = ObeysAdapter asked request old new said
-    ⊎ (IsRefused (ends asked new.seat) said × (new.counting ≡ old.counting) × Stays old.seat new.seat)
+    ⊎ (MayRefuseBy old.counting asked request old.seat × IsRefused (ends asked new.seat) said
+    × (new.counting ≡ old.counting) × Stays old.seat new.seat)

@@ -16,3 +16,8 @@ AreSent sent request [] total written = (total ≡ sent) × (written ≡ [])
 AreSent sent request (s ∷ rest) total written = (front : List ℕ) × (behind : List ℕ)
     × IsSent (next_number sent) request s front
     × AreSent (next_number sent) request rest total behind × (written ≡ front ++ behind)
+
+-- A beginning of that is written.
+abbrev pub AreBegun : ℕ → Data → List Said → List ℕ → Type 0
+AreBegun sent request said written = (total : ℕ) × (all : List ℕ) × (rest : List ℕ)
+    × AreSent sent request said total all × (all ≡ written ++ rest)

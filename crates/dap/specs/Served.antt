@@ -1,9 +1,8 @@
 -- What is done with a message, and what is written. Source: Debug Adapter Protocol 1.65, "Base
 -- protocol"; RFC 8259; what is said of a body that is no JSON, mos65.
-use Rattle.std.specs.Prelude.{ℕ, ◌≡◌, Bool, true, false, List, [], ◌∷◌, ◌++◌, Option, Some, None}
+use Rattle.std.specs.Prelude.{ℕ, ◌≡◌, Bool, true, false, List, [], ◌∷◌, Option, Some, None}
 use Rattle.clap.specs.Words.{Text}
-use Rattle.dap.specs.Sent.{AreSent}
-use Rattle.dap.specs.Slices.{MayRunOn, RunsOn}
+use Rattle.dap.specs.Slices.{IsRun}
 use Rattle.dap.specs.declared.serving.TheConstants.{NOT_JSON}
 use Rattle.dap_messages.specs.Messages.{Said, refused}
 use Rattle.dap_messages.specs.Requests.{request_of}
@@ -40,6 +39,4 @@ ServesBody body old new request said end = (found : Option Data) × IsMessage bo
 unfoldable pub Answers : Option Text → List ℕ → Adapter → ℕ → Adapter → ℕ → Bool → List ℕ → Type 0
 Answers seen body old sent new total end written = (request : Data) × (said : List Said)
     × (served : Adapter) × ServesBody body old served request said end
-    × (again : ℕ) × MayRunOn seen again × (last : List Said) × (so_far : ℕ) × (front : List ℕ)
-    × (behind : List ℕ) × RunsOn again request said served sent last new so_far front
-    × AreSent so_far request last total behind × (written ≡ front ++ behind)
+    × IsRun seen request said served sent new total written

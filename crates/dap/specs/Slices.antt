@@ -3,7 +3,7 @@ use Rattle.std.specs.Prelude.{ℕ, ◌≡◌, ◌-◌, ◌&&◌, zero, suc, ⊤,
 use Rattle.std.specs.List.{list_any}
 use Rattle.std.specs.Str.{bytes_eq}
 use Rattle.clap.specs.Words.{Text}
-use Rattle.dap.specs.Sent.{AreSent}
+use Rattle.dap.specs.Sent.{AreBegun, AreSent}
 use Rattle.json_values.specs.Fields.{text_at}
 use Rattle.dap_messages.specs.Messages.{Said, done, event, refused}
 use Rattle.dap_messages.specs.Requests.{request_of}
@@ -70,3 +70,17 @@ RunsOn (suc again) request said old sent last new total written = (more : List S
 abbrev pub MayRunOn : Option Text → ℕ → Type 0
 MayRunOn None again = again ≡ 0
 MayRunOn (Some file) again = ⊤
+
+-- It goes on so often, and what is said then is sent.
+abbrev pub IsRun : Option Text → Data → List Said → Adapter → ℕ → Adapter → ℕ → List ℕ → Type 0
+IsRun seen request said old sent new total written = (again : ℕ) × MayRunOn seen again
+    × (last : List Said) × (so_far : ℕ) × (front : List ℕ) × (behind : List ℕ)
+    × RunsOn again request said old sent last new so_far front
+    × AreSent so_far request last total behind × (written ≡ front ++ behind)
+
+-- It goes on so often, and a beginning of what is said then is sent.
+abbrev pub IsRunCut : Option Text → Data → List Said → Adapter → ℕ → List ℕ → Type 0
+IsRunCut seen request said old sent written = (again : ℕ) × MayRunOn seen again
+    × (last : List Said) × (new : Adapter) × (so_far : ℕ) × (front : List ℕ) × (behind : List ℕ)
+    × RunsOn again request said old sent last new so_far front
+    × AreBegun so_far request last behind × (written ≡ front ++ behind)

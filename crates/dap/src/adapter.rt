@@ -6,8 +6,9 @@ ghost use Rattle.dap_session.specs.declared.seat.Seat.{Seat};
 ghost use Rattle.dap_messages.specs.Messages.{refused, said_of};
 ghost use Rattle.dap_messages.specs.Requests.{request_of};
 ghost use Rattle.dap.specs.Adapter.{Begins, CountsIfRefused, IsRefused, Launches, ObeysAdapter};
-ghost use Rattle.dap.specs.Adapter.{ObeysBegun, ObeysFirst, RestsIfRefused, Serves};
-ghost use Rattle.dap.specs.Adapter.{StaysIfRefused, launched};
+ghost use Rattle.dap.specs.Adapter.{MayRefuseBegun, MayRefuseBy, MayRefuseFirst, ObeysBegun};
+ghost use Rattle.dap.specs.Adapter.{ObeysFirst, RestsIfRefused, Serves, StaysIfRefused, ends, launched};
+ghost use Rattle.dap_session.specs.Refusals.{IfRefused};
 ghost use Rattle.serde_json.specs.View.{view};
 
 use dap_messages::{Counting, Message, Request, capabilities, nothing, request_of};
@@ -67,7 +68,7 @@ fn launch<H: Files + AllocGlobal>(
 }
 
 /// Serves a request of a client that has said how it counts.
-#[tactic(auto, using(crate::proofs::Refusals::stays_same))]
+#[tactic(auto, using(crate::proofs::Refusals::stays_same, dap_session::proofs::Stays::refused_so))]
 fn serve_begun<H: Files + AllocGlobal>(
     rt: &H,
     seat: &mut Option<Seat>,
@@ -78,6 +79,8 @@ fn serve_begun<H: Files + AllocGlobal>(
     ensures done { IfOk result (λ ms. ObeysBegun asked (view request.now) counting seat.old
         seat.new (each said_of ms.items)) }
     ensures refused { IfErr result (λ f. StaysIfRefused f seat.old seat.new) }
+    ensures why { IfErr result
+        (λ f. IfRefused f (MayRefuseBegun asked (view request.now) seat.old)) }
 {
     match asked {
         Request::Initialize | Request::NoRequest => {
@@ -94,7 +97,7 @@ fn serve_begun<H: Files + AllocGlobal>(
 
 /// Serves a request of a client that has not said how it counts: notes how it does, and answers
 /// what the adapter can do.
-#[tactic(auto, using(crate::proofs::Refusals::counts_same))]
+#[tactic(auto, using(crate::proofs::Refusals::counts_same, dap_session::proofs::Stays::refused_so))]
 fn serve_first(
     alloc: Global,
     counting: &mut Option<Counting>,
@@ -104,6 +107,7 @@ fn serve_first(
     ensures done { IfOk result
         (λ ms. ObeysFirst asked (view request.now) counting.new (each said_of ms.items)) }
     ensures refused { IfErr result (λ f. CountsIfRefused f counting.old counting.new) }
+    ensures why { IfErr result (λ f. IfRefused f (MayRefuseFirst asked)) }
 {
     match asked {
         Request::Initialize => {
@@ -125,6 +129,8 @@ fn serve_asked<H: Files + AllocGlobal>(
     ensures done { IfOk result (λ ms. ObeysAdapter asked (view request.now) adapter.old
         adapter.new (each said_of ms.items)) }
     ensures refused { IfErr result (λ f. RestsIfRefused f adapter.old adapter.new) }
+    ensures why { IfErr result (λ f. IfRefused f
+        (MayRefuseBy adapter.old.counting asked (view request.now) adapter.old.seat)) }
 {
     match adapter.counting {
         Some(counting) => serve_begun(rt, &mut adapter.seat, counting, request, asked),
@@ -139,6 +145,13 @@ fn refusal(alloc: Global, words: String) -> Result<Vec<Message>, AllocError>
     let mut messages = Vec::new(alloc);
     messages.push(Message::Refused(words))?;
     Ok(messages)
+}
+
+/// Returns whether the session ends where a request is refused: at a launch that leaves none.
+fn ends(asked: Request, seat: &Option<Seat>) -> bool
+    ensures { result ≡ ends asked seat.now }
+{
+    matches!(asked, Request::Launch) && seat.is_none()
 }
 
 /// Returns the refusal of a request, and that the session has ended, if it has.
@@ -164,10 +177,7 @@ pub fn serve<H: Files + AllocGlobal>(
     let asked = request_of(request);
     match serve_asked(rt, adapter, request, asked) {
         Ok(messages) => Ok(messages),
-        Err(Fault::Refused(words)) => {
-            let is_end = matches!(asked, Request::Launch) && adapter.seat.is_none();
-            ended_by(rt.alloc(), words, is_end)
-        }
+        Err(Fault::Refused(words)) => { ended_by(rt.alloc(), words, ends(asked, &adapter.seat)) }
         Err(Fault::OutOfMemory) => Err(AllocError),
     }
 }

@@ -1,11 +1,12 @@
 //! Messages written one after another.
 
-ghost use Rattle.std.specs.Prelude.{◌≡◌, ℕ, IfErr, IfOk, List, OnOk, map};
+ghost use Rattle.std.specs.Prelude.{◌≡◌, ℕ, IfErr, IfOk, List, OnErr, OnOk, map};
 ghost use Rattle.std.specs.Io.KnownBytes.{Appends};
 ghost use Rattle.serde_json.specs.View.{view};
-ghost use Rattle.dap.specs.Sent.{AreSent, IsSent};
+ghost use Rattle.dap.specs.Sent.{AreBegun, AreSent, IsSent};
 ghost use Rattle.dap_messages.specs.Messages.{next_number, said_of};
 ghost use Rattle.message_stream.specs.Taken.{IsUnwritten};
+ghost use Rattle.model.specs.Writers.{AppendsFront};
 
 use dap_messages::{Message, message_value, next_number};
 use json_values::write_value;
@@ -26,14 +27,19 @@ fn send_one<W: Write>(
     ensures sent { OnOk result ((written : List ℕ)
         × IsSent (next_number sent) (view request.now) (said_of message.now) written
         × Appends (W.contents writer.old) (W.contents writer.new) written) }
+    ensures begun { OnErr result ((all : List ℕ)
+        × IsSent (next_number sent) (view request.now) (said_of message.now) all
+        × AppendsFront (W.contents writer.old) (W.contents writer.new) all) }
     ensures fault { IfErr result IsUnwritten }
 {
     let number = next_number(sent);
-    let Ok(value) = message_value(alloc, number, request, message) else {
-        return Err(StreamFault::OutOfMemory);
-    };
-    write_value(alloc, writer, &value)?;
-    Ok(number)
+    match message_value(alloc, number, request, message) {
+        Ok(value) => match write_value(alloc, writer, &value) {
+            Ok(()) => Ok(number),
+            Err(fault) => Err(fault),
+        },
+        Err(_) => Err(StreamFault::OutOfMemory),
+    }
 }
 
 /// Writes and flushes messages, one after another, as answers to a request. `sent` messages were
@@ -44,7 +50,7 @@ fn send_one<W: Write>(
 /// - `Write`: a write or a flush failed.
 /// - `OutOfMemory`: an allocation failed.
 ///
-/// Some of the messages may be written then.
+/// A beginning of what is written otherwise is written then.
 pub fn send<W: Write>(
     alloc: Global,
     sent: u64,
@@ -55,11 +61,17 @@ pub fn send<W: Write>(
     ensures sent { IfOk result (λ total. (written : List ℕ)
         × AreSent sent (view request.now) (map said_of messages.now) total written
         × Appends (W.contents writer.old) (W.contents writer.new) written) }
+    ensures begun { OnErr result ((written : List ℕ)
+        × AreBegun sent (view request.now) (map said_of messages.now) written
+        × Appends (W.contents writer.old) (W.contents writer.new) written) }
     ensures fault { IfErr result IsUnwritten }
 {
     let mut sent = sent;
     for message in messages {
-        sent = send_one(alloc, sent, request, message, writer)?;
+        match send_one(alloc, sent, request, message, writer) {
+            Ok(total) => sent = total,
+            Err(fault) => return Err(fault),
+        }
     }
     Ok(sent)
 }

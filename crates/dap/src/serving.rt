@@ -1,15 +1,16 @@
 //! Messages taken from the input, one after another, and answered.
 
-ghost use Rattle.std.specs.Prelude.{◌≡◌, ◌≢◌, ◌≤◌, ◌⊎◌, ◌++◌, ℕ, IfOk, List, OnOk, map as each};
-ghost use Rattle.std.specs.Prelude.{option_map};
-ghost use Rattle.std.specs.Io.KnownBytes.{Appends, Consumes};
-ghost use Rattle.arguments.specs.Words.{texts};
-ghost use Rattle.dap.specs.Attended.{IsAttended, Turns};
-ghost use Rattle.dap.specs.CommandLine.{seen_in};
+ghost use Rattle.std.specs.Prelude.{◌≡◌, ◌≢◌, ◌≤◌, ◌⊎◌, ℕ, IfErr, IfOk, List, OnErr, OnOk};
+ghost use Rattle.std.specs.Prelude.{map as each, option_map};
+ghost use Rattle.std.specs.Io.KnownBytes.{Appends};
+ghost use Rattle.arguments.specs.Words.{AsksForHelp, Fits, Refuses, texts};
+ghost use Rattle.dap.specs.Attended.{Attends, CutsOff, Turns, cut_status};
+ghost use Rattle.dap.specs.CommandLine.{dap_app, seen_in};
 ghost use Rattle.dap.specs.Served.{Answers, IsNotJson, ServesBody, ServesMessage};
+ghost use Rattle.dap.specs.Slices.{IsRun, IsRunCut};
 ghost use Rattle.dap_messages.specs.Messages.{said_of};
-ghost use Rattle.message_stream.specs.Messages.{IsFront};
-ghost use Rattle.message_stream.specs.Sessions.{IsEndedBy};
+ghost use Rattle.message_stream.specs.Sessions.{BeginsTurn, IsCutShort, IsEndedBy};
+ghost use Rattle.message_stream.specs.Taken.{IsUnwritten};
 ghost use Rattle.serde_json.specs.View.{view};
 
 use crate::adapter::{Adapter, serve};
@@ -85,6 +86,55 @@ fn serve_body<H: Files + AllocGlobal>(
     }
 }
 
+/// Writes what is answered to a message, after so many messages that were sent. A run that nothing
+/// has stopped goes on as long as nothing of the client waits. Returns how many are sent then, and
+/// whether the message asks for the end.
+///
+/// Errors: those of `run_on` and `send`.
+fn send_served<H: Files + AllocGlobal, O: Write>(
+    rt: &H,
+    seen: Option<&str>,
+    incoming: &Incoming,
+    adapter: &mut Adapter,
+    served: Served,
+    sent: u64,
+    output: &mut O,
+) -> Result<(u64, bool), StreamFault>
+    ensures sent { IfOk result (λ p. (p.1 ≡ served.is_end) × (written : List ℕ)
+        × IsRun (option_map (λ s. s.now) seen.entry) (view served.request)
+        (each said_of served.messages.items) adapter.old sent adapter.new p.0 written
+        × Appends (O.contents output.old) (O.contents output.new) written) }
+    ensures cut { OnErr result ((written : List ℕ)
+        × IsRunCut (option_map (λ s. s.now) seen.entry) (view served.request)
+        (each said_of served.messages.items) adapter.old sent written
+        × Appends (O.contents output.old) (O.contents output.new) written) }
+    ensures fault { IfErr result IsUnwritten }
+{
+    let Served {
+        request,
+        messages,
+        is_end,
+    } = served;
+    let mut waiting = messages;
+    let ran = run_on(
+        rt,
+        seen,
+        incoming,
+        adapter,
+        &request,
+        &mut waiting,
+        sent,
+        output,
+    );
+    match ran {
+        Ok(so_far) => match send(rt.alloc(), so_far, &request, &waiting, output) {
+            Ok(total) => Ok((total, is_end)),
+            Err(fault) => Err(fault),
+        },
+        Err(fault) => Err(fault),
+    }
+}
+
 /// Serves the body of a message and writes what is answered, after so many messages that were sent.
 /// A run that nothing has stopped goes on as long as nothing of the client waits. Returns how many
 /// are sent then, and whether the message asks for the end.
@@ -99,65 +149,26 @@ fn answer<H: Files + AllocGlobal, O: Write>(
     sent: u64,
     output: &mut O,
 ) -> Result<(u64, bool), StreamFault>
-    ensures { IfOk result (λ p. (written : List ℕ)
+    ensures answered { IfOk result (λ p. (written : List ℕ)
         × Answers (option_map (λ s. s.now) seen.entry) body.now adapter.old sent adapter.new p.0
         p.1 written
         × Appends (O.contents output.old) (O.contents output.new) written) }
-{
-    let Ok(served) = serve_body(rt, adapter, body) else {
-        return Err(StreamFault::OutOfMemory);
-    };
-    let Served {
-        request,
-        messages,
-        is_end,
-    } = served;
-    let mut waiting = messages;
-    let so_far = run_on(
-        rt,
-        seen,
-        incoming,
-        adapter,
-        &request,
-        &mut waiting,
-        sent,
-        output,
-    )?;
-    let total = send(rt.alloc(), so_far, &request, &waiting, output)?;
-    Ok((total, is_end))
-}
-
-/// Reads a message, and answers it, after so many messages that were sent. Returns how many are
-/// sent then, and whether the message asks for the end.
-///
-/// Errors: those of `Incoming::next` and `answer`; `Cut` if the input has ended.
-fn take_turn<H: Files + AllocGlobal, R: Read, O: Write>(
-    rt: &H,
-    seen: Option<&str>,
-    incoming: &mut Incoming,
-    adapter: &mut Adapter,
-    sent: u64,
-    input: &mut R,
-    output: &mut O,
-) -> Result<(u64, bool), StreamFault>
-    ensures { IfOk result (λ p. (told : List ℕ)
-        × Consumes (R.remaining input.old) (R.remaining input.new) told
-        × (body : List ℕ) × IsFront (incoming.old.bytes ++ told) body incoming.new.bytes
-        × (written : List ℕ)
-        × Answers (option_map (λ s. s.now) seen.entry) body adapter.old sent adapter.new p.0 p.1
+    ensures begun { OnErr result ((written : List ℕ)
+        × BeginsTurn (Turns (option_map (λ s. s.now) seen.entry)) body.now (adapter.old, sent)
         written
         × Appends (O.contents output.old) (O.contents output.new) written) }
+    ensures fault { IfErr result IsUnwritten }
 {
-    match incoming.next(rt.alloc(), input)? {
-        Some(body) => answer(rt, seen, incoming, adapter, &body, sent, output),
-        None => Err(StreamFault::Cut),
+    match serve_body(rt, adapter, body) {
+        Ok(served) => send_served(rt, seen, incoming, adapter, served, sent, output),
+        Err(_) => Err(StreamFault::OutOfMemory),
     }
 }
 
 /// Serves messages up to `disconnect`: each is answered, and the answer flushed, before the next is
 /// read.
 ///
-/// Errors: those of `take_turn`.
+/// Errors: those of `Incoming::next` and `answer`; `Cut` if the input has ended.
 fn take_turns<H: Files + AllocGlobal, R: Read, O: Write>(
     rt: &H,
     seen: Option<&str>,
@@ -165,46 +176,59 @@ fn take_turns<H: Files + AllocGlobal, R: Read, O: Write>(
     input: &mut R,
     output: &mut O,
 ) -> Result<(), StreamFault>
-    ensures { OnOk result ((written : List ℕ)
+    ensures ended { OnOk result ((written : List ℕ)
         × IsEndedBy (Turns (option_map (λ s. s.now) seen.entry)) (R.remaining input.old)
         (R.remaining input.new) (adapter.old, 0) 0 written
+        × Appends (O.contents output.old) (O.contents output.new) written) }
+    ensures cut { IfErr result (λ fault. (written : List ℕ)
+        × IsCutShort (Turns (option_map (λ s. s.now) seen.entry)) (R.remaining input.old)
+        (R.remaining input.new) (adapter.old, 0) fault written
         × Appends (O.contents output.old) (O.contents output.new) written) }
 {
     let mut incoming = Incoming::new(rt.alloc());
     let mut sent = 0;
     for _ in 0..u64::MAX {
-        let (total, is_end) = take_turn(rt, seen, &mut incoming, adapter, sent, input, output)?;
-        if is_end {
-            return Ok(());
+        match incoming.next(rt.alloc(), input) {
+            Ok(Some(body)) => match answer(rt, seen, &incoming, adapter, &body, sent, output) {
+                Ok((total, is_end)) => {
+                    if is_end {
+                        return Ok(());
+                    }
+                    sent = total;
+                }
+                Err(fault) => return Err(fault),
+            },
+            Ok(None) => return Err(StreamFault::Cut),
+            Err(fault) => return Err(fault),
         }
-        sent = total;
     }
     Err(StreamFault::Read)
 }
 
-/// Returns why a session ends before its end is asked for, in words.
-fn reason(fault: StreamFault) -> &'static str {
-    match fault {
-        StreamFault::NoLength => "a header of the input gives no length of a message",
-        StreamFault::LongHeader => "a header of the input has more than 4096 bytes",
-        StreamFault::Cut => "the input ends before disconnect",
-        StreamFault::Read => "the input cannot be read",
-        StreamFault::Write => "the output cannot be written",
-        StreamFault::OutOfMemory => "memory ran out",
-    }
+/// Tells what of the streams cuts a session short, and returns the exit status.
+fn cut_by<E: Write>(reason: &str, errors: &mut E) -> u8
+    ensures { result ≡ 4 }
+{
+    put_all(&[b"mos65: ", reason.as_bytes(), b"\n"], errors);
+    4
 }
 
 /// Tells why a session ends before its end is asked for, and returns the exit status.
 fn cut_off<E: Write>(fault: StreamFault, errors: &mut E) -> u8
+    ensures status { result ≡ cut_status fault }
     ensures least { 3 ≤ result }
     ensures most { result ≤ 4 }
 {
     match fault {
+        StreamFault::NoLength => cut_by(
+            "a header of the input gives no length of a message",
+            errors,
+        ),
+        StreamFault::LongHeader => cut_by("a header of the input has more than 4096 bytes", errors),
+        StreamFault::Cut => cut_by("the input ends before disconnect", errors),
+        StreamFault::Read => cut_by("the input cannot be read", errors),
+        StreamFault::Write => cut_by("the output cannot be written", errors),
         StreamFault::OutOfMemory => refuse(Refusal::OutOfMemory, errors),
-        fault => {
-            put_all(&[b"mos65: ", reason(fault).as_bytes(), b"\n"], errors);
-            4
-        }
     }
 }
 
@@ -217,12 +241,14 @@ fn done<H: Files + AllocGlobal, R: Read, O: Write, E: Write>(
     errors: &mut E,
 ) -> u8
     ensures status { result ≤ 4 }
-    ensures quiet { result ≡ 0 → errors.new ≡ errors.old }
     ensures read { result ≢ 2 }
-    ensures attended { result ≡ 0 → (written : List ℕ)
-        × IsAttended (option_map (λ s. s.now) seen.entry) (R.remaining input.old)
-        (R.remaining input.new) written
-        × Appends (O.contents output.old) (O.contents output.new) written }
+    ensures quiet { result ≡ 0 → errors.new ≡ errors.old }
+    ensures attended { result ≡ 0 → Attends (option_map (λ s. s.now) seen.entry)
+        (R.remaining input.old) (R.remaining input.new) (O.contents output.old)
+        (O.contents output.new) }
+    ensures cut { 1 ≤ result → CutsOff (option_map (λ s. s.now) seen.entry) result
+        (R.remaining input.old) (R.remaining input.new) (O.contents output.old)
+        (O.contents output.new) }
 {
     let mut adapter = Adapter {
         counting: None,
@@ -239,8 +265,9 @@ fn done<H: Files + AllocGlobal, R: Read, O: Write, E: Write>(
 /// Does what the words of `dap` ask for, its own name left out, and returns the exit status: serves
 /// the messages of `input`, and writes what is answered on `output`.
 ///
-/// The status is 0 after `disconnect`, 2 if the words are wrong, 3 if memory ran out, and 4 if the
-/// input ends or has a header that gives no length, or a stream fails; a line on `errors` says why.
+/// The status is 0 after `disconnect` or after the help that was asked for, 2 if the words are
+/// wrong, 3 if memory ran out, and 4 if the input ends or has a header that gives no length, or a
+/// stream fails; a line on `errors` says why.
 pub fn dap<H: Files + AllocGlobal, R: Read, O: Write, E: Write>(
     rt: &H,
     words: &[&str],
@@ -251,12 +278,21 @@ pub fn dap<H: Files + AllocGlobal, R: Read, O: Write, E: Write>(
     ensures status { result ≤ 4 }
     // After `disconnect` nothing is written on the error stream.
     ensures quiet { result ≡ 0 → errors.new ≡ errors.old }
-    // Nothing was read, as where the words ask for help; or each message was served in its order,
+    // 0 means that help was asked for, or that the words fit, each message was served in its order,
     // up to the first `disconnect`, and the answers were written.
-    ensures attended { result ≡ 0 → (input.new ≡ input.old) ⊎ ((written : List ℕ)
-        × IsAttended (seen_in (texts words.entry.now)) (R.remaining input.old)
-        (R.remaining input.new) written
-        × Appends (O.contents output.old) (O.contents output.new) written) }
+    ensures attended { result ≡ 0 → AsksForHelp dap_app (texts words.entry.now)
+        ⊎ (Fits dap_app (texts words.entry.now) × Attends (seen_in (texts words.entry.now))
+        (R.remaining input.old) (R.remaining input.new) (O.contents output.old)
+        (O.contents output.new)) }
+    // Where the words fit, another status means that a fault came before `disconnect`: all messages
+    // before it were served in their order and answered, and of the answer to the last that was
+    // taken a beginning was written.
+    ensures cut { Fits dap_app (texts words.entry.now) → 1 ≤ result
+        → CutsOff (seen_in (texts words.entry.now)) result (R.remaining input.old)
+        (R.remaining input.new) (O.contents output.old) (O.contents output.new) }
+    // Other words read nothing, and write nothing on the output but help.
+    ensures refused { Refuses dap_app (texts words.entry.now) ⊥ result (input.new ≡ input.old)
+        (output.new ≡ output.old) }
     // If the words are wrong, nothing is read and nothing is answered.
     ensures unread { result ≡ 2 → input.new ≡ input.old }
     ensures untouched { result ≡ 2 → output.new ≡ output.old }

@@ -1,12 +1,15 @@
 //! Runs that go on while no message of the client waits.
 
-ghost use Rattle.std.specs.Prelude.{◌≡◌, [], ℕ, false, IfOk, List, drop, map as each};
-ghost use Rattle.std.specs.Prelude.{option_map, true};
+ghost use Rattle.std.specs.Prelude.{◌≡◌, [], ℕ, false, IfErr, IfOk, List, OnErr, drop};
+ghost use Rattle.std.specs.Prelude.{map as each, option_map, true};
 ghost use Rattle.std.specs.Io.KnownBytes.{Appends};
-ghost use Rattle.dap.specs.Slices.{GoesOn, MayRunOn, RunsOn, is_open, says_no_stop};
+ghost use Rattle.dap.specs.Sent.{AreBegun};
+ghost use Rattle.dap.specs.Slices.{GoesOn, IsRunCut, MayRunOn, RunsOn, but_last, is_open};
+ghost use Rattle.dap.specs.Slices.{says_no_stop};
 ghost use Rattle.dap_messages.specs.Messages.{Said, said_of};
 ghost use Rattle.dap_messages.specs.Requests.{request_of};
 ghost use Rattle.dap.specs.Adapter.{Serves};
+ghost use Rattle.message_stream.specs.Taken.{IsUnwritten};
 ghost use Rattle.serde_json.specs.View.{view};
 
 use crate::adapter::{Adapter, serve};
@@ -100,18 +103,26 @@ fn go_on<H: Files + AllocGlobal, O: Write>(
     output: &mut O,
 ) -> Result<u64, StreamFault>
     requires { is_open (view request.now) (each said_of messages.old.items) ≡ true }
-    ensures { IfOk result (λ total. (written : List ℕ)
+    ensures went { IfOk result (λ total. (written : List ℕ)
         × GoesOn (view request.now) (each said_of messages.old.items) adapter.old sent
         (each said_of messages.new.items) adapter.new total written
         × Appends (O.contents output.old) (O.contents output.new) written) }
+    ensures begun { OnErr result ((written : List ℕ)
+        × AreBegun sent (view request.now) (but_last (each said_of messages.old.items)) written
+        × Appends (O.contents output.old) (O.contents output.new) written) }
+    ensures fault { IfErr result IsUnwritten }
 {
     drop(messages.pop());
-    let total = send(rt.alloc(), sent, request, messages, output)?;
-    let Ok(more) = served_again(rt, adapter, request) else {
-        return Err(StreamFault::OutOfMemory);
-    };
-    *messages = more;
-    Ok(total)
+    match send(rt.alloc(), sent, request, messages, output) {
+        Ok(total) => match served_again(rt, adapter, request) {
+            Ok(more) => {
+                *messages = more;
+                Ok(total)
+            }
+            Err(_) => Err(StreamFault::OutOfMemory),
+        },
+        Err(fault) => Err(fault),
+    }
 }
 
 /// Lets a run go on as long as nothing stops it and nothing waits. `messages` are what is to be
@@ -128,11 +139,16 @@ pub fn run_on<H: Files + AllocGlobal, O: Write>(
     sent: u64,
     output: &mut O,
 ) -> Result<u64, StreamFault>
-    ensures { IfOk result (λ total. (again : ℕ)
+    ensures ran { IfOk result (λ total. (again : ℕ)
         × MayRunOn (option_map (λ s. s.now) seen.entry) again × (written : List ℕ)
         × RunsOn again (view request.now) (each said_of messages.old.items) adapter.old sent
         (each said_of messages.new.items) adapter.new total written
         × Appends (O.contents output.old) (O.contents output.new) written) }
+    ensures cut { OnErr result ((written : List ℕ)
+        × IsRunCut (option_map (λ s. s.now) seen.entry) (view request.now)
+        (each said_of messages.old.items) adapter.old sent written
+        × Appends (O.contents output.old) (O.contents output.new) written) }
+    ensures fault { IfErr result IsUnwritten }
 {
     let mut total = sent;
     for _ in 0..u64::MAX {
@@ -142,7 +158,10 @@ pub fn run_on<H: Files + AllocGlobal, O: Write>(
         if waits(rt, seen, incoming) {
             return Ok(total);
         }
-        total = go_on(rt, adapter, request, messages, total, output)?;
+        match go_on(rt, adapter, request, messages, total, output) {
+            Ok(more) => total = more,
+            Err(fault) => return Err(fault),
+        }
     }
     Ok(total)
 }

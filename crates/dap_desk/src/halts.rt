@@ -2,16 +2,20 @@
 
 ghost use Rattle.std.specs.Prelude.{◌≡◌, None, if◌then◌else◌, nat_eq};
 ghost use Rattle.std.specs.List.{list_any};
-ghost use Rattle.dap_desk.specs.Halts.{back_reason, fault_of, reason_of, run_reason};
-ghost use Rattle.dap_desk.specs.Halts.{stop_reason};
+ghost use Rattle.dap_desk.specs.Halts.{back_reason, back_words, fault_of, reason_of, run_reason};
+ghost use Rattle.dap_desk.specs.Halts.{run_words, stop_reason, stop_words, words_of};
 
 use dap_messages::{Halt, Reason, stand_by};
 use mon_runs::{EndWhy, Session, Why};
 use mon_steps::wording::{NO_HANDLER, NO_STOP, RETURNED, STUCK, WAITS};
 
+/// What is said at the oldest state that is held.
+pub const OLDEST: &str = "the oldest state that is held: nothing before it can be undone";
+
 /// Returns why steps have ended, or a run to a stop.
 pub fn end_halt(why: EndWhy, to_stop: bool) -> Halt
     ensures reason { result.reason ≡ if to_stop then run_reason why else reason_of why }
+    ensures words { result.words.now ≡ if to_stop then run_words why else words_of why }
     ensures fault { result.fault ≡ fault_of why }
 {
     match why {
@@ -53,13 +57,12 @@ pub fn is_break(session: &Session, address: u16) -> bool
 pub fn back_halt(session: &Session, to_stop: bool) -> Halt
     ensures reason { result.reason
         ≡ if to_stop then stop_reason session.now else back_reason session.now }
+    ensures words { result.words.now
+        ≡ if to_stop then stop_words session.now else back_words session.now }
     ensures fault { result.fault ≡ None }
 {
     if session.held() == 0 {
-        stand_by(
-            Reason::Entry,
-            "the oldest state that is held: nothing before it can be undone",
-        )
+        stand_by(Reason::Entry, OLDEST)
     } else if !to_stop {
         stand_by(Reason::Step, "back")
     } else if is_break(session, session.regs().pc) {

@@ -1,7 +1,7 @@
 //! Moves of the machine.
 
 ghost use Rattle.std.specs.Prelude.{◌≡◌};
-ghost use Rattle.dap_desk.specs.Moves.{moved};
+ghost use Rattle.dap_desk.specs.Moves.{moved, moved_fault, moved_reason, moved_words};
 ghost use Rattle.mon_steps.specs.RunLines.{KeepsWatches, stand_of};
 
 use crate::halts::{back_halt, end_halt};
@@ -17,6 +17,9 @@ pub fn make_move(desk: &mut Desk, steps: Option<u32>, way: Move) -> Halt
     ensures stand { stand_of desk.new ≡ moved steps way desk.old }
     ensures watches { KeepsWatches desk.old desk.new }
     ensures text { desk.new.text ≡ desk.old.text }
+    ensures reason { result.reason ≡ moved_reason steps way desk.old }
+    ensures words { result.words.now ≡ moved_words steps way desk.old }
+    ensures fault { result.fault ≡ moved_fault steps way desk.old }
 {
     let end = match way {
         Move::Over if desk.session.peek(desk.session.regs().pc) == JSR => {

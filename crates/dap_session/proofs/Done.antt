@@ -1,24 +1,23 @@
 -- What is said of a request that is done, with more behind it.
 use Rattle.std.proofs.Common.{◌≡◌, ◌∙◌, true, IfOk, List, [], ◌∷◌, ◌++◌, ap, refl, subst}
 use Rattle.std.proofs.lemmas.Result.{IfOk-weaker}
-use Rattle.std.specs.Prelude.{Err, Ok, Result}
-use Rattle.dap_messages.specs.Bodies.{nothing}
+use Rattle.std.specs.Prelude.{Err, Ok, OnOk, Result}
 use Rattle.dap_messages.specs.Messages.{Said, done}
-use Rattle.dap_session.specs.Answered.{IsDone}
+use Rattle.dap_session.specs.Told.{IsDone}
 use Rattle.serde_json.specs.Data.{Data, boolean, null}
 use Rattle.serde_json.specs.View.{view}
 use Rattle.serde_json.specs.declared.value.Value.{Value}
 
-pub done_more : (before after more : List Said) → after ≡ before ++ more → IsDone before → IsDone after
-done_more before after more grown d = (d.0, d.1 ++ more, grown ∙ ap (λ (s : List Said). s ++ more) d.2)
+pub done_more : (body : Data) (before after more : List Said) → after ≡ before ++ more → IsDone body before → IsDone body after
+done_more body before after more grown d = (d.0 ++ more, grown ∙ ap (λ (s : List Said). s ++ more) d.1)
 
 -- whatever was said before
-pub done_by : {V E : Type 0} (m r : Result V E) (told : V → List Said) (more : List Said)
+pub done_by : {V E : Type 0} (body : Data) (m r : Result V E) (told : V → List Said) (more : List Said)
     → ((before : List Said) → IfOk m (λ ms. told ms ≡ before) → IfOk r (λ ms. told ms ≡ before ++ more))
-    → IfOk m (λ ms. IsDone (told ms)) → IfOk r (λ ms. IsDone (told ms))
-done_by (Ok ms) r told more grown d = IfOk-weaker r _ _ (λ ns h. done_more (told ms) (told ns) more h d) (grown (told ms) refl)
-done_by (Err e) r told more grown d =
-    IfOk-weaker r _ _ (λ ns h. done_more (done nothing ∷ []) (told ns) more h (nothing, [], refl)) (grown (done nothing ∷ []) tt)
+    → IfOk m (λ ms. IsDone body (told ms)) → IfOk r (λ ms. IsDone body (told ms))
+done_by body (Ok ms) r told more grown d = IfOk-weaker r _ _ (λ ns h. done_more body (told ms) (told ns) more h d) (grown (told ms) refl)
+done_by body (Err e) r told more grown d =
+    IfOk-weaker r _ _ (λ ns h. done_more body (done body ∷ []) (told ns) more h ([], refl)) (grown (done body ∷ []) tt)
 
 -- messages that are handed on, and what holds of each result
 pub kept : {V E F : Type 0} (m : Result V E) (r : Result V F) (P : V → Type 0) → IfOk r (λ v. m ≡ Ok v) → IfOk m P → IfOk r P
@@ -39,3 +38,20 @@ answered_with (Err e) (Ok ms) told P holds says =
     let other : told ms ≡ done (boolean true) ∷ [] = says (boolean true) tt in
     absurd (cc)
 answered_with (Err e) (Err f) told P holds says = tt
+
+-- what was told of a request that is listed again
+set_where : {E : Type 0} (told : Result Value E) (v : Value) (P : Data → Type 0) → told ≡ Ok v → IfOk told (λ w. P (view w)) → (d : Data) × P d
+set_where told v P is sets = (view v, subst (λ o. IfOk o (λ (w : Value). P (view w))) is sets)
+
+pub set_so : {U E : Type 0} (r : Result U E) (told : Result Value E) (P : Data → Type 0) → IfOk told (λ v. P (view v)) → OnOk r ((v : Value) × (told ≡ Ok v)) → OnOk r ((d : Data) × P d)
+set_so (Ok u) told P sets let_go = set_where told let_go.0 P let_go.1 sets
+set_so (Err e) told P sets let_go = tt
+
+-- what holds of what was made, and what holds if it was made
+pub with_held : {V E H : Type 0} (r : Result V E) (P R : V → Type 0) → ((v : V) → P v → H → R v) → IfOk r P → OnOk r H → IfOk r R
+with_held (Ok v) P R so p h = so v p h
+with_held (Err e) P R so p h = tt
+
+pub with_both : {V E G H : Type 0} (r : Result V E) (P R : V → Type 0) → ((v : V) → P v → G → H → R v) → IfOk r P → OnOk r G → OnOk r H → IfOk r R
+with_both (Ok v) P R so p g h = so v p g h
+with_both (Err e) P R so p g h = tt

@@ -1,9 +1,7 @@
 -- What the program put out, character by character.
-use Rattle.std.proofs.Common.{◌≡◌, ◌∙◌, ℕ, ◌≤◌, ◌++◌, [], List, ap, append-nil, drop, length, subst, sym}
+use Rattle.std.proofs.Common.{◌≡◌, ◌∙◌, ℕ, ◌≤◌, ◌++◌, List, ap, append-nil, drop, length, sym}
 use Rattle.std.proofs.lemmas.List.{drop_all}
 use Rattle.std.specs.List.{flat_map}
-use Rattle.std.specs.Prelude.{OnOk, Result}
-use Rattle.std.specs.declared.alloc.AllocError.{AllocError}
 
 -- what is still to be appended, once all is
 pub all_appended : (f : ℕ → List ℕ) (all : List ℕ) (i : ℕ) (text whole : List ℕ) → length all ≤ i → text ++ flat_map f (drop i all) ≡ whole → text ≡ whole

@@ -1,6 +1,6 @@
 -- What a request does to a session that changes it by events, which can be undone. Source: Debug
 -- Adapter Protocol 1.65, "SetVariable Request", "Goto Request", "WriteMemory Request"; mos65.
-use Rattle.std.specs.Prelude.{ℕ, suc, ◌+◌, ◌≡◌, ◌==◌, ◌&&◌, ⊤, nat_le, nat_lt, Bool, if◌then◌else◌, List, [], ◌∷◌, codes, slice_index, Option, Some, None, option_and_then, unwrap_or, Ok, false}
+use Rattle.std.specs.Prelude.{ℕ, suc, ◌+◌, ◌≡◌, ◌==◌, ◌&&◌, ◌||◌, nat_le, nat_lt, Bool, if◌then◌else◌, List, [], ◌∷◌, ◌++◌, codes, length, slice_index, Option, Some, None, option_and_then, unwrap_or, Result, Ok, Err, false}
 use Rattle.std.specs.Option.{option_map_or}
 use Rattle.std.specs.Str.{bytes_eq}
 use Rattle.base64.specs.Engines.{standard}
@@ -14,7 +14,12 @@ use Rattle.dap_views.specs.Scopes.{variables_shown}
 use Rattle.dap_session.specs.Told.{unmoved_said}
 use Rattle.mon_session.specs.Course.{KeepsStops, course_of, happened}
 use Rattle.mon_session.specs.declared.desk.Desk.{Desk}
+use Rattle.model.specs.State.{State}
+use Rattle.mon_line_parts.specs.Reading.{SeenWhy}
+use Rattle.mon_line_parts.specs.declared.topic.Topic.{Topic}
+use Rattle.mon_lines.specs.Lines.{SeenCommand, line_of, put, set, set_flag}
 use Rattle.mon_settings.specs.ByteLines.{bytes_put}
+use Rattle.mon_settings.specs.FlagLines.{flag_setting}
 use Rattle.model.specs.declared.event.Event.{Event}
 use Rattle.model.specs.declared.event.Event.TheVariants.{Patch, Set}
 use Rattle.model.specs.declared.event.Setting.TheVariants.{Pc}
@@ -23,16 +28,51 @@ use Rattle.serde_json.specs.View.{items_of}
 
 -- ---- a variable
 
--- It sets a register, or one byte of memory.
-abbrev pub IsChange : Event → Type 0
-IsChange (Set setting) = ⊤
-IsChange (Patch address bytes count) = count ≡ 1
-IsChange other = ⊥
+-- The line of `mon` that sets a variable: `set` for a register or a flag, `put` for a byte.
+abbrev pub word_for : Option ℕ → List ℕ
+word_for None = codes "put"
+word_for (Some scope) = if scope == 1 || scope == 2 then codes "set" else codes "put"
 
--- One such event was made, which can be undone. A flag is set by setting P.
-abbrev pub HasChanged : Desk → Desk → Type 0
-HasChanged old new = (made : Event) × IsChange made
-    × (course_of new ≡ happened made (course_of old)) × KeepsStops old new
+abbrev pub argument : List ℕ → Data → List ℕ
+argument path request = unwrap_or (text_at path request) []
+
+abbrev pub setting_line : Data → List ℕ
+setting_line request = word_for (number_at (codes "/arguments/variablesReference") request)
+    ++ codes " " ++ argument (codes "/arguments/name") request
+    ++ codes " " ++ argument (codes "/arguments/value") request
+
+-- One byte of memory is put. More are no value of a variable.
+abbrev pub byte_put : ℕ → List ℕ → Option Event
+byte_put address bytes = if length bytes == 1
+    then Some (Patch address (slice_index bytes 0 ∷ 0 ∷ 0 ∷ []) 1) else None
+
+-- The event that sets a register, a flag or one byte. A flag is set by setting P.
+abbrev pub change_in : State → SeenCommand → Option Event
+change_in s (set setting) = Some (Set setting)
+change_in s (set_flag flag value) = Some (Set (flag_setting flag value s))
+change_in s (put address bytes) = byte_put address bytes
+change_in s command = None
+
+abbrev pub change_read : State → Result SeenCommand (Option Topic × SeenWhy) → Option Event
+change_read s (Ok command) = change_in s command
+change_read s (Err slip) = None
+
+-- A line of more than 255 bytes sets nothing.
+abbrev pub change_on : Desk → List ℕ → Option Event
+change_on desk line = if nat_lt 255 (length line) then None
+    else change_read desk.session.current
+    (line_of desk.places.names desk.session.current.regs.pc line)
+
+abbrev pub change_asked : Data → Desk → Option Event
+change_asked request desk = change_on desk (setting_line request)
+
+-- An event was made, which can be undone.
+abbrev pub HasMade : Event → Desk → Desk → Type 0
+HasMade made old new = (course_of new ≡ happened made (course_of old)) × KeepsStops old new
+
+-- It was the one that is asked for.
+abbrev pub HasChanged : Option Event → Desk → Desk → Type 0
+HasChanged asked old new = (made : Event) × (asked ≡ Some made) × HasMade made old new
 
 -- ---- the value that is answered
 

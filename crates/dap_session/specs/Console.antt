@@ -2,11 +2,13 @@
 use Rattle.std.specs.Prelude.{ℕ, ◌≡◌, ◌<◌, ◌≤◌, ⊤, Bool, true, false, List, [], ◌∷◌, codes, length, string_bytes, Some, unwrap_or}
 use Rattle.std.specs.Str.{bytes_eq}
 use Rattle.std.specs.Str.Lossy.{utf8_lossy}
+use Rattle.dap_messages.specs.Answers.{evaluated_body}
 use Rattle.dap_messages.specs.Bodies.{nothing}
 use Rattle.json_values.specs.Fields.{text_at}
 use Rattle.dap_messages.specs.Messages.{Said, done, event}
 use Rattle.dap_session.specs.declared.fault.Fault.{Fault}
 use Rattle.dap_session.specs.declared.fault.Fault.TheVariants as fault
+use Rattle.dap_session.specs.Told.{IsDone}
 use Rattle.dap_views.specs.Looks.{look_at}
 use Rattle.mon_dispatch.specs.Lines.{IsTooLong, Serves}
 use Rattle.mon_session.specs.Course.{ShowsOnly}
@@ -48,11 +50,13 @@ is_console request = bytes_eq
 abbrev pub expression_of : Data → List ℕ
 expression_of request = unwrap_or (text_at (codes "/arguments/expression") request) []
 
--- A line of the console is served, or nothing is changed.
-abbrev pub Evaluates : Bool → Data → Desk → Desk → Type 0
-Evaluates true request old new = (is_over : Bool) × (said : List ℕ)
-    × ServesConsole (expression_of request) is_over old new said
-Evaluates false request old new = new ≡ old
+-- A line of the console is served, and what it says is answered; or what is looked at is answered,
+-- and nothing is changed.
+abbrev pub Evaluates : Bool → Data → Desk → Desk → List Said → Type 0
+Evaluates true request old new said = (is_over : Bool) × (text : List ℕ)
+    × ServesConsole (expression_of request) is_over old new text
+    × IsDone (evaluated_body text) said
+Evaluates false request old new said = (new ≡ old) × Looks old (expression_of request) said
 
 -- ---- what a refused request changes: nothing of the session
 

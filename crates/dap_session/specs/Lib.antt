@@ -4,5 +4,6 @@ pub mod Changes
 pub mod Completions
 pub mod Console
 pub mod Options
+pub mod Refusals
 pub mod Stands
 pub mod Told

@@ -1,10 +1,10 @@
--- What a client is told besides the answer to a request. Source: Debug Adapter Protocol 1.65,
+-- What a client is told, besides the answer to a request. Source: Debug Adapter Protocol 1.65,
 -- "Output Event", "Stopped Event", "Invalidated Event"; what is told when, mos65.
-use Rattle.std.specs.Prelude.{ℕ, ◌-◌, nat_lt, if◌then◌else◌, List, [], ◌∷◌, ◌++◌, codes, decimal, drop, encode_utf8, length, Option, Some, None}
+use Rattle.std.specs.Prelude.{ℕ, ◌≡◌, ◌-◌, nat_lt, if◌then◌else◌, List, [], ◌∷◌, ◌++◌, codes, decimal, drop, encode_utf8, length, Option, Some, None}
 use Rattle.std.specs.List.{flat_map}
 use Rattle.std.specs.Str.Lossy.{utf8_lossy}
 use Rattle.dap_views.specs.Values.{invalidated_body, output_body, stopped_body}
-use Rattle.dap_messages.specs.Messages.{Said, event}
+use Rattle.dap_messages.specs.Messages.{Said, done, event}
 use Rattle.dap_messages.specs.Halts.{word_of}
 use Rattle.dap_messages.specs.declared.halt.Halt.{Halt}
 use Rattle.dap_messages.specs.declared.halt.Reason.{Reason}
@@ -13,7 +13,14 @@ use Rattle.dap_session.specs.declared.wording.TheConstants.{LESS_BEFORE, LESS_BE
 use Rattle.model.specs.declared.event.EventFault.{EventFault}
 use Rattle.mon_session.specs.Faults.{fault_text}
 use Rattle.mon_session.specs.declared.desk.Desk.{Desk}
+use Rattle.serde_json.specs.Data.{Data}
 use Rattle.source_map.specs.Names.{Named}
+
+-- ---- an answer
+
+-- A request is done, and this is its answer. Events may stand behind it.
+abbrev pub IsDone : Data → List Said → Type 0
+IsDone body said = (rest : List Said) × (said ≡ done body ∷ rest)
 
 -- ---- what the program puts out
 

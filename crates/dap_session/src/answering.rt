@@ -1,13 +1,18 @@
 //! What is done with a request of a session.
 
-ghost use Rattle.std.specs.Prelude.{◌≡◌, IfErr, IfOk, OnOk, map as each};
+ghost use Rattle.std.specs.Prelude.{◌≡◌, IfErr, IfOk, Ok, OnOk, map as each, option_map};
 ghost use Rattle.dap_messages.specs.Messages.{said_of};
-ghost use Rattle.dap_session.specs.Answered.{AreAnswers, IsDone, IsShown, KeepsMade, Restarts};
-ghost use Rattle.dap_session.specs.Answered.{SetsListed, begun_stand};
+ghost use Rattle.dap_session.specs.Answered.{AreAnswers, Begins, IsShown, KeepsMade, Moves};
+ghost use Rattle.dap_session.specs.Answered.{Restarts};
+ghost use Rattle.dap_session.specs.Answered.{SetsAgain, SetsAllAgain, SetsListed, begun_fault};
+ghost use Rattle.dap_session.specs.Answered.{begun_reason, begun_stand, begun_words};
 ghost use Rattle.dap_session.specs.Console.{ShowsIfRefused};
-ghost use Rattle.dap_desk.specs.Moves.{KeepsWatches, moved, stand_of};
-ghost use Rattle.dap_session.specs.Options.{steps_of};
+ghost use Rattle.dap_session.specs.Refusals.{IfRefused, MayRefuse};
+ghost use Rattle.dap_session.specs.Stands.{KeepsProgram};
+ghost use Rattle.dap_desk.specs.Moves.{KeepsWatches, stand_of};
 ghost use Rattle.serde_json.specs.View.{view};
+ghost use Rattle.dap_messages.specs.declared.counting.Counting.{Counting};
+ghost use Rattle.serde_json.specs.declared.value.Value.{Value};
 
 use crate::changing::{go_to, write_memory};
 use crate::completion::completions;
@@ -17,9 +22,10 @@ use crate::launching::steps_of;
 use crate::seat::{Seat, begin_session, source_of};
 use crate::stands::{all_done, with_halt_at};
 use crate::telling::answered;
+use crate::wording::NOT_BEGUN;
 use dap_desk::make_move;
 use dap_messages::{
-    Breakpoints, Change, Counting, Listed, Message, Move, Query, Reason, SessionRequest,
+    Breakpoints, Change, Counting, Halt, Listed, Message, Move, Query, Reason, SessionRequest,
     breakpoints_body, continued, exception, nothing, scopes, stand_by, threads,
 };
 use dap_views::{
@@ -32,28 +38,37 @@ use std::alloc::{AllocError, Global};
 use std::mem;
 use std::rt::Files;
 
-/// Makes a move.
+/// Makes a move, and tells why the machine stands then.
 fn make(alloc: Global, seat: &mut Seat, way: Move) -> Result<Vec<Message>, AllocError>
-    ensures stand { OnOk result
-        (stand_of seat.new.desk ≡ moved (steps_of (view seat.old.launch)) way seat.old.desk) }
-    ensures watches { OnOk result (KeepsWatches seat.old.desk seat.new.desk) }
-    ensures answer { IfOk result (λ ms. IsDone (each said_of ms.items)) }
+    ensures { IfOk result (λ ms. Moves way seat.old seat.new (each said_of ms.items)) }
 {
     let halt = make_move(&mut seat.desk, steps_of(&seat.launch), way);
     with_halt_at(alloc, answered(alloc, continued(alloc)), seat, halt)
 }
 
-/// Runs to a stop, unless the machine is to stand before the first instruction.
-fn configured(alloc: Global, seat: &mut Seat) -> Result<Vec<Message>, AllocError>
-    ensures stand { OnOk result (stand_of seat.new.desk ≡ begun_stand seat.old) }
-    ensures watches { OnOk result (KeepsWatches seat.old.desk seat.new.desk) }
-    ensures answer { IfOk result (λ ms. IsDone (each said_of ms.items)) }
+/// Runs to a stop, unless the machine is to stand before the first instruction, and returns why it
+/// stands.
+fn first_halt(seat: &mut Seat) -> Halt
+    ensures stand { stand_of seat.new.desk ≡ begun_stand seat.old }
+    ensures watches { KeepsWatches seat.old.desk seat.new.desk }
+    ensures program { KeepsProgram seat.old seat.new }
+    ensures told { seat.new.told ≡ seat.old.told }
+    ensures reason { result.reason ≡ begun_reason seat.old }
+    ensures words { result.words.now ≡ begun_words seat.old }
+    ensures fault { result.fault ≡ begun_fault seat.old }
 {
-    let halt = if flag_or(&seat.launch, "/arguments/stopOnEntry", true) {
-        stand_by(Reason::Entry, "before the first instruction")
-    } else {
-        make_move(&mut seat.desk, steps_of(&seat.launch), Move::Go)
-    };
+    if flag_or(&seat.launch, "/arguments/stopOnEntry", true) {
+        return stand_by(Reason::Entry, NOT_BEGUN);
+    }
+    make_move(&mut seat.desk, steps_of(&seat.launch), Move::Go)
+}
+
+/// Runs to a stop, unless the machine is to stand before the first instruction, and tells why it
+/// stands.
+fn configured(alloc: Global, seat: &mut Seat) -> Result<Vec<Message>, AllocError>
+    ensures { IfOk result (λ ms. Begins seat.old seat.new (each said_of ms.items)) }
+{
+    let halt = first_halt(seat);
     with_halt_at(alloc, all_done(alloc), seat, halt)
 }
 
@@ -66,7 +81,7 @@ fn set_listed<H: Files + AllocGlobal>(
     kind: Breakpoints,
 ) -> Result<Value, AllocError>
     ensures { IfOk result
-        (λ v. SetsListed kind (view request.now) seat.old seat.new (view v)) }
+        (λ v. SetsListed kind (view request.now) counting seat.old seat.new (view v)) }
 {
     let alloc = rt.alloc();
     match kind {
@@ -82,35 +97,66 @@ fn set_listed<H: Files + AllocGlobal>(
 }
 
 /// Lets go of what is told. The only error is that memory ran out.
-fn let_go(told: Result<Value, AllocError>) -> Result<(), AllocError> {
-    drop(told?);
-    Ok(())
+fn let_go(told: Result<Value, AllocError>) -> Result<(), AllocError>
+    ensures { OnOk result ((v : Value) × (told ≡ Ok v)) }
+{
+    match told {
+        Ok(value) => {
+            drop(value);
+            Ok(())
+        }
+        Err(_) => Err(AllocError),
+    }
 }
 
-/// Sets the breakpoints of a kind that a request of an earlier session lists, if there is one.
-fn set_again(
+/// Sets the breakpoints of the source that a request of an earlier session lists, if there is one.
+fn lines_again(
     alloc: Global,
     seat: &mut Seat,
     counting: Counting,
     request: &Option<Value>,
-    kind: Breakpoints,
 ) -> Result<(), AllocError>
+    ensures set { OnOk result (SetsAgain Breakpoints.Source (option_map view request.now) counting
+        seat.old seat.new) }
     ensures kept { KeepsMade seat.old.desk seat.new.desk }
     ensures launch { seat.new.launch ≡ seat.old.launch }
 {
     let Some(request) = request else {
         return Ok(());
     };
-    match kind {
-        Breakpoints::Source => {
-            let source = source_of(&seat.launch, &seat.assembly, counting);
-            let_go(set_lines(alloc, &mut seat.desk, &mut seat.listed, &source, request))
-        }
-        Breakpoints::Instruction => {
-            let_go(set_addresses(alloc, &mut seat.desk, &mut seat.listed, counting, request))
-        }
-        Breakpoints::Data => let_go(set_data(alloc, &mut seat.desk, &mut seat.listed, request)),
-    }
+    let source = source_of(&seat.launch, &seat.assembly, counting);
+    let_go(set_lines(alloc, &mut seat.desk, &mut seat.listed, &source, request))
+}
+
+/// Sets the breakpoints at addresses that a request of an earlier session lists, if there is one.
+fn addresses_again(
+    alloc: Global,
+    seat: &mut Seat,
+    counting: Counting,
+    request: &Option<Value>,
+) -> Result<(), AllocError>
+    ensures set { OnOk result (SetsAgain Breakpoints.Instruction (option_map view request.now)
+        counting seat.old seat.new) }
+    ensures kept { KeepsMade seat.old.desk seat.new.desk }
+    ensures launch { seat.new.launch ≡ seat.old.launch }
+{
+    let Some(request) = request else {
+        return Ok(());
+    };
+    let_go(set_addresses(alloc, &mut seat.desk, &mut seat.listed, counting, request))
+}
+
+/// Sets the watches that a request of an earlier session lists, if there is one.
+fn data_again(alloc: Global, seat: &mut Seat, request: &Option<Value>) -> Result<(), AllocError>
+    ensures set { (counting : Counting) → OnOk result
+        (SetsAgain Breakpoints.Data (option_map view request.now) counting seat.old seat.new) }
+    ensures kept { KeepsMade seat.old.desk seat.new.desk }
+    ensures launch { seat.new.launch ≡ seat.old.launch }
+{
+    let Some(request) = request else {
+        return Ok(());
+    };
+    let_go(set_data(alloc, &mut seat.desk, &mut seat.listed, request))
 }
 
 /// Lists the breakpoints and the watches of a session for one that has begun again.
@@ -120,24 +166,13 @@ fn set_all_again(
     counting: Counting,
     old: &Listed,
 ) -> Result<(), AllocError>
+    ensures set { OnOk result (SetsAllAgain old.now counting seat.old seat.new) }
     ensures kept { OnOk result (KeepsMade seat.old.desk seat.new.desk) }
     ensures launch { seat.new.launch ≡ seat.old.launch }
 {
-    set_again(
-        alloc,
-        seat,
-        counting,
-        &old.line_request,
-        Breakpoints::Source,
-    )?;
-    set_again(
-        alloc,
-        seat,
-        counting,
-        &old.address_request,
-        Breakpoints::Instruction,
-    )?;
-    set_again(alloc, seat, counting, &old.data_request, Breakpoints::Data)
+    lines_again(alloc, seat, counting, &old.line_request)?;
+    addresses_again(alloc, seat, counting, &old.address_request)?;
+    data_again(alloc, seat, &old.data_request)
 }
 
 /// Begins the session again by its launch, with the breakpoints that it has.
@@ -147,8 +182,8 @@ fn restart<H: Files + AllocGlobal>(
     seat: &mut Seat,
     counting: Counting,
 ) -> Result<Vec<Message>, Fault>
-    ensures done { OnOk result (Restarts seat.old seat.new) }
-    ensures answer { IfOk result (λ ms. IsDone (each said_of ms.items)) }
+    ensures done { IfOk result
+        (λ ms. Restarts counting seat.old seat.new (each said_of ms.items)) }
     ensures refused { IfErr result (λ f. ShowsIfRefused f seat.old.desk seat.new.desk) }
 {
     let mut old = begin_session(rt, &seat.launch)?;
@@ -191,8 +226,9 @@ fn shown<H: Files + AllocGlobal>(
 
 /// Does what a request of a session asks for, and returns the messages to the client.
 ///
-/// Errors: `Refused` if it cannot be done. Nothing but the text said last is changed then.
-#[tactic(auto, using(crate::proofs::Stays::shows_same), unfolding(crate::specs::Answered::AreAnswers))]
+/// Errors: `Refused` if it cannot be done, as `specs/Refusals.antt` says. Nothing but the text said
+/// last is changed then.
+#[tactic(auto, using(crate::proofs::Stays::shows_same, crate::proofs::Stays::refused_so), unfolding(crate::specs::Answered::AreAnswers))]
 pub fn answer<H: Files + AllocGlobal>(
     rt: &H,
     seat: &mut Seat,
@@ -203,6 +239,8 @@ pub fn answer<H: Files + AllocGlobal>(
     ensures done { IfOk result (λ ms. AreAnswers asked (view request.now) counting seat.old
         seat.new (each said_of ms.items)) }
     ensures refused { IfErr result (λ f. ShowsIfRefused f seat.old.desk seat.new.desk) }
+    ensures why { IfErr result
+        (λ f. IfRefused f (MayRefuse asked (view request.now) seat.old.desk)) }
 {
     let alloc = rt.alloc();
     match asked {

@@ -4,11 +4,15 @@ ghost use Rattle.std.specs.Prelude.{◌≡◌, ◌∷◌, ◌++◌, [], ℕ, Boo
 ghost use Rattle.std.specs.Prelude.{codes, option_map, string_bytes};
 ghost use Rattle.dap_views.specs.Watches.{items_at};
 ghost use Rattle.dap_messages.specs.Messages.{Said, done, said_of};
-ghost use Rattle.dap_session.specs.Answered.{IsDone};
-ghost use Rattle.dap_session.specs.Changes.{HasChanged, TellsValue, value_of};
+ghost use Rattle.dap_messages.specs.Answers.{evaluated_body};
+ghost use Rattle.dap_session.specs.Changes.{HasChanged, TellsValue, change_asked, change_in};
+ghost use Rattle.dap_session.specs.Changes.{change_on, setting_line, value_of, word_for};
 ghost use Rattle.dap_session.specs.Console.{Evaluates, ServesConsole, ShowsIfRefused};
 ghost use Rattle.dap_session.specs.Console.{is_console, over};
+ghost use Rattle.dap_session.specs.Refusals.{IfRefused, IsNoChange, IsNoLook, IsUnmade, Rejects};
 ghost use Rattle.dap_session.specs.Stands.{KeepsProgram, KeepsSession};
+ghost use Rattle.dap_session.specs.Told.{IsDone};
+ghost use Rattle.mon_lines.specs.Lines.{command_view};
 ghost use Rattle.mon_session.specs.Course.{KeepsStops, course_of, happened};
 ghost use Rattle.serde_json.specs.Data.{Data};
 ghost use Rattle.serde_json.specs.View.{items_of, view};
@@ -51,7 +55,7 @@ fn with_moved(
 ) -> Result<Vec<Message>, AllocError>
     ensures answer { (body : Data) (rest : List Said)
         → IfOk messages (λ ms. each said_of ms.items ≡ done body ∷ rest)
-        → IfOk result (λ ms. IsDone (each said_of ms.items)) }
+        → IfOk result (λ ms. IsDone body (each said_of ms.items)) }
     ensures kept { KeepsSession seat.old seat.new }
 {
     if is_moved {
@@ -79,8 +83,8 @@ fn with_over(
     messages: Result<Vec<Message>, AllocError>,
     is_over: bool,
 ) -> Result<Vec<Message>, AllocError>
-    ensures { IfOk messages (λ ms. IsDone (each said_of ms.items))
-        → IfOk result (λ ms. IsDone (each said_of ms.items)) }
+    ensures { (body : Data) → IfOk messages (λ ms. IsDone body (each said_of ms.items))
+        → IfOk result (λ ms. IsDone body (each said_of ms.items)) }
 {
     if is_over {
         with_terminated(alloc, messages)
@@ -91,9 +95,9 @@ fn with_over(
 
 /// Serves a line of the console.
 fn console(alloc: Global, seat: &mut Seat, line: &str) -> Result<Vec<Message>, AllocError>
-    ensures desk { IfOk result (λ _. (over : Bool) × (said : List ℕ)
-        × ServesConsole line.now over seat.old.desk seat.new.desk said) }
-    ensures answer { IfOk result (λ ms. IsDone (each said_of ms.items)) }
+    ensures served { IfOk result (λ ms. (over : Bool) × (said : List ℕ)
+        × ServesConsole line.now over seat.old.desk seat.new.desk said
+        × IsDone (evaluated_body said) (each said_of ms.items)) }
     ensures kept { KeepsProgram seat.old seat.new }
 {
     let regs = seat.desk.session.regs();
@@ -108,42 +112,53 @@ fn console(alloc: Global, seat: &mut Seat, line: &str) -> Result<Vec<Message>, A
 /// Serves a line of the console, or shows a register or the byte at a place.
 ///
 /// Errors: `Refused` if something else is to be shown.
-#[tactic(auto, using(crate::proofs::Stays::shows_same))]
+#[tactic(auto, using(crate::proofs::Stays::shows_same, crate::proofs::Stays::refused_so))]
 pub fn evaluate(alloc: Global, seat: &mut Seat, request: &Value) -> Result<Vec<Message>, Fault>
-    ensures done { OnOk result (Evaluates (is_console (view request.now)) (view request.now)
-        seat.old.desk seat.new.desk) }
-    ensures answer { IfOk result (λ ms. IsDone (each said_of ms.items)) }
+    ensures done { IfOk result (λ ms. Evaluates (is_console (view request.now))
+        (view request.now) seat.old.desk seat.new.desk (each said_of ms.items)) }
     ensures refused { IfErr result (λ f. ShowsIfRefused f seat.old.desk seat.new.desk) }
+    ensures why { IfErr result (λ f. IfRefused f (IsNoLook (view request.now) seat.old.desk)) }
 {
     let text = text_or(request, "/arguments/expression", "");
     if text_or(request, "/arguments/context", "repl") == "repl" {
         return or_memory(console(alloc, seat, text));
     }
-    match look_at(alloc, &seat.desk, text)? {
+    let looked = look_at(alloc, &seat.desk, text)?;
+    match looked {
         Some(body) => or_memory(answered(alloc, Ok(body))),
         None => Err(refused(alloc, "this is neither a register nor a place")),
     }
 }
 
-/// Returns the line of `mon` that sets a variable of a scope.
-fn setting_line(alloc: Global, request: &Value) -> Result<String, AllocError> {
-    let name = text_or(request, "/arguments/name", "");
-    let value = text_or(request, "/arguments/value", "");
-    let word = match number_at(request, "/arguments/variablesReference") {
+/// Returns the word of `mon` that sets a variable of a scope.
+fn word_for(scope: Option<u64>) -> &'static str
+    ensures { result.now ≡ word_for scope }
+{
+    match scope {
         Some(1 | 2) => "set",
         _ => "put",
-    };
+    }
+}
+
+/// Returns the line of `mon` that sets a variable of a scope.
+fn setting_line(alloc: Global, request: &Value) -> Result<String, AllocError>
+    ensures { IfOk result (λ line. string_bytes line ≡ setting_line (view request.now)) }
+{
+    let name = text_or(request, "/arguments/name", "");
+    let value = text_or(request, "/arguments/value", "");
+    let word = word_for(number_at(request, "/arguments/variablesReference"));
     format!(in alloc; "{word} {name} {value}")
 }
 
 /// Makes an event.
 ///
 /// Errors: `Refused` if the machine does not accept it.
-#[tactic(auto, using(crate::proofs::Stays::shows_same))]
+#[tactic(auto, using(crate::proofs::Stays::shows_same, crate::proofs::Stays::refused_so))]
 pub fn happen(alloc: Global, desk: &mut Desk, event: Event) -> Result<(), Fault>
     ensures course { course_of desk.new ≡ happened event (course_of desk.old) }
     ensures stops { KeepsStops desk.old desk.new }
     ensures refused { IfErr result (λ f. ShowsIfRefused f desk.old desk.new) }
+    ensures why { IfErr result (λ f. IfRefused f (Rejects event desk.old)) }
 {
     desk.text.clear();
     if desk.happen(event)? {
@@ -156,11 +171,15 @@ pub fn happen(alloc: Global, desk: &mut Desk, event: Event) -> Result<(), Fault>
 
 /// Does what a line of `mon` asks for that sets a register, a flag or a byte.
 ///
-/// Errors: `Refused` for any other line.
-#[tactic(auto, using(crate::proofs::Stays::shows_same))]
+/// Errors: `Refused` for any other line, and where the machine does not accept what it asks for.
+#[tactic(auto, using(crate::proofs::Stays::shows_same, crate::proofs::Stays::refused_so))]
 fn obey(alloc: Global, desk: &mut Desk, command: Command<'_>) -> Result<(), Fault>
-    ensures done { OnOk result (HasChanged desk.old desk.new) }
+    ensures done { OnOk result
+        (HasChanged (change_in desk.old.session.current (command_view command.entry)) desk.old
+        desk.new) }
     ensures refused { IfErr result (λ f. ShowsIfRefused f desk.old desk.new) }
+    ensures why { IfErr result (λ f. IfRefused f
+        (IsUnmade (change_in desk.old.session.current (command_view command.entry)) desk.old)) }
 {
     match command {
         Command::Set(setting) => happen(alloc, desk, Event::Set(setting)),
@@ -186,11 +205,13 @@ fn obey(alloc: Global, desk: &mut Desk, command: Command<'_>) -> Result<(), Faul
 
 /// Does what a line of `mon` asks for that sets a register, a flag or a byte.
 ///
-/// Errors: `Refused` for any other line.
-#[tactic(auto, using(crate::proofs::Stays::shows_same))]
+/// Errors: `Refused` for any other line, and where the machine does not accept what it asks for.
+#[tactic(auto, using(crate::proofs::Stays::shows_same, crate::proofs::Stays::refused_so))]
 fn change(alloc: Global, desk: &mut Desk, line: &[u8]) -> Result<(), Fault>
-    ensures done { OnOk result (HasChanged desk.old desk.new) }
+    ensures done { OnOk result (HasChanged (change_on desk.old line.now) desk.old desk.new) }
     ensures refused { IfErr result (λ f. ShowsIfRefused f desk.old desk.new) }
+    ensures why { IfErr result
+        (λ f. IfRefused f (IsUnmade (change_on desk.old line.now) desk.old)) }
 {
     if line.len() > 255 {
         return Err(refused(alloc, "the value is too long"));
@@ -243,14 +264,18 @@ fn tell_value(alloc: Global, desk: &Desk, request: &Value) -> Result<Vec<Message
 /// Sets a variable, and says which value it has then.
 ///
 /// Errors: `Refused` if the value is none that it can have.
-#[tactic(auto, using(crate::proofs::Stays::shows_same))]
+#[tactic(auto, using(crate::proofs::Stays::shows_same, crate::proofs::Stays::refused_so))]
 pub fn set_variable(alloc: Global, desk: &mut Desk, request: &Value) -> Result<Vec<Message>, Fault>
-    ensures done { OnOk result (HasChanged desk.old desk.new) }
+    ensures done { OnOk result
+        (HasChanged (change_asked (view request.now) desk.old) desk.old desk.new) }
     ensures answer { IfOk result
         (λ ms. TellsValue (view request.now) desk.new (each said_of ms.items)) }
     ensures refused { IfErr result (λ f. ShowsIfRefused f desk.old desk.new) }
+    ensures why { IfErr result (λ f. IfRefused f (IsNoChange (view request.now) desk.old)) }
 {
     let line = setting_line(alloc, request)?;
-    change(alloc, desk, line.as_bytes())?;
-    or_memory(tell_value(alloc, desk, request))
+    match change(alloc, desk, line.as_bytes()) {
+        Ok(()) => or_memory(tell_value(alloc, desk, request)),
+        Err(fault) => Err(fault),
+    }
 }

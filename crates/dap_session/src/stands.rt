@@ -2,8 +2,9 @@
 
 ghost use Rattle.std.specs.Prelude.{◌≡◌, ◌∷◌, IfOk, List, map as each};
 ghost use Rattle.dap_messages.specs.Messages.{Said, done, said_of};
-ghost use Rattle.dap_session.specs.Answered.{IsDone, all_done};
+ghost use Rattle.dap_session.specs.Answered.{all_done};
 ghost use Rattle.dap_session.specs.Stands.{IsToldHalt, KeepsSession, is_at, reason_at};
+ghost use Rattle.dap_session.specs.Told.{IsDone};
 ghost use Rattle.serde_json.specs.Data.{Data};
 
 use crate::seat::Seat;
@@ -56,7 +57,7 @@ pub fn with_halt_at(
         (λ ms. IsToldHalt seat.old halt seat.new before (each said_of ms.items)) }
     ensures answer { (body : Data) (rest : List Said)
         → IfOk messages (λ ms. each said_of ms.items ≡ done body ∷ rest)
-        → IfOk result (λ ms. IsDone (each said_of ms.items)) }
+        → IfOk result (λ ms. IsDone body (each said_of ms.items)) }
     ensures kept { KeepsSession seat.old seat.new }
 {
     let halt = Halt {

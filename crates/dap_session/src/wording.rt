@@ -3,3 +3,9 @@
 pub const LESS_BEFORE: &str = "(back: the console has ";
 
 pub const LESS_BEHIND: &str = " bytes less)\n";
+
+/// What is said where the machine stands before the first instruction.
+pub const NOT_BEGUN: &str = "before the first instruction";
+
+/// What is said where another instruction was made the next.
+pub const GONE_TO: &str = "gone to another line";

@@ -1,7 +1,9 @@
 mod Cells
+mod Finding
 mod Following
 mod Framed
 mod Joined
+mod Listing
 mod Lossy
 mod Matching
 mod Shown

@@ -1,7 +1,5 @@
 -- Bytes that are shown as text.
-use Rattle.std.proofs.Common.{◌≡◌, ◌∙◌, ℕ, ◌≤◌, ◌++◌, [], List, ap, append-nil, drop, length, subst, sym}
-use Rattle.std.proofs.lemmas.List.{drop_all}
-use Rattle.std.specs.List.{flat_map}
+use Rattle.std.proofs.Common.{◌≡◌, ℕ, ◌++◌, [], List, subst}
 use Rattle.std.specs.Prelude.{OnOk, Result}
 use Rattle.std.specs.declared.alloc.AllocError.{AllocError}
 

@@ -1,12 +1,9 @@
--- Lines one after another, and breakpoints that are told one after another.
-use Rattle.std.proofs.Common.{◌≡◌, ◌∙◌, ℕ, zero, suc, ◌+◌, ◌≤◌, Bool, true, false, if◌then◌else◌, List, [], ◌∷◌, ◌++◌, length, drop, Option, Some, None, refl, sym, ap, add-one, append-nil}
-use Rattle.std.proofs.lemmas.Grind.{flat_map-append}
+-- Lines one after another.
+use Rattle.std.proofs.Common.{◌≡◌, ◌∙◌, ℕ, zero, suc, ◌+◌, ◌≤◌, Bool, true, false, if◌then◌else◌, List, [], ◌∷◌, length, drop, Option, Some, None, refl, sym, ap, add-one}
 use Rattle.std.proofs.lemmas.List.{drop_all}
-use Rattle.std.specs.Option.{option_to_list}
 use Rattle.std.specs.Prelude.{slice_get}
 use Rattle.assembler.specs.Lines.{LineView}
-use Rattle.dap_views.specs.Wanted.{first_row, has_bytes, row_with, told_addresses}
-use Rattle.dap_views.specs.declared.wanted.Wanted.{Wanted}
+use Rattle.dap_views.specs.Wanted.{first_row, has_bytes, row_with}
 
 -- ---- lines
 
@@ -41,14 +38,3 @@ row_past line rows i whole none so_far = rw add-one (so_far ∙ past line rows i
 pub no_row : (line : ℕ) (rows : List LineView) (i : ℕ) (whole : Option (ℕ × ℕ)) → length rows ≤ i → whole ≡ first_row line (drop i rows) → None ≡ whole
 unfolding first_row
 no_row line rows i whole over so_far = sym (so_far ∙ ap (first_row line) (drop_all i rows over))
-
--- ---- breakpoints that are told
-
-told_more : (told : List Wanted) (wanted : Wanted) → told_addresses (told ++ wanted ∷ []) ≡ told_addresses told ++ option_to_list wanted.address
-told_more told wanted = flat_map-append (λ (w : Wanted). option_to_list w.address) told (wanted ∷ []) ∙ ap (λ (found : List ℕ). told_addresses told ++ found) (append-nil (option_to_list wanted.address))
-
-pub unset_more : (told : List Wanted) (wanted : Wanted) → wanted.address ≡ None → told_addresses (told ++ wanted ∷ []) ≡ told_addresses told
-unset_more told wanted none = told_more told wanted ∙ ap (λ (o : Option ℕ). told_addresses told ++ option_to_list o) none ∙ append-nil (told_addresses told)
-
-pub set_more : (told : List Wanted) (wanted : Wanted) (address : ℕ) → wanted.address ≡ Some address → told_addresses (told ++ wanted ∷ []) ≡ told_addresses told ++ address ∷ []
-set_more told wanted address some = told_more told wanted ∙ ap (λ (o : Option ℕ). told_addresses told ++ option_to_list o) some

@@ -1,6 +1,7 @@
 pub mod Answered
 pub mod BreakValues
 pub mod Breaks
+pub mod Found
 pub mod Frames
 pub mod Looks
 pub mod Memory

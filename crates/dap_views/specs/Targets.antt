@@ -1,12 +1,13 @@
 -- The addresses at which a line can be gone to. Source: Debug Adapter Protocol 1.65, "GotoTargets
 -- Request"; that a line without bytes stands for the next that has some, mos65.
-use Rattle.std.specs.Prelude.{ℕ, List, [], ◌∷◌, codes, Option, Some, None}
+use Rattle.std.specs.Prelude.{ℕ, ◌≡◌, ◌⊎◌, false, List, [], ◌∷◌, codes, Option, Some, None, unwrap_or}
+use Rattle.std.specs.Str.{bytes_eq}
 use Rattle.assembler.specs.Assembly.{AssemblyView, source_lines}
 use Rattle.dap_views.specs.Wanted.{first_row}
 use Rattle.dap_views.specs.BreakValues.{goto_target, targets_body}
 use Rattle.dap_messages.specs.Counting.{line_at, no_line, shown_line}
 use Rattle.dap_messages.specs.declared.counting.Counting.{Counting}
-use Rattle.mon_session.specs.Course.{IsEither}
+use Rattle.json_values.specs.Fields.{text_at}
 use Rattle.serde_json.specs.Data.{Data}
 use Rattle.serde_json.specs.Find.{pointer}
 
@@ -33,7 +34,12 @@ own_targets counting assembly request = targets_of counting
 abbrev pub targets_shown : Counting → Option AssemblyView → Data → Data
 targets_shown counting assembly request = targets_body (own_targets counting assembly request)
 
--- A line of another source has none.
-abbrev pub AreTargets : Counting → Option AssemblyView → Data → Data → Type 0
-AreTargets counting assembly request v
-    = IsEither v (targets_shown counting assembly request) (targets_body [])
+-- The path of the source that a request names.
+abbrev pub path_of : Data → List ℕ
+path_of request = unwrap_or (text_at (codes "/arguments/source/path") request) []
+
+-- A line of the source of the session, which has this path, has those. A line of another source has
+-- none: its path is another, and which other paths name the same file, no definition can say.
+abbrev pub AreTargets : Counting → List ℕ → Option AssemblyView → Data → Data → Type 0
+AreTargets counting path assembly request v = (v ≡ targets_shown counting assembly request)
+    ⊎ ((bytes_eq (path_of request) path ≡ false) × (v ≡ targets_body []))

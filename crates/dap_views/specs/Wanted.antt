@@ -2,11 +2,8 @@
 -- "InstructionBreakpoint"; that a line without bytes stands for the next that has some, and what a
 -- condition is, mos65.
 use Rattle.std.specs.Prelude.{ℕ, ◌≡◌, ◌==◌, ◌&&◌, nat_le, nat_lt, Bool, if◌then◌else◌, List, [], ◌∷◌, ◌++◌, codes, length, map, Option, Some, None, unwrap_or}
-use Rattle.std.specs.List.{flat_map}
-use Rattle.std.specs.Option.{option_to_list}
 use Rattle.assembler.specs.Lines.{LineView}
 use Rattle.dap_views.specs.declared.wanted.List.{List as WantedList}
-use Rattle.dap_views.specs.declared.wanted.Wanted.{Wanted}
 use Rattle.json_values.specs.Fields.{text_at}
 use Rattle.model.specs.Text.{hex_address}
 use Rattle.mon_stops.specs.declared.breaks.Break.{Break}
@@ -51,13 +48,9 @@ break_line wanted address = codes "break $" ++ hex_address address ++ condition_
 
 -- ---- a list
 
--- The addresses that are told are those of the breakpoints that are set.
-abbrev pub told_addresses : List Wanted → List ℕ
-told_addresses told = flat_map (λ wanted. option_to_list wanted.address) told
-
 abbrev pub addresses : List Break → List ℕ
 addresses stops = map (λ stop. stop.address) stops
 
-unfoldable pub Matches : WantedList → Type 0
-Matches list = (told_addresses list.told.items ≡ list.addresses.items)
-    × (addresses list.stops.items ≡ list.addresses.items)
+-- The addresses of a list are those of its breakpoints.
+abbrev pub Matches : WantedList → Type 0
+Matches list = addresses list.stops.items ≡ list.addresses.items

@@ -1,9 +1,10 @@
 //! Requests that list breakpoints: each replaces those of the one before.
 
-ghost use Rattle.std.specs.Prelude.{◌≡◌, IfOk, OnOk, codes, map as each};
-ghost use Rattle.dap_views.specs.Answered.{IsAnswer, answer_of};
-ghost use Rattle.dap_views.specs.Breaks.{SetsBreaks, SetsSourceBreaks};
-ghost use Rattle.dap_desk.specs.Breaks.{KeepsEvents, place_of};
+ghost use Rattle.std.specs.Prelude.{◌≡◌, [], IfOk, OnOk, Some, codes, map as each, option_map};
+ghost use Rattle.dap_views.specs.Answered.{answer_elsewhere, answer_of};
+ghost use Rattle.dap_views.specs.Breaks.{Finds, SetsAddresses, SetsLines, SetsSource};
+ghost use Rattle.dap_views.specs.Found.{HasFound, found_address, found_line};
+ghost use Rattle.dap_desk.specs.Breaks.{KeepsEvents, all_cleared, all_set, place_of};
 ghost use Rattle.dap_views.specs.Wanted.{Matches};
 ghost use Rattle.dap_messages.specs.Answers.{breakpoints_body};
 ghost use Rattle.dap_views.specs.Watches.{items_at};
@@ -28,6 +29,9 @@ const NO_BYTES: &str = "no line from here on has bytes";
 /// What is said of a breakpoint that the session has no room for.
 pub const NO_ROOM: &str = "256 breakpoints are set";
 
+/// What is said of a breakpoint of another source.
+pub const OTHER_SOURCE: &str = "this is not the source of the session";
+
 /// Returns the breakpoints that a request lists.
 pub fn list_of(request: &Value) -> &[Value]
     ensures { items_view result.now ≡ items_at (codes "/arguments/breakpoints") (view request.now) }
@@ -41,60 +45,106 @@ pub fn list_of(request: &Value) -> &[Value]
     }
 }
 
-/// Appends a breakpoint that a client wants: of a line of the source, if there is one, otherwise at
-/// an address.
-fn push_wanted(
+/// Appends a breakpoint that a client wants at a line of the source.
+fn push_line(
     alloc: Global,
     list: &mut List,
     desk: &Desk,
-    source: Option<&Source<'_>>,
+    source: &Source<'_>,
     wanted: &Value,
 ) -> Result<(), AllocError>
-    ensures { OnOk result (Matches list.old → Matches list.new) }
+    ensures matches { OnOk result (Matches list.old → Matches list.new) }
+    ensures found { OnOk result (HasFound (found_line desk.now.places
+        desk.now.session.current.regs.pc source.now.counting
+        (option_map (λ a. a.now) source.now.assembly) (view wanted.now)) list.old list.new) }
 {
-    match source {
-        Some(source) => {
-            let line = source.counting.line_at(wanted);
-            match row_in(source, line) {
-                Some((line, address)) => push_at(alloc, list, desk, wanted, line, address),
-                None => push_unset(list, line, String::from_str(alloc, NO_BYTES)),
-            }
+    let line = source.counting.line_at(wanted);
+    match row_in(source, line) {
+        Some((line, address)) => push_at(alloc, list, desk, wanted, line, address),
+        None => push_unset(list, line, String::from_str(alloc, NO_BYTES)),
+    }
+}
+
+/// Appends a breakpoint that a client wants at an address.
+fn push_address(
+    alloc: Global,
+    list: &mut List,
+    desk: &Desk,
+    wanted: &Value,
+) -> Result<(), AllocError>
+    ensures matches { OnOk result (Matches list.old → Matches list.new) }
+    ensures found { OnOk result (HasFound (found_address desk.now.places
+        desk.now.session.current.regs.pc (view wanted.now)) list.old list.new) }
+{
+    match place_at(wanted, "/instructionReference", "/offset") {
+        Some(address) => {
+            let line = desk.places.line_at(address).unwrap_or(0);
+            push_at(alloc, list, desk, wanted, line, address)
         }
-        None => match place_at(wanted, "/instructionReference", "/offset") {
-            Some(address) => {
-                let line = desk.places.line_at(address).unwrap_or(0);
-                push_at(alloc, list, desk, wanted, line, address)
-            }
-            None => push_unset(list, 0, String::from_str(alloc, "this is no address")),
-        },
+        None => push_unset(list, 0, String::from_str(alloc, "this is no address")),
     }
 }
 
 /// Holds a request in place of the one before.
-pub fn hold(held: &mut Option<Value>, request: &Value) -> Result<(), AllocError> {
+pub fn hold(held: &mut Option<Value>, request: &Value) -> Result<(), AllocError>
+    ensures { OnOk result (option_map view held.new ≡ Some (view request.now)) }
+{
     *held = Some(request.clone()?);
     Ok(())
 }
 
-/// Holds a request in place of the one before, and returns the breakpoints that it lists: of lines
-/// of a source, if there is one, otherwise of addresses.
-fn wanted_list(
-    alloc: Global,
-    desk: &Desk,
-    source: Option<&Source<'_>>,
-    held: &mut Option<Value>,
-    request: &Value,
-) -> Result<List, AllocError>
-    ensures { IfOk result Matches }
+/// Makes an empty list.
+fn new_list(alloc: Global) -> List
+    ensures told { result.told.items ≡ [] }
+    ensures stops { result.stops.items ≡ [] }
+    ensures addresses { result.addresses.items ≡ [] }
 {
-    hold(held, request)?;
-    let mut list = List {
+    List {
         told: Vec::new(alloc),
         stops: Vec::new(alloc),
         addresses: Vec::new(alloc),
-    };
-    for wanted in list_of(request) {
-        push_wanted(alloc, &mut list, desk, source, wanted)?;
+    }
+}
+
+/// Holds a request in place of the one before, and returns the breakpoints of lines that it lists.
+fn lines_wanted(
+    alloc: Global,
+    desk: &Desk,
+    source: &Source<'_>,
+    held: &mut Option<Value>,
+    request: &Value,
+) -> Result<List, AllocError>
+    ensures found { IfOk result (Finds (found_line desk.now.places
+        desk.now.session.current.regs.pc source.now.counting
+        (option_map (λ a. a.now) source.now.assembly)) (view request.now)) }
+    ensures held { OnOk result (option_map view held.new ≡ Some (view request.now)) }
+{
+    hold(held, request)?;
+    let mut list = new_list(alloc);
+    let all = list_of(request);
+    for wanted in all {
+        push_line(alloc, &mut list, desk, source, wanted)?;
+    }
+    Ok(list)
+}
+
+/// Holds a request in place of the one before, and returns the breakpoints at addresses that it
+/// lists.
+fn addresses_wanted(
+    alloc: Global,
+    desk: &Desk,
+    held: &mut Option<Value>,
+    request: &Value,
+) -> Result<List, AllocError>
+    ensures found { IfOk result (Finds (found_address desk.now.places
+        desk.now.session.current.regs.pc) (view request.now)) }
+    ensures held { OnOk result (option_map view held.new ≡ Some (view request.now)) }
+{
+    hold(held, request)?;
+    let mut list = new_list(alloc);
+    let all = list_of(request);
+    for wanted in all {
+        push_address(alloc, &mut list, desk, wanted)?;
     }
     Ok(list)
 }
@@ -147,22 +197,22 @@ fn answers(
     list_body(alloc, "breakpoints", list)
 }
 
-/// Sets the breakpoints of a list in place of those at the addresses that are held, if memory did
-/// not run out for it, and returns what is answered.
+/// Sets the breakpoints of a list in place of those at the addresses that are held, and returns
+/// what is answered.
 fn set_list(
     alloc: Global,
     desk: &mut Desk,
     held: &mut Vec<u16>,
     counting: Counting,
-    list: Result<List, AllocError>,
+    list: List,
 ) -> Result<Value, AllocError>
-    requires { IfOk list Matches }
-    ensures sets { OnOk result
-        (SetsBreaks held.old.items held.new.items (place_of desk.old) (place_of desk.new)) }
+    ensures place { OnOk result (place_of desk.new
+        ≡ all_set list.stops.items (all_cleared held.old.items (place_of desk.old))) }
+    ensures held { OnOk result (held.new.items ≡ list.addresses.items) }
     ensures kept { KeepsEvents desk.old desk.new }
-    ensures answer { IfOk result (IsAnswer desk.new.session counting held.new.items) }
+    ensures answer { IfOk result (λ v. view v
+        ≡ breakpoints_body (each (answer_of desk.new.session counting) list.told.items)) }
 {
-    let list = list?;
     let List {
         told,
         stops,
@@ -185,15 +235,18 @@ pub fn set_lines(
     source: &Source<'_>,
     request: &Value,
 ) -> Result<Value, AllocError>
-    ensures sets { OnOk result (SetsBreaks listed.old.lines.items listed.new.lines.items
-        (place_of desk.old) (place_of desk.new)) }
+    ensures sets { IfOk result (λ v. SetsLines source.now.counting
+        (option_map (λ a. a.now) source.now.assembly) (view request.now) listed.old.lines.items
+        listed.new.lines.items desk.old desk.new (view v)) }
     ensures kept { KeepsEvents desk.old desk.new }
     ensures addresses { listed.new.addresses ≡ listed.old.addresses }
-    ensures answer { IfOk result (IsAnswer desk.new.session source.now.counting
-        listed.new.lines.items) }
+    ensures held { OnOk result
+        (option_map view listed.new.line_request ≡ Some (view request.now)) }
+    ensures others { (listed.new.address_request ≡ listed.old.address_request)
+        × (listed.new.data_request ≡ listed.old.data_request) }
 {
     let held = &mut listed.line_request;
-    let list = wanted_list(alloc, desk, Some(source), held, request);
+    let list = lines_wanted(alloc, desk, source, held, request)?;
     set_list(alloc, desk, &mut listed.lines, source.counting, list)
 }
 
@@ -209,16 +262,30 @@ pub fn set_addresses(
     counting: Counting,
     request: &Value,
 ) -> Result<Value, AllocError>
-    ensures sets { OnOk result (SetsBreaks listed.old.addresses.items
-        listed.new.addresses.items (place_of desk.old) (place_of desk.new)) }
+    ensures sets { IfOk result (λ v. SetsAddresses counting (view request.now)
+        listed.old.addresses.items listed.new.addresses.items desk.old desk.new (view v)) }
     ensures kept { KeepsEvents desk.old desk.new }
     ensures lines { listed.new.lines ≡ listed.old.lines }
-    ensures answer { IfOk result (IsAnswer desk.new.session counting
-        listed.new.addresses.items) }
+    ensures held { OnOk result
+        (option_map view listed.new.address_request ≡ Some (view request.now)) }
+    ensures others { (listed.new.line_request ≡ listed.old.line_request)
+        × (listed.new.data_request ≡ listed.old.data_request) }
 {
     let held = &mut listed.address_request;
-    let list = wanted_list(alloc, desk, None, held, request);
+    let list = addresses_wanted(alloc, desk, held, request)?;
     set_list(alloc, desk, &mut listed.addresses, counting, list)
+}
+
+/// Returns what is answered of breakpoints of another source than that of the session.
+fn none_set(alloc: Global, listed: &[Value]) -> Result<Value, AllocError>
+    ensures { IfOk result
+        (λ v. view v ≡ breakpoints_body (each answer_elsewhere (each view listed.now))) }
+{
+    let mut list = ValueList::new(alloc);
+    for _ in listed {
+        list = list.with(data_unwatched(alloc, OTHER_SOURCE));
+    }
+    list_body(alloc, "breakpoints", list)
 }
 
 /// Sets the breakpoints that a request lists for a source, in place of those before, if the source
@@ -232,8 +299,9 @@ pub fn set_source<H: Files + AllocGlobal>(
     source: &Source<'_>,
     request: &Value,
 ) -> Result<Value, AllocError>
-    ensures sets { OnOk result (SetsSourceBreaks listed.old.lines.items listed.new.lines.items
-        (place_of desk.old) (place_of desk.new)) }
+    ensures sets { IfOk result (λ v. SetsSource source.now.counting source.now.path.now
+        (option_map (λ a. a.now) source.now.assembly) (view request.now) listed.old listed.new
+        desk.old desk.new (view v)) }
     ensures kept { KeepsEvents desk.old desk.new }
     ensures addresses { listed.new.addresses ≡ listed.old.addresses }
 {
@@ -242,9 +310,5 @@ pub fn set_source<H: Files + AllocGlobal>(
     if is_one_file(rt, path, source.path) {
         return set_lines(alloc, desk, listed, source, request);
     }
-    let mut list = ValueList::new(alloc);
-    for _ in list_of(request) {
-        list = list.with(data_unwatched(alloc, "this is not the source of the session"));
-    }
-    list_body(alloc, "breakpoints", list)
+    none_set(alloc, list_of(request))
 }

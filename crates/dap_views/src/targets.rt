@@ -53,15 +53,13 @@ pub fn goto_targets<H: Files + AllocGlobal>(
     source: &Source<'_>,
     request: &Value,
 ) -> Result<Value, AllocError>
-    ensures { IfOk result (λ v. AreTargets source.now.counting
+    ensures { IfOk result (λ v. AreTargets source.now.counting source.now.path.now
         (option_map (λ a. a.now) source.now.assembly) (view request.now) (view v)) }
 {
     let alloc = rt.alloc();
     let path = text_or(request, "/arguments/source/path", "");
-    let list = if is_one_file(rt, path, source.path) {
-        own_targets(alloc, source, request)
-    } else {
-        ValueList::new(alloc)
-    };
-    list_body(alloc, "targets", list)
+    if is_one_file(rt, path, source.path) {
+        return list_body(alloc, "targets", own_targets(alloc, source, request));
+    }
+    list_body(alloc, "targets", ValueList::new(alloc))
 }

@@ -1,8 +1,9 @@
 //! The breakpoints that a client wants, read from its list.
 
-ghost use Rattle.std.specs.Prelude.{◌≡◌, ◌++◌, OnOk, option_map};
+ghost use Rattle.std.specs.Prelude.{◌≡◌, ◌++◌, IfOk, MatchResult, None, OnOk, Some, option_map};
 ghost use Rattle.assembler.specs.Assembly.{source_lines};
 ghost use Rattle.assembler.specs.Lines.{line_view};
+ghost use Rattle.dap_views.specs.Found.{HasFound, found_on, stop_on, stop_view};
 ghost use Rattle.dap_views.specs.Targets.{row_in};
 ghost use Rattle.dap_views.specs.Wanted.{Matches, break_line, condition_text, first_row};
 ghost use Rattle.dap_views.specs.Wanted.{hits_text, option_text, row_with};
@@ -110,7 +111,8 @@ pub fn push_unset(
     line: u32,
     words: Result<String, AllocError>,
 ) -> Result<(), AllocError>
-    ensures { OnOk result (Matches list.old → Matches list.new) }
+    ensures matches { OnOk result (Matches list.old → Matches list.new) }
+    ensures found { OnOk result (HasFound (line, None) list.old list.new) }
 {
     let words = words?;
     let wanted = Wanted {
@@ -131,7 +133,8 @@ fn slip_text(alloc: Global, slip: Slip<'_>) -> Result<String, AllocError> {
 
 /// Appends a breakpoint that can be set.
 fn push_stop(alloc: Global, list: &mut List, line: u32, stop: Break) -> Result<(), AllocError>
-    ensures { OnOk result (Matches list.old → Matches list.new) }
+    ensures matches { OnOk result (Matches list.old → Matches list.new) }
+    ensures found { OnOk result (HasFound (line, Some (stop_view stop)) list.old list.new) }
 {
     let wanted = Wanted {
         address: Some(stop.address),
@@ -144,9 +147,40 @@ fn push_stop(alloc: Global, list: &mut List, line: u32, stop: Break) -> Result<(
     Ok(())
 }
 
+/// Returns the breakpoint that a line of `mon` sets, or words of why it sets none. A line of more
+/// than 255 bytes is too long.
+fn stop_on(alloc: Global, desk: &Desk, line: &[u8]) -> Result<Result<Break, String>, AllocError>
+    ensures { IfOk result (λ found. MatchResult found
+        (λ stop. stop_on desk.now.places.names desk.now.session.current.regs.pc line.now
+        ≡ Some (stop_view stop))
+        (λ words. stop_on desk.now.places.names desk.now.session.current.regs.pc line.now
+        ≡ None)) }
+{
+    if line.len() > 255 {
+        let words = String::from_str(alloc, "the condition is too long")?;
+        return Ok(Err(words));
+    }
+    match read_line(line, &desk.places, desk.session.regs().pc) {
+        Ok(
+            Command::Break {
+                address,
+                tests,
+                times,
+            },
+        ) => Ok(Ok(Break::new(address, tests, times))),
+        Ok(_) => {
+            let words = String::from_str(alloc, "this is no break")?;
+            Ok(Err(words))
+        }
+        Err(slip) => {
+            let words = slip_text(alloc, slip)?;
+            Ok(Err(words))
+        }
+    }
+}
+
 /// Appends a breakpoint that a client wants at an address, which a line has, or none. The line of
-/// `mon` that sets it is read. If it is wrong, what is wrong in it is told. A line of more than 255
-/// bytes is too long.
+/// `mon` that sets it is read. If it is wrong, what is wrong in it is told.
 pub fn push_at(
     alloc: Global,
     list: &mut List,
@@ -155,24 +189,14 @@ pub fn push_at(
     line: u32,
     address: u16,
 ) -> Result<(), AllocError>
-    ensures { OnOk result (Matches list.old → Matches list.new) }
+    ensures matches { OnOk result (Matches list.old → Matches list.new) }
+    ensures found { OnOk result (HasFound (found_on desk.now.places
+        desk.now.session.current.regs.pc (view wanted.now) line address) list.old list.new) }
 {
     let mut text = Vec::new(alloc);
     push_break(&mut text, wanted, address)?;
-    if text.len() > 255 {
-        let words = String::from_str(alloc, "the condition is too long");
-        return push_unset(list, line, words);
+    match stop_on(alloc, desk, text.as_slice())? {
+        Ok(stop) => push_stop(alloc, list, line, stop),
+        Err(words) => push_unset(list, line, Ok(words)),
     }
-    let words = match read_line(text.as_slice(), &desk.places, desk.session.regs().pc) {
-        Ok(
-            Command::Break {
-                address,
-                tests,
-                times,
-            },
-        ) => return push_stop(alloc, list, line, Break::new(address, tests, times)),
-        Ok(_) => String::from_str(alloc, "this is no break"),
-        Err(slip) => slip_text(alloc, slip),
-    };
-    push_unset(list, line, words)
 }

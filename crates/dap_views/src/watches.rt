@@ -1,6 +1,6 @@
 //! Bytes that are watched: each list of them replaces the one before.
 
-ghost use Rattle.std.specs.Prelude.{◌≡◌, IfOk, OnOk, map as each};
+ghost use Rattle.std.specs.Prelude.{◌≡◌, IfOk, OnOk, Some, map as each, option_map};
 ghost use Rattle.dap_messages.specs.Answers.{breakpoints_body};
 ghost use Rattle.dap_views.specs.Watches.{KeepsBreaks, SetsWatches, TellsWatches, all_unset};
 ghost use Rattle.dap_views.specs.Watches.{data_shown, has_bytes, is_watched, told_of};
@@ -151,6 +151,10 @@ pub fn set_data(
     ensures addresses { listed.new.addresses ≡ listed.old.addresses }
     ensures answer { IfOk result
         (λ v. TellsWatches (view request.now) desk.new.stops.watches.items (view v)) }
+    ensures held { OnOk result
+        (option_map view listed.new.data_request ≡ Some (view request.now)) }
+    ensures others { (listed.new.line_request ≡ listed.old.line_request)
+        × (listed.new.address_request ≡ listed.old.address_request) }
 {
     let list = list_of(request);
     unset_all(&mut desk.session, desk.stops.changes.as_slice());

@@ -10,7 +10,7 @@ use Rattle.dap_session.proofs.answering.answer.Goals as goal
 pub returns-in-Sets-clause-done : goal.returns-in-Sets-clause-done
 unfolding AreAnswers
 returns-in-Sets-clause-done g c =
-    let sets = λ (v : Data). SetsListed c.in-Sets.kind (view c.args.request.now) c.args.seat.now c.set_listed-told.new.seat v in
+    let sets = λ (v : Data). SetsListed c.in-Sets.kind (view c.args.request.now) c.args.counting c.args.seat.now c.set_listed-told.new.seat v in
     rw c.in-Sets.is (kept c.answered.result c.or_memory-in-Sets.result _ c.or_memory-in-Sets.ensures.made
     (answered_with c.set_listed-told.result c.answered.result (λ ms. map said_of ms.items) sets c.set_listed-told.ensures c.answered.ensures))
 

@@ -39,7 +39,7 @@ returns-in-Disassemble g c =
 pub returns-in-GotoTargets : goal.returns-in-GotoTargets
 returns-in-GotoTargets g c =
     let source = c.source_of-source.ensures in
-    rw (c.in-GotoTargets.is, ← source.assembly, ← source.counting) c.goto_targets.ensures
+    rw (c.in-GotoTargets.is, ← source.path, ← source.assembly, ← source.counting) c.goto_targets.ensures
 
 pub returns-in-ExceptionInfo : goal.returns-in-ExceptionInfo
 returns-in-ExceptionInfo g c = rw (c.in-ExceptionInfo.is, ← c.as_str.ensures.value) c.exception.ensures

@@ -2,7 +2,6 @@ use Rattle.std.proofs.Common.{◌∙◌, ap, subst}
 use Rattle.std.proofs.lemmas.Result.{IfOk-weaker}
 use Rattle.arguments.specs.Asked.{file_view, map_of}
 use Rattle.dap_session.specs.Begun.{IsLaunched, IsSeated}
-use Rattle.dap_session.specs.Options.{history_of}
 use Rattle.model.specs.Event.{start}
 use Rattle.model.specs.Session.{Session, new_session}
 use Rattle.serde_json.specs.View.{view}

@@ -1,4 +1,4 @@
-use Rattle.std.proofs.Common.{◌∙◌, [], ℕ, ℤ, IfOk, Option, Some, rules, subst, sym, w64}
+use Rattle.std.proofs.Common.{[], ℕ, ℤ, IfOk, Option, Some, rules, subst, sym, w64}
 use Rattle.std.proofs.lemmas.Int.{to_z-of_z}
 use Rattle.dap_views.proofs.Shown.{shown_as}
 use Rattle.dap_views.specs.Rows.{rows_at}

@@ -1,8 +1,10 @@
-use Rattle.std.proofs.Common.{◌∙◌, ap, refl}
-use Rattle.dap_views.specs.Wanted.{Matches, told_addresses}
-use Rattle.dap_views.proofs.Matching.{unset_more}
+use Rattle.std.proofs.Common.{◌∙◌, ap, append-nil, map, sym}
+use Rattle.std.proofs.lemmas.List.{map-append}
+use Rattle.dap_views.specs.Found.{stop_view, told_view}
 use Rattle.dap_views.proofs.wanted.push_unset.Goals as goal
 
-pub returns : goal.returns
-unfolding Matches
-returns c = λ m. (ap told_addresses c.in_ok-push.ensures.items ∙ unset_more c.args.list.now.told.items _ refl ∙ m.0, m.1)
+pub returns-clause-found : goal.returns-clause-found
+returns-clause-found c = (
+  ap (map told_view) c.in_ok-push.ensures.items ∙ map-append told_view c.args.list.now.told.items _,
+  sym (append-nil (map stop_view c.args.list.now.stops.items)),
+)
