@@ -1,5 +1,7 @@
 ;;; mos65.el --- Sources of mos65, with its language server and its debugger -*- lexical-binding: t -*-
 
+;; Version: 0.1.0
+
 ;; In the init file: (load "…/editors/emacs/mos65.el"). `M-x eglot' or `M-x lsp' in such a buffer starts
 ;; the server.
 

@@ -20,8 +20,9 @@ use strict_debug::strict_debug_command;
 use t65::test_command;
 use tape_words::{cmp_command, info_command, mend_command};
 
-/// The version of the program.
-const VERSION: &str = "0.1.0";
+/// The version of the program, as the file VERSION has it. A release has its commit in place of the
+/// words in brackets (`tools/release`).
+const VERSION: &str = "0.1.0 (not a release build)";
 
 /// What the program's help shows below its words.
 const STATUSES: &str =
