@@ -1,6 +1,9 @@
 """Builds the package's wheel with the standard library alone, so that `pip install ./python` needs
 no network. The same sources give the same bytes: each file has the date of SOURCE_DATE_EPOCH, or
-that of 1980 where it is not set, and the same rights, and nothing is compressed."""
+that of 1980 where it is not set, and the same rights, and nothing is compressed.
+
+The setting `library` names a libmos65.so that the wheel has with it, for Linux on x86-64 with glibc 2.17
+or later. The setting `licences` names a folder, with the licences of what that was linked from."""
 
 import base64
 import gzip
@@ -31,9 +34,15 @@ METADATA = f"""Metadata-Version: 2.1
 Name: {NAME}
 Version: {VERSION}
 Summary: A 6502 with a history of its whole states, for test rigs
+Author: Cekwobi maintainers
+Classifier: Framework :: Pytest
+Classifier: Programming Language :: Python :: 3
 Requires-Python: >=3.9
+Description-Content-Type: text/markdown
+
 """
-WHEEL = "Wheel-Version: 1.0\nGenerator: mos65\nRoot-Is-Purelib: true\nTag: py3-none-any\n"
+WHEEL = "Wheel-Version: 1.0\nGenerator: mos65\nRoot-Is-Purelib: {is_pure}\nTag: py3-none-{platform}\n"
+ANY, LINUX = "any", "manylinux_2_17_x86_64"
 ENTRIES = "[pytest11]\nmos65 = mos65.pytest_plugin\n"
 
 
@@ -42,24 +51,36 @@ def moment():
     return max(FIRST, int(os.environ.get("SOURCE_DATE_EPOCH", FIRST)))
 
 
+def read(path):
+    with open(path, "rb") as it:
+        return it.read()
+
+
 def package():
     """The package's files by name."""
-    folder = f"{HERE}/{NAME}"
-    found = {}
-    for name in sorted(os.listdir(folder)):
-        if name.endswith((".py", ".typed")):
-            with open(f"{folder}/{name}", "rb") as it:
-                found[f"{NAME}/{name}"] = it.read()
-    return found
+    names = sorted(os.listdir(f"{HERE}/{NAME}"))
+    return {f"{NAME}/{it}": read(f"{HERE}/{NAME}/{it}") for it in names if it.endswith((".py", ".typed"))}
 
 
-def files():
-    """What the wheel has, by name."""
-    found = package()
-    found[f"{INFO}/METADATA"] = METADATA.encode()
-    found[f"{INFO}/WHEEL"] = WHEEL.encode()
+def metadata():
+    """What indexes show of the package: its facts, and its page."""
+    return METADATA.encode() + read(f"{HERE}/README.md")
+
+
+def files(settings):
+    """What the wheel has, by name, and the platform that it is for."""
+    found, library = package(), settings.get("library")
+    if library:
+        found[f"{NAME}/libmos65.so"] = read(library)
+    for at, _, names in os.walk(settings.get("licences", "")):
+        for name in names:
+            inside = os.path.relpath(f"{at}/{name}", settings["licences"])
+            found[f"{INFO}/licenses/{inside}"] = read(f"{at}/{name}")
+    platform = LINUX if library else ANY
+    found[f"{INFO}/METADATA"] = metadata()
+    found[f"{INFO}/WHEEL"] = WHEEL.format(is_pure=str(not library).lower(), platform=platform).encode()
     found[f"{INFO}/entry_points.txt"] = ENTRIES.encode()
-    return found
+    return dict(sorted(found.items())), platform
 
 
 def put(out, path, text):
@@ -72,10 +93,10 @@ def put(out, path, text):
 
 def build_wheel(wheel_directory, config_settings=None, metadata_directory=None):
     """Writes the wheel and returns its name (PEP 517)."""
-    name = f"{NAME}-{VERSION}-py3-none-any.whl"
-    rows = []
+    found, platform = files(config_settings or {})
+    name, rows = f"{NAME}-{VERSION}-py3-none-{platform}.whl", []
     with zipfile.ZipFile(os.path.join(wheel_directory, name), "w") as out:
-        for path, text in files().items():
+        for path, text in found.items():
             put(out, path, text)
             digest = base64.urlsafe_b64encode(hashlib.sha256(text).digest()).rstrip(b"=").decode()
             rows.append(f"{path},sha256={digest},{len(text)}")
@@ -86,13 +107,12 @@ def build_wheel(wheel_directory, config_settings=None, metadata_directory=None):
 def build_sdist(sdist_directory, config_settings=None):
     """Writes the sources as an archive and returns its name (PEP 517)."""
     name = f"{NAME}-{VERSION}"
-    found = package()
-    for path in ("build_wheel.py", "pyproject.toml"):
-        with open(f"{HERE}/{path}", "rb") as it:
-            found[path] = it.read()
+    found = {**package(), "PKG-INFO": metadata()}
+    for path in ("README.md", "build_wheel.py", "pyproject.toml"):
+        found[path] = read(f"{HERE}/{path}")
     whole = io.BytesIO()
     with tarfile.open(fileobj=whole, mode="w") as out:
-        for path, text in found.items():
+        for path, text in sorted(found.items()):
             entry = tarfile.TarInfo(f"{name}/{path}")
             entry.size, entry.mtime, entry.mode = len(text), moment(), RIGHTS
             out.addfile(entry, io.BytesIO(text))

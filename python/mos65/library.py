@@ -172,12 +172,19 @@ _CALLS = {
 }
 
 
+# The library that a wheel of this package has with it.
+_OWN_FILE = os.path.join(os.path.dirname(os.path.abspath(__file__)), "libmos65.so")
+
+
 def find_library(library: Optional[str] = None) -> Optional[str]:
-    """The library's file: the one that is given, that of MOS65_LIBRARY, the one in `lib` beside
-    the program's folder, the one in ~/.local, or the system's. None where there is none."""
+    """The library's file: the one that is given, that of MOS65_LIBRARY, the one in this package, the
+    one in `lib` beside the program's folder, the one in ~/.local, or the system's. None where there
+    is none."""
     found = library or os.environ.get("MOS65_LIBRARY")
     if found:
         return found
+    if os.path.isfile(_OWN_FILE):
+        return _OWN_FILE
     program = shutil.which("mos65")
     folders = [os.path.dirname(os.path.dirname(os.path.realpath(program)))] if program else []
     for folder in (*folders, os.path.expanduser("~/.local")):
