@@ -1,4 +1,5 @@
 pub mod Answers
 pub mod From
+pub mod Records
 pub mod Status
 pub mod Touching

@@ -8,6 +8,7 @@ ghost use Rattle.mos65_c.specs.Status.{config_map, config_status};
 use crate::config::{Config, map_of};
 use crate::machine::{CLOSED, MISUSE, Mos65Assembly, OUT_OF_MEMORY};
 use crate::names::Fault;
+use crate::texts::tell;
 use assembler::assemble;
 use slot::AssemblySlot;
 use std::alloc::Global;
@@ -86,9 +87,7 @@ pub extern "C" fn mos65_listing(
     let Ok(text) = assembly.slot.inside().listing(alloc) else {
         return OUT_OF_MEMORY;
     };
-    *count = text.len();
-    let shown = text.len().min(out.len());
-    out[..shown].copy_from_slice(&text[..shown]);
+    tell(&text, out, count);
     0
 }
 

@@ -1,0 +1,55 @@
+//! All faults of a source at once, as text.
+
+ghost use Rattle.std.specs.Prelude.{◌≡◌, ◌≢◌, IfOk, length, List, take, ℕ};
+ghost use Rattle.fault_notes.specs.Blocks.{IsToldText};
+ghost use Rattle.model.specs.AllFaults.{faults_of};
+ghost use Rattle.mos65_c.specs.Answers.{written};
+ghost use Rattle.mos65_c.specs.Status.{config_map, config_status};
+
+use crate::config::{Config, map_of};
+use crate::machine::OUT_OF_MEMORY;
+use crate::texts::tell;
+use bus::MapSpec;
+use fault_notes::faults_text;
+use source_faults::source_faults;
+use std::alloc::{AllocError, Global};
+
+/// Returns the text of all faults of a source on a map, under the name of its file.
+fn text_of(alloc: Global, name: &[u8], source: &[u8], map: &MapSpec) -> Result<Vec<u8>, AllocError>
+    ensures { IfOk result (λ text. IsToldText name.now source.now map.now.profile
+        (faults_of map.now source.now) text.items) }
+{
+    let faults = source_faults(alloc, source, map)?;
+    faults_text(alloc, name, source, map, &faults)
+}
+
+/// Writes the beginning of the text of all faults of a source for which `out` has room, under the
+/// name of its file, and tells how long the whole text is: 0 where the source has no fault.
+#[unsafe(no_mangle)]
+pub extern "C" fn mos65_faults(
+    alloc: Global,
+    config: &Config,
+    name: &[u8],
+    source: &[u8],
+    out: &mut [u8],
+    count: &mut usize,
+) -> u32
+    ensures told { config_status config.now ≡ 0 → result ≢ 3 → (result ≡ 0) × (text : List ℕ)
+        × IsToldText name.now source.now (config_map config.now).profile
+        (faults_of (config_map config.now) source.now) text
+        × (count.new ≡ length text) × (out.new ≡ written (take (length out.old) text) out.old) }
+    ensures config { config_status config.now ≢ 0 → result ≡ config_status config.now }
+    ensures refused { result ≢ 0 → (out.new ≡ out.old) × (count.new ≡ count.old) }
+{
+    let map = match map_of(config) {
+        Ok(map) => map,
+        Err(status) => return status,
+    };
+    match text_of(alloc, name, source, &map) {
+        Ok(text) => {
+            tell(&text, out, count);
+            0
+        }
+        Err(_) => OUT_OF_MEMORY,
+    }
+}
