@@ -1,9 +1,9 @@
 /* mos65.h: an NMOS 6502 with a history of its whole states, for programs and test rigs in C and C++.
  *
  * A call answers a status: MOS65_OK, which is 0, or why it was refused. A refused call changes nothing, and
- * what it was to fill in stays as it was, but for *fault, which always tells. The one exception is mos65_write,
- * which is many calls: those before the refused one were made. A call on what is not open answers MOS65_CLOSED
- * before anything else. Four statuses say that memory was refused: mos65_is_out_of_memory knows them.
+ * what it was to fill in stays as it was, but for *fault, which always tells. There are two exceptions: mos65_write
+ * is many calls, and those before the refused one were made; and where mos65_record_run is refused for memory,
+ * some of its steps were made. A call on what is not open answers MOS65_CLOSED before anything else. Four statuses say that memory was refused: mos65_is_out_of_memory knows them.
  * A machine and an assembly are variables of the caller, MOS65_INIT before they are opened and again after
  * they are closed:
  *
@@ -81,6 +81,7 @@ enum { MOS65_LIMIT = 0, MOS65_BREAK = 1, MOS65_WATCH = 2, MOS65_REFUSED = 3 };
 #define MOS65_NO_PORT 0xFFFF /* of a configuration: a machine without a port */
 #define MOS65_CALL_EVENTS 4  /* how many events a call makes before its first step */
 #define MOS65_FROM_EVENTS 6  /* how many events mos65_open_from makes */
+#define MOS65_RECORD 26      /* the most bytes that the record of a step has */
 
 typedef struct mos65 { void *opaque; bool live; } mos65_t;                   /* a machine, or none */
 typedef struct mos65_assembly { void *opaque; bool live; } mos65_assembly_t; /* an assembly, or none */
@@ -169,6 +170,11 @@ int mos65_line(const mos65_assembly_t *assembly, size_t index, mos65_line_t *lin
                size_t *length);
 /* Puts the listing's first n bytes, or all of it, into out, and its whole length into *length. */
 int mos65_listing(const mos65_assembly_t *assembly, uint8_t *out, size_t n, size_t *length);
+/* Puts the text of all faults of n bytes of source, as `mos65 check` prints them of a file of this name, into out,
+   its first out_n bytes or all of it, and its whole length into *length: 0 where there is no fault. MISUSE or
+   BAD_MAP for the configuration. */
+int mos65_faults(const mos65_config_t *config, const uint8_t *name, size_t name_n, const uint8_t *source,
+                 size_t n, uint8_t *out, size_t out_n, size_t *length);
 /* Frees an assembly. CLOSED where none is open. A machine that was opened with it goes on. */
 int mos65_assembly_close(mos65_assembly_t *assembly);
 
@@ -240,6 +246,19 @@ int mos65_unbreak(mos65_t *m, uint16_t address);
    SESSION_PORT_ADDRESS, ALREADY_SET, TABLE_FULL, SESSION_OUT_OF_MEMORY; NOT_SET. */
 int mos65_watch(mos65_t *m, uint16_t address);
 int mos65_unwatch(mos65_t *m, uint16_t address);
+
+/* ---- a run as the data of a page ---- */
+
+/* Puts the state of the machine, as the data of a page begin with it, into out, its first n bytes or all of it,
+   and its whole length into *length. irq is the level of the IRQ line, given all input that was handed in, and no
+   NMI is pending: the machine does not tell these. What is put there otherwise is another state's. */
+int mos65_record_start(const mos65_t *m, bool irq, const uint8_t *given, size_t given_n, uint8_t *out, size_t n,
+                       size_t *length);
+/* Runs as mos65_run does, and puts the records of its steps into out, their first n bytes or all of them, and
+   their whole length into *length: at most MOS65_RECORD bytes a step. No NMI is pending before the run; else
+   the records tell of other steps. Where memory is refused, the steps until then were made. The forms of both are
+   in crates/page_data/specs, Start.antt and Format.antt. */
+int mos65_record_run(mos65_t *m, uint32_t limit, mos65_ending_t *ending, uint8_t *out, size_t n, size_t *length);
 
 /* ---- looking: nothing is changed ---- */
 

@@ -20,7 +20,7 @@ static int told(int status) {
     return status;
 }
 
-static uint8_t bytes[65537];
+static uint8_t bytes[65537], out[3000];
 
 /* So many bytes: of any value, or those of which sources and tapes are made. */
 static size_t fill(size_t most) {
@@ -52,8 +52,9 @@ static void change_one(mos65_t *m) {
     mos65_given_t given = {(uint8_t)draw(256), (uint8_t)draw(256), (uint8_t)draw(256), draw(2), draw(2), draw(2)};
     mos65_called_t called;
     uint16_t at = (uint16_t)draw(65536);
-    size_t n = fill(draw(50) ? 5 : 3000);
-    switch (draw(15)) {
+    size_t n = fill(draw(50) ? 5 : 3000), length;
+    switch (draw(16)) {
+    case 14: told(mos65_record_run(m, draw(500), &end, out, draw(sizeof out), &length)); break;
     case 13: told(mos65_call_with(m, at, draw(500), &given, &called)); break;
     case 0: told(mos65_step(m)); break;
     case 1: told(mos65_reset(m)); break;
@@ -78,7 +79,8 @@ static void look_at_one(mos65_t *m, mos65_assembly_t *a) {
     size_t length, n = draw(40);
     int32_t value;
     mos65_line_t line;
-    switch (draw(11)) {
+    mos65_config_t config = {0, 0xF000, 0, 0, false, draw(2) ? 'C' : 'N'};
+    switch (draw(13)) {
     case 0: told(mos65_registers(m, &r)); break;
     case 1: told(mos65_read(m, (uint16_t)draw(65536), bytes, draw(65537))); break;
     case 2: told(mos65_output_length(m, &count)); break;
@@ -89,6 +91,8 @@ static void look_at_one(mos65_t *m, mos65_assembly_t *a) {
     case 7: told(mos65_symbol(a, bytes, n, &value)); break;
     case 8: told(mos65_line(a, draw(12), &line, bytes, draw(260), &length)); break;
     case 9: told(mos65_line_count(a, &length)); break;
+    case 10: told(mos65_faults(&config, (const uint8_t *)"a.a65", draw(6), bytes, fill(200), out, draw(sizeof out), &length)); break;
+    case 11: told(mos65_record_start(m, draw(2), bytes, n, out, draw(sizeof out), &length)); break;
     default: told(mos65_listing(a, bytes, draw(300), &length));
     }
 }

@@ -59,6 +59,13 @@ static void session(mos65_t *m) {
     CHECK(mos65_registers(m, &after) == MOS65_OK);
     CHECK(was_called ? called.ending.did > 0 : memcmp(&before, &after, sizeof before) == 0);
     CHECK(mos65_step(m) == MOS65_OK && mos65_back(m, 1) == MOS65_OK);
+    uint8_t out[2000];
+    size_t n = 9;
+    bool was_told = told(mos65_record_start(m, false, (const uint8_t *)"x", 1, out, sizeof out, &n)) == MOS65_OK;
+    CHECK(was_told ? n > 9 : n == 9);
+    n = 9, end.did = 9;
+    was_told = told(mos65_record_run(m, 3, &end, out, sizeof out, &n)) == MOS65_OK;
+    CHECK(was_told ? end.did > 0 && n <= end.did * MOS65_RECORD : n == 9 && end.did == 9);
 }
 
 static void round_of_calls(void) {
@@ -73,6 +80,9 @@ static void round_of_calls(void) {
     if (told(mos65_assemble(&a, &config, (const uint8_t *)source, sizeof source - 1, &fault)) == MOS65_OK) {
         told(mos65_listing(&a, text, sizeof text, &n));
         CHECK(mos65_line(&a, 0, &line, text, sizeof text, &n) == MOS65_OK && line.number == 1);
+        n = 9;
+        bool was_told = told(mos65_faults(&config, (const uint8_t *)"x", 1, (const uint8_t *)" LDQ\n", 5, text, sizeof text, &n)) == MOS65_OK;
+        CHECK(was_told ? n > 9 : n == 9);
         if (told(mos65_open(&m, &config, &a)) == MOS65_OK) session(&m);
     }
     if (told(mos65_open_tape(&taped, &config, (const uint8_t *)tape, sizeof tape - 1, &fault)) == MOS65_OK) session(&taped);

@@ -91,6 +91,33 @@ static void sources(mos65_assembly_t *a, const mos65_config_t *config) {
     CHECK(mos65_listing(a, text, 0, &n) == MOS65_OK && n > 500);
 }
 
+/* A source and its text of tests/check.md. */
+static void faults(void) {
+    static const char wrong[] = "        .ORG $200\n        .ASCII \"x\"\n";
+    static const char told[] =
+        "directives.a65:1:9: Syntax 4: .ORG is no directive here; write *= and the address\n"
+        "        .ORG $200\n"
+        "        ^~~~\n"
+        "directives.a65:2:9: Syntax 4: .ASCII is no directive here; write .BYTE \"...\"\n"
+        "        .ASCII \"x\"\n"
+        "        ^~~~~~\n"
+        "2 faults\n";
+    mos65_config_t config = MOS65_CONFIG;
+    const uint8_t *name = (const uint8_t *)"directives.a65", *bytes = (const uint8_t *)wrong;
+    uint8_t out[sizeof told];
+    size_t n = 9;
+    CHECK(mos65_faults(&config, name, 14, bytes, sizeof wrong - 1, out, sizeof out, &n) == MOS65_OK);
+    CHECK(n == sizeof told - 1 && memcmp(out, told, n) == 0);
+    memset(out, 0, sizeof out);
+    CHECK(mos65_faults(&config, name, 14, bytes, sizeof wrong - 1, out, 14, &n) == MOS65_OK);
+    CHECK(n == sizeof told - 1 && memcmp(out, "directives.a65\0", 15) == 0);
+    CHECK(mos65_faults(&config, name, 14, (const uint8_t *)source, sizeof source - 1, out, sizeof out, &n) == MOS65_OK && n == 0);
+    config.port = 0xF001, n = 9;
+    CHECK(mos65_faults(&config, name, 14, bytes, sizeof wrong - 1, out, sizeof out, &n) == MOS65_BAD_MAP && n == 9);
+    config.profile = 'X';
+    CHECK(mos65_faults(&config, name, 14, bytes, sizeof wrong - 1, out, sizeof out, &n) == MOS65_MISUSE && n == 9);
+}
+
 static void calls(mos65_t *m, mos65_assembly_t *a) {
     mos65_registers_t before, after;
     mos65_ending_t end;
@@ -201,6 +228,44 @@ static void accesses(void) {
     CHECK(mos65_patch(&m, 0x0200, (const uint8_t *)"\x02", 1) == MOS65_OK);
     CHECK(mos65_run_to_access(&m, marks, 65536, 9, &end) == MOS65_OK && end.why == MOS65_REFUSED && end.did == 0 && end.opcode == 2);
     CHECK(mos65_close(&m) == MOS65_OK);
+}
+
+static const uint8_t nothing[256];
+
+/* A state and three steps as a page holds them, written by hand from crates/page_data/specs/{Start,Format}.antt. */
+static void records(void) {
+    mos65_config_t config = MOS65_CONFIG;
+    mos65_t m = MOS65_INIT;
+    mos65_ending_t end = {7, 7, 7, 7, 7};
+    /* LDA #$41, STA $F000, INC $10 */
+    static const uint8_t code[] = {0xA9, 0x41, 0x8D, 0x00, 0xF0, 0xE6, 0x10};
+    /* A, X, Y, S, P, PC; the cycles; the IRQ line; nothing taken; nothing put out; one byte handed in */
+    static const uint8_t rest[] = {0, 0, 0, 0xFD, 0x24, 0x00, 0x02, 7, 0, 0, 0, 0, 0, 0, 0, 8,
+        0, 0, 0, 0, 0, 0, 0, 0, 0, 0, 0, 0, 0, 0, 0, 0, 1, 0, 0, 0, 0, 0, 0, 0, 'x'};
+    static const uint8_t steps[] = {
+        0x02, 0x21, 0x41, 0x02,                          /* 2 cycles: A, PC */
+        0x44, 0xA0, 0x07, 0x01, 0x00, 0xF0, 0x00, 0x41,  /* 4 cycles, one store: PC, the signals; $F000; the output */
+        0x55, 0x20, 0x02, 0x10, 0x00, 0x10, 0x00, 0x01,  /* 5 cycles, one read and one store: PC; $0010; $0010, 0 XOR 1 */
+    };
+    uint8_t out[600] = {0};
+    size_t n = 9;
+    CHECK(mos65_record_start(&m, false, nothing, 0, out, sizeof out, &n) == MOS65_CLOSED && n == 9);
+    CHECK(mos65_record_run(&m, 9, &end, out, sizeof out, &n) == MOS65_CLOSED && n == 9 && end.did == 7);
+    CHECK(mos65_open_bytes(&m, &config, 0x0200, code, sizeof code) == MOS65_OK && mos65_set(&m, MOS65_PC, 0x0200) == MOS65_OK);
+    CHECK(mos65_irq(&m, true) == MOS65_OK && mos65_input(&m, 'x') == MOS65_OK && mos65_break(&m, 0x0207) == MOS65_OK);
+    CHECK(mos65_record_start(&m, true, (const uint8_t *)"x", 1, out, sizeof out, &n) == MOS65_OK);
+    CHECK(n == 2 + 257 + 253 + sizeof rest && out[0] == 0 && out[1] == 0 && out[2] == 1);
+    CHECK(memcmp(out + 3, code, sizeof code) == 0 && memcmp(out + 3 + sizeof code, nothing, 256 - sizeof code) == 0);
+    CHECK(memcmp(out + 259, nothing, 253) == 0 && memcmp(out + 512, rest, sizeof rest) == 0);
+    CHECK(mos65_record_start(&m, true, nothing, 0, out, 0, &n) == MOS65_OK && out[2] == 1);
+    CHECK(mos65_record_run(&m, 9, &end, out, sizeof out, &n) == MOS65_OK && n == sizeof steps && memcmp(out, steps, n) == 0);
+    CHECK(end.why == MOS65_BREAK && end.address == 0x0207 && end.did == 3);
+    memset(out, 9, sizeof out);
+    CHECK(mos65_back(&m, 3) == MOS65_OK && mos65_record_run(&m, 2, &end, out, 5, &n) == MOS65_OK && n == 12);
+    CHECK(end.why == MOS65_LIMIT && end.did == 2 && memcmp(out, steps, 5) == 0 && out[5] == 9);
+    CHECK(mos65_patch(&m, 0x0205, (const uint8_t *)"\x02", 1) == MOS65_OK);
+    CHECK(mos65_record_run(&m, 2, &end, out, 5, &n) == MOS65_OK && n == 0 && out[0] == steps[0]);
+    CHECK(end.why == MOS65_REFUSED && end.did == 0 && end.opcode == 2 && mos65_close(&m) == MOS65_OK);
 }
 
 struct counter {
@@ -338,10 +403,12 @@ int main(void) {
     closed(&m);
     CHECK(mos65_open(&m, &config, &a) == MOS65_CLOSED);
     sources(&a, &config);
+    faults();
     CHECK(mos65_open(&m, &config, &a) == MOS65_OK && m.live && mos65_open(&m, &config, &a) == MOS65_MISUSE);
     calls(&m, &a);
     calls_with_registers(&m, &a);
     accesses();
+    records();
     devices();
     runs(&m, &a);
     second(&m, config);

@@ -1,4 +1,6 @@
 mod Begun
+mod Recorded
 mod Refused
+mod RunsOfOne
 mod Shown
 mod TouchingRuns

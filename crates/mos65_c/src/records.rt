@@ -1,7 +1,7 @@
 //! A run as the data of a page: the state that it starts from, and the records of its steps.
 
-ghost use Rattle.std.specs.Prelude.{◌≡◌, ◌≢◌, ◌≤◌, ◌++◌, [], IfOk, false, length, List, None, OnErr};
-ghost use Rattle.std.specs.Prelude.{OnOk, Some, take, ℕ};
+ghost use Rattle.std.specs.Prelude.{◌≡◌, ◌≢◌, ◌≤◌, ◌+◌, ◌*◌, ◌++◌, [], IfOk, false, length, List};
+ghost use Rattle.std.specs.Prelude.{None, OnErr, OnOk, Some, take, ℕ};
 ghost use Rattle.model.specs.Run.{after_run, after_steps, run_end};
 ghost use Rattle.model.specs.Session.{Session as SessionView};
 ghost use Rattle.model.specs.State.{State};
@@ -70,6 +70,8 @@ fn record_one(
     ensures told { OnOk result ((start : State)
         → IsRecorded start records.old.items session.old.current
         → IsRecorded start records.new.items session.new.current) }
+    ensures short { IfOk result (λ end. session.old.current.nmi ≡ false
+        → length records.new.items ≤ length records.old.items + 26 * end.did) }
 {
     // For the proof: that the registers and the memory are in range.
     session.is_state();
@@ -106,6 +108,8 @@ fn record_run(
     ensures after { OnOk result (session.new ≡ after_run limit session.old) }
     ensures told { OnOk result (session.old.current.nmi ≡ false
         → IsRecorded session.old.current records.new.items session.new.current) }
+    ensures short { IfOk result (λ end. session.old.current.nmi ≡ false
+        → length records.new.items ≤ 26 * end.did) }
     // The machine is at a state of this run.
     ensures err { OnErr result ((k : ℕ) × (k ≤ (run_end limit session.old).did)
         × (session.new ≡ after_steps k session.old)) }
@@ -148,6 +152,9 @@ pub extern "C" fn mos65_record_run(
         × IsRecorded s.current records (after_run limit s).current
         × (count.new ≡ length records)
         × (out.new ≡ written (take (length out.old) records) out.old) }
+    // A record has 26 bytes at most.
+    ensures short { (s : SessionView) → m.old.slot.session ≡ Some s → result ≢ 3
+        → s.current.nmi ≡ false → count.new ≤ 26 * ending.new.did }
     // The machine is at a state of this run.
     ensures memory { (s : SessionView) → m.old.slot.session ≡ Some s → result ≡ 3 → (k : ℕ)
         × (k ≤ (run_end limit s).did) × (m.new.slot.session ≡ Some (after_steps k s)) }
