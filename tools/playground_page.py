@@ -14,10 +14,10 @@ from proving import TOP, files_of, read
 FOLDER = f"{TOP}/playground"
 PAGE, SUMS = f"{FOLDER}/mos65.html", f"{FOLDER}/mos65.sums"
 STYLES = "viewer/page.css", "playground/page.css"
-# In this order; then the other scripts of playground/, and the page's own last.
-SCRIPTS = "playground/heap.js", "playground/engine.js", "viewer/run.js", "viewer/view.js"
+# The viewer's scripts; those of playground/ follow, and the page's own is the last.
+SCRIPTS = "viewer/run.js", "viewer/view.js"
 LAST = "playground/page.js"
-PANELS = "viewer/panels.html"
+EXAMPLES = "playground/examples", "examples"
 MOST = 3_000_000
 MODULE = re.compile(r'<script type="text/plain" id="module">([^<]*)</script>')
 # What the module is made by, besides the crates.
@@ -28,34 +28,44 @@ def text_of(path):
     return read(f"{TOP}/{path}").decode()
 
 
+def escaped(text):
+    return page_model.escaped(text.encode()).decode()
+
+
 def scripts():
     """The page's scripts in their order."""
     own = [f"playground/{it}" for it in sorted(os.listdir(FOLDER)) if it.endswith(".js")]
-    return [*SCRIPTS, *(it for it in own if it not in (*SCRIPTS, LAST)), LAST]
+    return [*SCRIPTS, *(it for it in own if it != LAST), LAST]
 
 
 def examples():
-    """The examples as elements of plain text: each row of playground/examples.txt is a file and its
-    title."""
+    """A row `@ NAME TITLE` for each row of playground/examples.txt, and the source behind it."""
     found = []
     for row in text_of("playground/examples.txt").splitlines():
-        path, title = row.split(maxsplit=1)
-        text = page_model.escaped(read(f"{TOP}/{path}")).decode()
-        name = os.path.basename(path)
-        found.append(f'<script type="text/plain" class="example" data-name="{name}"'
-                     f' data-title="{title}">\n{text}</script>')
-    return "\n".join(found)
+        name = row.split()[0]
+        folder = next(it for it in EXAMPLES if os.path.isfile(f"{TOP}/{it}/{name}"))
+        found.append(f"@ {row}\n{text_of(f'{folder}/{name}')}")
+    return "".join(found)
+
+
+def template():
+    """The page of a run, with its marks left in it."""
+    viewer = page_model.viewer()
+    cuts = viewer.template()
+    return cuts[0] + "".join(f"/*{part}*/{cut}" for part, cut in zip(viewer.PARTS, cuts[1:]))
 
 
 def page(module, commit):
     """The page's bytes, with a module, and the commit that it names."""
+    about = f"version {text_of('VERSION').strip()}\ncommit {commit}\nmodule {sum_of(module)}\n"
     parts = {
         "/*CSS*/": "".join(map(text_of, STYLES)),
-        "<!--PANELS-->": text_of(PANELS),
-        "<!--EXAMPLES-->": examples(),
-        "/*VERSION*/": text_of("VERSION").strip(),
-        "/*COMMIT*/": commit,
+        "<!--PANELS-->": text_of("viewer/panels.html"),
         "/*MODULE*/": base64.b64encode(module).decode(),
+        "/*EXAMPLES*/": escaped(examples()),
+        "/*TEMPLATE*/": escaped(template()),
+        "/*OPS*/": page_model.opcodes("N"),
+        "/*ABOUT*/": escaped(about),
         "/*JS*/": "".join(map(text_of, scripts())),
     }
     marks = re.compile("|".join(map(re.escape, parts)))
@@ -85,6 +95,24 @@ def sources_sum():
         for file in (it for part in PARTS for it in files_of(f"{crate.folder}/{part}")):
             found.update(repr((os.path.relpath(file, crate.folder), read(file))).encode())
     return found.hexdigest()
+
+
+def faults():
+    """What is wrong with the page that is there, or with what is noted beside it, in words."""
+    made, has = read(PAGE), noted()
+    module = module_of(made)
+    rows = {
+        "mos65.sums has the sum of another page": has["mos65.html"] == sum_of(made),
+        "mos65.sums has the sum of another module": has[f"{EXPORTS}.wasm"] == sum_of(module),
+        "the page is of other files than these, which tools/playground --page mends":
+            made == page(module, has["commit"]),
+    }
+    return [row for row, is_right in rows.items() if not is_right]
+
+
+def has_new_module():
+    """Whether the module of the page that is there is of the crates as they are."""
+    return noted()["sources"] == sources_sum()
 
 
 def sums(made, commit, kit):
