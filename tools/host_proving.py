@@ -179,6 +179,8 @@ def functions_of_kit():
         setattr(rtlib.Crate, name, functools.cache(getattr(rtlib.Crate, name)))
     rtlib.Crate.cuts_libraries = True
     rtlib.Crate.may_call_c = True
+    # It ends what it starts when this process ends, and can be made in the main thread alone.
+    rtlib.guarded()
     return rtlib
 
 
