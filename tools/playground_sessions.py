@@ -12,6 +12,7 @@ import page_model
 
 TOP = os.path.dirname(os.path.dirname(os.path.realpath(__file__)))
 MOST_SHOWN = 4096
+PORTS = 0xF000, 0xF000, 0x3100
 HISTORIES = 0, 3, 50, 1024, 65536, 65536
 NO_ACCESS = {"read": 0, "store": 0, "reads": False, "stores": False, "pushes": 0}
 PUSHES = {"PHA": 1, "PHP": 1, "PHX": 1, "PHY": 1, "JSR": 2, "BRK": 3}
@@ -200,7 +201,7 @@ class Session:
     def __init__(self, seed, number, other):
         self.rng = rng = random.Random(f"playground {seed} {number}")
         self.other, self.calls, self.answers = other, [], []
-        self.config = {"history": rng.choice(HISTORIES), "port": rng.choice((0xF000, 0xF000, 0x3100, None)),
+        self.config = {"history": rng.choice(HISTORIES), "port": rng.choice(other.ports),
                        "profile": rng.choice("NNC"), "rom": rng.choice((None, None, [0x3080, 0x30FF]))}
         self.source = self.a_source()
         self.wanted = self.answer()
