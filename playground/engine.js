@@ -8,7 +8,7 @@ const { openEngine, EngineFault } = (() => {
   const CONFIG = { history: 65536, port: 0xF000, profile: "N", rom: null };
   const REGISTERS = ["A", "X", "Y", "S", "P", "PC"];
   const REASONS = ["limit", "break", "watch", "refused"];
-  const BYTES_OF_A_STEP = 28;   // of its record, at most
+  const BYTES_OF_A_STEP = 26;   // of its record, at most
   const BYTES_OF_A_NAME = 31;
   const BYTES_OF_A_LINE = 255;
   const BYTES_OF_A_ROW = 13;

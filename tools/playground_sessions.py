@@ -1,17 +1,20 @@
 """Random sessions of the playground's engine, with the answers that another machine gives: that of
 tools/reference, or an oracle with the same modules."""
 
+import glob
 import hashlib
 import importlib.machinery
 import importlib.util
 import os
 import random
+import re
 
 import page_format
 import page_model
 
 TOP = os.path.dirname(os.path.dirname(os.path.realpath(__file__)))
 MOST_SHOWN = 4096
+NAME = "source.a65"
 PORTS = 0xF000, 0xF000, 0x3100
 HISTORIES = 0, 3, 50, 1024, 65536, 65536
 NO_ACCESS = {"read": 0, "store": 0, "reads": False, "stores": False, "pushes": 0}
@@ -194,6 +197,34 @@ class Model:
         return self.table("clear_watch", address)
 
 
+class Page:
+    """A source of a page of tests/, with the text of its faults there."""
+
+    calls = ()
+
+    def __init__(self, name, source, faults):
+        self.source, self.faults = source.encode(), faults
+        self.asked = {"config": {}, "source": {"hex": self.source.hex()}, "name": name, "calls": []}
+
+    def is_told(self, faults):
+        return faults == self.faults
+
+
+def of_pages():
+    """The sources of the pages whose faults `check` prints, without warnings."""
+    found = []
+    for path in sorted(glob.glob(f"{TOP}/tests/*.md")):
+        with open(path, encoding="utf-8") as it:
+            blocks = re.findall(r"^```(source|prints check) (\S+)\n(.*?)^```$", it.read(), re.M | re.S)
+        sources = {}
+        for kind, name, text in blocks:
+            if kind == "source":
+                sources[name] = text
+            elif name in sources and "warning" not in text:
+                found.append(Page(name, sources[name], re.sub(r"(?m)^= \d+\n", "", text)))
+    return found
+
+
 class Session:
     """A random session: what is asked, and what has to be answered. `asked` and `wanted` are as
     tools/playground_calls.js reads and writes them."""
@@ -205,7 +236,20 @@ class Session:
                        "profile": rng.choice("NNC"), "rom": rng.choice((None, None, [0x3080, 0x30FF]))}
         self.source = self.a_source()
         self.wanted = self.answer()
-        self.asked = {"config": self.config, "source": {"hex": self.source.hex()}, "calls": self.calls}
+        self.asked = {"config": self.config, "source": {"hex": self.source.hex()}, "name": NAME,
+                      "calls": self.calls}
+
+    def is_told(self, faults):
+        """Whether the text of all faults is one of this source: it has the fault for which the source
+        is refused, and is empty where there is none."""
+        refused = self.wanted["assembled"]
+        if "fault" not in refused:
+            return faults == ""
+        if refused["line"] == 0:
+            return faults == refused
+        kind = f"{refused['fault']} {refused['status'] - 300}"
+        row = rf"^{re.escape(NAME)}:{refused['line']}:\d+: {kind}: "
+        return bool(re.search(row, faults, re.M)) and re.search(r"^\d+ faults?\n\Z", faults, re.M)
 
     def a_source(self):
         """A program that repeats random instructions, and sometimes one that is no program."""
