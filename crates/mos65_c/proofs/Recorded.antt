@@ -7,7 +7,7 @@ use Rattle.std.proofs.lemmas.List.{length-append}
 use Rattle.std.proofs.lemmas.List.Concat.{flat_map-cons}
 use Rattle.model.specs.State.{IsState, State}
 use Rattle.model.specs.Step.{step}
-use Rattle.page_data.specs.Format.{Change, IsSmall, bytes_of, cell, counted, eight, head, marks, without_zeros, word}
+use Rattle.page_data.specs.Format.{Change, IsSmall, bytes_of, cell, counted, eight, without_zeros, word}
 use Rattle.page_data.specs.Steps.{change_of, with_input}
 use Rattle.page_data.proofs.Between.{step_small}
 use Rattle.page_data.proofs.Recording.{no_input}

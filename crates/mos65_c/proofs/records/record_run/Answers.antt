@@ -1,4 +1,4 @@
-use Rattle.std.proofs.Common.{◌≡◌, ◌∙◌, false, true, ◌+◌, ◌-◌, ◌*◌, ◌≤◌, suc, [], List, ℕ, length, refl, ap, arith, subst, sym}
+use Rattle.std.proofs.Common.{◌≡◌, ◌∙◌, false, true, ◌+◌, ◌-◌, suc, List, ℕ, length, ap, arith, subst, sym}
 use Rattle.model.specs.Run.{after_steps, run_end}
 use Rattle.model.specs.declared.run_end.RunEnd.{RunEnd}
 use Rattle.model.specs.declared.run_end.Why.TheVariants.{Limit}
@@ -60,10 +60,10 @@ loop-did-preserved c =
       next ∙ after-one c.loop-did.did s u c.loop-did.invariant.1 on,
       λ quiet. c.in_ok-end.ensures.told s.current (c.loop-did.invariant.2 quiet),
       λ quiet. (
-        let more = c.in_ok-end.ensures.short ((c.loop-did.invariant.2 quiet).quiet) in
-        let before = c.loop-did.invariant.3 quiet in
-        omega (arith, more, before, few)
-      ),
+          let more = c.in_ok-end.ensures.short ((c.loop-did.invariant.2 quiet).quiet) in
+          let before = c.loop-did.invariant.3 quiet in
+          omega (arith, more, before, few)
+          ),
     )
 
 pub returns-clause-end : goal.returns-clause-end
