@@ -175,6 +175,9 @@ int mos65_listing(const mos65_assembly_t *assembly, uint8_t *out, size_t n, size
    BAD_MAP for the configuration. */
 int mos65_faults(const mos65_config_t *config, const uint8_t *name, size_t name_n, const uint8_t *source,
                  size_t n, uint8_t *out, size_t out_n, size_t *length);
+/* The same of all warnings, as `mos65 check` prints them for a source that has no fault. */
+int mos65_warnings(const mos65_config_t *config, const uint8_t *name, size_t name_n, const uint8_t *source,
+                   size_t n, uint8_t *out, size_t out_n, size_t *length);
 /* Frees an assembly. CLOSED where none is open. A machine that was opened with it goes on. */
 int mos65_assembly_close(mos65_assembly_t *assembly);
 

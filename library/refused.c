@@ -83,6 +83,9 @@ static void round_of_calls(void) {
         n = 9;
         bool was_told = told(mos65_faults(&config, (const uint8_t *)"x", 1, (const uint8_t *)" LDQ\n", 5, text, sizeof text, &n)) == MOS65_OK;
         CHECK(was_told ? n > 9 : n == 9);
+        n = 9;
+        was_told = told(mos65_warnings(&config, (const uint8_t *)"x", 1, (const uint8_t *)"a = 1\n", 6, text, sizeof text, &n)) == MOS65_OK;
+        CHECK(was_told ? n > 9 : n == 9);
         if (told(mos65_open(&m, &config, &a)) == MOS65_OK) session(&m);
     }
     if (told(mos65_open_tape(&taped, &config, (const uint8_t *)tape, sizeof tape - 1, &fault)) == MOS65_OK) session(&taped);

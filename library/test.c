@@ -118,6 +118,26 @@ static void faults(void) {
     CHECK(mos65_faults(&config, name, 14, bytes, sizeof wrong - 1, out, sizeof out, &n) == MOS65_MISUSE && n == 9);
 }
 
+/* Another source and its text of tests/check.md. */
+static void warnings(void) {
+    static const char plain[] = "        *=$0200\n        LDA 10\n        STA 11\n        LDX 11\n        LDA #10\n"
+        "        BRK\n        *=$FFFC\n        .WORD $0200\n";
+    static const char told[] =
+        "plain.a65:2:13: warning: PlainNumber: 10 is an address, and nothing writes there; the number is #10\n"
+        "        LDA 10\n"
+        "            ^~\n"
+        "1 warning\n";
+    mos65_config_t config = MOS65_CONFIG;
+    const uint8_t *name = (const uint8_t *)"plain.a65", *bytes = (const uint8_t *)plain;
+    uint8_t out[sizeof told];
+    size_t n = 9;
+    CHECK(mos65_warnings(&config, name, 9, bytes, sizeof plain - 1, out, sizeof out, &n) == MOS65_OK);
+    CHECK(n == sizeof told - 1 && memcmp(out, told, n) == 0);
+    CHECK(mos65_warnings(&config, name, 9, bytes, 16, out, sizeof out, &n) == MOS65_OK && n == 0);
+    config.port = 0xF001, n = 9;
+    CHECK(mos65_warnings(&config, name, 9, bytes, sizeof plain - 1, out, sizeof out, &n) == MOS65_BAD_MAP && n == 9);
+}
+
 static void calls(mos65_t *m, mos65_assembly_t *a) {
     mos65_registers_t before, after;
     mos65_ending_t end;
@@ -404,6 +424,7 @@ int main(void) {
     CHECK(mos65_open(&m, &config, &a) == MOS65_CLOSED);
     sources(&a, &config);
     faults();
+    warnings();
     CHECK(mos65_open(&m, &config, &a) == MOS65_OK && m.live && mos65_open(&m, &config, &a) == MOS65_MISUSE);
     calls(&m, &a);
     calls_with_registers(&m, &a);

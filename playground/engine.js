@@ -187,10 +187,19 @@ const { openEngine, EngineFault } = (() => {
 
     /* The text of all faults of a source, empty where it has none. */
     faults(name, source, config) {
+      return this.textOfSource("mos65_faults", name, source, config);
+    }
+
+    /* The text of all warnings of a source that has no fault, empty where it has none. */
+    warnings(name, source, config) {
+      return this.textOfSource("mos65_warnings", name, source, config);
+    }
+
+    textOfSource(call, name, source, config) {
       const { calls } = this;
       const words = [calls.config(config), ...calls.name.put(bytesOf(name)),
         ...calls.given.put(bytesOf(source))];
-      return textOf(calls.whole((...out) => calls.exports.mos65_faults(...words, ...out)));
+      return textOf(calls.whole((...out) => calls.exports[call](...words, ...out)));
     }
 
     assemble(source, config) {

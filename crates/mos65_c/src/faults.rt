@@ -1,10 +1,12 @@
-//! All faults of a source at once, as text.
+//! All faults of a source at once, as text, and all warnings.
 
 ghost use Rattle.std.specs.Prelude.{◌≡◌, ◌≢◌, IfOk, length, List, take, ℕ};
 ghost use Rattle.fault_notes.specs.Blocks.{IsToldText};
 ghost use Rattle.model.specs.AllFaults.{faults_of};
 ghost use Rattle.mos65_c.specs.Answers.{written};
 ghost use Rattle.mos65_c.specs.Status.{config_map, config_status};
+ghost use Rattle.warning_notes.specs.Blocks.{IsWarnedText};
+ghost use Rattle.warnings.specs.Warnings.{warnings_of};
 
 use crate::config::{Config, map_of};
 use crate::machine::OUT_OF_MEMORY;
@@ -13,6 +15,8 @@ use bus::MapSpec;
 use fault_notes::faults_text;
 use source_faults::source_faults;
 use std::alloc::{AllocError, Global};
+use warning_notes::warnings_text;
+use warnings::source_warnings;
 
 /// Returns the text of all faults of a source on a map, under the name of its file.
 fn text_of(alloc: Global, name: &[u8], source: &[u8], map: &MapSpec) -> Result<Vec<u8>, AllocError>
@@ -46,6 +50,51 @@ pub extern "C" fn mos65_faults(
         Err(status) => return status,
     };
     match text_of(alloc, name, source, &map) {
+        Ok(text) => {
+            tell(&text, out, count);
+            0
+        }
+        Err(_) => OUT_OF_MEMORY,
+    }
+}
+
+/// Returns the text of all warnings of a source on a map, under the name of its file.
+fn warned_text(
+    alloc: Global,
+    name: &[u8],
+    source: &[u8],
+    map: &MapSpec,
+) -> Result<Vec<u8>, AllocError>
+    ensures { IfOk result
+        (λ text. IsWarnedText name.now source.now (warnings_of map.now source.now) text.items) }
+{
+    let warnings = source_warnings(alloc, source, map)?;
+    warnings_text(alloc, name, source, &warnings)
+}
+
+/// Writes the beginning of the text of all warnings of a source for which `out` has room, under the
+/// name of its file, and tells how long the whole text is: 0 where there is no warning. They are
+/// right where the source has no fault.
+#[unsafe(no_mangle)]
+pub extern "C" fn mos65_warnings(
+    alloc: Global,
+    config: &Config,
+    name: &[u8],
+    source: &[u8],
+    out: &mut [u8],
+    count: &mut usize,
+) -> u32
+    ensures told { config_status config.now ≡ 0 → result ≢ 3 → (result ≡ 0) × (text : List ℕ)
+        × IsWarnedText name.now source.now (warnings_of (config_map config.now) source.now) text
+        × (count.new ≡ length text) × (out.new ≡ written (take (length out.old) text) out.old) }
+    ensures config { config_status config.now ≢ 0 → result ≡ config_status config.now }
+    ensures refused { result ≢ 0 → (out.new ≡ out.old) × (count.new ≡ count.old) }
+{
+    let map = match map_of(config) {
+        Ok(map) => map,
+        Err(status) => return status,
+    };
+    match warned_text(alloc, name, source, &map) {
         Ok(text) => {
             tell(&text, out, count);
             0
