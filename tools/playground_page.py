@@ -1,5 +1,5 @@
-"""The playground's page: one HTML file of what stands in playground/ and viewer/, the examples, and the
-engine's module in base64; and what is noted beside it."""
+"""The playground's page: one HTML file of what stands in playground/ and viewer/, the examples, and
+the engine's module in base64; and what is noted beside it."""
 
 import base64
 import hashlib
@@ -116,8 +116,8 @@ def has_new_module():
 
 
 def sums(made, commit, kit):
-    """What stands beside a page: the sums of both files and of the module's sources, the commit and the
-    kit."""
+    """What stands beside a page: the sums of both files and of the module's sources, the commit and
+    the kit."""
     return (f"{sum_of(made)}  mos65.html\n{sum_of(module_of(made))}  {EXPORTS}.wasm\n"
             f"{sources_sum()}  sources\ncommit {commit}\nkit {kit}\n")
 
