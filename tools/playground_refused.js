@@ -46,7 +46,7 @@ function answers(engine, source) {
   note(() => machine.runTo(0x4321, 700));
   let before = 0;
   note(() => { before = machine.held(); });
-  note(() => machine.recordRun(2000), () => machine.back(machine.held() - before));
+  note(() => machine.recordRun(60), () => machine.back(machine.held() - before));
   note(() => machine.runToAccess(new Uint8Array(65536), 300));
   note(() => machine.patch(0x0300, Uint8Array.of(1, 2, 3)));
   note(() => machine.read(0, 65536));
