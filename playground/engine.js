@@ -27,8 +27,8 @@ const { openEngine, EngineFault } = (() => {
     ["", "NoHistory", "TableFull", "AlreadySet", "NotSet", "PortAddress", "OutOfMemory"],
     ["", "TooLarge", "LineTooLong", "NotAscii", "Syntax", "ReservedName", "DuplicateName",
       "UnknownHere", "NoSuchForm", "TooManyNames", "OriginRange", "ExprRange", "DivideByZero",
-      "NotOneLine", "", "", "", "", "", "", "UndefinedName", "ByteRange", "WordRange", "BranchRange",
-      "PastEnd", "Overlap", "PortAddress", "ExprRange", "DivideByZero"],
+      "NotOneLine", "", "", "", "", "", "", "UndefinedName", "ByteRange", "WordRange",
+      "BranchRange", "PastEnd", "Overlap", "PortAddress", "ExprRange", "DivideByZero"],
     ["", "NoRecord", "BadHex", "BadChecksum", "PastEnd", "Truncated", "BadCount", "JunkAfterEnd",
       "JunkBetween", "OutOfMemory"],
     ["", "BadMap"],
@@ -154,11 +154,14 @@ const { openEngine, EngineFault } = (() => {
       return this.pointers.config;
     }
 
-    /* Makes a call whose whole answer may be longer than the room for it: `call` gets the pointer to
-     * the room, its length, and the pointer to the answer's length, and is made again where that is
-     * more. */
+    /* Makes a call whose whole answer may be longer than the room for it: `call` gets the pointer
+     * to the room, its length, and the pointer to the answer's length, and is made again where that
+     * is more. */
     whole(call) {
-      const made = () => check(call(this.out.reserve(1), BigInt(this.out.size), this.pointers.count));
+      const made = () => {
+        const pointer = this.out.reserve(1);
+        check(call(pointer, BigInt(this.out.size), this.pointers.count));
+      };
       made();
       if (this.count() > this.out.size) {
         this.out.reserve(this.count());
@@ -204,7 +207,8 @@ const { openEngine, EngineFault } = (() => {
 
     assemble(source, config) {
       const { calls } = this;
-      const words = [calls.config(config), ...calls.given.put(bytesOf(source)), calls.pointers.fault];
+      const words = [calls.config(config), ...calls.given.put(bytesOf(source)),
+        calls.pointers.fault];
       const slot = calls.newSlot();
       const status = calls.exports.mos65_assemble(slot, ...words);
       if (status !== 0) {

@@ -1,10 +1,11 @@
 "use strict";
 /* The memory of the engine's heap: the two functions that its module imports.
  *
- * The proof takes this of them on trust: a block that `rattle_alloc` answers lies inside the memory, is
- * aligned to 16 and at least as large as asked. It overlaps no other block, and nothing below
- * __heap_base, where the module has its data and its stack. It stays so until `rattle_dealloc` gets
- * its address. Where a block is refused, the address that is answered is not null either. */
+ * The proof takes this of them on trust: a block that `rattle_alloc` answers lies inside the
+ * memory, is aligned to 16 and at least as large as asked. It overlaps no other block, and nothing
+ * below __heap_base, where the module has its data and its stack. It stays so until
+ * `rattle_dealloc` gets its address. Where a block is refused, the address that is answered is not
+ * null either. */
 class EngineHeap {
   static ALIGNMENT = 16;
   static PAGE = 65536;
@@ -37,8 +38,9 @@ class EngineHeap {
     return Math.ceil(count / step) * step;
   }
 
-  /* The size of the block for so many bytes: 16, 32, 48, 64, 80, 96, 112, 128, 160, 192, 224, 256, ..,
-   * four sizes to each doubling. So a block is of use again for any request that is nearly as large. */
+  /* The size of the block for so many bytes: 16, 32, 48, 64, 80, 96, 112, 128, 160, 192, 224, 256,
+   * .., four sizes to each doubling. So a block is of use again for any request that is nearly as
+   * large. */
   static sizeFor(count) {
     const doubling = 2 ** Math.floor(Math.log2(Math.max(count - 1, 1)));
     return EngineHeap.roundedUp(Math.max(count, 1), Math.max(doubling / 4, EngineHeap.ALIGNMENT));
@@ -82,7 +84,7 @@ class EngineHeap {
     return true;
   }
 
-  /* A memory with 64-bit addresses takes a BigInt. Engines older than the standard take a number. */
+  /* A memory with 64-bit addresses takes a BigInt, and a number in engines before the standard. */
   growMemory(pages) {
     try {
       this.memory.grow(BigInt(pages));

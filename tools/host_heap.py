@@ -1,10 +1,10 @@
-"""The crate host_heap: the kit's standard heap, whose two functions are imports of a WebAssembly module
-in place of those of the C library.
+"""The crate host_heap: the kit's standard heap, whose two functions are imports of a WebAssembly
+module in place of those of the C library.
 
-It is made of the kit's own sources and proofs when a workspace is made: names are changed, `grow` and
-`shrink` are left to the bodies that the trait gives them, and the block of the two functions is marked
-as an import. The contracts of both stay word for word those that are trusted for `malloc` and `free`.
-Nothing of the kit stands in the repository."""
+It is made of the kit's own sources and proofs when a workspace is made: names are changed, `grow`
+and `shrink` are left to the bodies that the trait gives them, and the block of the two functions is
+marked as an import. The contracts of both stay word for word those that are trusted for `malloc`
+and `free`. Nothing of the kit stands in the repository."""
 
 import os
 import re
@@ -83,7 +83,8 @@ def files(kit):
         "src/lib.rt": handle(of_kit("std_heap/src/lib.rt")),
         "src/cmp.rt": of_kit("std_heap/src/cmp.rt"),
         "src/heap.rt": imports(of_kit("libc/src/heap.rt")),
-        # Functions that are no Rattle code are allowed only to a crate with this folder. There is no C.
+        # Functions that are no Rattle code are allowed only to a crate with this folder. There is
+        # no C.
         "c/none": "",
     }
     for file in files_of(f"{heap}/proofs"):

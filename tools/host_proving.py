@@ -1,13 +1,14 @@
 """Proves and builds the crates of a workspace over host_heap, side by side, lowest first.
 
-`rt` locks every crate below the one that it works on, so each crate over host_heap would wait for all
-others. Here each is built by a process of its own, through the functions by which `rt ci` builds it: a
-library holds its statements, and the kit's own judgement of the last line counts. What `rt lib` keeps for
-its next run is left out: a library of host_heap that is built so lacks some of its checked modules, and
-each crate above checks them once more.
+`rt` locks every crate below the one that it works on, so each crate over host_heap would wait for
+all others. Here each is built by a process of its own, through the functions by which `rt ci`
+builds it: a library holds its statements, and the kit's own judgement of the last line counts. What
+`rt lib` keeps for its next run is left out: a library of host_heap that is built so lacks some of
+its checked modules, and each crate above checks them once more.
 
-A crate counts as proved where its own files, the kit and the libraries below it are those that its proof
-read. A crate that does not reach the heap is taken from the repository where it is built there."""
+A crate counts as proved where its own files, the kit and the libraries below it are those that its
+proof read. A crate that does not reach the heap is taken from the repository where it is built
+there."""
 
 import functools
 import os
@@ -20,7 +21,7 @@ import time
 sys.dont_write_bytecode = True
 import host_heap
 import proving
-from host_workspace import EXPORTS
+from host_workspace import EXPORTS, PARTS
 from proving import TOP, Failure, Stop
 
 WASM = "wasm64-unknown-unknown"
@@ -49,8 +50,9 @@ def crates_of(workspace):
 def is_newer(library, crate):
     """Whether a library is as new as the sources of its crate and of those below."""
     built = os.stat(library).st_mtime
-    folders = [f"{it.folder}/{part}" for it in [*crate.below, crate] for part in ("src", "specs", "proofs")]
-    return all(os.stat(it).st_mtime <= built for folder in folders for it in proving.files_of(folder))
+    folders = [f"{it.folder}/{part}" for it in [*crate.below, crate] for part in PARTS]
+    files = (it for folder in folders for it in proving.files_of(folder))
+    return all(os.stat(it).st_mtime <= built for it in files)
 
 
 class Job:
@@ -98,8 +100,8 @@ class Proof:
             self.chain[crate] = own + max(above, default=0)
 
     def take(self, names):
-        """Takes what the repository has built of these crates, if it has all of them: libraries that
-        several runs of `rt` built need not fit to each other."""
+        """Takes what the repository has built of these crates, if it has all of them: libraries
+        that several runs of `rt` built need not fit to each other."""
         self.ready()
         own = proving.read_crates()
         built = {it: f"{own[it].folder}/out/rlib/{it}.rlib" for it in names}
@@ -122,8 +124,8 @@ class Proof:
         crate.note(crate.key(self.made), self.made[crate.name], [crate.sum])
 
     def ready(self):
-        """The crates over what is proved, the longest chain first; those that are proved already are
-        taken as they are."""
+        """The crates over what is proved, the longest chain first; those that are proved already
+        are taken as they are."""
         found = []
         for crate in [*self.left]:
             if all(it.name in self.made for it in crate.below):
@@ -145,7 +147,8 @@ class Proof:
             self.jobs.remove(job)
             wall = time.monotonic() - job.began
             how = "is proved" if job.process.returncode == 0 else f"failed, see {job.log}"
-            self.say(f"{job.crate.name} {how}: {job.seconds:.0f} processor seconds, {wall:.0f} by the clock")
+            self.say(f"{job.crate.name} {how}: {job.seconds:.0f} processor seconds,"
+                     f" {wall:.0f} by the clock")
             if job.process.returncode:
                 self.failed.append(job.crate.name)
             else:

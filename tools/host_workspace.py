@@ -1,8 +1,9 @@
 """A workspace whose crates take their memory from host_heap in place of the standard heap.
 
-The crates below the library for C are copied there, with some 130 lines of their sources changed. Their
-definitions and proofs stay as they are, but for some paths of modules. The library itself is built as a
-WebAssembly module. The workspace stands outside the repository, in which `rt` takes no such crate."""
+The crates below the library for C are copied there, with some 130 lines of their sources changed.
+Their definitions and proofs stay as they are, but for some paths of modules. The library itself is
+built as a WebAssembly module. The workspace stands outside the repository, in which `rt` takes no
+such crate."""
 
 import os
 import re
@@ -15,8 +16,8 @@ from proving import Failure, files_of, read
 EXPORTS = "mos65_c"
 HEAP = "std_heap"
 PARTS = "src", "specs", "proofs"
-# Where the standard heap is named in a source, and what stands there then: containers of the kit whose
-# allocator is left out name it.
+# Where the standard heap is named in a source, and what stands there then: containers of the kit
+# whose allocator is left out name it.
 HASHER = "BuildHasherDefault<FoldHasher>"
 HASHERS = "use std::hash::{BuildHasherDefault, FoldHasher};\n"
 OF_GLOBAL = {
@@ -49,7 +50,7 @@ def source(file, text):
 
 
 def with_import(text, names):
-    """A source with these names of host_heap imported before its other imports or its first item."""
+    """A source that imports these names of host_heap, before its other imports or first item."""
     listed = names[0] if len(names) == 1 else "{" + ", ".join(names) + "}"
     line = f"use {host_heap.NAME}::{listed};\n"
     first = re.search(r"^(pub )?use ", text, flags=re.M)
@@ -88,7 +89,8 @@ def row_over_heap(crate, is_changed):
 
 
 def files(kit):
-    """All files of the workspace by their paths, and the names of the crates that stay as they are."""
+    """All files of the workspace by their paths, and the names of the crates that stay as they
+    are."""
     top = proving.read_crates()[EXPORTS]
     rows, same = [host_heap.ROW], []
     found = {f"crates/{host_heap.NAME}/{path}": text for path, text in host_heap.files(kit).items()}

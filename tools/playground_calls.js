@@ -1,19 +1,30 @@
 "use strict";
-// Makes calls of the playground's engine, for tools/check-playground.
+// Makes calls of the playground's engine, in Node and in a page, for tools/check-playground.
 //
 //     node playground_calls.js MODULE
 //
-// Each line of the standard input is a session in JSON, each line of the standard output what its calls
-// answered. Bytes are {"hex": ".."}, and a table of 65,536 marks is {"marks": [ADDRESS ..]}.
-const fs = require("fs"), readline = require("readline"), { createHash } = require("crypto");
-const playground = `${__dirname}/../playground`;
-const { EngineHeap } = require(`${playground}/heap.js`);
-globalThis.EngineHeap = EngineHeap;
-const { openEngine, EngineFault } = require(`${playground}/engine.js`);
+// Each line of the standard input is a session in JSON, each line of the standard output what its
+// calls answered. Bytes are {"hex": ".."}, and a table of 65,536 marks is {"marks": [ADDRESS ..]}.
 const MOST_SHOWN = 4096;
+const CRC_TABLE = Array.from({ length: 256 }, (_, byte) => {
+  for (let bit = 0; bit < 8; bit++) byte = byte & 1 ? (byte >>> 1) ^ 0xEDB88320 : byte >>> 1;
+  return byte;
+});
+
+function hexOf(bytes) {
+  return Array.from(bytes, byte => byte.toString(16).padStart(2, "0")).join("");
+}
+
+function crcOf(bytes) {
+  let sum = ~0;
+  for (const byte of bytes) sum = CRC_TABLE[(sum ^ byte) & 255] ^ (sum >>> 8);
+  return ~sum >>> 0;
+}
 
 function given(word) {
-  if (word?.hex !== undefined) return Uint8Array.from(Buffer.from(word.hex, "hex"));
+  if (word?.hex !== undefined) {
+    return Uint8Array.from(word.hex.match(/../g) ?? [], digits => parseInt(digits, 16));
+  }
   if (word?.marks === undefined) return word;
   const marks = new Uint8Array(65536);
   for (const address of word.marks) marks[address] = 1;
@@ -23,9 +34,7 @@ function given(word) {
 // An answer as JSON can tell it: bytes as hex, and many of them as their sum.
 function told(answer) {
   if (answer instanceof Uint8Array) {
-    const bytes = Buffer.from(answer);
-    return bytes.length <= MOST_SHOWN ? bytes.toString("hex")
-      : createHash("sha256").update(bytes).digest("hex");
+    return answer.length <= MOST_SHOWN ? hexOf(answer) : `${answer.length} ${crcOf(answer)}`;
   }
   if (answer?.records) return { ...answer.ending, records: told(answer.records) };
   return answer ?? null;
@@ -55,7 +64,8 @@ function assembled(engine, session) {
     return { names: assembly.names(), lines: assembly.lines(), listing: assembly.listing() };
   });
   if (session.name) {
-    answers.faults = attempt(() => engine.faults(session.name, given(session.source), session.config));
+    const source = given(session.source);
+    answers.faults = attempt(() => engine.faults(session.name, source, session.config));
   }
   return { assembly, answers };
 }
@@ -77,11 +87,15 @@ function made(engine, session) {
   return answers;
 }
 
-async function main([file]) {
-  const engine = await openEngine(fs.readFileSync(file));
-  for await (const line of readline.createInterface({ input: process.stdin })) {
+async function main(file) {
+  const engine = await openEngine(require("fs").readFileSync(file));
+  for await (const line of require("readline").createInterface({ input: process.stdin })) {
     process.stdout.write(JSON.stringify(made(engine, JSON.parse(line))) + "\n");
   }
 }
 
-main(process.argv.slice(2));
+if (typeof require !== "undefined") {
+  Object.assign(globalThis, require(`${__dirname}/../playground/heap.js`));
+  Object.assign(globalThis, require(`${__dirname}/../playground/engine.js`));
+  main(process.argv[2]);
+}

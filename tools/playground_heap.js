@@ -3,9 +3,9 @@
 //
 //     node playground_heap.js REQUESTS SEED
 //
-// Each block has to lie in the memory and above what the module has there, aligned to 16, on bytes that
-// no other block has. The memory may not grow by more than blocks need, and a refused request has to
-// leave the heap as it was. The last line is 'N passed, M failed'.
+// Each block has to lie in the memory and above what the module has there, aligned to 16, on bytes
+// that no other block has. The memory may not grow by more than blocks need, and a refused request
+// has to leave the heap as it was. The last line is 'N passed, M failed'.
 const { EngineHeap } = require(`${__dirname}/../playground/heap.js`);
 const PAGE = 65536, GRANULE = 16, BASE = 1048583, LIMIT = 128 * 2 ** 20;
 const MOST_LIVE = 32 * 2 ** 20;
@@ -117,8 +117,8 @@ function tryReuse() {
   judge(memory.buffer.byteLength === size, "blocks that were given back are not used again");
 }
 
-// Where the memory cannot grow, or not further than the limit, a block is refused, and what was given
-// back is there again.
+// Where the memory cannot grow, or not further than the limit, a block is refused, and what was
+// given back is there again.
 function tryRefusal(takesBigInt, most, limit) {
   const { heap, memory } = makeHeap(takesBigInt, most, limit), blocks = new Blocks();
   const end = Math.min(most, limit);
@@ -130,7 +130,8 @@ function tryRefusal(takesBigInt, most, limit) {
   judge(asked(heap, memory, 2 ** 40) === 0 && asked(heap, memory, 2 ** 62) === 0, "a huge block");
   const used = heap.used(), address = blocks.remove(3);
   heap.imports.rattle_dealloc(BigInt(address));
-  judge(asked(heap, memory, PAGE) === address && heap.used() === used, "a block that was given back");
+  judge(asked(heap, memory, PAGE) === address, "a block that was given back");
+  judge(heap.used() === used, "the bytes that are in use");
 }
 
 // A test can have any one request refused.

@@ -1,5 +1,5 @@
-"""The playground's page: one HTML file of what stands in playground/ and viewer/, the examples, and the
-engine's module in base64; and what is noted beside it."""
+"""The playground's page: one HTML file of what stands in playground/ and viewer/, the examples, and
+the engine's module in base64; and what is noted beside it."""
 
 import base64
 import hashlib
@@ -19,7 +19,8 @@ SCRIPTS = "viewer/run.js", "viewer/view.js"
 LAST = "playground/page.js"
 EXAMPLES = "playground/examples", "examples"
 MOST = 3_000_000
-MODULE = re.compile(r'<script type="text/plain" id="module">([^<]*)</script>')
+# A module begins with these letters in base64.
+MODULE = re.compile(r'<script type="text/plain" id="\w+">(AGFzbQ[^<]*)</script>')
 # What the module is made by, besides the crates.
 MAKERS = "tools/host_heap.py", "tools/host_workspace.py", "tools/host_proving.py"
 
@@ -116,8 +117,8 @@ def has_new_module():
 
 
 def sums(made, commit, kit):
-    """What stands beside a page: the sums of both files and of the module's sources, the commit and the
-    kit."""
+    """What stands beside a page: the sums of both files and of the module's sources, the commit and
+    the kit."""
     return (f"{sum_of(made)}  mos65.html\n{sum_of(module_of(made))}  {EXPORTS}.wasm\n"
             f"{sources_sum()}  sources\ncommit {commit}\nkit {kit}\n")
 

@@ -4,12 +4,11 @@
 //
 //     node playground_refused.js MODULE SOURCE
 //
-// The call that asked has to answer OutOfMemory, and, made once more, what it answers where nothing is
-// refused; so have all calls after it. In the end no block may be left. The last line is
-// 'N passed, M failed'.
+// The call that asked has to answer OutOfMemory, and, made once more, what it answers where nothing
+// is refused; so have all calls after it. In the end no block may be left. The last line is 'N
+// passed, M failed'.
 const fs = require("fs"), { isDeepStrictEqual } = require("util");
-const { EngineHeap } = require(`${__dirname}/../playground/heap.js`);
-globalThis.EngineHeap = EngineHeap;
+Object.assign(globalThis, require(`${__dirname}/../playground/heap.js`));
 const { openEngine, EngineFault } = require(`${__dirname}/../playground/engine.js`);
 const CONFIG = { history: 4096 };
 const FAULTY = "start: LDA #300\n  BNE nowhere\n  LDX (1)\n";
@@ -20,7 +19,8 @@ function judge(isRight, what) {
   else if (failed++ < 10) console.log(`FAILED: ${what}`);
 }
 
-// A call's answer. Where memory is refused, `undo` takes back what was done, and the call is made again.
+// A call's answer. Where memory is refused, `undo` takes back what was done, and the call is made
+// again.
 function attempt(call, undo = () => {}) {
   try {
     return call();
@@ -46,7 +46,7 @@ function answers(engine, source) {
   note(() => machine.runTo(0x4321, 700));
   let before = 0;
   note(() => { before = machine.held(); });
-  note(() => machine.recordRun(2000), () => machine.back(machine.held() - before));
+  note(() => machine.recordRun(60), () => machine.back(machine.held() - before));
   note(() => machine.runToAccess(new Uint8Array(65536), 300));
   note(() => machine.patch(0x0300, Uint8Array.of(1, 2, 3)));
   note(() => machine.read(0, 65536));

@@ -2,12 +2,12 @@
 tools/reference, or an oracle with the same modules."""
 
 import glob
-import hashlib
 import importlib.machinery
 import importlib.util
 import os
 import random
 import re
+import zlib
 
 import page_format
 import page_model
@@ -15,7 +15,10 @@ import page_model
 TOP = os.path.dirname(os.path.dirname(os.path.realpath(__file__)))
 MOST_SHOWN = 4096
 NAME = "source.a65"
+BLOCK = re.compile(r"^```(source|prints check) (\S+)\n(.*?)^```$", re.M | re.S)
+STOPS = "setBreak", "clearBreak", "setWatch", "clearWatch"
 PORTS = 0xF000, 0xF000, 0x3100
+ROMS = None, None, [0x3080, 0x30FF]
 HISTORIES = 0, 3, 50, 1024, 65536, 65536
 NO_ACCESS = {"read": 0, "store": 0, "reads": False, "stores": False, "pushes": 0}
 PUSHES = {"PHA": 1, "PHP": 1, "PHX": 1, "PHY": 1, "JSR": 2, "BRK": 3}
@@ -34,7 +37,7 @@ routines, hostile = load("random-routines"), load("hostile")
 
 def shown(data):
     """Bytes as tools/playground_calls.js tells them."""
-    return data.hex() if len(data) <= MOST_SHOWN else hashlib.sha256(data).hexdigest()
+    return data.hex() if len(data) <= MOST_SHOWN else f"{len(data)} {zlib.crc32(data)}"
 
 
 def fault(name, status, line=0):
@@ -118,8 +121,8 @@ class Model:
         did = 0
         while did < limit:
             access = self.access()
-            at = [access[it] for it, does in (("read", "reads"), ("store", "stores")) if access[does]]
-            if any(it in marks["marks"] for it in at):
+            ways = ("read", "reads"), ("store", "stores")
+            if any(access[does] and access[at] in marks["marks"] for at, does in ways):
                 break
             end = self.session.run(1)
             did += end.did
@@ -176,8 +179,8 @@ class Model:
         reads = changes or row.mnemonic in page_model.READS and row.mode != "Imm"
         stores = changes or row.mnemonic in machine.STORES
         address = machine.place(self.spec, s, row.mode)[0] if reads or stores else 0
-        return {"read": address * reads, "store": address * stores, "reads": reads, "stores": stores,
-                "pushes": PUSHES.get(row.mnemonic, 0)}
+        return {"read": address * reads, "store": address * stores, "reads": reads,
+                "stores": stores, "pushes": PUSHES.get(row.mnemonic, 0)}
 
     def disassemble(self, address):
         data = bytes(self.peek(it) for it in range(address, min(address + 3, 65536)))
@@ -215,7 +218,7 @@ def of_pages():
     found = []
     for path in sorted(glob.glob(f"{TOP}/tests/*.md")):
         with open(path, encoding="utf-8") as it:
-            blocks = re.findall(r"^```(source|prints check) (\S+)\n(.*?)^```$", it.read(), re.M | re.S)
+            blocks = BLOCK.findall(it.read())
         sources = {}
         for kind, name, text in blocks:
             if kind == "source":
@@ -231,17 +234,17 @@ class Session:
 
     def __init__(self, seed, number, other):
         self.rng = rng = random.Random(f"playground {seed} {number}")
-        self.other, self.calls, self.answers = other, [], []
+        self.number, self.other, self.calls, self.answers = number, other, [], []
         self.config = {"history": rng.choice(HISTORIES), "port": rng.choice(other.ports),
-                       "profile": rng.choice("NNC"), "rom": rng.choice((None, None, [0x3080, 0x30FF]))}
+                       "profile": rng.choice("NNC"), "rom": rng.choice(ROMS)}
         self.source = self.a_source()
         self.wanted = self.answer()
         self.asked = {"config": self.config, "source": {"hex": self.source.hex()}, "name": NAME,
                       "calls": self.calls}
 
     def is_told(self, faults):
-        """Whether the text of all faults is one of this source: it has the fault for which the source
-        is refused, and is empty where there is none."""
+        """Whether the text of all faults is one of this source: it has the fault for which the
+        source is refused, and is empty where there is none."""
         refused = self.wanted["assembled"]
         if "fault" not in refused:
             return faults == ""
@@ -286,7 +289,8 @@ class Session:
         """What an assembly tells of itself."""
         rows = zip(assembly.layouts, assembly.data, assembly.texts)
         return {
-            "names": [{"name": name.decode(), "value": value} for name, value in assembly.names.items()],
+            "names": [{"name": name.decode(), "value": value}
+                      for name, value in assembly.names.items()],
             "lines": [{"number": number, "address": layout.address, "count": len(data),
                        "isInstruction": layout.row is not None, "text": text.decode()}
                       for number, (layout, data, text) in enumerate(rows, 1)],
@@ -299,18 +303,20 @@ class Session:
 
     def an_address(self):
         rng = self.rng
-        return rng.choice((rng.randrange(0x200, 0x240), rng.randrange(0x10, 0x20), 0x90, rng.randrange(65536),
-                           rng.randrange(0x3000, 0x3100), 0xF000, 0xFFFF))
+        places = (0x200, 0x240), (0x10, 0x20), (0x90, 0x91), (0, 0x10000), (0x3000, 0x3100)
+        return rng.choice([*(rng.randrange(*it) for it in places), 0xF000, 0xFFFF])
 
     def a_call(self, model):
         """A call with its words. Steps are made most often."""
         rng = self.rng
-        moves = [("step",), ("run", rng.randrange(200)), ("runTo", self.an_address(), rng.randrange(200)),
+        moves = [("step",), ("run", rng.randrange(200)),
+                 ("runTo", self.an_address(), rng.randrange(200)),
                  ("back", rng.randrange(1, 30)), ("back", rng.randrange(model.held() + 2))]
-        changes = [("set", rng.choice("AXYSP"), rng.randrange(257)), ("set", "PC", self.an_address()),
+        changes = [("set", rng.choice("AXYSP"), rng.randrange(257)),
+                   ("set", "PC", self.an_address()),
                    ("patch", self.an_address(), {"hex": rng.randbytes(rng.randrange(5)).hex()}),
                    ("irq", rng.random() < 0.5), ("nmi",), ("reset",), ("input", rng.randrange(256))]
-        stops = [(rng.choice(("setBreak", "clearBreak", "setWatch", "clearWatch")), self.an_address())]
+        stops = [(rng.choice(STOPS), self.an_address())]
         looks = [("registers",), ("read", self.an_address(), rng.randrange(300)), ("outputLength",),
                  ("output", rng.randrange(3)), ("access",), ("held",),
                  ("disassemble", rng.choice((model.state.pc, self.an_address())))]

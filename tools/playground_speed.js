@@ -52,16 +52,17 @@ async function measureSpeed(bytes) {
   machine.run(SPEED.HISTORY);
   found["back 65,536, ms"] = millisecondsOf(1, () => machine.back(machine.held()));
   if (engine.calls.exports.mos65_record_run) {
-    found["65,536 steps with their records, ms"] = millisecondsOf(1, () => machine.recordRun(65536));
+    const recorded = () => machine.recordRun(SPEED.HISTORY);
+    found["65,536 steps with their records, ms"] = millisecondsOf(1, recorded);
   }
   found["memory, MiB"] = engine.heap.memory.buffer.byteLength / 2 ** 20;
   return found;
 }
 
 if (typeof require !== "undefined") {
-  globalThis.EngineHeap = require(`${__dirname}/../playground/heap.js`).EngineHeap;
-  globalThis.openEngine = require(`${__dirname}/../playground/engine.js`).openEngine;
+  Object.assign(globalThis, require(`${__dirname}/../playground/heap.js`));
+  Object.assign(globalThis, require(`${__dirname}/../playground/engine.js`));
   measureSpeed(require("fs").readFileSync(process.argv[2])).then(found => {
-    for (const [name, figure] of Object.entries(found)) console.log(`${name}: ${figure.toFixed(3)}`);
+    for (const name in found) console.log(`${name}: ${found[name].toFixed(3)}`);
   });
 }
