@@ -27,7 +27,6 @@
   (let ((was stops))
     (funcall move)
     (wait-for (lambda () (and (> stops was) (equal shown line))) words)))
-(defun steps (command) (dap--step command (dap--cur-session)))
 (defun goes-on () (dap-continue (dap--cur-session) 1))
 (defun asked (command arguments)
   "The body of the answer to a request."
@@ -71,26 +70,25 @@
   (forward-line (1- put))
   (dap-breakpoint-add)
   (moves-to first "a session that stops on entry"
-            (lambda () (dap-debug (list :type "mos65" :request "launch" :name "sieve"
-                                        :program source :stopOnEntry t))))
+            #'mos65-debug)
   (moves-to next "a step" (lambda () (dap-next (dap--cur-session))))
-  (moves-to first "a step back" (lambda () (steps "stepBack")))
+  (moves-to first "a step back" #'mos65-step-back)
   (moves-to put "a breakpoint" #'goes-on)
   (shows "X" "$02" "hover on a register")
-  (moves-to first "back to the entry" (lambda () (steps "reverseContinue")))
+  (moves-to first "back to the entry" #'mos65-reverse-continue)
 
   (sets 1 "A" "$41")
   (shows "A" "$41" "a register that was set")
   (sets 3 "step" "7")
   (shows "step" "$07" "a byte that was set by its name")
-  (moves-to first "a step back over that" (lambda () (steps "stepBack")))
+  (moves-to first "a step back over that" #'mos65-step-back)
   (shows "step" "$00" "the byte as it was")
 
   (says "watch step" "watch at")
   (moves-to put "the breakpoint again" #'goes-on)
   (moves-to (+ changed 1) "a change at the watch" #'goes-on)
   (moves-to (+ changed 2) "a step behind it" (lambda () (dap-next (dap--cur-session))))
-  (moves-to changed "back to the change at the watch" (lambda () (steps "reverseContinue")))
+  (moves-to changed "back to the change at the watch" #'mos65-reverse-continue)
   (shows "step" "$00" "the byte before it")
 
   (edits "LDX #2" "LDX #5")
