@@ -60,6 +60,7 @@
     (define-key map (kbd "C-c C-d") #'mos65-debug)
     (define-key map (kbd "C-c C-b") #'mos65-step-back)
     (define-key map (kbd "C-c C-r") #'mos65-reverse-continue)
+    (define-key map (kbd "C-c C-p") #'mos65-pause)
     map)
   "The keys of `mos65-mode'; dap-mode gives more when it is loaded.")
 
@@ -177,11 +178,19 @@
   (interactive)
   (mos65-go "reverseContinue"))
 
+;;;###autoload
+(defun mos65-pause ()
+  "Stop the program that runs.  The adapter has one thread, with the number 1."
+  (interactive)
+  (mos65-need-dap)
+  (dap--send-message (dap--make-request "pause" (list :threadId 1)) (dap--resp-handler)
+                     (dap--cur-active-session-or-die)))
+
 (with-eval-after-load 'dap-mode
   (dap-register-debug-provider "mos65" (lambda (it) (plist-put it :dap-server-path (mos65-adapter))))
   (dap-register-debug-template "mos65" (mos65-launch))
   (dolist (it '(("C-c C-n" . dap-next) ("C-c C-s" . dap-step-in) ("C-c C-o" . dap-step-out)
-                ("C-c C-t" . dap-breakpoint-toggle) ("C-c C-c" . dap-continue) ("C-c C-p" . dap-stop-thread)))
+                ("C-c C-t" . dap-breakpoint-toggle) ("C-c C-c" . dap-continue)))
     (define-key mos65-mode-map (kbd (car it)) (cdr it))))
 
 (provide 'mos65)

@@ -21,7 +21,7 @@
 (goto-char (point-min))
 (want (looking-at "; quotes:") "a comment of a line")
 (set-buffer-modified-p nil)
-(dolist (it '(mos65-debug mos65-step-back mos65-reverse-continue))
+(dolist (it '(mos65-debug mos65-step-back mos65-reverse-continue mos65-pause))
   (want (and (commandp it) (where-is-internal it mos65-mode-map)) (format "a key for %s" it)))
 (want (equal (shell-command-to-string (concat compile-command " --none >/dev/null 2>&1; echo $?")) "2\n")
       "the command for M-x compile reaches the program")
