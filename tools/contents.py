@@ -52,8 +52,8 @@ TYPES = """<?xml version="1.0" encoding="utf-8"?>
 <Types xmlns="http://schemas.openxmlformats.org/package/2006/content-types">
   <Default Extension=".json" ContentType="application/json"/>
   <Default Extension=".js" ContentType="application/javascript"/>
-  <Default Extension=".sh" ContentType="text/plain"/>
   <Default Extension=".md" ContentType="text/markdown"/>
+  <Default Extension=".png" ContentType="image/png"/>
   <Default Extension=".vsixmanifest" ContentType="text/xml"/>
 </Types>
 """
@@ -67,16 +67,25 @@ MANIFEST = """<?xml version="1.0" encoding="utf-8"?>
     <Properties>
       <Property Id="Microsoft.VisualStudio.Code.Engine" Value={engine}/>
     </Properties>
+    <Icon>extension/{icon}</Icon>
   </Metadata>
   <Installation>
     <InstallationTarget Id="Microsoft.VisualStudio.Code"/>
   </Installation>
   <Dependencies/>
   <Assets>
-    <Asset Type="Microsoft.VisualStudio.Code.Manifest" Path="extension/package.json" Addressable="true"/>
+{assets}
   </Assets>
 </PackageManifest>
 """
+
+ASSETS = {
+    "Microsoft.VisualStudio.Code.Manifest": "package.json",
+    "Microsoft.VisualStudio.Services.Content.Details": "README.md",
+    "Microsoft.VisualStudio.Services.Content.Changelog": "CHANGELOG.md",
+    "Microsoft.VisualStudio.Services.Content.License": "LICENSE",
+}
+ICON = "Microsoft.VisualStudio.Services.Icons.Default"
 
 
 def kit_crates(name):
@@ -140,10 +149,12 @@ def page(release):
         gcc=first_line(*linking.compiler(), "--version"))
 
 
-def vsix_manifest(package):
-    """The manifest of an extension for VS Code, from its package.json."""
+def vsix_manifest(package, texts):
+    """The manifest of an extension for VS Code, from its package.json and the texts that are added."""
     it = json.loads(package)
     quoted = {key: quoteattr(it[key]) for key in ("name", "version", "publisher")}
+    here = {**{kind: name for kind, name in ASSETS.items() if name != "LICENSE" or name in texts}, ICON: it["icon"]}
+    assets = [f"""    <Asset Type="{kind}" Path="extension/{name}" Addressable="true"/>""" for kind, name in here.items()]
     return MANIFEST.format(
-        **quoted, title=it["displayName"], description=it["description"],
-        categories=",".join(it["categories"]), engine=quoteattr(it["engines"]["vscode"]))
+        **quoted, title=it["displayName"], description=it["description"], icon=it["icon"],
+        categories=",".join(it["categories"]), engine=quoteattr(it["engines"]["vscode"]), assets="\n".join(assets))
