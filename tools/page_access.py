@@ -45,7 +45,8 @@ def look_at_end(browser, compare, name, run, facts):
         compare(f"{name} line at the end", browser.js(marked), there)
     browser.js("document.querySelector('#views [value=code]').click()")
     compare(f"{name} address at the end", browser.js(marked), ["$%04X" % pc])
-    said = "getComputedStyle(document.querySelector('#lines tr.now .t'), '::after').content"
+    said = ("(e => e ? getComputedStyle(e, '::after').content : '')"
+            "(document.querySelector('#lines tr.now .t'))")
     compare(f"{name} said at the end", "the run ends here" in browser.js(said), True)
 
 

@@ -1250,12 +1250,13 @@ function drawAnew() {
 
 // What is read off the whole run.
 function readRun() {
+  const before = labels.length;
   if (!info.labels.length) readLabels();
+  if (labels.length != before || !isDrawn()) time.still = null;
   countLabels();
   readWritten();
   readOutputAgain();
   makePageButtons();
-  if (!isDrawn()) time.still = null;
   $("steps").textContent = " of " + grouped(run.n);
   $("slider").max = run.n;
   $("cycles").style.minWidth = grouped(run.C[run.n]).length + 7 + "ch";
@@ -1288,7 +1289,10 @@ function show(shown) {
   memory.set(run.memory);
   flipStores(run.first[cur], run.m);
   jumps = [];
-  Object.assign(time, {from: 0, to: Math.max(run.n, 1), n: Math.max(run.n, 1)});
+  cancelAnimationFrame(frame);
+  frame = 0;
+  const last = Math.max(run.n, 1);
+  Object.assign(time, {from: 0, to: last, n: last, still: null});
   Object.assign(out, {count: -1, isSettled: isSame && out.isSettled});
   readNames();
   readRun();
