@@ -87,7 +87,8 @@ class Editor {
 
   clicked(event) {
     const from = this.numbers.getBoundingClientRect();
-    const line = Math.floor((event.clientY - from.top + this.numbers.scrollTop) / this.lineHeight());
+    const y = event.clientY - from.top + this.numbers.scrollTop;
+    const line = Math.floor(y / this.lineHeight());
     if (line >= 0 && line < this.count) this.hooks.numberClicked(line + 1);
   }
 

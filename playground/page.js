@@ -30,7 +30,7 @@ function unescaped(text) {
 }
 
 function moduleBytes() {
-  const text = part("wasm").replace(/\s/g, "");
+  const text = part("module").replace(/\s/g, "");
   if (Uint8Array.fromBase64) return Uint8Array.fromBase64(text);
   return Uint8Array.from(atob(text), c => c.charCodeAt(0));
 }
@@ -80,20 +80,33 @@ function endTold({why, status}) {
   return {
     stuck: "a jump to itself", waits: "the program waits for input, and there is no more",
     brk: "BRK, and nothing stands at FFFE", unwritten: "nothing was ever written here",
-  }[why] || "the page has no more steps";
+  }[why] || "here the page was written";
 }
 
-// A refused call is shown as such.
+// A refused call is shown as such. Where memory was refused, the machine is given up: what it holds
+// may be in the middle of being made again.
 function tellFault(fault) {
   if (fault.isOutOfMemory) {
-    tell(`OutOfMemory, status ${fault.status}: the browser refused a block of memory. `
-      + "Nothing was changed by the call; Restart frees the history.", true);
+    session.close();
+    showNothing();
+    tell(`OutOfMemory, status ${fault.status}: the browser refused a block of memory. The source is `
+      + "as it was; assemble it again.", true);
   } else if (fault.status) {
     tell(`The engine refused it: ${fault.name}, status ${fault.status}.`, true);
   } else {
     tell("The page has a fault of its own: " + fault.message, true);
     throw fault;
   }
+}
+
+// Shows the editor alone, without a machine.
+function showNothing() {
+  assembled = null;
+  info = {title: name};
+  viewer.show({info, run: new Run()});
+  showStale();
+  showScreen();
+  showMode("edit");
 }
 
 // An action of the user, whose faults are told.
@@ -119,6 +132,7 @@ function textChanged() {
 }
 
 function showStale() {
+  document.body.classList.toggle("blank", assembled === null);
   document.body.classList.toggle("stale", assembled !== null && isStale());
 }
 
@@ -355,9 +369,8 @@ function slice() {
 function showLive() {
   const steps = session.total - running.from, seconds = (performance.now() - running.began) / 1000;
   const {cycles} = session.machine.registers();
-  if (seconds > .2) {
-    tell(`Running: ${grouped(steps)} steps, ${(steps / seconds / 1e6).toFixed(1)} million a second`);
-  }
+  const speed = (steps / seconds / 1e6).toFixed(1);
+  if (seconds > .2) tell(`Running: ${grouped(steps)} steps, ${speed} million a second.`);
   $("cycles").textContent = `${grouped(cycles)} cycles`;
   const fresh = session.machine.output(running.output);
   if (fresh.length) {
@@ -460,17 +473,23 @@ function paintScreen(memory) {
 }
 
 function screenKey(event) {
-  const byte = keyByte(event.key);
-  if (byte < 0 || event.ctrlKey || event.metaKey || event.altKey || assembled === null) return;
+  const {key, ctrlKey, metaKey, altKey} = event;
+  if (keyByte(key) < 0 || ctrlKey || metaKey || altKey || assembled === null) return;
   event.preventDefault();
   event.stopPropagation();
-  if (running) return session.patch(KEY, [byte]);
-  if (!isFree()) return;
+  giveKey(key);
+}
+
+// Puts a key where programs find it: at $FF.
+function giveKey(key) {
+  const bytes = [keyByte(key)];
+  if (running) return session.patch(KEY, bytes);
+  if (assembled === null || !isFree()) return;
   session.cut(viewer.step);
-  session.patch(KEY, [byte]);
+  session.patch(KEY, bytes);
   session.settle();
   showRun();
-  tell(`The key ${event.key} is at $FF.`);
+  tell(`The key ${key} is at $FF.`);
 }
 
 // ---- files, links, pages
@@ -512,12 +531,9 @@ function take(text, itsName, withScreen) {
   hasScreen = withScreen;
   breakLines = [];
   editor.value = text;
-  assembled = null;
   isUnsaved = false;
+  showNothing();
   $("name").textContent = name;
-  viewer.show({info: {title: name}, run: new Run()});
-  showScreen();
-  showMode("edit");
   safely(check)();
 }
 
@@ -617,7 +633,7 @@ const BUTTONS = [
   ["go", "Run", "Ctrl Enter", runOrStop], ["on", "Step", "F8", stepOn],
   ["over", "Over", "F9", stepOver], "",
   ["undo", "Back", "Shift F8", back], ["wrote", "Last write", "Shift F9", toLastWrite],
-  ["zero", "To the start", "Home", toStart], ["again", "Restart", "z", restart], "",
+  ["zero", "Start", "Home", toStart], ["again", "Restart", "z", restart], "",
   ["see", "Screen", "k", toggleScreen],
 ];
 const FUNCTION_KEYS = {
@@ -674,17 +690,27 @@ function makeTools() {
     $("tools").append(box);
   }
   $("go").className = "main";
-  for (const [text, value] of [["Screen", "screen"], ["Memory", "memory"]]) {
-    const button = document.createElement("button");
-    button.textContent = text;
-    button.value = value;
-    button.onclick = () => showSight(value);
-    $("sights").append(button);
+  const sights = [["Screen", "screen"], ["Memory", "memory"]];
+  for (const [text, value] of sights) addButton("sights", text, value, () => showSight(value));
+  // a phone has no keys
+  const pad = {a: "◂ left", w: "▴ up", s: "▾ down", d: "▸ right"};
+  for (const [key, text] of Object.entries(pad)) {
+    addButton("pad", text, key, safely(() => giveKey(key)));
   }
+}
+
+function addButton(box, text, value, act) {
+  const button = document.createElement("button");
+  button.textContent = text;
+  button.value = value;
+  button.onclick = act;
+  $(box).append(button);
+  return button;
 }
 
 // Puts the page's own parts where they stand among the viewer's panels.
 function placeParts() {
+  $("calls").previousElementSibling.id = "calledhead";
   $("rows").before($("editor"));
   $("out").after($("live"), $("typing"));
   $("memory").prepend($("sights"), $("picture"));
@@ -711,6 +737,7 @@ function makeEditor() {
 function makeViewer() {
   const hooks = {
     moved() {
+      tell("");
       if (hasScreen && viewer) paintScreen(viewer.memory);
     },
     lineClicked(address, number, event) {
@@ -728,7 +755,8 @@ function makeViewer() {
   for (const [key, words, act] of [...LETTERS].reverse()) viewer.addKey(key, words, safely(act));
   const others = [["Ctrl Enter", "run, or stop"], ["Escape", "stop; leave the editor"],
     ["F2", "assemble"], ["F4", "edit, or back to the run"], ["F8", "step"],
-    ["Shift F8", "back one step"], ["F9", "over a subroutine"], ["Shift F9", "back to the last write of the chosen byte"],
+    ["Shift F8", "back one step"], ["F9", "over a subroutine"],
+    ["Shift F9", "back to the last write of the chosen byte"],
     ["Ctrl b", "in the editor: breakpoint at this line"]];
   for (const [key, words] of others) viewer.addKey(key, words, () => {});
 }
@@ -780,8 +808,9 @@ function showAbout() {
     const [word, ...rest] = row.split(" ");
     return [word, rest.join(" ")];
   }));
-  $("version").textContent = `mos65 ${said.version || ""}, commit ${(said.commit || "").slice(0, 8)}`;
-  $("sums").textContent = `Commit ${said.commit || ""}. SHA-256 of the module: ${said.module || ""}`;
+  const {version = "", commit = "", module: sum = ""} = said;
+  $("version").textContent = `mos65 ${version}, commit ${commit.slice(0, 8)}`;
+  $("sums").textContent = `Commit ${commit}. SHA-256 of the module: ${sum}`;
 }
 
 function showFirst() {

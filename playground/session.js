@@ -166,6 +166,7 @@ class Session {
   hand(it) {
     this.apply(it);
     if (it.given) this.givenCount++;
+    this.reason = {why: "stopped"};
     this.outside.push([this.total++, it]);
   }
 
@@ -269,21 +270,38 @@ class Session {
     return {why: isAsleep && !this.inputWaits ? "waits" : "stuck", address: after.pc};
   }
 
+  // Whether an instruction of the source may read where a run has to stop to look. What the program
+  // writes into its own operands is not foreseen: then it runs on while it waits for input.
+  mayLook(marks) {
+    const code = this.machine.read(0, 65536), isMarked = marks.some(mark => mark);
+    const reads = ({address}) => {
+      const [opcode, low, high] = code.subarray(address, address + 3), word = low | high << 8;
+      const form = this.ops[opcode * 4 + 3];
+      if ("gh".includes(form)) return true;                     // through a pointer
+      if ("ef".includes(form)) return this.hasRandom;           // with an index, in the zero page
+      if ("kl".includes(form)) return marks.subarray(word, word + 256).some(mark => mark);
+      return form == "d" && marks[low] || form == "j" && marks[word];
+    };
+    return isMarked && this.lines.some(line => line.isInstruction && reads(line));
+  }
+
   // Makes a run ready: to the end, or over the call at PC to its return.
   start(isOver) {
     const {pc, s} = this.machine.registers();
     const isCall = this.machine.read(pc, 1)[0] == 0x20;
     this.over = isOver ? {address: pc + 3 & 65535, s, isCall} : null;
     this.began = this.total;
+    const marks = this.marks();
+    this.lookMarks = this.mayLook(marks) ? marks : null;
   }
 
   // Makes at most so many steps at full speed. Returns why the run ended, or null.
   slice(limit = CHUNK) {
-    const marks = this.marks(), inner = this.setInnerBreaks();
+    const inner = this.setInnerBreaks();
     let left = limit, reason = null;
     while (left > 0 && !reason) {
       const did = this.total;
-      reason = this.restHere() || this.stretch(marks, left, inner);
+      reason = this.restHere() || this.stretch(left, inner);
       left -= this.total - did;
     }
     for (const address of inner) this.machine.clearBreak(address);
@@ -293,16 +311,17 @@ class Session {
   }
 
   // Steps to the next place where something has to be looked at.
-  stretch(marks, limit, inner) {
-    const ending = this.machine.runToAccess(marks, limit);
+  stretch(limit, inner) {
+    const {machine, lookMarks} = this;
+    const ending = lookMarks ? machine.runToAccess(lookMarks, limit) : machine.run(limit);
     this.total += ending.did;
     if (ending.why == "refused") return ending;
-    if (ending.why == "break") return this.breakAt(ending.address, inner);
+    if (ending.why == "break") return this.breakAt(ending.address);
     if (ending.did == limit) return null;
     const rest = this.restHere() || this.stepHere();
     if (rest) return rest;
     const {pc} = this.machine.registers();
-    return this.breaks.has(pc) || inner.has(pc) ? this.breakAt(pc, inner) : null;
+    return this.breaks.has(pc) || inner.has(pc) ? this.breakAt(pc) : null;
   }
 
   // Breakpoints of the run's own: where a BRK leads to, and where a call returns to.
@@ -462,4 +481,6 @@ class Session {
 
 return {Session, recordByHand, programFacts, escapeText};
 })();
-if (typeof module !== "undefined") module.exports = {Session, recordByHand, programFacts, escapeText};
+if (typeof module !== "undefined") {
+  module.exports = {Session, recordByHand, programFacts, escapeText};
+}
