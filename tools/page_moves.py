@@ -124,7 +124,7 @@ def to_set(browser, rng, at, run):
 def in_time(browser, rng, at, run):
     """A click in the picture of time; where it leads only the page knows."""
     browser.click("document.querySelector('#roll')", dx=rng.uniform(.2, .95), dy=.3)
-    return browser.js("cur")
+    return browser.js("viewer.step")
 
 
 def on_line(browser, rng, at, run):
@@ -135,7 +135,7 @@ def on_line(browser, rng, at, run):
         return at
     row = f"document.querySelectorAll('#lines tr')[{run.lines[address] - 1}]"
     is_next, more = rng.random() < .5, rng.choice(["", "v", "V", "▸", "◂"])
-    browser.js(f"view == 'source' || document.querySelector('#views [value=source]').click();"
+    browser.js(f"document.querySelector('#views [value=source]').click();"
                f"{row}.cells[0].scrollIntoView({{block: 'center'}})")
     browser.click(f"{row}.cells[0]", shift=not is_next)
     at = run.visit(address, at, is_next)
@@ -159,7 +159,7 @@ def to_visit(browser, rng, at, run):
 def over(browser, rng, at, run):
     if run.calls and rng.random() < .6:       # mostly from a call
         at = rng.choice(run.calls)
-        browser.js(f"go({at})")
+        browser.js(f"viewer.go({at})")
     browser.key("PageDown")
     return run.over(at)
 
@@ -167,19 +167,19 @@ def over(browser, rng, at, run):
 def back_over(browser, rng, at, run):
     if run.risen and rng.random() < .6:       # mostly from where S has just risen
         at = rng.choice(run.risen)
-        browser.js(f"go({at})")
+        browser.js(f"viewer.go({at})")
     browser.key("PageUp")
     return run.back_over(at)
 
 
 def to_write(browser, rng, at, run):
     """Clicks on a byte: the first chooses it, each other goes to the write before."""
-    page = browser.js("page")
+    page = browser.js("viewer.page")
     written = sorted(a for a in run.writes if a >> 8 == page)
     if not written:
         return at
     address = rng.choice(written)
-    browser.js("document.activeElement.blur(), cell = -1, draw()")
+    browser.js("document.activeElement.blur(), viewer.choose(-1)")
     for click in range(3):
         browser.click(f"document.querySelectorAll('#grid td')[{address & 255}]")
         before = [k for k in run.writes[address] if k < at]
