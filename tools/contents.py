@@ -26,12 +26,13 @@ Made from the commit {commit} of {date}. {own}
 
 | File | What it has |
 |---|---|
-| `mos65-{version}-x86_64-linux.tar.gz` | `bin`: the program, which needs no library. `include`, `lib`: the library for C, as an archive. `share`: a page for man, completions for bash. `docs`, `examples`, `editors` as in the repository. `licences`: those of what is named below |
+| `mos65-{version}-x86_64-linux.tar.gz` | `bin`: the program, which needs no library. `include`, `lib`: the library for C, as an archive. `share`: a page for man, completions for bash. `docs`, `examples`, `editors`, `playground` as in the repository. `licences`: those of what is named below |
 | `mos65-{version}-x86_64-linux-objects.tar.gz` | the object of the program and the kit's two archives, with the command that links them with another C library |
 | `mos65_{version}_amd64.deb` | the same as the first, for Debian and what is made from it |
 | `mos65-{version}-py3-none-manylinux_2_17_x86_64.whl` | the package for Python, with the library in it |
 | `mos65-{version}.tar.gz` | the sources of that package, for any platform; it needs the library or the program |
 | `mos65-{version}.vsix` | the extension for VS Code |
+| `mos65-{version}.html` | the playground: a page with the proved engine in it, which needs no other file |
 | `SHA256SUMS` | the checksums of all files |
 
 The program has the words `(commit {short})` in place of `(not a release build)`; its object is else the one that was built once it was proved.

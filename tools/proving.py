@@ -192,7 +192,7 @@ def files_of(folder):
         yield from (f"{at}/{name}" for name in sorted(names))
 
 
-def read_crates(top=TOP):
+def read_crates(top=TOP, kind=Crate):
     """The crates of crates.txt by name, each after those that it stands on."""
     rows, crates = {}, {}
     for line in read(f"{top}/crates.txt").decode().splitlines():
@@ -207,7 +207,7 @@ def read_crates(top=TOP):
         for it in own:
             if it not in crates:
                 add(it)
-        crates[name] = Crate(name, row, [crates[it] for it in own])
+        crates[name] = kind(name, row, [crates[it] for it in own])
 
     for name in rows:
         if name not in crates:
