@@ -148,13 +148,19 @@ function check() {
   return text;
 }
 
-// Moves breakpoints with their lines, where lines come or go before them.
-function shiftBreaks(before, after, line) {
-  const by = after - before;
-  if (!by || !breakLines.length) return;
-  const first = by > 0 ? line - by : line;
-  const moved = breakLines.filter(it => by > 0 || it <= first || it > first - by);
-  breakLines = moved.map(it => it > first ? it + by : it);
+// Moves breakpoints with their lines where the text is changed. Those of lines that were replaced
+// are dropped.
+function shiftBreaks(old, text) {
+  if (!breakLines.length) return;
+  const most = Math.min(old.length, text.length);
+  let front = 0, end = 0;
+  while (front < most && old[front] == text[front]) front++;
+  while (end < most - front && old.at(-1 - end) == text.at(-1 - end)) end++;
+  const lineAt = (all, at) => all.slice(0, at).split("\n").length;
+  const first = lineAt(old, front), last = lineAt(old, old.length - end);
+  const by = lineAt(text, text.length - end) - last;
+  breakLines = breakLines.filter(line => line <= first || line > last)
+    .map(line => line > first ? line + by : line);
 }
 
 // The address of the instruction of a line, or -1.
@@ -719,16 +725,16 @@ function placeParts() {
 
 function makeEditor() {
   const elements = {text: $("text"), numbers: $("numbers"), marks: $("marks"), list: $("faults")};
-  let count = 1;
+  let old = "";
   editor = new Editor(elements, {
     changed() {
-      shiftBreaks(count, editor.count, editor.lineHere());
-      count = editor.count;
+      shiftBreaks(old, editor.value);
+      old = editor.value;
       editor.show(editor.faults, breakLines);
       textChanged();
     },
     replaced() {
-      count = editor.count;
+      old = editor.value;
     },
     numberClicked: safely(toggleBreak),
   });

@@ -135,7 +135,7 @@ class Run {
     this.usesOf = new Float64Array(256);      // how often a page of memory was visited or used
     this.entries = [];                        // the steps that entered an interrupt
     reserve(this, STATES, 1);
-    reserve(this, ACCESSES, 0);
+    reserve(this, ACCESSES, 1);
     this.readStart(new Reader(start || Run.zeros()));
     const root = {start: 0, end: Infinity, up: null, depth: 0, s: this.S[0], at: this.PC[0]};
     this.calls = [root];
