@@ -10,7 +10,8 @@
 // or for each step:
 //   op took        the opcode at PC, and the cycles
 //   head           bits 0 and 1: it turned the IRQ line, the pending NMI; bit 2: it is an event by
-//                  hand; bit 3: no instruction ran; bits 4 and 5: how many addresses it read
+//                  hand; bit 3: no instruction ran; bits 4 and 5: how many addresses it read;
+//                  bits 6 and 7: how many it stored at, or, of an event by hand, 3 or more
 // or for each access, those of a step in order, the reads before the stores:
 //   where step     the address, and the step
 //   xor            old XOR new of the byte there
@@ -208,7 +209,8 @@ class Run {
       this[name][k + 1] = this[name][k] ^ before[low] ^ after[low];
     }
     const cycles = Number(after.cycles - before.cycles);
-    this.begin(cycles, 0, !isEntry, isEntry || isReset, (irq ? 1 : 0) | (nmi ? 2 : 0));
+    const counts = Math.min(3, stores.length) << 6, turned = (irq ? 1 : 0) | (nmi ? 2 : 0);
+    this.begin(cycles, counts, !isEntry, isEntry || isReset, turned);
     for (const [address, was, is] of stores) this.addAccess(address, was ^ is, STORE);
     this.handIn(given);
     this.end();

@@ -391,11 +391,18 @@ function drawTime() {
   time.at = at;
 }
 
+// Whether the picture is still right to a pixel. Each step of a long run would draw it anew.
+function isDrawn() {
+  const {still} = time;
+  if (!still || still.run != run || still.cuts != run.cuts) return false;
+  return (run.n - still.n) / (time.to - time.from) * still.wide < 1;
+}
+
 function drawStill(at) {
   inks = {};
   const size = {width: at.width * at.ratio, height: at.height * at.ratio};
   time.still = Object.assign(document.createElement("canvas"), size);
-  time.still.ratio = at.ratio;
+  Object.assign(time.still, {ratio: at.ratio, wide: at.wide, run, n: run.n, cuts: run.cuts});
   $("slider").style.cssText = `margin-left:${at.gutter - 8}px;width:${at.width - at.gutter + 12}px`;
   const pen = time.still.getContext("2d"), mono = getComputedStyle(document.body);
   pen.scale(at.ratio, at.ratio);
@@ -600,7 +607,8 @@ function labelRows() {
 function codeRows() {
   const made = [], end = {at: -1};
   const isShown = at => run.visits.count(at) || isBefore() && at == run.PC[run.n];
-  for (const at of addresses.filter(isShown)) {
+  for (let at = 0; at < 65536; at++) {
+    if (!isShown(at)) continue;
     const label = labels[labelAt[at]];
     if (label && label[1] == at) {
       made.push({number: "", at: -1, html: `<span class="l">${escaped(label[0])}:</span>`});
@@ -1198,7 +1206,7 @@ function readRun() {
   readWritten();
   readOutputAgain();
   makePageButtons();
-  time.still = null;
+  if (!isDrawn()) time.still = null;
   $("steps").textContent = " of " + grouped(run.n);
   $("slider").max = run.n;
   $("cycles").style.minWidth = grouped(run.C[run.n]).length + 7 + "ch";

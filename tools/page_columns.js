@@ -1,0 +1,54 @@
+"use strict";
+// Has viewer/run.js do what each line of the standard input says, and prints for each what the run
+// then holds, a line of JSON. tools/page_columns.py asks, and compares.
+//
+// A line is JSON: `data`, the bytes of a page in base64; `loaded`; and `moves`, each a list of a word
+// and more: append FROM TO (bytes of the data), truncate K, event WHAT (for appendEvent).
+const path = require("path");
+const {Run, decodeRun} = require(path.join(__dirname, "..", "viewer", "run.js"));
+
+const listed = column => [...column];
+
+function groupsOf(groups) {
+  const found = {};
+  groups.lists.forEach((list, place) => { if (list.length) found[place] = list; });
+  return found;
+}
+
+function callsOf(run) {
+  return run.calls.map(({start, end, depth, s, at, irq, up}) =>
+    [start, end == Infinity ? -1 : end, depth, s, at, Boolean(irq), up ? up.start : -1]);
+}
+
+function held(run) {
+  const {n, m} = run, told = {n, m, depth: run.depth, memory: Buffer.from(run.memory).toString("hex")};
+  for (const name of ["A", "X", "Y", "S", "P", "PC", "C", "first"]) {
+    told[name] = listed(run[name].subarray(0, n + 1));
+  }
+  for (const name of ["op", "took", "head"]) told[name] = listed(run[name].subarray(0, n));
+  for (const name of ["where", "xor", "step"]) told[name] = listed(run[name].subarray(0, m));
+  for (const name of ["out", "outAt", "given", "givenAt", "takenAt", "entries"]) told[name] = run[name];
+  told.stores = told.where.map((_, i) => run.isStore(i));
+  told.visits = groupsOf(run.visits);
+  told.uses = groupsOf(run.uses);
+  told.cyclesAt = Object.fromEntries(Object.entries(listed(run.cyclesAt)).filter(it => it[1]));
+  told.usesOf = listed(run.usesOf);
+  told.calls = callsOf(run);
+  told.within = told.A.map((_, k) => run.callAt(k).start);
+  return told;
+}
+
+function made({data, loaded, moves}) {
+  const bytes = Buffer.from(data, "base64");
+  if (!moves) return decodeRun(bytes, loaded);
+  const run = new Run(bytes, loaded);
+  for (const [word, one, other] of moves) {
+    if (word == "append") run.append(bytes.subarray(one, other));
+    else if (word == "truncate") run.truncate(one);
+    else run.appendEvent(one);
+  }
+  return run;
+}
+
+const lines = require("fs").readFileSync(0, "utf8").trimEnd().split("\n");
+for (const line of lines) console.log(JSON.stringify(held(made(JSON.parse(line)))));
