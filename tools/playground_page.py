@@ -19,7 +19,8 @@ SCRIPTS = "viewer/run.js", "viewer/view.js"
 LAST = "playground/page.js"
 EXAMPLES = "playground/examples", "examples"
 MOST = 3_000_000
-MODULE = re.compile(r'<script type="text/plain" id="wasm">([^<]*)</script>')
+# A module begins with these letters in base64.
+MODULE = re.compile(r'<script type="text/plain" id="\w+">(AGFzbQ[^<]*)</script>')
 # What the module is made by, besides the crates.
 MAKERS = "tools/host_heap.py", "tools/host_workspace.py", "tools/host_proving.py"
 
