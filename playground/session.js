@@ -11,7 +11,8 @@ const {Session, recordByHand, programFacts, escapeText} = (() => {
 const HISTORY = 65536;
 const SLACK = 8192;        // so many steps may be added before the oldest are dropped
 const CHUNK = 50000;       // steps of one call; fewer than the history, see `settle`
-const VECTOR = 0xFFFE, I_FLAG = 4, BRK = 0;
+const VECTOR = 0xFFFE, I_FLAG = 4;
+const BRK = 0x00, JSR = 0x20, JMP = 0x4C, JMP_POINTER = 0x6C;
 const RANDOM = 0xFE;
 
 const hex = (n, digits) => n.toString(16).toUpperCase().padStart(digits, "0");
@@ -288,7 +289,7 @@ class Session {
   // Makes a run ready: to the end, or over the call at PC to its return.
   start(isOver) {
     const {pc, s} = this.machine.registers();
-    const isCall = this.machine.read(pc, 1)[0] == 0x20;
+    const isCall = this.machine.read(pc, 1)[0] == JSR;
     this.over = isOver ? {address: pc + 3 & 65535, s, isCall} : null;
     this.began = this.total;
     const marks = this.marks();
@@ -361,9 +362,14 @@ class Session {
     return last !== undefined && last[0] == this.total - 1;
   }
 
-  // Whether the next step would jump to itself: it is made and taken back.
+  // Whether the next step would jump to itself: it is made and taken back, where the instruction may
+  // be such a jump, since a step that is made drops the oldest one.
   stuckHere() {
-    if (this.lastIsOutside()) return null;
+    const {pc} = this.machine.registers();
+    const [opcode, low, high] = this.machine.read(pc, Math.min(3, 65536 - pc));
+    const mayStay = opcode == JMP && (low | high << 8) == pc || opcode == JMP_POINTER
+      || opcode % 32 == 16 && low == 0xFE;
+    if (!mayStay || this.lastIsOutside()) return null;
     const before = this.machine.registers();
     const {ending} = this.machine.recordRun(1);
     if (ending.did == 0) return null;

@@ -83,10 +83,16 @@ class Page:
         self.open()
 
     def open(self, part=""):
-        self.browser.call("Page.navigate", url="about:blank")
-        self.browser.call("Page.navigate", url="file://" + os.path.abspath(self.path) + part)
-        self.wait("document.readyState == 'complete' && typeof playground != 'undefined'")
+        self.show(self.path, part)
+        self.wait("typeof playground != 'undefined'")
         self.js("playground.ready.then(() => 1)")
+
+    def show(self, path, part=""):
+        """Shows a file. A navigation that begins before the last one has ended gets no answer."""
+        for address in ("about:blank", "file://" + os.path.abspath(path) + part):
+            self.browser.call("Page.navigate", url=address)
+            protocol = address.split(":")[0] + ":"
+            self.wait(f"document.readyState == 'complete' && location.protocol == '{protocol}'")
 
     def wait(self, text, seconds=30):
         for _ in range(int(seconds * 50)):
@@ -413,7 +419,7 @@ def try_hostile(page, tally, how):
     with tempfile.NamedTemporaryFile("w", suffix=".html", encoding="utf-8") as it:
         it.write(page.js("playground.runPage()"))
         it.flush()
-        page.browser.open(it.name)
+        page.show(it.name)
         is_harmless(page, tally, "the page of a run")
         tally.holds("lines of that page", page.js("document.querySelectorAll('#lines tr').length") > 4)
     page.open()
@@ -636,14 +642,17 @@ def main():
     else:
         page = Page(how.page)
         for check in (it for it in CHECKS if how.only in it.__name__):
+            began, failed = time.monotonic(), len(tally.faults)
             try:
                 check(page, tally, how)
             except Exception:                    # one check that ends early ends no other
                 tally.holds(f"{check.__name__}: {traceback.format_exc()}", False)
+            took = time.monotonic() - began
+            print(f"{check.__name__}: {took:.0f} seconds, {len(tally.faults) - failed} failed", flush=True)
+            for fault in tally.faults[failed:]:
+                print(fault, flush=True)
         errors_of(page, tally)
         page.close()
-    for fault in tally.faults:
-        print(fault)
     print(f"{tally.passed} passed, {len(tally.faults)} failed")
     sys.exit(bool(tally.faults))
 
