@@ -231,7 +231,8 @@ function assemble() {
 }
 
 function showProgram() {
-  info = readFacts(session.facts, escapeText(session.source));
+  info = readFacts(session.facts);
+  info.source = session.lines.map(line => line.text);
   wantsInput = false;
   viewer.show({info, run: session.run, step: 0});
   showStale();

@@ -50,10 +50,8 @@ function stretchesOf(lines) {
 
 // A byte outside of a page's alphabet is `%` and two hex digits.
 function escapeText(text) {
-  const isMarkup = byte => [37, 38, 60, 62].includes(byte);
-  const isPlain = byte => byte == 10 || byte >= 32 && byte < 127 && !isMarkup(byte);
-  return Array.from(new TextEncoder().encode(text), byte =>
-    isPlain(byte) ? String.fromCharCode(byte) : "%" + hex(byte, 2)).join("");
+  const bytesOf = c => Array.from(new TextEncoder().encode(c), byte => "%" + hex(byte, 2));
+  return text.replace(/[^\n -~]|[%&<>]/gu, c => bytesOf(c).join(""));
 }
 
 // The names of the labels, which stand before `:`.
