@@ -9,7 +9,7 @@ import tempfile
 import time
 
 CODES = {"ArrowLeft": 37, "ArrowRight": 39, "PageUp": 33, "PageDown": 34, "Home": 36, "End": 35,
-         "Enter": 13, "Backspace": 8}
+         "ArrowUp": 38, "ArrowDown": 40, "Enter": 13, "Backspace": 8, "Tab": 9}
 
 
 def find():

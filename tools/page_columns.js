@@ -2,8 +2,8 @@
 // Has viewer/run.js do what each line of the standard input says, and prints for each what the run
 // then holds, a line of JSON. tools/page_columns.py asks, and compares.
 //
-// A line is JSON: `data`, the bytes of a page in base64; `loaded`; and `moves`, each a list of a word
-// and more: append FROM TO (bytes of the data), truncate K, event WHAT (for appendEvent).
+// A line is JSON: `data`, the bytes of a page in base64; `loaded`; and `moves`, each a list of a
+// word and more: append FROM TO (bytes of the data), truncate K, event WHAT (for appendEvent).
 const path = require("path");
 const {Run, decodeRun} = require(path.join(__dirname, "..", "viewer", "run.js"));
 
@@ -21,13 +21,15 @@ function callsOf(run) {
 }
 
 function held(run) {
-  const {n, m} = run, told = {n, m, depth: run.depth, memory: Buffer.from(run.memory).toString("hex")};
+  const {n, m, depth} = run, memory = Buffer.from(run.memory).toString("hex");
+  const told = {n, m, depth, memory};
   for (const name of ["A", "X", "Y", "S", "P", "PC", "C", "first"]) {
     told[name] = listed(run[name].subarray(0, n + 1));
   }
   for (const name of ["op", "took", "head"]) told[name] = listed(run[name].subarray(0, n));
   for (const name of ["where", "xor", "step"]) told[name] = listed(run[name].subarray(0, m));
-  for (const name of ["out", "outAt", "given", "givenAt", "takenAt", "entries"]) told[name] = run[name];
+  const lists = ["out", "outAt", "given", "givenAt", "takenAt", "entries"];
+  for (const name of lists) told[name] = run[name];
   told.stores = told.where.map((_, i) => run.isStore(i));
   told.visits = groupsOf(run.visits);
   told.uses = groupsOf(run.uses);

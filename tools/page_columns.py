@@ -1,5 +1,5 @@
-"""What viewer/run.js makes of the data of runs, compared with what they say to a second decoder, that
-of page_format.py: whole, in pieces, cut off and added again, with events by hand as calls."""
+"""What viewer/run.js makes of the data of runs, compared with what they say to a second decoder,
+that of page_format.py: whole, in pieces, cut off and added again, with events by hand as calls."""
 
 import base64
 import json
@@ -87,8 +87,8 @@ class Held:
             told[name].append(value)
 
     def add_calls(self, changes):
-        """A call begins with a JSR or an interrupt, and ends where S is above what it left of it. The
-        outermost is the whole run."""
+        """A call begins with a JSR or an interrupt, and ends where S is above what it left of it.
+        The outermost is the whole run."""
         told, stack = self.told, self.told["S"]
         calls = [[0, -1, 0, max(stack), told["PC"][0], False, -1]]
         for step, change in enumerate(changes):
@@ -119,15 +119,15 @@ def event_of(view, change):
     before = registers()
     stores = [[at, view.memory[at], view.memory[at] ^ xor] for at, xor in change["stores"]]
     view.forth(change)
-    return {"before": before, "after": registers(), "stores": stores, "given": list(change["given"]),
-            "irq": change["irq"], "nmi": change["nmi"], "isReset": change["entry"]}
+    return {"before": before, "after": registers(), "stores": stores,
+            "given": list(change["given"]), "irq": change["irq"], "nmi": change["nmi"],
+            "isReset": change["entry"]}
 
 
 def by_calls(view, changes, ends):
     """Moves that add each event by hand as a call, and all other records one by one."""
     moves = []
     for step, change in enumerate(changes):
-        # appendEvent takes each byte of memory once, and input without its count
         if is_by_hand(change):
             moves.append(["event", event_of(view, change)])
         else:
@@ -155,8 +155,8 @@ def in_pieces(rng, ends):
 def random_data(rng):
     """The data of a run of no machine: any changes at all, which pages can hold."""
     memory = bytes(rng.choice((0, JSR, rng.randrange(256))) for _ in range(65536))
-    data = page_format.begin(memory, rng.randbytes(5), rng.randrange(65536), rng.randrange(10 ** 12),
-                             taken=1, out=b"ab", given=b"cde")
+    data = page_format.begin(memory, rng.randbytes(5), rng.randrange(65536),
+                             rng.randrange(10 ** 12), taken=1, out=b"ab", given=b"cde")
     for _ in range(rng.randrange(400)):
         store = lambda: (rng.choice((rng.randrange(65536), 0x1FF)), rng.randrange(256))
         data += page_format.record({
@@ -183,15 +183,18 @@ def questions(name, data, rng):
 
 
 def look(compare, runs, seed):
-    """Compares runs, each a name and its data, and some random ones. False where there is no Node.js."""
+    """Compares runs, each a name and its data, and some random ones. False where there is no
+    Node.js."""
     node = os.environ.get("NODE") or shutil.which("node")
     if not node:
         return False
     rng = random.Random(f"columns {seed}")
     runs = [*runs, *((f"random {k}", random_data(rng)) for k in range(RANDOM_RUNS))]
-    asked = [(title, {"data": base64.b64encode(data).decode(), "loaded": [], "moves": moves}, wanted)
+    def question(data, moves):
+        return {"data": base64.b64encode(data).decode(), "loaded": [], "moves": moves}
+    asked = [(title, question(data, moves), wanted)
              for name, data in runs for title, moves, wanted in questions(name, data, rng)]
-    lines = "".join(json.dumps(question) + "\n" for _, question, _ in asked)
+    lines = "".join(json.dumps(it) + "\n" for _, it, _ in asked)
     ran = subprocess.run([node, f"{TOP}/tools/page_columns.js"], input=lines, capture_output=True,
                          text=True, timeout=600)
     answers = ran.stdout.splitlines()

@@ -41,10 +41,14 @@ const glyph = byte => byte > 32 && byte < 127 ? `'${String.fromCharCode(byte)}'`
 const count = (list, is) => list.reduce((sum, item) => sum + (is(item) ? 1 : 0), 0);
 const addresses = Array.from({length: 65536}, (_, address) => address);
 
-// Puts markup into an element, unless it is there already.
+// Puts markup into an element, unless it is there already. What had the focus in it has it again.
 const markup = {};
 function put(id, html) {
-  if (markup[id] !== html) $(id).innerHTML = markup[id] = html;
+  if (markup[id] === html) return;
+  const box = $(id), reached = () => [...box.querySelectorAll("button,[tabindex]")];
+  const k = box.contains(document.activeElement) ? reached().indexOf(document.activeElement) : -1;
+  box.innerHTML = markup[id] = html;
+  if (k >= 0) reached()[k]?.focus();
 }
 
 function addButton(box, text, value, act) {
@@ -436,7 +440,7 @@ function drawCallBars(pen, at) {
 function drawCallBar(pen, at, call, left, width) {
   const top = call.depth * at.slim;
   pen.fillStyle = ink(call.irq ? "irq" : "dim");
-  pen.globalAlpha = call.irq ? .75 : .2 + .08 * call.depth;
+  pen.globalAlpha = call.irq ? .9 : .2 + .08 * call.depth;
   pen.fillRect(left, top + 2, Math.max(width - (width > 3 ? 1 : 0), .8), at.slim - 2);
   pen.globalAlpha = 1;
   if (width <= at.rem * 2) return;
@@ -584,12 +588,14 @@ function paintedLine(text) {
   return label + (comment ? `<span class="c">${comment}</span>` : "");
 }
 
+// A line is a row that can be marked if it has an instruction, or if the run ends on it.
 function sourceRows() {
-  const starts = new Map(info.lines);
+  const starts = new Map(info.lines), end = run.PC[run.n];
   return info.source.map((text, k) => {
-    const at = starts.has(k) ? starts.get(k) : -1;
-    const isRow = at >= 0 && (isCode(text) || run.visits.count(at) > 0);
-    return {number: k + 1, at: isRow ? at : -1, start: at, text};
+    const start = starts.has(k) ? starts.get(k) : -1;
+    const isRow = start >= 0 && (isCode(text) || run.visits.count(start) > 0);
+    const isEnd = !isRow && lineAt[end] == k;
+    return {number: k + 1, at: isRow ? start : isEnd ? end : -1, start, isEnd, text};
   });
 }
 
@@ -606,7 +612,7 @@ function labelRows() {
 
 function codeRows() {
   const made = [], end = {at: -1};
-  const isShown = at => run.visits.count(at) || isBefore() && at == run.PC[run.n];
+  const isShown = at => run.visits.count(at) || at == run.PC[run.n];
   for (let at = 0; at < 65536; at++) {
     if (!isShown(at)) continue;
     const label = labels[labelAt[at]];
@@ -615,7 +621,8 @@ function codeRows() {
     } else if (end.at >= 0 && at > end.at) {
       made.push({number: "", at: -1, html: '<span class="c">…</span>'});
     }
-    made.push({number: address4(at), at, start: at, isLive: true, html: ""});
+    const isEnd = !run.visits.count(at);
+    made.push({number: address4(at), at, start: at, isEnd, isLive: true, html: ""});
     end.at = at + disassembled(at)[1];
   }
   return made;
@@ -641,7 +648,8 @@ function listAgain() {
   const made = MAKERS[view]();
   const isSame = (row, k) => {
     const shown = rows[k];
-    return row.at == shown.at && (shown.isLive || row.html == shown.html);
+    return row.at == shown.at && row.isEnd == shown.isEnd &&
+      (shown.isLive || row.html == shown.html);
   };
   if (made.length == rows.length && made.every(isSame)) drawShares();
   else list();
@@ -660,11 +668,12 @@ function drawShares() {
     if (row.visits === visits && row.width === width && row.cycles === cycles) continue;
     Object.assign(row, {visits, width, cycles, seen: -1});
     const told = `${grouped(visits)} visits, ${grouped(cycles)} cycles`;
-    row.element.title = visits ? told : "never reached";
+    row.element.title = visits ? told : row.isEnd ? "" : "never reached";
     if (!visits) seen.textContent = "–";
     bar.innerHTML = cycles ? `<i style="width:${width}%"></i>` : "";
   }
-  const reached = `${count(reachable, row => row.visits > 0)} of ${reachable.length} lines reached`;
+  const lines = reachable.filter(row => !row.isEnd);
+  const reached = `${count(lines, row => row.visits > 0)} of ${lines.length} lines reached`;
   $("reached").textContent = view == "source" ? reached : "";
 }
 
@@ -681,8 +690,11 @@ function drawProgram() {
     const isNow = row.label >= 0 ? row.label == labelAt[pc] : row.at == pc;
     const isWas = row.at == was && !isNow, isChosen = row.at == line;
     setMarks(row, (row.visits ? "a" : "no") + (isNow ? " now" : "") + (isWas ? " was" : "") +
-      (isChosen ? " sel" : ""));
-    if (isNow) reveal(row.element);
+      (isChosen ? " sel" : "") + (isNow && !isBefore() ? " end" : ""));
+    if (isNow) {
+      reveal(row.element);
+      if (!$("rows").contains(document.activeElement)) reachRow(row);
+    }
   }
   drawVisit();
 }
@@ -734,6 +746,41 @@ function clickLine(event) {
   if (hooks.lineClicked?.(start, number, event) || row.at < 0) return;
   line = row.at;
   toVisit(line, event.shiftKey ? -1 : 1);
+}
+
+// Up and Down go from line to line, and Enter is a click.
+function pressInLines(event) {
+  const by = {ArrowUp: -1, ArrowDown: 1}[event.key], at = rows.findIndex(isReached);
+  if (!by) return pressAsClick(event);
+  event.preventDefault();
+  const k = event.target.closest("tr")?.dataset.k;
+  let to = k === undefined ? Math.max(at, 0) : +k + by;
+  while (rows[to] && rows[to].at < 0) to += by;
+  if (rows[to]) focusRow(rows[to]);
+}
+
+// Tab reaches one row, that which comes next or that which had the focus last.
+const isReached = row => row.element.tabIndex == 0;
+
+function reachRow(row) {
+  const last = rows.find(isReached);
+  if (last == row) return;
+  last?.element.removeAttribute("tabindex");
+  row.element.tabIndex = 0;
+}
+
+function focusRow(row) {
+  reachRow(row);
+  row.element.focus();
+}
+
+function pressAsClick(event) {
+  const isClick = event.key == "Enter" || event.key == " ";
+  if (!isClick || !event.target.matches("tr,[role=button]")) return;
+  event.preventDefault();
+  event.stopPropagation();
+  const {shiftKey} = event;
+  event.target.dispatchEvent(new MouseEvent("click", {bubbles: true, shiftKey}));
 }
 
 // ---- the machine
@@ -830,9 +877,11 @@ function drawMachine() {
   const before = Math.max(0, cur - 1), pc = run.PC[cur];
   put("regs", [..."AXYS"].map(name => {
     const value = run[name][cur], old = run[name][before], isChanged = value != old;
-    return `<div class="reg${isChanged ? " chg" : ""}" data-r="${name}"` +
-      ` title="Click: back to the step that set ${name}"><small><span>${name}</span>` +
-      `<span>${isChanged ? "was " + hex(old) : ""}</span></small><b>${hex(value)}</b>` +
+    const was = isChanged ? "was " + hex(old) : "", told = `${name} ${hex(value)}`;
+    return `<div class="reg${isChanged ? " chg" : ""}" data-r="${name}" role="button"` +
+      ` tabindex="0" aria-label="${told} ${was}"` +
+      ` title="Click: back to the step that set ${name}">` +
+      `<small><span>${name}</span><span>${was}</span></small><b>${hex(value)}</b>` +
       `<small><span>${value}</span><span>${escaped(glyph(value))}</span></small></div>`;
   }).join(""));
   put("pc", `<small><span>PC</span><span>${lineText(pc)}</span></small><b>${hex(pc, 4)}</b>` +
@@ -1201,12 +1250,13 @@ function drawAnew() {
 
 // What is read off the whole run.
 function readRun() {
+  const before = labels.length;
   if (!info.labels.length) readLabels();
+  if (labels.length != before || !isDrawn()) time.still = null;
   countLabels();
   readWritten();
   readOutputAgain();
   makePageButtons();
-  if (!isDrawn()) time.still = null;
   $("steps").textContent = " of " + grouped(run.n);
   $("slider").max = run.n;
   $("cycles").style.minWidth = grouped(run.C[run.n]).length + 7 + "ch";
@@ -1239,7 +1289,10 @@ function show(shown) {
   memory.set(run.memory);
   flipStores(run.first[cur], run.m);
   jumps = [];
-  Object.assign(time, {from: 0, to: Math.max(run.n, 1), n: Math.max(run.n, 1)});
+  cancelAnimationFrame(frame);
+  frame = 0;
+  const last = Math.max(run.n, 1);
+  Object.assign(time, {from: 0, to: last, n: last, still: null});
   Object.assign(out, {count: -1, isSettled: isSame && out.isSettled});
   readNames();
   readRun();
@@ -1328,6 +1381,8 @@ function mark(marked) {
 
 function listenToLists() {
   $("rows").onclick = clickLine;
+  $("rows").onkeydown = pressInLines;
+  $("regs").onkeydown = pressAsClick;
   // Shift would select text
   $("rows").onmousedown = event => event.shiftKey && event.preventDefault();
   $("visit").onclick = event => {
