@@ -248,7 +248,7 @@ class Session:
         refused = self.wanted["assembled"]
         if "fault" not in refused:
             return faults == ""
-        if refused["line"] == 0:
+        if refused["line"] == 0 or not isinstance(faults, str):
             return faults == refused
         kind = f"{refused['fault']} {refused['status'] - 300}"
         row = rf"^{re.escape(NAME)}:{refused['line']}:\d+: {kind}: "
