@@ -170,6 +170,9 @@ int mos65_line(const mos65_assembly_t *assembly, size_t index, mos65_line_t *lin
                size_t *length);
 /* Puts the listing's first n bytes, or all of it, into out, and its whole length into *length. */
 int mos65_listing(const mos65_assembly_t *assembly, uint8_t *out, size_t n, size_t *length);
+/* Puts the first n bytes of the paper tape of its image, or all of it, into out, and its whole length into
+   *length. */
+int mos65_tape(const mos65_assembly_t *assembly, uint8_t *out, size_t n, size_t *length);
 /* Puts the text of all faults of n bytes of source, as `mos65 check` prints them of a file of this name, into out,
    its first out_n bytes or all of it, and its whole length into *length: 0 where there is no fault. MISUSE or
    BAD_MAP for the configuration. */

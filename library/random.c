@@ -80,7 +80,7 @@ static void look_at_one(mos65_t *m, mos65_assembly_t *a) {
     int32_t value;
     mos65_line_t line;
     mos65_config_t config = {0, 0xF000, 0, 0, false, draw(2) ? 'C' : 'N'};
-    switch (draw(14)) {
+    switch (draw(15)) {
     case 0: told(mos65_registers(m, &r)); break;
     case 1: told(mos65_read(m, (uint16_t)draw(65536), bytes, draw(65537))); break;
     case 2: told(mos65_output_length(m, &count)); break;
@@ -94,6 +94,7 @@ static void look_at_one(mos65_t *m, mos65_assembly_t *a) {
     case 10: told(mos65_faults(&config, (const uint8_t *)"a.a65", draw(6), bytes, fill(200), out, draw(sizeof out), &length)); break;
     case 11: told(mos65_record_start(m, draw(2), bytes, n, out, draw(sizeof out), &length)); break;
     case 12: told(mos65_warnings(&config, (const uint8_t *)"a.a65", draw(6), bytes, fill(200), out, draw(sizeof out), &length)); break;
+    case 13: told(mos65_tape(a, bytes, draw(300), &length)); break;
     default: told(mos65_listing(a, bytes, draw(300), &length));
     }
 }

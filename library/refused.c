@@ -79,6 +79,7 @@ static void round_of_calls(void) {
     config.history = 8;
     if (told(mos65_assemble(&a, &config, (const uint8_t *)source, sizeof source - 1, &fault)) == MOS65_OK) {
         told(mos65_listing(&a, text, sizeof text, &n));
+        told(mos65_tape(&a, text, sizeof text, &n));
         CHECK(mos65_line(&a, 0, &line, text, sizeof text, &n) == MOS65_OK && line.number == 1);
         n = 9;
         bool was_told = told(mos65_faults(&config, (const uint8_t *)"x", 1, (const uint8_t *)" LDQ\n", 5, text, sizeof text, &n)) == MOS65_OK;

@@ -282,6 +282,12 @@ const { openEngine, EngineFault } = (() => {
       };
     }
 
+    /* The paper tape of the image, in the format of MOS Technology. */
+    tape() {
+      const { calls, slot } = this;
+      return textOf(calls.whole((...out) => calls.exports.mos65_tape(slot, ...out)));
+    }
+
     listing() {
       const { calls, slot } = this;
       return textOf(calls.whole((...out) => calls.exports.mos65_listing(slot, ...out)));

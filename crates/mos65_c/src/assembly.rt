@@ -2,6 +2,7 @@
 
 ghost use Rattle.std.specs.Prelude.{◌≡◌, ◌≢◌, length, None, Some, take};
 ghost use Rattle.assembler.specs.Assembly.{AssemblyView, listing_of};
+ghost use Rattle.model.specs.TapeText.{tape_text};
 ghost use Rattle.mos65_c.specs.Answers.{AnswersSource, no_fault, written};
 ghost use Rattle.mos65_c.specs.Status.{config_map, config_status};
 
@@ -10,6 +11,7 @@ use crate::machine::{CLOSED, MISUSE, Mos65Assembly, OUT_OF_MEMORY};
 use crate::names::Fault;
 use crate::texts::tell;
 use assembler::assemble;
+use papertape::write_tape;
 use slot::AssemblySlot;
 use std::alloc::Global;
 
@@ -85,6 +87,34 @@ pub extern "C" fn mos65_listing(
         return CLOSED;
     }
     let Ok(text) = assembly.slot.inside().listing(alloc) else {
+        return OUT_OF_MEMORY;
+    };
+    tell(&text, out, count);
+    0
+}
+
+/// Writes the beginning of the tape of an assembly's image for which `out` has room, and tells how
+/// long the whole tape is.
+#[unsafe(no_mangle)]
+pub extern "C" fn mos65_tape(
+    alloc: Global,
+    assembly: &mut Mos65Assembly,
+    out: &mut [u8],
+    count: &mut usize,
+) -> u32
+    ensures live { (x : AssemblyView) → assembly.old.slot.assembly ≡ Some x → result ≢ 3
+        → (result ≡ 0) × (count.new ≡ length (tape_text x.image))
+        × (out.new ≡ written (take (length out.old) (tape_text x.image)) out.old) }
+    ensures memory { (x : AssemblyView) → assembly.old.slot.assembly ≡ Some x → result ≡ 3
+        → (out.new ≡ out.old) × (count.new ≡ count.old) }
+    ensures gone { assembly.old.slot.assembly ≡ None
+        → (result ≡ 1) × (out.new ≡ out.old) × (count.new ≡ count.old) }
+    ensures same { assembly.new.slot.assembly ≡ assembly.old.slot.assembly }
+{
+    if !assembly.live {
+        return CLOSED;
+    }
+    let Ok(text) = write_tape(alloc, assembly.slot.inside().image()) else {
         return OUT_OF_MEMORY;
     };
     tell(&text, out, count);
