@@ -6,31 +6,28 @@ ghost use Rattle.model.specs.Transcript.{asm_answer, source_fault_line};
 ghost use Rattle.model.specs.Writers.{Writes};
 
 use assembler::assemble_line_in;
+use debugger::Session;
 use model::{AsmFaultKind, Event};
 use replies::{ReplyFault, happen, put, source_fault_text};
-use session_calls::SessionCalls;
 use std::alloc::Global;
 use std::io::Write;
 
 /// Assembles a text at an address in the session's profile, and patches memory with its bytes.
 ///
 /// Writes the reply of a patch, or the fault of the text. If memory runs out, nothing is written.
-pub fn assemble_patch<S: SessionCalls, W: Write>(
+pub fn assemble_patch<W: Write>(
     alloc: Global,
-    session: &mut S,
+    session: &mut Session,
     address: u16,
     text: &[u8],
     writer: &mut W,
 ) -> Result<(), ReplyFault>
-    ensures writes { Writes (W.contents writer.old) (W.contents writer.new)
-        (asm_answer (S.view session.old)
-        address (one_line (S.view session.old).current.bus.map.profile address text.now)).written
-        result }
-    ensures after { result ≢ Err ReplyFault.OutOfMemory → S.view session.new
-        ≡ (asm_answer (S.view session.old)
-        address (one_line (S.view session.old).current.bus.map.profile address text.now)).session }
+    ensures writes { Writes (W.contents writer.old) (W.contents writer.new) (asm_answer session.old
+        address (one_line session.old.current.bus.map.profile address text.now)).written result }
+    ensures after { result ≢ Err ReplyFault.OutOfMemory → session.new ≡ (asm_answer session.old
+        address (one_line session.old.current.bus.map.profile address text.now)).session }
     ensures memory { IsErrOf result ReplyFault.OutOfMemory
-        → (S.view session.new ≡ S.view session.old) × (writer.new ≡ writer.old) }
+        → (session.new ≡ session.old) × (writer.new ≡ writer.old) }
 {
     match assemble_line_in(alloc, session.profile(), address, text) {
         Ok(line) => {

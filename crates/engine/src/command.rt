@@ -8,12 +8,12 @@ ghost use Rattle.model.specs.Transcript.{answer_to};
 
 use crate::asm::assemble_patch;
 use crate::fault::EngineFault;
+use debugger::Session;
 use model::{Command, Event};
 use replies::{
     ReplyFault, clear_break, clear_watch, go_back, happen, put, put_breaks, put_instructions,
     put_output, put_registers, put_rows, run, set_break, set_watch, step, take_input,
 };
-use session_calls::SessionCalls;
 use std::alloc::Global;
 use std::io::Write;
 
@@ -24,16 +24,16 @@ use std::io::Write;
 /// - `Write`: the reply could not be written. A beginning of it was.
 /// - `OutOfMemory`: an allocation failed. A beginning of the reply was written.
 #[tactic(auto, using(crate::proofs::Said::said_writes, crate::proofs::Said::said_ends, crate::proofs::Said::said_after, crate::proofs::Said::said_unless), unfolding(model::specs::Transcript::answer_to))]
-pub fn execute<S: SessionCalls, W: Write>(
+pub fn execute<W: Write>(
     alloc: Global,
-    session: &mut S,
+    session: &mut Session,
     command: Command,
     writer: &mut W,
 ) -> Result<bool, EngineFault>
     ensures writes { Writes (W.contents writer.old) (W.contents writer.new)
-        (answer_to command (S.view session.old)).written result }
-    ensures ok { IfOk result (λ quit. (quit ≡ (answer_to command (S.view session.old)).quit)
-        × (S.view session.new ≡ (answer_to command (S.view session.old)).session)) }
+        (answer_to command session.old).written result }
+    ensures ok { IfOk result (λ quit. (quit ≡ (answer_to command session.old).quit)
+        × (session.new ≡ (answer_to command session.old).session)) }
     ensures fault { IfErr result EndsReply }
 {
     match command {

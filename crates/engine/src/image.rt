@@ -10,8 +10,8 @@ ghost use Rattle.engine.specs.Refusals.{IfSession, IfSource, IfTape};
 
 use crate::fault::EngineFault;
 use crate::lines::serve;
-use memory_map::{Image, MapSpec};
-use session_calls::SessionCalls;
+use bus::{Image, MapSpec};
+use debugger::Session;
 use std::alloc::Global;
 use std::io::{Read, Write};
 
@@ -24,7 +24,7 @@ use std::io::{Read, Write};
 /// - `Read` and `Write` as `serve` says.
 /// - `OutOfMemory`: an allocation failed. Before the session began, nothing was read or written;
 ///   after that, a beginning of the replies was written.
-pub fn debug_image<S: SessionCalls, R: Read, W: Write>(
+pub fn debug_image<R: Read, W: Write>(
     alloc: Global,
     map: MapSpec,
     history: u32,
@@ -51,7 +51,7 @@ pub fn debug_image<S: SessionCalls, R: Read, W: Write>(
     ensures source { IfSource result (λ _. ⊥) }
     ensures tape { IfTape result (λ _. ⊥) }
 {
-    let mut session = S::begin(alloc, map, &image, history)?;
+    let mut session = Session::new(alloc, map, &image, history)?;
     drop(image);
     serve(alloc, &mut session, reader, writer)
 }

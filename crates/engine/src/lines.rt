@@ -12,7 +12,7 @@ use crate::command::execute;
 use crate::fault::EngineFault;
 use arrayvec::ArrayVec;
 use commands::parse;
-use session_calls::SessionCalls;
+use debugger::Session;
 use std::alloc::Global;
 use std::io::{Read, Write};
 
@@ -30,13 +30,13 @@ type Begun = ArrayVec<u8, 257>;
 /// - `Read`: a read failed. The complete lines read so far have been answered.
 /// - `Write`: a write or a flush failed. A beginning of the transcript was written.
 /// - `OutOfMemory`: an allocation of a command failed. A beginning of the transcript was written.
-pub fn serve<S: SessionCalls, R: Read, W: Write>(
+pub fn serve<R: Read, W: Write>(
     alloc: Global,
-    session: &mut S,
+    session: &mut Session,
     reader: &mut R,
     writer: &mut W,
 ) -> Result<(), EngineFault>
-    ensures serves { Serves (S.view session.old) (R.remaining reader.old) (R.remaining reader.new)
+    ensures serves { Serves session.old (R.remaining reader.old) (R.remaining reader.new)
         (W.contents writer.old) (W.contents writer.new) result }
     ensures only { IfErr result EndsServing }
 {
@@ -65,18 +65,17 @@ pub fn serve<S: SessionCalls, R: Read, W: Write>(
 }
 
 /// Serves some bytes of the input. Returns whether the engine is to end.
-fn serve_bytes<S: SessionCalls, W: Write>(
+fn serve_bytes<W: Write>(
     alloc: Global,
-    session: &mut S,
+    session: &mut Session,
     begun: &mut Begun,
     bytes: &[u8],
     writer: &mut W,
 ) -> Result<bool, EngineFault>
     ensures writes { Writes (W.contents writer.old) (W.contents writer.new)
-        (feed (S.view session.old) begun.old.items bytes.now).written result }
-    ensures ok { IfOk result (λ quit. feed (S.view session.old) begun.old.items bytes.now ≡ fed
-        (feed (S.view session.old) begun.old.items bytes.now).written (S.view session.new)
-        begun.new.items quit) }
+        (feed session.old begun.old.items bytes.now).written result }
+    ensures ok { IfOk result (λ quit. feed session.old begun.old.items bytes.now ≡ fed
+        (feed session.old begun.old.items bytes.now).written session.new begun.new.items quit) }
     ensures fault { IfErr result EndsReply }
 {
     for byte in bytes {
@@ -91,18 +90,17 @@ fn serve_bytes<S: SessionCalls, W: Write>(
 
 /// Serves one byte of the input.
 #[tactic(auto, unfolding(crate::specs::Feeding::feed))]
-fn serve_byte<S: SessionCalls, W: Write>(
+fn serve_byte<W: Write>(
     alloc: Global,
-    session: &mut S,
+    session: &mut Session,
     begun: &mut Begun,
     byte: u8,
     writer: &mut W,
 ) -> Result<bool, EngineFault>
     ensures writes { Writes (W.contents writer.old) (W.contents writer.new)
-        (feed (S.view session.old) begun.old.items (byte ∷ [])).written result }
-    ensures ok { IfOk result (λ quit. feed (S.view session.old) begun.old.items (byte ∷ []) ≡ fed
-        (feed (S.view session.old) begun.old.items (byte ∷ [])).written (S.view session.new)
-        begun.new.items quit) }
+        (feed session.old begun.old.items (byte ∷ [])).written result }
+    ensures ok { IfOk result (λ quit. feed session.old begun.old.items (byte ∷ []) ≡ fed
+        (feed session.old begun.old.items (byte ∷ [])).written session.new begun.new.items quit) }
     ensures fault { IfErr result EndsReply }
 {
     if byte == b'\n' {
@@ -115,20 +113,18 @@ fn serve_byte<S: SessionCalls, W: Write>(
 }
 
 /// Serves a line that an LF has ended, and begins the next one.
-fn serve_begun<S: SessionCalls, W: Write>(
+fn serve_begun<W: Write>(
     alloc: Global,
-    session: &mut S,
+    session: &mut Session,
     begun: &mut Begun,
     writer: &mut W,
 ) -> Result<bool, EngineFault>
     ensures writes { Writes (W.contents writer.old) (W.contents writer.new)
-        (answer_to (command_of (strip_last 13 begun.old.items)) (S.view session.old)).written
-        result }
+        (answer_to (command_of (strip_last 13 begun.old.items)) session.old).written result }
     ensures ok { IfOk result
-        (λ quit. (quit ≡ (answer_to (command_of (strip_last 13 begun.old.items))
-        (S.view session.old)).quit)
-        × (S.view session.new
-        ≡ (answer_to (command_of (strip_last 13 begun.old.items)) (S.view session.old)).session)
+        (λ quit. (quit ≡ (answer_to (command_of (strip_last 13 begun.old.items)) session.old).quit)
+        × (session.new
+        ≡ (answer_to (command_of (strip_last 13 begun.old.items)) session.old).session)
         × (begun.new.items ≡ [])) }
     ensures fault { IfErr result EndsReply }
 {
@@ -142,17 +138,16 @@ fn serve_begun<S: SessionCalls, W: Write>(
 }
 
 /// Serves a line without its end: writes and flushes its reply.
-fn serve_line<S: SessionCalls, W: Write>(
+fn serve_line<W: Write>(
     alloc: Global,
-    session: &mut S,
+    session: &mut Session,
     line: &[u8],
     writer: &mut W,
 ) -> Result<bool, EngineFault>
     ensures writes { Writes (W.contents writer.old) (W.contents writer.new)
-        (answer_to (command_of line.now) (S.view session.old)).written result }
-    ensures ok { IfOk result (λ quit. (quit
-        ≡ (answer_to (command_of line.now) (S.view session.old)).quit)
-        × (S.view session.new ≡ (answer_to (command_of line.now) (S.view session.old)).session)) }
+        (answer_to (command_of line.now) session.old).written result }
+    ensures ok { IfOk result (λ quit. (quit ≡ (answer_to (command_of line.now) session.old).quit)
+        × (session.new ≡ (answer_to (command_of line.now) session.old).session)) }
     ensures fault { IfErr result EndsReply }
 {
     let command = parse(line);

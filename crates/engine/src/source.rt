@@ -11,9 +11,8 @@ ghost use Rattle.engine.specs.Refusals.{IfSession, IfSource, IfTape};
 use crate::fault::EngineFault;
 use crate::tape::debug_tape;
 use assembler::assemble;
-use memory_map::MapSpec;
+use bus::MapSpec;
 use papertape::write_tape;
-use session_calls::SessionCalls;
 use std::alloc::Global;
 use std::io::{Read, Write};
 
@@ -34,7 +33,7 @@ use std::io::{Read, Write};
 ///
 /// `Tape` and `Session` are never returned: an image's tape is a tape, and a source's image has no
 /// byte at a port address. Source: mos65.
-pub fn debug_source<S: SessionCalls, R: Read, W: Write>(
+pub fn debug_source<R: Read, W: Write>(
     alloc: Global,
     map: MapSpec,
     history: u32,
@@ -73,5 +72,5 @@ pub fn debug_source<S: SessionCalls, R: Read, W: Write>(
     let tape = write_tape(alloc, assembly.image())?;
     // A session takes its own memory: the assembly's is free before a line is read.
     drop(assembly);
-    debug_tape::<S, R, W>(alloc, map, history, tape.as_slice(), reader, writer)
+    debug_tape(alloc, map, history, tape.as_slice(), reader, writer)
 }

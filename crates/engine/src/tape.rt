@@ -12,9 +12,8 @@ ghost use Rattle.engine.specs.Refusals.{IfSession, IfSource, IfTape};
 
 use crate::fault::EngineFault;
 use crate::image::debug_image;
-use memory_map::MapSpec;
+use bus::MapSpec;
 use papertape::read_tape;
-use session_calls::SessionCalls;
 use std::alloc::Global;
 use std::io::{Read, Write};
 
@@ -35,7 +34,7 @@ use std::io::{Read, Write};
 ///   after that, a beginning of the replies was written.
 ///
 /// Source: mos65.
-pub fn debug_tape<S: SessionCalls, R: Read, W: Write>(
+pub fn debug_tape<R: Read, W: Write>(
     alloc: Global,
     map: MapSpec,
     history: u32,
@@ -79,5 +78,5 @@ pub fn debug_tape<S: SessionCalls, R: Read, W: Write>(
     ensures source { IfSource result (λ _. ⊥) }
 {
     let image = read_tape(alloc, tape)?;
-    debug_image::<S, R, W>(alloc, map, history, image, reader, writer)
+    debug_image(alloc, map, history, image, reader, writer)
 }

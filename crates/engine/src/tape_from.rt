@@ -14,9 +14,8 @@ ghost use Rattle.papertape.specs.Streaming.{IsImageOf, IsRefusalOf};
 
 use crate::fault::EngineFault;
 use crate::image::debug_image;
-use memory_map::MapSpec;
+use bus::MapSpec;
 use papertape::read_tape_from;
-use session_calls::SessionCalls;
 use std::alloc::Global;
 use std::io::{Read, Write};
 
@@ -38,7 +37,7 @@ use std::io::{Read, Write};
 ///   written.
 /// - `OutOfMemory`: an allocation failed. Before the session began, no command line was read and
 ///   nothing was written; after that, a beginning of the replies was written.
-pub fn debug_tape_from<S: SessionCalls, T: Read, R: Read, W: Write>(
+pub fn debug_tape_from<T: Read, R: Read, W: Write>(
     alloc: Global,
     map: MapSpec,
     history: u32,
@@ -86,5 +85,5 @@ pub fn debug_tape_from<S: SessionCalls, T: Read, R: Read, W: Write>(
     ensures source { IfSource result (λ _. ⊥) }
 {
     let image = read_tape_from(alloc, tape)?;
-    debug_image::<S, R, W>(alloc, map, history, image, reader, writer)
+    debug_image(alloc, map, history, image, reader, writer)
 }

@@ -10,7 +10,6 @@ use crate::routes::{Route, route_of};
 use asm_files::asm_files;
 use checking::check;
 use dap::dap;
-use debugged::Debugged;
 use dis_source::dis_source;
 use image_words::{convert, debug_image, dis_image};
 use lsp::lsp;
@@ -112,7 +111,7 @@ fn serve_editor(rt: &HostRuntime, route: Route, words: &[&str]) -> u8 {
 
 /// Serves `asm`, `dis` and `debug` as promised, and returns the exit status.
 fn serve_promised(rt: &HostRuntime, words: &[&str]) -> u8 {
-    program::<Debugged, _, _, _, _>(
+    program(
         rt,
         words,
         &mut Retrying::new(rt.reader()),

@@ -5,7 +5,6 @@
 ghost use Rattle.std.specs.Prelude.{◌≡◌, ◌≤◌};
 
 use arguments::{Refusal, refuse, write_text};
-use debugged::Debugged;
 use program::{process_words, program, unreadable_words, words_of};
 use standard_streams::{Retrying, take_closed};
 use std::io;
@@ -42,7 +41,7 @@ fn run(rt: &HostRuntime) -> io::Result<u8> {
     if asks_for_version(&words) {
         return Ok(tell_version(&mut io::writer(rt), &mut rt.stderr()));
     }
-    Ok(program::<Debugged, _, _, _, _>(
+    Ok(program(
         rt,
         &words,
         &mut Retrying::new(rt.reader()),

@@ -8,7 +8,6 @@ ghost use Rattle.program.specs.Streams.{IsServed};
 use arguments::{ReadFault, Refusal, map_of, read_source};
 use arguments_core::DebugWords;
 use engine::{EngineFault, debug_source, debug_tape_from};
-use session_calls::SessionCalls;
 use standard_streams::Retrying;
 use std::fs::File;
 use std::io;
@@ -18,7 +17,7 @@ use std::rt::Files;
 /// Debugs a source or a tape: the replies to the lines of `input` go to `output`.
 ///
 /// A tape is read in pieces, so that a long one takes no more memory than a short one.
-pub fn debug<S: SessionCalls, H: Files + AllocGlobal, R: Read, O: Write>(
+pub fn debug<H: Files + AllocGlobal, R: Read, O: Write>(
     rt: &H,
     words: &DebugWords<'_>,
     input: &mut R,
@@ -39,12 +38,10 @@ pub fn debug<S: SessionCalls, H: Files + AllocGlobal, R: Read, O: Write>(
     let history = words.history;
     if words.is_tape {
         let mut tape = opened(rt, words.file).map_err(|error| Refusal::unreadable(&error))?;
-        answered(debug_tape_from::<S, Retrying<H::File>, R, O>(
-            alloc, map, history, &mut tape, input, output,
-        ))
+        answered(debug_tape_from(alloc, map, history, &mut tape, input, output))
     } else {
         let source = read_source(rt, words.file)?;
-        answered(debug_source::<S, R, O>(alloc, map, history, source.as_slice(), input, output))
+        answered(debug_source(alloc, map, history, source.as_slice(), input, output))
     }
 }
 

@@ -10,7 +10,6 @@ ghost use Rattle.program.specs.Runs.{RunsDebug};
 use crate::debugging::debug;
 use arguments::{ReadFault, Refusal, refuse, refuse_file};
 use arguments_core::DebugWords;
-use session_calls::SessionCalls;
 use std::io::{Read, Write};
 use std::rt::Files;
 
@@ -56,7 +55,7 @@ fn finish_session<E: Write>(outcome: Result<(), Refusal>, file: &str, errors: &m
 /// Debugs the file of the words as `program` does, and returns the exit status.
 ///
 /// The fault line names the file, unless it may be a standard stream that failed.
-pub fn debug_named<S: SessionCalls, H: Files + AllocGlobal, R: Read, O: Write, E: Write>(
+pub fn debug_named<H: Files + AllocGlobal, R: Read, O: Write, E: Write>(
     rt: &H,
     words: &DebugWords<'_>,
     input: &mut R,
@@ -77,9 +76,5 @@ pub fn debug_named<S: SessionCalls, H: Files + AllocGlobal, R: Read, O: Write, E
       now = O.contents output.new;
     }) result ((input.new ≡ input.old) × (output.new ≡ output.old)) }
 {
-    finish_session(
-        debug::<S, H, R, O>(rt, words, input, output),
-        words.file,
-        errors,
-    )
+    finish_session(debug(rt, words, input, output), words.file, errors)
 }

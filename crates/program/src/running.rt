@@ -13,7 +13,6 @@ use crate::debugging::debug;
 use crate::disassembling::dis;
 use arguments::{Refusal, finish, refuse, refused_words};
 use arguments_core::{Words, read_words};
-use session_calls::SessionCalls;
 use std::io;
 use std::io::{ErrorKind, Read, Write};
 use std::rt::Files;
@@ -44,7 +43,7 @@ pub fn unreadable_words<E: Write>(error: &io::Error, errors: &mut E) -> u8
 /// written. Faults are found in this order: words, map, a file to read, its content, a file to
 /// write. `asm` makes the whole texts of the tape and of the listing before it makes the tape's
 /// file, and then the listing's.
-pub fn program<S: SessionCalls, H: Files + AllocGlobal, R: Read, O: Write, E: Write>(
+pub fn program<H: Files + AllocGlobal, R: Read, O: Write, E: Write>(
     rt: &H,
     words: &[&str],
     input: &mut R,
@@ -87,7 +86,7 @@ pub fn program<S: SessionCalls, H: Files + AllocGlobal, R: Read, O: Write, E: Wr
     match read_words(rt.alloc(), words) {
         Ok(Words::Asm(words)) => finish(asm(rt, &words), errors),
         Ok(Words::Dis(words)) => finish(dis(rt, &words, output), errors),
-        Ok(Words::Debug(words)) => finish(debug::<S, H, R, O>(rt, &words, input, output), errors),
+        Ok(Words::Debug(words)) => finish(debug(rt, &words, input, output), errors),
         Err(fault) => refused_words(fault, output, errors),
     }
 }

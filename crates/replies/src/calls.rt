@@ -10,20 +10,15 @@ ghost use Rattle.model.specs.Transcript.{back_answer, refusal_line, run_line, ta
 use crate::fault::ReplyFault;
 use crate::output::put;
 use crate::texts::{refusal_text, register_text, run_text};
+use debugger::Session;
 use model::SessionFault;
-use session_calls::SessionCalls;
 use std::io::Write;
 
 /// Runs at most so many steps, and writes how many were made and why the run ended.
-pub fn run<S: SessionCalls, W: Write>(
-    session: &mut S,
-    count: u32,
-    writer: &mut W,
-) -> Result<(), ReplyFault>
+pub fn run<W: Write>(session: &mut Session, count: u32, writer: &mut W) -> Result<(), ReplyFault>
     ensures writes { Writes (W.contents writer.old) (W.contents writer.new)
-        (run_line (run_end count (S.view session.old))) result }
-    ensures after { S.view session.new ≡ after_steps (run_end count (S.view session.old)).did
-        (S.view session.old) }
+        (run_line (run_end count session.old)) result }
+    ensures after { session.new ≡ after_steps (run_end count session.old).did session.old }
     ensures fault { OnErr result (result ≡ Err ReplyFault.Write) }
 {
     let end = session.run(count);
@@ -31,15 +26,14 @@ pub fn run<S: SessionCalls, W: Write>(
 }
 
 /// Undoes so many events, and writes the register line, or how many are held.
-pub fn go_back<S: SessionCalls, W: Write>(
-    session: &mut S,
+pub fn go_back<W: Write>(
+    session: &mut Session,
     count: u32,
     writer: &mut W,
 ) -> Result<(), ReplyFault>
     ensures writes { Writes (W.contents writer.old) (W.contents writer.new)
-        (back_answer (S.view session.old) (back_of count (S.view session.old))).written result }
-    ensures after { S.view session.new ≡
-        (back_answer (S.view session.old) (back_of count (S.view session.old))).session }
+        (back_answer session.old (back_of count session.old)).written result }
+    ensures after { session.new ≡ (back_answer session.old (back_of count session.old)).session }
     ensures fault { OnErr result (result ≡ Err ReplyFault.Write) }
 {
     match session.back(count) {
@@ -49,20 +43,17 @@ pub fn go_back<S: SessionCalls, W: Write>(
 }
 
 /// Sets a breakpoint, and writes `OK` or the fault. If memory runs out, nothing is written.
-pub fn set_break<S: SessionCalls, W: Write>(
-    session: &mut S,
+pub fn set_break<W: Write>(
+    session: &mut Session,
     address: u16,
     writer: &mut W,
 ) -> Result<(), ReplyFault>
     ensures writes { Writes (W.contents writer.old) (W.contents writer.new)
-        (table_answer (S.view session.old) (break_set address (S.view session.old))).written
-        result }
+        (table_answer session.old (break_set address session.old)).written result }
     ensures after { result ≢ Err ReplyFault.OutOfMemory
-        → S.view session.new ≡ (table_answer (S.view session.old)
-        (break_set address (S.view session.old))).session }
-    ensures memory { IsErrOf result ReplyFault.OutOfMemory
-        → (S.view session.new ≡ S.view session.old)
-        × (writer.new ≡ writer.old) × IsOk (break_set address (S.view session.old)) }
+        → session.new ≡ (table_answer session.old (break_set address session.old)).session }
+    ensures memory { IsErrOf result ReplyFault.OutOfMemory → (session.new ≡ session.old)
+        × (writer.new ≡ writer.old) × IsOk (break_set address session.old) }
 {
     match session.set_break(address) {
         Ok(()) => put(writer, b"OK\n"),
@@ -71,20 +62,17 @@ pub fn set_break<S: SessionCalls, W: Write>(
 }
 
 /// Sets a watchpoint, and writes `OK` or the fault. If memory runs out, nothing is written.
-pub fn set_watch<S: SessionCalls, W: Write>(
-    session: &mut S,
+pub fn set_watch<W: Write>(
+    session: &mut Session,
     address: u16,
     writer: &mut W,
 ) -> Result<(), ReplyFault>
     ensures writes { Writes (W.contents writer.old) (W.contents writer.new)
-        (table_answer (S.view session.old) (watch_set address (S.view session.old))).written
-        result }
+        (table_answer session.old (watch_set address session.old)).written result }
     ensures after { result ≢ Err ReplyFault.OutOfMemory
-        → S.view session.new ≡ (table_answer (S.view session.old)
-        (watch_set address (S.view session.old))).session }
-    ensures memory { IsErrOf result ReplyFault.OutOfMemory
-        → (S.view session.new ≡ S.view session.old)
-        × (writer.new ≡ writer.old) × IsOk (watch_set address (S.view session.old)) }
+        → session.new ≡ (table_answer session.old (watch_set address session.old)).session }
+    ensures memory { IsErrOf result ReplyFault.OutOfMemory → (session.new ≡ session.old)
+        × (writer.new ≡ writer.old) × IsOk (watch_set address session.old) }
 {
     match session.set_watch(address) {
         Ok(()) => put(writer, b"OK\n"),
@@ -93,16 +81,15 @@ pub fn set_watch<S: SessionCalls, W: Write>(
 }
 
 /// Clears a breakpoint, and writes `OK` or the fault.
-pub fn clear_break<S: SessionCalls, W: Write>(
-    session: &mut S,
+pub fn clear_break<W: Write>(
+    session: &mut Session,
     address: u16,
     writer: &mut W,
 ) -> Result<(), ReplyFault>
     ensures writes { Writes (W.contents writer.old) (W.contents writer.new)
-        (table_answer (S.view session.old) (break_cleared address (S.view session.old))).written
-        result }
-    ensures after { S.view session.new
-        ≡ (table_answer (S.view session.old) (break_cleared address (S.view session.old))).session }
+        (table_answer session.old (break_cleared address session.old)).written result }
+    ensures after { session.new
+        ≡ (table_answer session.old (break_cleared address session.old)).session }
     ensures fault { OnErr result (result ≡ Err ReplyFault.Write) }
 {
     match session.clear_break(address) {
@@ -112,16 +99,15 @@ pub fn clear_break<S: SessionCalls, W: Write>(
 }
 
 /// Clears a watchpoint, and writes `OK` or the fault.
-pub fn clear_watch<S: SessionCalls, W: Write>(
-    session: &mut S,
+pub fn clear_watch<W: Write>(
+    session: &mut Session,
     address: u16,
     writer: &mut W,
 ) -> Result<(), ReplyFault>
     ensures writes { Writes (W.contents writer.old) (W.contents writer.new)
-        (table_answer (S.view session.old) (watch_cleared address (S.view session.old))).written
-        result }
-    ensures after { S.view session.new
-        ≡ (table_answer (S.view session.old) (watch_cleared address (S.view session.old))).session }
+        (table_answer session.old (watch_cleared address session.old)).written result }
+    ensures after { session.new
+        ≡ (table_answer session.old (watch_cleared address session.old)).session }
     ensures fault { OnErr result (result ≡ Err ReplyFault.Write) }
 {
     match session.clear_watch(address) {

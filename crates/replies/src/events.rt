@@ -9,18 +9,16 @@ ghost use Rattle.model.specs.Transcript.{after_input, event_answer, input_answer
 use crate::fault::ReplyFault;
 use crate::output::put;
 use crate::texts::{fault_text, register_text};
+use debugger::Session;
 use model::{Event, EventFault};
-use session_calls::SessionCalls;
 use std::io::Write;
 
 /// Makes a step, and writes the register line after it, or the fault.
-pub fn step<S: SessionCalls, W: Write>(session: &mut S, writer: &mut W) -> Result<(), ReplyFault>
+pub fn step<W: Write>(session: &mut Session, writer: &mut W) -> Result<(), ReplyFault>
     ensures writes { Writes (W.contents writer.old) (W.contents writer.new)
-        (stepped_answer (S.view session.old)
-        (event_of (S.view session.old).current Event.Step)).written result }
-    ensures after { S.view session.new
-        ≡ (stepped_answer (S.view session.old)
-        (event_of (S.view session.old).current Event.Step)).session }
+        (stepped_answer session.old (event_of session.old.current Event.Step)).written result }
+    ensures after { session.new
+        ≡ (stepped_answer session.old (event_of session.old.current Event.Step)).session }
     ensures fault { OnErr result (result ≡ Err ReplyFault.Write) }
 {
     match session.event(Event::Step) {
@@ -30,17 +28,15 @@ pub fn step<S: SessionCalls, W: Write>(session: &mut S, writer: &mut W) -> Resul
 }
 
 /// Makes an event other than a step, and writes `OK` or the fault.
-pub fn happen<S: SessionCalls, W: Write>(
-    session: &mut S,
+pub fn happen<W: Write>(
+    session: &mut Session,
     event: Event,
     writer: &mut W,
 ) -> Result<(), ReplyFault>
     ensures writes { Writes (W.contents writer.old) (W.contents writer.new)
-        (event_answer (S.view session.old) (event_of (S.view session.old).current event)).written
-        result }
-    ensures after { S.view session.new
-        ≡ (event_answer (S.view session.old)
-        (event_of (S.view session.old).current event)).session }
+        (event_answer session.old (event_of session.old.current event)).written result }
+    ensures after { session.new
+        ≡ (event_answer session.old (event_of session.old.current event)).session }
     ensures fault { OnErr result (result ≡ Err ReplyFault.Write) }
 {
     match session.event(event) {
@@ -51,14 +47,14 @@ pub fn happen<S: SessionCalls, W: Write>(
 
 /// Hands in bytes of input, all of them or none, and writes `OK` or the fault.
 #[tactic(auto, unfolding(model::specs::Transcript::input_answer))]
-pub fn take_input<S: SessionCalls, W: Write>(
-    session: &mut S,
+pub fn take_input<W: Write>(
+    session: &mut Session,
     bytes: &[u8],
     writer: &mut W,
 ) -> Result<(), ReplyFault>
     ensures writes { Writes (W.contents writer.old) (W.contents writer.new)
-        (input_answer (S.view session.old) bytes.now).written result }
-    ensures after { S.view session.new ≡ (input_answer (S.view session.old) bytes.now).session }
+        (input_answer session.old bytes.now).written result }
+    ensures after { session.new ≡ (input_answer session.old bytes.now).session }
     ensures fault { OnErr result (result ≡ Err ReplyFault.Write) }
 {
     if exceeds_room(session, bytes) {
@@ -69,19 +65,18 @@ pub fn take_input<S: SessionCalls, W: Write>(
 }
 
 /// Returns whether there is no room for all of the bytes.
-fn exceeds_room<S: SessionCalls>(session: &S, bytes: &[u8]) -> bool
+fn exceeds_room(session: &Session, bytes: &[u8]) -> bool
     ensures { result
-        ≡ nat_lt console_size (length (S.view session.now).current.bus.given + length bytes.now) }
+        ≡ nat_lt console_size (length session.now.current.bus.given + length bytes.now) }
 {
     bytes.len() > session.input_room() as usize
 }
 
 /// Hands in bytes for which there is room, each an event of its own. None is rejected.
-fn hand_in<S: SessionCalls>(session: &mut S, bytes: &[u8])
-    requires { length (S.view session.old).current.bus.given + length bytes.now ≤ 65536 }
-    ensures after { S.view session.new ≡ after_input (S.view session.old) bytes.now }
-    ensures given { (S.view session.new).current.bus.given ≡ (S.view session.old).current.bus.given
-        ++ bytes.now }
+fn hand_in(session: &mut Session, bytes: &[u8])
+    requires { length session.old.current.bus.given + length bytes.now ≤ 65536 }
+    ensures after { session.new ≡ after_input session.old bytes.now }
+    ensures given { session.new.current.bus.given ≡ session.old.current.bus.given ++ bytes.now }
 {
     for byte in bytes {
         hand_in_byte(session, *byte);
@@ -89,13 +84,11 @@ fn hand_in<S: SessionCalls>(session: &mut S, bytes: &[u8])
 }
 
 /// Hands in a byte for which there is room. The event is not rejected.
-fn hand_in_byte<S: SessionCalls>(session: &mut S, byte: u8)
-    requires { length (S.view session.old).current.bus.given + 1 ≤ 65536 }
-    ensures accepted { event_of (S.view session.old).current (Event.Input byte)
-        ≡ Ok (S.view session.new).current }
-    ensures after { S.view session.new ≡ after_input (S.view session.old) (byte ∷ []) }
-    ensures given { (S.view session.new).current.bus.given ≡ (S.view session.old).current.bus.given
-        ++ byte ∷ [] }
+fn hand_in_byte(session: &mut Session, byte: u8)
+    requires { length session.old.current.bus.given + 1 ≤ 65536 }
+    ensures accepted { event_of session.old.current (Event.Input byte) ≡ Ok session.new.current }
+    ensures after { session.new ≡ after_input session.old (byte ∷ []) }
+    ensures given { session.new.current.bus.given ≡ session.old.current.bus.given ++ byte ∷ [] }
 {
     let _ = session.event(Event::Input(byte));
 }

@@ -5,14 +5,14 @@ ghost use Rattle.model.specs.Text.{address_part, memory_row, output_row, registe
 ghost use Rattle.model.specs.Transcript.{fault_line, refusal_line, refused_text, run_line};
 ghost use Rattle.model.specs.Transcript.{source_fault_line, why_text};
 
+use debugger::Session;
 use formatting::{Text, push_bytes, push_decimal, push_hex_address, push_hex_byte, push_status};
 use model::{AsmFaultKind, EventFault, RunEnd, SessionFault, Why};
-use session_calls::SessionCalls;
 
 /// Returns the register line.
 #[tactic(auto, unfolding(model::specs::Text::register_line))]
-pub fn register_text<S: SessionCalls>(session: &S) -> Text
-    ensures { result.items ≡ register_line (S.view session.now).current }
+pub fn register_text(session: &Session) -> Text
+    ensures { result.items ≡ register_line session.now.current }
 {
     let regs = session.regs();
     let mut text = Text::new();
@@ -154,9 +154,9 @@ pub fn address_text(address: u16) -> Text
 }
 
 /// Returns a row of memory: the bytes from one address to another, at most 16.
-pub fn row_text<S: SessionCalls>(session: &S, first: u16, last: u16) -> Text
+pub fn row_text(session: &Session, first: u16, last: u16) -> Text
     requires { last ≤ first + 15 }
-    ensures { result.items ≡ memory_row (S.view session.now).current.bus.memory first last }
+    ensures { result.items ≡ memory_row session.now.current.bus.memory first last }
 {
     let mut text = Text::new();
     push_hex_address(&mut text, first);
@@ -181,9 +181,9 @@ pub fn row_end(start: u16, last: u16) -> u16
 }
 
 /// Returns how many bytes the output has.
-pub fn output_head<S: SessionCalls>(session: &S) -> Text
+pub fn output_head(session: &Session) -> Text
     ensures { result.items
-        ≡ codes "OUT " ++ decimal (length (S.view session.now).current.bus.out) ++ 10 ∷ [] }
+        ≡ codes "OUT " ++ decimal (length session.now.current.bus.out) ++ 10 ∷ [] }
 {
     let mut text = Text::new();
     push_bytes(&mut text, b"OUT ");
@@ -193,8 +193,8 @@ pub fn output_head<S: SessionCalls>(session: &S) -> Text
 }
 
 /// Returns a row of output: the bytes from an index on, at most 32.
-pub fn output_row_text<S: SessionCalls>(session: &S, from: u32) -> Text
-    ensures { result.items ≡ output_row (S.view session.now).current.bus.out from }
+pub fn output_row_text(session: &Session, from: u32) -> Text
+    ensures { result.items ≡ output_row session.now.current.bus.out from }
 {
     let mut text = Text::new();
     let count = session.output_len().saturating_sub(from).min(32);

@@ -12,31 +12,28 @@ use crate::fault::ReplyFault;
 use crate::output::put;
 use crate::texts::{address_text, output_head, output_row_text, register_text, row_end, row_text};
 use arrayvec::ArrayVec;
+use debugger::Session;
 use formatting::Text;
-use session_calls::SessionCalls;
 use std::io::Write;
 
 /// Writes the register line.
-pub fn put_registers<S: SessionCalls, W: Write>(
-    session: &S,
-    writer: &mut W,
-) -> Result<(), ReplyFault>
+pub fn put_registers<W: Write>(session: &Session, writer: &mut W) -> Result<(), ReplyFault>
     ensures writes { Writes (W.contents writer.old) (W.contents writer.new)
-        (register_line (S.view session.now).current) result }
+        (register_line session.now.current) result }
     ensures fault { OnErr result (result ≡ Err ReplyFault.Write) }
 {
     put(writer, register_text(session).as_slice())
 }
 
 /// Writes the bytes of memory from one address to another, a row at a time.
-pub fn put_rows<S: SessionCalls, W: Write>(
-    session: &S,
+pub fn put_rows<W: Write>(
+    session: &Session,
     first: u16,
     last: u16,
     writer: &mut W,
 ) -> Result<(), ReplyFault>
     ensures writes { Writes (W.contents writer.old) (W.contents writer.new)
-        (memory_rows (S.view session.now).current.bus.memory first last) result }
+        (memory_rows session.now.current.bus.memory first last) result }
     ensures fault { OnErr result (result ≡ Err ReplyFault.Write) }
 {
     for row in 0..last.saturating_sub(first) / 16 + 1 {
@@ -51,9 +48,9 @@ pub fn put_rows<S: SessionCalls, W: Write>(
 }
 
 /// Writes how many bytes of output there are, and the bytes, a row at a time.
-pub fn put_output<S: SessionCalls, W: Write>(session: &S, writer: &mut W) -> Result<(), ReplyFault>
+pub fn put_output<W: Write>(session: &Session, writer: &mut W) -> Result<(), ReplyFault>
     ensures writes { Writes (W.contents writer.old) (W.contents writer.new)
-        (output_text (S.view session.now).current.bus.out) result }
+        (output_text session.now.current.bus.out) result }
     ensures fault { OnErr result (result ≡ Err ReplyFault.Write) }
 {
     match put(writer, output_head(session).as_slice()) {
@@ -63,9 +60,9 @@ pub fn put_output<S: SessionCalls, W: Write>(session: &S, writer: &mut W) -> Res
 }
 
 /// Writes the output's bytes, 32 a row.
-fn put_output_rows<S: SessionCalls, W: Write>(session: &S, writer: &mut W) -> Result<(), ReplyFault>
+fn put_output_rows<W: Write>(session: &Session, writer: &mut W) -> Result<(), ReplyFault>
     ensures writes { Writes (W.contents writer.old) (W.contents writer.new)
-        (output_rows (S.view session.now).current.bus.out) result }
+        (output_rows session.now.current.bus.out) result }
     ensures fault { OnErr result (result ≡ Err ReplyFault.Write) }
 {
     for row in 0..session.output_len().div_ceil(32) {
@@ -79,9 +76,9 @@ fn put_output_rows<S: SessionCalls, W: Write>(session: &S, writer: &mut W) -> Re
 }
 
 /// Writes the breakpoints in order of setting.
-pub fn put_breaks<S: SessionCalls, W: Write>(session: &S, writer: &mut W) -> Result<(), ReplyFault>
+pub fn put_breaks<W: Write>(session: &Session, writer: &mut W) -> Result<(), ReplyFault>
     ensures writes { Writes (W.contents writer.old) (W.contents writer.new)
-        (breaks_line (S.view session.now).breaks) result }
+        (breaks_line session.now.breaks) result }
     ensures fault { OnErr result (result ≡ Err ReplyFault.Write) }
 {
     match put(writer, b"BREAKS") {
@@ -91,9 +88,9 @@ pub fn put_breaks<S: SessionCalls, W: Write>(session: &S, writer: &mut W) -> Res
 }
 
 /// Writes the rest of the line: the addresses, and the line's end.
-fn put_break_list<S: SessionCalls, W: Write>(session: &S, writer: &mut W) -> Result<(), ReplyFault>
+fn put_break_list<W: Write>(session: &Session, writer: &mut W) -> Result<(), ReplyFault>
     ensures writes { Writes (W.contents writer.old) (W.contents writer.new)
-        (flat_map address_part (S.view session.now).breaks ++ 10 ∷ []) result }
+        (flat_map address_part session.now.breaks ++ 10 ∷ []) result }
     ensures fault { OnErr result (result ≡ Err ReplyFault.Write) }
 {
     match put_addresses(session, writer) {
@@ -103,9 +100,9 @@ fn put_break_list<S: SessionCalls, W: Write>(session: &S, writer: &mut W) -> Res
 }
 
 /// Writes the addresses of the breakpoints, each after a space.
-fn put_addresses<S: SessionCalls, W: Write>(session: &S, writer: &mut W) -> Result<(), ReplyFault>
+fn put_addresses<W: Write>(session: &Session, writer: &mut W) -> Result<(), ReplyFault>
     ensures writes { Writes (W.contents writer.old) (W.contents writer.new)
-        (flat_map address_part (S.view session.now).breaks) result }
+        (flat_map address_part session.now.breaks) result }
     ensures fault { OnErr result (result ≡ Err ReplyFault.Write) }
 {
     for index in 0..session.break_count() {
@@ -119,9 +116,9 @@ fn put_addresses<S: SessionCalls, W: Write>(session: &S, writer: &mut W) -> Resu
 }
 
 /// Returns a breakpoint's address after a space.
-fn break_text<S: SessionCalls>(session: &S, index: u32) -> Text
-    requires { index < length (S.view session.now).breaks }
-    ensures { result.items ≡ address_part (slice_index (S.view session.now).breaks index) }
+fn break_text(session: &Session, index: u32) -> Text
+    requires { index < length session.now.breaks }
+    ensures { result.items ≡ address_part (slice_index session.now.breaks index) }
 {
     match session.break_at(index) {
         Some(address) => address_text(address),
@@ -132,15 +129,14 @@ fn break_text<S: SessionCalls>(session: &S, index: u32) -> Text
 /// Writes at most so many instructions of the session's profile as text, from an address on.
 ///
 /// The rows end after $FFFF.
-pub fn put_instructions<S: SessionCalls, W: Write>(
-    session: &S,
+pub fn put_instructions<W: Write>(
+    session: &Session,
     address: u16,
     count: u32,
     writer: &mut W,
 ) -> Result<(), ReplyFault>
     ensures writes { Writes (W.contents writer.old) (W.contents writer.new) (rows_in
-        (S.view session.now).current.bus.map.profile (S.view session.now).current.bus.memory 65535
-        address count)
+        session.now.current.bus.map.profile session.now.current.bus.memory 65535 address count)
         result }
     ensures fault { OnErr result (result ≡ Err ReplyFault.Write) }
 {
@@ -163,8 +159,8 @@ pub fn put_instructions<S: SessionCalls, W: Write>(
 
 /// Returns the bytes of memory that an instruction at an address can have: three, or those to
 /// $FFFF.
-fn bytes_at<S: SessionCalls>(session: &S, address: u16) -> ArrayVec<u8, 3>
-    ensures bytes { result.items ≡ bytes_from (S.view session.now).current.bus.memory address }
+fn bytes_at(session: &Session, address: u16) -> ArrayVec<u8, 3>
+    ensures bytes { result.items ≡ bytes_from session.now.current.bus.memory address }
     ensures some { 1 ≤ length result.items }
     ensures few { length result.items ≤ 3 }
 {

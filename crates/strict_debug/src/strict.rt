@@ -14,7 +14,6 @@ use crate::Watch;
 use crate::asked::plain_words;
 use arguments::{Refusal, WordsFault, refuse, refused_words};
 use arguments_core::{DebugWords, Words, read_words};
-use debugged::Debugged;
 use program::debug_named;
 use std::io::{Read, Write};
 use std::rt::Files;
@@ -76,7 +75,7 @@ fn serve_session<H: Files + AllocGlobal, R: Read, O: Write, E: Write>(
     }) result.0 ((input.new ≡ input.old) × (result.1 ≡ output)) }
 {
     let mut watch = Watch::over(output);
-    let status = debug_named::<Debugged, _, _, _, _>(rt, words, input, &mut watch, errors);
+    let status = debug_named(rt, words, input, &mut watch, errors);
     let (has_fault, output) = watch.finish();
     (status_of_replies(status, has_fault), output)
 }

@@ -2,7 +2,6 @@
 
 use crate::streams::{LimitedReader, LimitedWriter};
 use anyhow::Result;
-use debugged::Debugged;
 use program::program;
 use std::cell::Cell;
 use std::rt::Files;
@@ -37,7 +36,7 @@ fn report<R: Files + AllocGlobal + Print>(
     let unflushed = Cell::new(0);
     let mut output = LimitedWriter::new(rt.alloc(), 512, 512, flushes, &waiting);
     let mut errors = LimitedWriter::new(rt.alloc(), 512, room, 1, &unflushed);
-    let status = program::<Debugged, _, _, _, _>(rt, &words, &mut input, &mut output, &mut errors);
+    let status = program(rt, &words, &mut input, &mut output, &mut errors);
     let (written, line) = (output.text(), errors.text());
     println!(rt; "{run}: status {status}")?;
     println!(rt; "    {written:?} {line:?}")?;

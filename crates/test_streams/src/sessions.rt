@@ -3,7 +3,6 @@
 use crate::streams::{LimitedReader, LimitedWriter};
 use anyhow::Result;
 use bus::MapSpec;
-use debugged::Debugged;
 use engine::{EngineFault, debug_source, debug_tape, debug_tape_from};
 use std::alloc::Global;
 use std::cell::Cell;
@@ -125,8 +124,8 @@ fn served(
 ) -> Result<Result<(), EngineFault>> {
     let map = MapSpec::new(None, 0xf000)?;
     Ok(match call {
-        Call::Source => debug_source::<Debugged, _, _>(alloc, map, 8, PROGRAM, lines, replies),
-        Call::Tape => debug_tape::<Debugged, _, _>(alloc, map, 8, TAPE, lines, replies),
+        Call::Source => debug_source(alloc, map, 8, PROGRAM, lines, replies),
+        Call::Tape => debug_tape(alloc, map, 8, TAPE, lines, replies),
         Call::TapeFrom { tape, has_end } => {
             let waiting = Cell::new(0);
             let mut tape = LimitedReader {
@@ -136,7 +135,7 @@ fn served(
                 waiting: &waiting,
                 is_early: false,
             };
-            debug_tape_from::<Debugged, _, _, _>(alloc, map, 8, &mut tape, lines, replies)
+            debug_tape_from(alloc, map, 8, &mut tape, lines, replies)
         }
     })
 }

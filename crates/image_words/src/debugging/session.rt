@@ -8,7 +8,6 @@ ghost use Rattle.engine.specs.Outcome.{EndsServing, Reaches, Serves};
 ghost use Rattle.image_words.specs.Serving.{of_serving};
 
 use arguments::{ReadFault, Refusal};
-use debugged::Debugged;
 use engine::{EngineFault, debug_tape};
 use memory_map::{Image, MapSpec};
 use papertape::write_tape;
@@ -38,7 +37,7 @@ pub fn serve<R: Read, O: Write>(
     ensures ends { IfErr result EndsServing }
 {
     match write_tape(alloc, &image) {
-        Ok(tape) => debug_tape::<Debugged, _, _>(alloc, map, history, &tape, input, output),
+        Ok(tape) => debug_tape(alloc, map, history, &tape, input, output),
         Err(_) => Err(EngineFault::OutOfMemory),
     }
 }

@@ -7,4 +7,4 @@ use Rattle.engine.proofs.lines.serve.Given as goal
 abbrev pub invariant-loop : goal.invariant-loop
 invariant-loop g l =
     (told : List ℕ) × (text : List ℕ) × Consumes (g.R.Read.remaining l.fn.reader) (g.R.Read.remaining l.reader) told
-    × Appends (g.W.Write.contents l.fn.writer) (g.W.Write.contents l.writer) text × ServesSoFar (g.S.SessionCalls.view l.fn.session) told text (g.S.SessionCalls.view l.session) l.begun.items
+    × Appends (g.W.Write.contents l.fn.writer) (g.W.Write.contents l.writer) text × ServesSoFar l.fn.session told text l.session l.begun.items

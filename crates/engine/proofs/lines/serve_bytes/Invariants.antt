@@ -7,4 +7,4 @@ use Rattle.engine.proofs.lines.serve_bytes.Given as goal
 abbrev pub invariant-loop-byte : goal.invariant-loop-byte
 invariant-loop-byte g l =
     (text : List ℕ) × Appends (g.W.Write.contents l.fn.writer) (g.W.Write.contents l.writer) text
-    × (feed (g.S.SessionCalls.view l.fn.session) l.fn.begun.items l.bytes ≡ fed_after text (feed (g.S.SessionCalls.view l.session) l.begun.items (drop l.byte-index l.bytes)))
+    × (feed l.fn.session l.fn.begun.items l.bytes ≡ fed_after text (feed l.session l.begun.items (drop l.byte-index l.bytes)))

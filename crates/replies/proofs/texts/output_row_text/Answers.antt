@@ -5,7 +5,7 @@ use Rattle.replies.proofs.Rows.{digits_none, digits_step, digits_row}
 use Rattle.replies.proofs.texts.output_row_text.Goals as goal
 
 pub loop-index-init : goal.loop-index-init
-loop-index-init g c =
+loop-index-init c =
     let none : c.args.from - c.args.from ≡ 0 = omega arith in
     record {
       text = rw (none, digits_none) c.new-text.ensures;
@@ -13,8 +13,8 @@ loop-index-init g c =
     }
 
 pub loop-index-preserved : goal.loop-index-preserved
-loop-index-preserved g c =
-    let out = (g.S.SessionCalls.view c.args.session.now).current.bus.out in let from = c.args.from in let index = c.loop-index.index in
+loop-index-preserved c =
+    let out = c.args.session.now.current.bus.out in let from = c.args.from in let index = c.loop-index.index in
     let left : c.saturating_sub.result ≡ length out - from = c.saturating_sub.ensures ∙ ap (λ n. n - from) c.output_len.ensures in
     let few : c.min-count.result ≤ length out - from = omega (arith, left, c.min-count.ensures, min-le_left c.saturating_sub.result 32) in
     let within : index < length out = omega (arith, few, c.loop-index-test.true) in
@@ -26,8 +26,8 @@ loop-index-preserved g c =
     }
 
 pub returns : goal.returns
-returns g c =
-    let out = (g.S.SessionCalls.view c.args.session.now).current.bus.out in let from = c.args.from in let index = c.loop-index.index in
+returns c =
+    let out = c.args.session.now.current.bus.out in let from = c.args.from in let index = c.loop-index.index in
     let count : index - from ≡ c.min-count.result = omega (arith, c.loop-index.auto.index, c.loop-index.auto.index-end, c.loop-index-test.false) in
     let left : c.min-count.result ≡ min (length out - from) 32 = c.min-count.ensures ∙ ap (λ n. min n 32) (c.saturating_sub.ensures ∙ ap (λ n. n - from) c.output_len.ensures) in
     c.push_bytes.ensures ∙ ap (λ l. l ++ 10 ∷ []) c.loop-index.invariant.text ∙ sym (digits_row out from (index - from) (count ∙ left))

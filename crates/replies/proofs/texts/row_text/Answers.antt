@@ -6,7 +6,7 @@ use Rattle.replies.proofs.texts.row_text.Goals as goal
 use Rattle.replies.proofs.texts.row_text.Goals.{else-loop-address-test, then-loop-address-test+else-address-last}
 
 pub loop-address-init : goal.loop-address-init
-loop-address-init g c =
+loop-address-init c =
     let first = c.args.first in
     let none : c.args.first - c.args.first ≡ 0 = omega arith in
     let text = c.push_bytes.ensures ∙ ap (λ l. l ++ 32 ∷ []) (c.push_hex_address.ensures ∙ ap (λ l. l ++ hex_address first) c.new-text.ensures) in
@@ -17,7 +17,7 @@ loop-address-init g c =
     }
 
 pub loop-address-preserved : goal.loop-address-preserved
-loop-address-preserved g c =
+loop-address-preserved c =
     let spaced : length c.push_bytes-in-loop-address.new.text.items ≡ length c.loop-address.text.items + 1 = ap length c.push_bytes-in-loop-address.ensures ∙ length-append _ _ in
     let pushed : length c.push_hex_byte.new.text.items ≡ length c.push_bytes-in-loop-address.new.text.items + 2 = ap length c.push_hex_byte.ensures ∙ length-append _ _ in
     record {
@@ -27,8 +27,8 @@ loop-address-preserved g c =
     }
 
 pub returns : goal.returns
-returns g c =
-    let memory = (g.S.SessionCalls.view c.args.session.now).current.bus.memory in
+returns c =
+    let memory = c.args.session.now.current.bus.memory in
     let first = c.args.first in let last = c.args.last in let address = c.loop-address.address in
     c.push_bytes-2.ensures ∙ elim c.loop-address-test.branch [
       | else-loop-address-test w ↦

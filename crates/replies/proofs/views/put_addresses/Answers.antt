@@ -9,7 +9,7 @@ loop-index-init g c = rw addresses_none (Appends-nil _)
 
 pub returns-in-Err-clause-writes : goal.returns-in-Err-clause-writes
 returns-in-Err-clause-writes g c =
-    let breaks = (g.S.SessionCalls.view c.args.session.now).breaks in let k = c.loop-index.index in
+    let breaks = c.args.session.now.breaks in let k = c.loop-index.index in
     let within : k < length breaks = omega arith in
     let row = c.as_slice.ensures.value ∙ c.break_text-text.ensures in
     let part = rw row at c.in-Err.ensures.writes in
@@ -18,13 +18,13 @@ returns-in-Err-clause-writes g c =
 
 pub loop-index-preserved : goal.loop-index-preserved
 loop-index-preserved g c =
-    let breaks = (g.S.SessionCalls.view c.args.session.now).breaks in let k = c.loop-index.index in
+    let breaks = c.args.session.now.breaks in let k = c.loop-index.index in
     let within : k < length breaks = omega arith in
     let row = c.as_slice.ensures.value ∙ c.break_text-text.ensures in
     rw (addresses_more breaks k within) (Appends-trans _ _ _ _ _ c.loop-index.invariant (rw row at c.in-Ok.ensures.writes))
 
 pub returns-clause-writes : goal.returns-clause-writes
 returns-clause-writes g c =
-    let breaks = (g.S.SessionCalls.view c.args.session.now).breaks in
+    let breaks = c.args.session.now.breaks in
     let all : length breaks ≤ c.loop-index.index = omega arith in
     rw (addresses_all breaks c.loop-index.index all) c.loop-index.invariant

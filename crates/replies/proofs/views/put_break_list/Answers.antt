@@ -7,8 +7,8 @@ use Rattle.replies.proofs.views.put_break_list.Goals as goal
 
 pub returns-in-Ok-clause-writes : goal.returns-in-Ok-clause-writes
 returns-in-Ok-clause-writes g c =
-    Writes-then _ _ _ (flat_map address_part (g.S.SessionCalls.view c.args.session.now).breaks) (10 ∷ []) _ c.in-Ok.ensures.writes c.put.ensures.writes
+    Writes-then _ _ _ (flat_map address_part c.args.session.now.breaks) (10 ∷ []) _ c.in-Ok.ensures.writes c.put.ensures.writes
 
 pub returns-in-Err-clause-writes : goal.returns-in-Err-clause-writes
 returns-in-Err-clause-writes g c =
-    front_more _ _ (flat_map address_part (g.S.SessionCalls.view c.args.session.now).breaks) (10 ∷ []) c.in-Err.ensures.writes
+    front_more _ _ (flat_map address_part c.args.session.now.breaks) (10 ∷ []) c.in-Err.ensures.writes

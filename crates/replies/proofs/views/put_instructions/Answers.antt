@@ -9,16 +9,16 @@ use Rattle.replies.proofs.views.put_instructions.Goals as goal
 pub loop-done-init : goal.loop-done-init
 loop-done-init g c =
     let all : c.args.count ≡ c.args.count - 0 = omega arith in
-    ([], Appends-nil _, ap (λ n. rows_in (g.S.SessionCalls.view c.args.session.now).current.bus.map.profile (g.S.SessionCalls.view c.args.session.now).current.bus.memory 65535 c.args.address n) all)
+    ([], Appends-nil _, ap (λ n. rows_in c.args.session.now.current.bus.map.profile c.args.session.now.current.bus.memory 65535 c.args.address n) all)
 
 pub returns-then-next-gt65535-clause-writes : goal.returns-then-next-gt65535-clause-writes
 returns-then-next-gt65535-clause-writes g c =
-    let profile = (g.S.SessionCalls.view c.args.session.now).current.bus.map.profile in let memory = (g.S.SessionCalls.view c.args.session.now).current.bus.memory in let inv = c.loop-done.invariant in
+    let profile = c.args.session.now.current.bus.map.profile in let memory = c.args.session.now.current.bus.memory in let inv = c.loop-done.invariant in
     rw (inv.2 ∙ ap (λ l. inv.0 ++ l) (rows_past profile memory c.loop-done.next (c.args.count - c.loop-done.done) c.if-next-gt65535.true) ∙ append-nil inv.0) inv.1
 
 pub returns-in-Err-clause-writes : goal.returns-in-Err-clause-writes
 returns-in-Err-clause-writes g c =
-    let profile = (g.S.SessionCalls.view c.args.session.now).current.bus.map.profile in let memory = (g.S.SessionCalls.view c.args.session.now).current.bus.memory in let next = c.loop-done.next in let inv = c.loop-done.invariant in
+    let profile = c.args.session.now.current.bus.map.profile in let memory = c.args.session.now.current.bus.memory in let next = c.loop-done.next in let inv = c.loop-done.invariant in
     let n = c.args.count - c.loop-done.done in
     let some : 0 < n = omega (arith, c.loop-done-test.true) in
     let is_bytes = c.as_slice.ensures.value ∙ c.bytes_at-bytes.ensures.bytes in
@@ -30,7 +30,7 @@ returns-in-Err-clause-writes g c =
 
 pub loop-done-preserved : goal.loop-done-preserved
 loop-done-preserved g c =
-    let profile = (g.S.SessionCalls.view c.args.session.now).current.bus.map.profile in let memory = (g.S.SessionCalls.view c.args.session.now).current.bus.memory in let next = c.loop-done.next in let inv = c.loop-done.invariant in
+    let profile = c.args.session.now.current.bus.map.profile in let memory = c.args.session.now.current.bus.memory in let next = c.loop-done.next in let inv = c.loop-done.invariant in
     let n = c.args.count - c.loop-done.done in
     let some : 0 < n = omega (arith, c.loop-done-test.true) in
     let is_bytes = c.as_slice.ensures.value ∙ c.bytes_at-bytes.ensures.bytes in
@@ -46,6 +46,6 @@ loop-done-preserved g c =
 
 pub returns-clause-writes : goal.returns-clause-writes
 returns-clause-writes g c =
-    let profile = (g.S.SessionCalls.view c.args.session.now).current.bus.map.profile in let memory = (g.S.SessionCalls.view c.args.session.now).current.bus.memory in let inv = c.loop-done.invariant in
+    let profile = c.args.session.now.current.bus.map.profile in let memory = c.args.session.now.current.bus.memory in let inv = c.loop-done.invariant in
     let none : c.args.count - c.loop-done.done ≡ 0 = omega (arith, c.loop-done-test.false) in
     rw (inv.2 ∙ ap (λ l. inv.0 ++ l) (rows_none profile memory c.loop-done.next (c.args.count - c.loop-done.done) none) ∙ append-nil inv.0) inv.1

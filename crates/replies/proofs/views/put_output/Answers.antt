@@ -9,7 +9,7 @@ use Rattle.replies.proofs.views.put_output.Goals as goal
 
 pub returns-in-Ok-clause-writes : goal.returns-in-Ok-clause-writes
 returns-in-Ok-clause-writes g c =
-    let out = (g.S.SessionCalls.view c.args.session.now).current.bus.out in
+    let out = c.args.session.now.current.bus.out in
     let head = c.as_slice.ensures.value ∙ c.output_head.ensures in
     let part = rw head at c.in-Ok.ensures.writes in
     subst (λ t. Writes (g.W.Write.contents c.args.writer.now) (g.W.Write.contents c.put_output_rows.new.writer) t c.put_output_rows.result) (output_whole out)
@@ -17,7 +17,7 @@ returns-in-Ok-clause-writes g c =
 
 pub returns-in-Err-clause-writes : goal.returns-in-Err-clause-writes
 returns-in-Err-clause-writes g c =
-    let out = (g.S.SessionCalls.view c.args.session.now).current.bus.out in
+    let out = c.args.session.now.current.bus.out in
     let head = c.as_slice.ensures.value ∙ c.output_head.ensures in
     let part = rw head at c.in-Err.ensures.writes in
     subst (λ t. AppendsFront (g.W.Write.contents c.args.writer.now) (g.W.Write.contents c.put.new.writer) t) (output_whole out)

@@ -3,4 +3,4 @@ use Rattle.replies.proofs.Rows.{parts_to, output_part}
 use Rattle.replies.proofs.views.put_output_rows.Given as goal
 
 abbrev pub invariant-loop-row : goal.invariant-loop-row
-invariant-loop-row g l = Appends (g.W.Write.contents l.fn.writer) (g.W.Write.contents l.writer) (parts_to (output_part (g.S.SessionCalls.view l.session).current.bus.out) l.row)
+invariant-loop-row g l = Appends (g.W.Write.contents l.fn.writer) (g.W.Write.contents l.writer) (parts_to (output_part l.session.current.bus.out) l.row)

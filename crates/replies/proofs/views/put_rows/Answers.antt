@@ -9,7 +9,7 @@ loop-row-init g c = rw parts_none (Appends-nil _)
 
 pub returns-in-Err-clause-writes : goal.returns-in-Err-clause-writes
 returns-in-Err-clause-writes g c =
-    let memory = (g.S.SessionCalls.view c.args.session.now).current.bus.memory in let first = c.args.first in let last = c.args.last in let k = c.loop-row.row in
+    let memory = c.args.session.now.current.bus.memory in let first = c.args.first in let last = c.args.last in let k = c.loop-row.row in
     let row = c.as_slice.ensures.value ∙ c.row_text-text.ensures ∙ row_at memory first last k (first + 16 * k) c.row_end.result refl c.row_end.ensures in
     let part = rw row at c.in-Err.ensures.writes in
     let all = parts_front (row_of memory first last) (k + 1) (c.saturating_sub.result / 16 + 1) (omega (arith, c.loop-row-test.true)) in
@@ -17,12 +17,12 @@ returns-in-Err-clause-writes g c =
 
 pub loop-row-preserved : goal.loop-row-preserved
 loop-row-preserved g c =
-    let memory = (g.S.SessionCalls.view c.args.session.now).current.bus.memory in let first = c.args.first in let last = c.args.last in let k = c.loop-row.row in
+    let memory = c.args.session.now.current.bus.memory in let first = c.args.first in let last = c.args.last in let k = c.loop-row.row in
     let row = c.as_slice.ensures.value ∙ c.row_text-text.ensures ∙ row_at memory first last k (first + 16 * k) c.row_end.result refl c.row_end.ensures in
     rw parts_more (Appends-trans _ _ _ _ _ c.loop-row.invariant (rw row at c.in-Ok.ensures.writes))
 
 pub returns-clause-writes : goal.returns-clause-writes
 returns-clause-writes g c =
-    let memory = (g.S.SessionCalls.view c.args.session.now).current.bus.memory in let first = c.args.first in let last = c.args.last in
+    let memory = c.args.session.now.current.bus.memory in let first = c.args.first in let last = c.args.last in
     let count : c.loop-row.row ≡ c.saturating_sub.result / 16 + 1 = omega (arith, c.loop-row.auto.row-end, c.loop-row-test.false) in
     rw (rows_all memory first last c.loop-row.row (count ∙ ap (λ n. n / 16 + 1) c.saturating_sub.ensures)) c.loop-row.invariant
