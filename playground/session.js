@@ -343,8 +343,7 @@ class Session {
 
   // Goes back before a BRK that has no handler, or stands where nothing was written.
   brkBefore() {
-    if (this.machine.registers().pc != this.vector() || this.total == this.began) return null;
-    if (this.lastIsOutside()) return null;
+    if (this.total == this.began || this.lastIsOutside() || !this.mayFollowBrk()) return null;
     this.machine.back(1);
     const rest = this.restHere();
     if (rest && rest.why != "waits") {
@@ -353,6 +352,16 @@ class Session {
     }
     this.machine.recordRun(1);
     return null;
+  }
+
+  // Whether the last step may have been a BRK, by what it would have pushed: P with B set, and its own
+  // address and 2.
+  mayFollowBrk() {
+    const {pc, s} = this.machine.registers();
+    if (pc != this.vector()) return false;
+    const page = this.machine.read(0x0100, 256);
+    const [p, low, high] = [1, 2, 3].map(k => page[s + k & 255]);
+    return (p & 0x30) == 0x30 && this.machine.read((low | high << 8) - 2 & 65535, 1)[0] == BRK;
   }
 
   lastIsOutside() {
