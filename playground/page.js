@@ -10,7 +10,8 @@ const STEPS = 50000;       // steps of one call, at most
 const KEY = 0xFF;          // where the screen's programs find a key
 const grouped = new Intl.NumberFormat("en").format;
 const hex2 = byte => byte.toString(16).toUpperCase().padStart(2, "0");
-const LIMITS = {BREAKS: 256};
+const BREAKS = 256;        // breakpoints, at most
+const LONG = 4000;         // lines of a source that the viewer shows, at most
 
 let session = null, viewer = null, editor = null, shelf = null;
 let name = "program.a65";
@@ -171,7 +172,7 @@ function addressOf(number) {
 
 function toggleBreak(number) {
   const isSet = breakLines.includes(number);
-  if (!isSet && breakLines.length == LIMITS.BREAKS) return tell("256 breakpoints are set already.");
+  if (!isSet && breakLines.length == BREAKS) return tell("256 breakpoints are set already.");
   breakLines = isSet ? breakLines.filter(it => it != number) : [...breakLines, number];
   setBreaks();
   tell(`Breakpoint ${isSet ? "cleared" : "set"} at line ${number}.`);
@@ -232,7 +233,8 @@ function assemble() {
 
 function showProgram() {
   info = readFacts(session.facts);
-  info.source = session.lines.map(line => line.text);
+  // a longer one makes each step slow: then the viewer shows what ran as instructions
+  if (session.lines.length <= LONG) info.source = session.lines.map(line => line.text);
   wantsInput = false;
   viewer.show({info, run: session.run, step: 0});
   showStale();
@@ -404,6 +406,7 @@ function ended(reason) {
   session.settle();
   showRun();
   wantsInput = reason.why == "waits";
+  $("typing").classList.toggle("asked", wantsInput);
   tell(reasonTold(reason) || `Stopped after ${grouped(steps)} steps.`);
   if (wantsInput) $("line").focus();
 }

@@ -297,10 +297,10 @@ class Session {
   // Makes at most so many steps at full speed. Returns why the run ended, or null.
   slice(limit = CHUNK) {
     const inner = this.setInnerBreaks();
-    let left = limit, reason = null;
+    let left = limit, reason = this.restHere();
     while (left > 0 && !reason) {
       const did = this.total;
-      reason = this.restHere() || this.stretch(left, inner);
+      reason = this.stretch(left, inner);
       left -= this.total - did;
     }
     for (const address of inner) this.machine.clearBreak(address);
@@ -317,7 +317,7 @@ class Session {
     if (ending.why == "refused") return ending;
     if (ending.why == "break") return this.breakAt(ending.address);
     if (ending.did == limit) return null;
-    const rest = this.restHere() || this.stepHere();
+    const rest = this.restHere() || this.stepHere();         // what is marked comes next
     if (rest) return rest;
     const {pc} = this.machine.registers();
     return this.breaks.has(pc) || inner.has(pc) ? this.breakAt(pc) : null;
@@ -325,7 +325,8 @@ class Session {
 
   // Breakpoints of the run's own: where a BRK leads to, and where a call returns to.
   setInnerBreaks() {
-    const wanted = new Set([this.vector()]);
+    this.vectorHere = this.vector();
+    const wanted = new Set([this.vectorHere]);
     if (this.over) wanted.add(this.over.address);
     for (const address of this.breaks) wanted.delete(address);
     for (const address of wanted) this.machine.setBreak(address);
@@ -333,7 +334,7 @@ class Session {
   }
 
   breakAt(address) {
-    const wasBrk = this.brkBefore();
+    const wasBrk = address == this.vectorHere ? this.brkBefore() : null;
     if (wasBrk) return wasBrk;
     const {over} = this;
     const isBack = over && address == over.address && this.machine.registers().s >= over.s;
@@ -343,8 +344,7 @@ class Session {
 
   // Goes back before a BRK that has no handler, or stands where nothing was written.
   brkBefore() {
-    if (this.machine.registers().pc != this.vector() || this.total == this.began) return null;
-    if (this.lastIsOutside()) return null;
+    if (this.total == this.began || this.lastIsOutside() || !this.mayFollowBrk()) return null;
     this.machine.back(1);
     const rest = this.restHere();
     if (rest && rest.why != "waits") {
@@ -353,6 +353,15 @@ class Session {
     }
     this.machine.recordRun(1);
     return null;
+  }
+
+  // Whether the last step may have been a BRK, by what it would have pushed: P with B set, and its own
+  // address and 2.
+  mayFollowBrk() {
+    const {s} = this.machine.registers();
+    const page = this.machine.read(0x0100, 256);
+    const [p, low, high] = [1, 2, 3].map(k => page[s + k & 255]);
+    return (p & 0x30) == 0x30 && this.machine.read((low | high << 8) - 2 & 65535, 1)[0] == BRK;
   }
 
   lastIsOutside() {
