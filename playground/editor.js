@@ -4,8 +4,8 @@ const {Editor, readFaults, columnOf} = (() => {
 
 const TAB = 8;
 
-// What the text of all faults says, as `mos65 check` prints it: a row NAME:LINE:COLUMN: words, the
-// line, and a mark under the bytes meant. NAME has no colon.
+// What the text of all faults or warnings says, as `mos65 check` prints it: a row
+// NAME:LINE:COLUMN: words, the line, and a mark under the bytes meant. NAME has no colon.
 function readFaults(text) {
   const faults = [], rows = text.split("\n");
   for (let at = 0; at < rows.length; at++) {
@@ -13,7 +13,8 @@ function readFaults(text) {
     if (!found) continue;
     const mark = /\^~*/.exec(/^[ \t]*\^~*$/.test(rows[at + 2] || "") ? rows[at + 2] : "");
     const [line, column] = [+found[1], +found[2]];
-    faults.push({line, column, length: mark ? mark[0].length : 1, words: found[3]});
+    const words = found[3], isWarning = words.startsWith("warning: ");
+    faults.push({line, column, length: mark ? mark[0].length : 1, words, isWarning});
     if (mark) at += 2;
   }
   return faults;
@@ -112,19 +113,20 @@ class Editor {
     }
   }
 
-  // Shows faults, as `readFaults` gives them, and the lines with breakpoints.
+  // Shows faults or warnings, as `readFaults` gives them, and the lines with breakpoints.
   show(faults, breaks = this.breaks) {
     this.faults = faults;
     this.breaks = breaks;
     const lines = faults.length ? this.value.split("\n") : [];
-    const waves = faults.map(({line, column, length}) =>
-      this.box("wave", line, columnOf(lines[line - 1] || "", column), length));
+    const sort = it => it.isWarning ? "warn" : "bad";
+    const waves = faults.map(it => this.box(sort(it), it.line,
+      columnOf(lines[it.line - 1] || "", it.column), it.length));
     this.marks.firstElementChild.replaceChildren(...waves);
-    this.numbers.lastElementChild.replaceChildren(...faults.map(it => this.box("bad", it.line)),
+    this.numbers.lastElementChild.replaceChildren(...faults.map(it => this.box(sort(it), it.line)),
       ...breaks.map(line => this.box("break", line)));
     this.list.replaceChildren(...faults.map(it => this.row(it)));
     this.list.hidden = !faults.length;
-    this.text.setAttribute("aria-invalid", String(faults.length > 0));
+    this.text.setAttribute("aria-invalid", String(faults.some(it => !it.isWarning)));
     this.scrolled();
   }
 
@@ -135,10 +137,11 @@ class Editor {
     return box;
   }
 
-  row({line, column, words}) {
+  row({line, column, words, isWarning}) {
     const item = document.createElement("li"), button = document.createElement("button");
     const number = document.createElement("b");
     number.textContent = line ? `Line ${line} ` : "";
+    item.className = isWarning ? "warn" : "";
     button.append(number, words);
     button.dataset.line = line || 1;
     button.dataset.column = column;

@@ -18,6 +18,7 @@ let name = "program.a65";
 let assembled = null;      // the text that the machine runs, or null
 let info = null;           // what the viewer was told of the program
 let breakLines = [];       // numbers of lines with breakpoints
+let warned = "";           // how many warnings the source has, in words
 let hasScreen = false, running = null, checking = 0, isUnsaved = false;
 let wantsInput = false;    // a run waits for input, and goes on by itself
 
@@ -137,17 +138,26 @@ function showStale() {
   document.body.classList.toggle("stale", assembled !== null && isStale());
 }
 
-// Shows the faults of the source. Returns their text.
+// Shows the faults of the source, or its warnings where it has none. Returns the text of the faults.
 function check() {
   clearTimeout(checking);
   keep();
   if (!session) return "";
-  const text = session.faults("source", editor.value);
-  editor.show(readFaults(text), breakLines);
-  if (text) tell(`${text.trimEnd().split("\n").at(-1)}: see below the source.`);
+  const faults = session.faults("source", editor.value);
+  const warnings = faults ? "" : session.warnings("source", editor.value);
+  editor.show(readFaults(faults || warnings), breakLines);
+  warned = countOf(warnings);
+  if (faults) tell(`${countOf(faults)}: see below the source.`);
+  else if (warned) tell(`${warned}: see below the source. It can be run as it is.`);
   else if (isStale()) tell("No faults. Run or Step assembles the source.");
-  return text;
+  return faults;
 }
+
+// How many faults or warnings there are: the last row of their text.
+const countOf = text => text.trimEnd().split("\n").at(-1);
+
+// Words on the warnings of the source, for those who see its run.
+const warningTold = () => warned ? ` The source has ${warned}: see Edit.` : "";
 
 // Moves breakpoints with their lines where the text is changed. Those of lines that were replaced
 // are dropped.
@@ -216,7 +226,7 @@ function assemble() {
     showMode("edit");
     const {line, column, words} = editor.faults[0];
     editor.goTo(line, column);
-    tell(`${text.trimEnd().split("\n").at(-1)}. Line ${line}: ${words}`, true);
+    tell(`${countOf(text)}. Line ${line}: ${words}`, true);
     return false;
   }
   session.breaks.clear();
@@ -227,7 +237,7 @@ function assemble() {
   setBreaks();
   showMode("run");
   const count = session.loaded.reduce((sum, [, bytes]) => sum + bytes, 0);
-  tell(`Assembled: ${grouped(count)} bytes. The next instruction is marked.`);
+  tell(`Assembled: ${grouped(count)} bytes. The next instruction is marked.${warningTold()}`);
   return true;
 }
 
@@ -407,7 +417,7 @@ function ended(reason) {
   showRun();
   wantsInput = reason.why == "waits";
   $("typing").classList.toggle("asked", wantsInput);
-  tell(reasonTold(reason) || `Stopped after ${grouped(steps)} steps.`);
+  tell((reasonTold(reason) || `Stopped after ${grouped(steps)} steps.`) + warningTold());
   if (wantsInput) $("line").focus();
 }
 

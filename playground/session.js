@@ -92,6 +92,10 @@ class Session {
     return this.engine.faults(name, source, this.config);
   }
 
+  warnings(name, source) {
+    return this.engine.warnings(name, source, this.config);
+  }
+
   // Assembles a source and opens a machine with it. Throws where the source is refused.
   open(name, source) {
     const assembly = this.engine.assemble(source, this.config);

@@ -376,6 +376,29 @@ def try_faults(page, tally, how):
     tally.holds("no fault", page.wait("document.querySelector('#faults').hidden"))
 
 
+def try_warnings(page, tally, how):
+    """Warnings are told as `mos65 check` does, and the program runs all the same."""
+    source, told = source_and_faults("warned.a65")
+    page.choose(1)
+    page.edit(source)
+    page.wait("document.querySelectorAll('#faults .warn').length")
+    rows = re.findall(r"^warned\.a65:(\d+):\d+: (.*)$", told, re.M)
+    shown = page.js("[...document.querySelectorAll('#faults .warn')].map(e => e.textContent)")
+    tally.compare("warnings", shown, [f"Line {line} {words}" for line, words in rows])
+    tally.compare("their marks", page.js("document.querySelectorAll('#marks .warn').length"), len(rows))
+    page.click("#on")
+    tally.compare("mode with warnings", page.js("document.body.dataset.mode"), "run")
+    with open(f"{TOP}/README.md", encoding="utf-8") as it:
+        slip = re.search(r"CPX \d+", it.read())[0]
+    page.edit(f"*=$0200\nstart: LDX #0\n {slip}\ndone: JMP done\n*=$FFFC\n.WORD start\n")
+    page.wait("document.querySelectorAll('#faults .warn').length == 1")
+    words = page.js("document.querySelector('#faults').textContent")
+    tally.holds(f"{slip}: {words}", words.startswith("Line 3 warning: PlainNumber"))
+    for number in range(1, page.js("document.querySelector('#example').length")):
+        page.choose(number)
+        tally.compare(f"warnings of example {number}", page.js("playground.editor.faults"), [])
+
+
 def load_file(page, path):
     """Opens a file as the dialog of the browser would."""
     document = page.browser.call("DOM.getDocument")["root"]["nodeId"]
@@ -618,7 +641,7 @@ def try_phone(page, tally, how):
     phone.close()
 
 
-CHECKS = [try_sessions, try_faults, try_page, try_hostile, try_link, try_kept, try_endless, try_long,
+CHECKS = [try_sessions, try_faults, try_warnings, try_page, try_hostile, try_link, try_kept, try_endless, try_long,
           try_refused, try_old_browser, try_keyboard, try_names, try_contrast, try_phone]
 
 
