@@ -15,6 +15,7 @@ const LONG = 4000;         // lines of a source that the viewer shows, at most
 
 let session = null, viewer = null, editor = null, shelf = null;
 let name = "program.a65";
+let examples = [];
 let assembled = null;      // the text that the machine runs, or null
 let info = null;           // what the viewer was told of the program
 let breakLines = [];       // numbers of lines with breakpoints
@@ -128,6 +129,7 @@ const isStale = () => assembled !== editor.value;
 
 function textChanged() {
   isUnsaved = true;
+  setHash("");               // a link there has another text
   clearTimeout(checking);
   checking = setTimeout(safely(check), PAUSE);
   showStale();
@@ -536,17 +538,28 @@ async function loadSource() {
   if (!file) return;
   if (file.size > 1 << 21) return tell("The file is too long: a source has 1 MiB at most.", true);
   const text = await file.text();
-  take(text, file.name.replace(/[^\w.-]/g, "_") || "program.a65", hasScreen);
-  tell(`${name} is open.`);
+  const kept = take(text, file.name.replace(/[^\w.-]/g, "_") || "program.a65", hasScreen);
+  tell(`${name} is open.${kept}`);
 }
 
-// Takes another text into the editor. What was there stays in the browser's store.
-function take(text, itsName, withScreen) {
+function setHash(hash) {
+  if (location.hash == hash) return;
+  history.replaceState(null, "", location.href.split("#")[0] + hash);
+}
+
+// Whether a text is the user's: no example, and not blank.
+const isOwn = text => text.trim() != "" && !examples.some(it => it.text == text);
+
+// Takes another text into the editor. What was there stays in the browser's store, if it is the
+// user's own. Returns words on that, or none.
+function take(text, itsName, withScreen, hash = "") {
   stop();
-  if (isUnsaved) {
+  const isKept = isOwn(editor.value) && editor.value != text, old = name;
+  if (isKept) {
     keep();
     shelf.takeNewId();
   }
+  setHash(hash);
   name = itsName;
   hasScreen = withScreen;
   breakLines = [];
@@ -555,6 +568,9 @@ function take(text, itsName, withScreen) {
   showNothing();
   $("name").textContent = name;
   safely(check)();
+  if (!isKept) return "";
+  const isSure = $("files").dataset.kept == "yes";
+  return isSure ? ` Your text ${old} is kept: see File.` : " The browser keeps no text of yours.";
 }
 
 async function makeLink() {
@@ -576,9 +592,10 @@ async function makeLink() {
 // Takes the source of the link that the page was opened by, if it has one. Nothing of it is run.
 async function takeLink() {
   try {
-    const found = await unpackLink(location.hash);
-    if (found) take(found.text, "linked.a65", found.hasScreen);
-    return !!found;
+    const {hash} = location, found = await unpackLink(hash);
+    if (!found) return false;
+    tell("The source of the link." + take(found.text, "linked.a65", found.hasScreen, hash));
+    return true;
   } catch (fault) {
     tell("The source in this link cannot be read: " + fault.message + ".", true);
     return false;
@@ -613,16 +630,16 @@ function keep() {
 }
 
 function showKept() {
-  const others = shelf.others();
-  $("kept").replaceChildren(...(others.length ? [heading("Texts of other visits")] : []),
+  const isFirst = (it, k, all) => all.findIndex(other => other.text == it.text) == k;
+  const others = shelf.others(isOwn).filter(it => it.text != editor.value).filter(isFirst);
+  $("kept").replaceChildren(...(others.length ? [heading("Texts that are kept")] : []),
     ...others.map(it => {
       const button = document.createElement("button");
       const rows = it.text.split("\n").length, when = new Date(it.at).toLocaleString();
       button.textContent = `${it.name}, ${grouped(rows)} lines, ${when}`;
       button.onclick = () => {
         $("files").open = false;
-        take(it.text, it.name, it.hasScreen);
-        tell(`${it.name} is here again. The other text stays where it is.`);
+        tell(`${it.name} is here again.` + take(it.text, it.name, it.hasScreen));
       };
       return button;
     }));
@@ -637,13 +654,15 @@ function heading(text) {
 async function firstText() {
   const mine = shelf.mine();
   if (mine && mine.hash == location.hash) {
-    take(mine.text, mine.name, mine.hasScreen);
+    take(mine.text, mine.name, mine.hasScreen, mine.hash);
     return tell("Your text is here as you left it.");
   }
+  if (mine) shelf.takeNewId();                 // the link's text is not kept in the place of mine
   if (await takeLink()) return;
-  const [first] = readExamples(unescaped(part("examples")));
+  const broken = $("told").textContent, [first] = examples;
   if (first) take(first.text, first.name, first.hasScreen);
-  if (shelf.others().length) tell("A text of another visit is kept: see File.");
+  if (broken) tell(broken, true);
+  else if (shelf.others(isOwn).length) tell("Another text is kept: see File.");
 }
 
 // ---- the document
@@ -782,14 +801,14 @@ function makeViewer() {
 }
 
 function makeChoices() {
-  const all = readExamples(unescaped(part("examples")));
-  all.forEach((it, k) => $("example").add(new Option(it.title, k)));
+  examples = readExamples(unescaped(part("examples")));
+  examples.forEach((it, k) => $("example").add(new Option(it.title, k)));
   $("example").onchange = () => {
-    const it = all[$("example").value];
+    const it = examples[$("example").value];
     $("example").selectedIndex = 0;
     if (!it) return;
-    take(it.text, it.name, it.hasScreen);
-    tell(`${it.name}: press Run or Step.`);
+    const kept = take(it.text, it.name, it.hasScreen);
+    tell(`${it.name}: press Run or Step.${kept}`);
   };
 }
 
@@ -886,7 +905,9 @@ async function begin() {
     const engine = await openEngine(moduleBytes());
     session = new Session(engine, Run, {ops: part("ops").trim(), random: anyByte});
     session.hasRandom = hasScreen;
+    const told = $("told").textContent, isBad = $("told").classList.contains("bad");
     safely(check)();
+    if (told) tell(told, isBad);
   } catch (fault) {
     tellNoEngine(fault);
   }

@@ -487,6 +487,47 @@ def try_kept(page, tally, how):
     tally.compare("texts kept then", page.js("localStorage.length"), ids[1] + 1)
 
 
+KEPT = "document.querySelector('#files').open = true, new Promise(f => setTimeout(() => f([" \
+    "...document.querySelectorAll('#kept button')].map(e => e.textContent)), 100))"
+
+
+def try_own_text(page, tally, how):
+    """A text of one's own is kept where another one takes its place, also after a reload."""
+    def by_example():
+        page.choose(2)
+
+    def by_file():
+        load_file(page, f"{TOP}/examples/hunt.a65")
+        page.wait("document.querySelector('#told').textContent.includes('is open')")
+
+    def by_link():
+        page.js(f"location.hash = {json.dumps(link)}")
+        page.wait("document.querySelector('#told').textContent.includes('link')")
+
+    def by_opened_link():
+        page.open(link)
+
+    link = page.js("packLink('; in a link\\n', false)")
+    for act in (by_example, by_file, by_link, by_opened_link):
+        page.js("localStorage.clear(), sessionStorage.clear()")
+        page.open()
+        page.edit("; mine\n")
+        page.js("new Promise(f => setTimeout(f, 500))")
+        page.open()
+        act()
+        is_told = "is kept" in page.told() or act == by_opened_link
+        tally.holds(f"{act.__name__}: {page.told()}", is_told)
+        tally.compare(f"{act.__name__}: texts kept", len(page.js(KEPT)), 1)
+        page.click("#kept button")
+        tally.compare(f"{act.__name__}: taken again", page.js("playground.editor.value"), "; mine\n")
+    page.open(link)
+    page.edit("; changed\n")
+    tally.compare("the link after a change", page.js("location.hash"), "")
+    page.js("localStorage.clear(), sessionStorage.clear()")
+    page.open("#z=AAAA")
+    tally.holds(f"a broken link: {page.told()}", "cannot be read" in page.told())
+
+
 def try_endless(page, tally, how):
     """A program that never ends is stopped, and 65,536 steps are held."""
     source = "*=$0200\nstart: INC $10\n BNE start\n INC $11\n JMP start\n*=$FFFC\n.WORD start\n"
@@ -641,7 +682,7 @@ def try_phone(page, tally, how):
     phone.close()
 
 
-CHECKS = [try_sessions, try_faults, try_warnings, try_page, try_hostile, try_link, try_kept, try_endless, try_long,
+CHECKS = [try_sessions, try_faults, try_warnings, try_page, try_hostile, try_link, try_kept, try_own_text, try_endless, try_long,
           try_refused, try_old_browser, try_keyboard, try_names, try_contrast, try_phone]
 
 
