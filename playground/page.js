@@ -366,6 +366,7 @@ function go() {
   wantsInput = false;
   $("live").textContent = $("past").textContent + $("later").textContent;
   showRunning();
+  if (hasScreen) showInTab("memory", $("screen"));
   tell("Running ..");
   running.timer = setTimeout(safely(slice), 0);
 }
@@ -420,7 +421,13 @@ function ended(reason) {
   wantsInput = reason.why == "waits";
   $("typing").classList.toggle("asked", wantsInput);
   tell((reasonTold(reason) || `Stopped after ${grouped(steps)} steps.`) + warningTold());
-  if (wantsInput) $("line").focus();
+  if (wantsInput) showInTab("machine", $("line"));
+}
+
+// Gives a part of the page the focus. On a phone, its panel is shown first.
+function showInTab(tab, element) {
+  if ($("tabs").offsetHeight) $("tabs").querySelector(`[value=${tab}]`).click();
+  element.focus({preventScroll: !$("tabs").offsetHeight});
 }
 
 function showRunning() {
@@ -494,12 +501,18 @@ function paintScreen(memory) {
     + countLit(memory) + " of them not black");
 }
 
+// A key while the screen has the focus, or while a program with a screen runs: then it goes to the
+// program wherever the focus is, but for a field of text and the keys of a button.
 function screenKey(event) {
-  const {key, ctrlKey, metaKey, altKey} = event;
+  const {key, target, ctrlKey, metaKey, altKey} = event;
+  const isHere = target == $("screen");
+  if (!isHere && !(running && hasScreen)) return;
   if (keyByte(key) < 0 || ctrlKey || metaKey || altKey || assembled === null) return;
+  if (target.closest?.("textarea,select,input:not([type=range]),dialog")) return;
+  if (target.tagName == "BUTTON" && (key == "Enter" || key == " ")) return;
   event.preventDefault();
   event.stopPropagation();
-  giveKey(key);
+  if (running || !isOver()) giveKey(key);       // a program that has ended takes no key
 }
 
 // Puts a key where programs find it: at $FF.
@@ -826,7 +839,7 @@ function listen() {
     if (isUnsaved && $("files").dataset.kept == "no") event.preventDefault();
   });
   $("typing").onsubmit = safely(enterLine);
-  $("screen").onkeydown = safely(screenKey);
+  addEventListener("keydown", safely(screenKey), true);      // before the keys of the viewer
   $("files").ontoggle = () => $("files").open && showKept();
   addEventListener("click", event => {
     if (!$("files").contains(event.target)) $("files").open = false;

@@ -596,6 +596,45 @@ def try_old_browser(page, tally, how):
     page.open()
 
 
+WALK = """*=$0600
+start: LDA $FF
+ BEQ start
+ STA $10,X
+ INX
+ LDA #0
+ STA $FF
+ CPX #4
+ BNE start
+ BRK
+*=$FFFC
+.WORD start
+"""
+
+
+def try_screen_keys(page, tally, how):
+    """While a program with a screen runs, keys are its own; what is told of its end stays."""
+    page.choose(1)
+    page.edit(WALK)
+    page.click("#see")
+    page.click("#go")
+    tally.compare("the focus of a run", page.js("document.activeElement.id"), "screen")
+    for key in "dz":
+        page.key(key)
+        page.js("new Promise(f => setTimeout(f, 300))")
+    page.click("#cycles")                    # the focus is on the page
+    for key in "fs":
+        page.key(key)
+        page.js("new Promise(f => setTimeout(f, 300))")
+    page.settle()
+    tally.compare("keys", page.js("[...playground.session.machine.read(0x10, 4)]"), list(b"dzfs"))
+    told = page.told()
+    page.click("#screen")
+    page.key("d")
+    tally.compare("after the end", page.told(), told)
+    tally.holds(f"the end: {told}", told.startswith("BRK"))
+    page.click("#see")
+
+
 FOCUS = """(() => { const e = document.activeElement; return e == document.body ? '' :
   e.id ? '#' + e.id : e.parentElement.id + ' ' + (e.value || e.textContent); })()"""
 REACHABLE = """[...document.querySelectorAll('button,input,select,textarea,summary,[tabindex="0"]')]
@@ -683,7 +722,7 @@ def try_phone(page, tally, how):
 
 
 CHECKS = [try_sessions, try_faults, try_warnings, try_page, try_hostile, try_link, try_kept, try_own_text, try_endless, try_long,
-          try_refused, try_old_browser, try_keyboard, try_names, try_contrast, try_phone]
+          try_refused, try_old_browser, try_screen_keys, try_keyboard, try_names, try_contrast, try_phone]
 
 
 def errors_of(page, tally):
