@@ -159,7 +159,22 @@ function check() {
 const countOf = text => text.trimEnd().split("\n").at(-1);
 
 // Words on the warnings of the source, for those who see its run.
-const warningTold = () => warned ? ` The source has ${warned}: see Edit.` : "";
+function warningTold() {
+  const isTold = warned == "1 warning" && session.begun >= 0;     // it is of the reset vector
+  return warned && !isTold ? ` The source has ${warned}: see Edit.` : "";
+}
+
+// Words on a program that was not begun at its reset vector.
+function begunTold() {
+  const {begun} = session;
+  if (begun < 0) return "";
+  const place = "$" + begun.toString(16).toUpperCase().padStart(4, "0");
+  const isLow = begun < 256, where = isLow ? `, in the zero page, where variables are` : "";
+  const advice = isLow ? ". Begin the source with *=$0600, and the program stands there." : ".";
+  return ` No reset vector: begun at ${place}${where}${advice}`;
+}
+
+const notesTold = () => begunTold() + warningTold();
 
 // Moves breakpoints with their lines where the text is changed. Those of lines that were replaced
 // are dropped.
@@ -231,6 +246,10 @@ function assemble() {
     tell(`${countOf(text)}. Line ${line}: ${words}`, true);
     return false;
   }
+  if (!editor.value.trim()) {
+    tell("The source is empty: type a program, or choose an example.");
+    return false;
+  }
   session.breaks.clear();
   session.hasRandom = hasScreen;
   session.open(name, editor.value);
@@ -239,7 +258,7 @@ function assemble() {
   setBreaks();
   showMode("run");
   const count = session.loaded.reduce((sum, [, bytes]) => sum + bytes, 0);
-  tell(`Assembled: ${grouped(count)} bytes. The next instruction is marked.${warningTold()}`);
+  tell(`Assembled: ${grouped(count)} bytes. The next instruction is marked.${notesTold()}`);
   return true;
 }
 
@@ -261,7 +280,7 @@ function restart() {
   wantsInput = false;
   viewer.show({info, run: session.run, step: 0});
   showMode("run");
-  tell("The machine is as it was after the reset.");
+  tell("The machine is as it was after the reset." + begunTold());
 }
 
 // Assembles first where the text is another one. Returns whether a machine is there to go on.
@@ -420,7 +439,7 @@ function ended(reason) {
   showRun();
   wantsInput = reason.why == "waits";
   $("typing").classList.toggle("asked", wantsInput);
-  tell((reasonTold(reason) || `Stopped after ${grouped(steps)} steps.`) + warningTold());
+  tell((reasonTold(reason) || `Stopped after ${grouped(steps)} steps.`) + notesTold());
   if (wantsInput) showInTab("machine", $("line"));
 }
 

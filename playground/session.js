@@ -11,7 +11,7 @@ const {Session, recordByHand, programFacts, escapeText} = (() => {
 const HISTORY = 65536;
 const SLACK = 8192;        // so many steps may be added before the oldest are dropped
 const CHUNK = 50000;       // steps of one call; fewer than the history, see `settle`
-const VECTOR = 0xFFFE, I_FLAG = 4;
+const RESET = 0xFFFC, VECTOR = 0xFFFE, I_FLAG = 4;
 const BRK = 0x00, JSR = 0x20, JMP = 0x4C, JMP_POINTER = 0x6C;
 const RANDOM = 0xFE;
 
@@ -135,6 +135,7 @@ class Session {
     this.loaded = stretchesOf(this.lines);
     this.image = new Uint8Array(65536);
     for (const [at, count] of this.loaded) this.image.fill(1, at, at + count);
+    this.begun = this.beginWithoutReset();
     this.total = this.base = this.shown = 0;   // events made, before step 0, and in the run
     this.givenCount = 0;
     this.outside = [];                         // [event number, what came], in order
@@ -142,6 +143,15 @@ class Session {
     this.run = new this.Run(machine.recordStart(false, new Uint8Array()), this.loaded);
     for (const address of this.breaks) machine.setBreak(address);
     this.reason = {why: "start"};
+  }
+
+  // Without a byte at the reset vector a program begins at the first instruction of its source.
+  // Returns that address, or -1.
+  beginWithoutReset() {
+    const first = this.lines.find(line => line.isInstruction);
+    if (this.image[RESET] || this.image[RESET + 1] || !first) return -1;
+    this.machine.set("PC", first.address);
+    return first.address;
   }
 
   get inputWaits() {

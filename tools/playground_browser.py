@@ -184,6 +184,8 @@ def a_program(rng):
         rows[4:4] = [" LDA #1", " STA $F003"] if rng.random() < .7 else []
         vectors = "main,handler"
     rows += ["*=$0010", f".BYTE {','.join(str(rng.randrange(48, 52)) for _ in range(16))}"]
+    if vectors == "main" and rng.random() < .2:         # then `helper` comes first, and returns
+        return "\n".join([*rows, ""])
     return "\n".join([*rows, "*=$FFFC", f".WORD {vectors}", ""])
 
 
@@ -316,6 +318,8 @@ class Trial:
           const {{engine}} = playground.session, config = {{history: 65536, port: 0xF000}};
           const assembly = engine.assemble({json.dumps(self.source)}, config);
           const machine = engine.open(assembly, config);
+          const begun = {json.dumps(self.model.begun)};
+          if (begun !== null) machine.set("PC", begun);
           for (const [name, word] of {json.dumps(runs)}) machine[name](word);
           const r = machine.registers(), memory = machine.read(0, 65536);
           let sum = 0; for (const byte of memory) sum = (sum * 31 + byte) % 4294967291;
@@ -397,6 +401,27 @@ def try_warnings(page, tally, how):
     for number in range(1, page.js("document.querySelector('#example').length")):
         page.choose(number)
         tally.compare(f"warnings of example {number}", page.js("playground.editor.faults"), [])
+
+
+def try_no_vector(page, tally, how):
+    """Without a reset vector a program begins at its first instruction, and the page says so."""
+    for origin, begun in (("*=$0600\n", "$0600"), ("", "$0000")):
+        page.choose(1)
+        page.edit(f"{origin} LDX #7\n STX $90\ndone: JMP done\n")
+        page.click("#go")
+        page.settle()
+        tally.compare(f"the byte written from {begun}",
+                      page.js("playground.session.machine.read(0x90, 1)[0]"), 7)
+        told = page.told()
+        tally.holds(f"begun: {told}", f"No reset vector: begun at {begun}" in told)
+        tally.compare(f"zero page: {told}", "zero page" in told, not origin)
+        page.click("#undo")
+        page.click("#undo")
+        page.click("#undo")
+        tally.compare("step 0", page.shown()[5], 0)
+    page.edit("")
+    page.click("#go")
+    tally.holds(f"no source: {page.told()}", "is empty" in page.told())
 
 
 def load_file(page, path):
@@ -721,7 +746,7 @@ def try_phone(page, tally, how):
     phone.close()
 
 
-CHECKS = [try_sessions, try_faults, try_warnings, try_page, try_hostile, try_link, try_kept, try_own_text, try_endless, try_long,
+CHECKS = [try_sessions, try_faults, try_warnings, try_no_vector, try_page, try_hostile, try_link, try_kept, try_own_text, try_endless, try_long,
           try_refused, try_old_browser, try_screen_keys, try_keyboard, try_names, try_contrast, try_phone]
 
 
