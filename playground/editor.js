@@ -40,6 +40,7 @@ class Editor {
     this.breaks = [];
     this.count = 0;
     this.text.addEventListener("input", () => this.changed());
+    this.text.addEventListener("keydown", event => this.pressed(event));
     this.text.addEventListener("scroll", () => this.scrolled());
     this.numbers.addEventListener("click", event => this.clicked(event));
     this.list.addEventListener("click", event => {
@@ -64,6 +65,35 @@ class Editor {
   changed() {
     this.numberLines();
     this.hooks.changed();
+  }
+
+  // Tab puts blanks to the next column of 8, unless Escape came before it. Enter begins the next line
+  // where this one begins.
+  pressed(event) {
+    const {key, shiftKey, ctrlKey, metaKey, altKey, isComposing} = event;
+    const isPlain = !(shiftKey || ctrlKey || metaKey || altKey || isComposing);
+    const leaves = this.isLeaving;
+    this.isLeaving = key == "Escape";
+    if (!isPlain || leaves || key != "Tab" && key != "Enter") return;
+    const before = this.lineBefore();
+    const column = columnOf(before, Infinity);
+    event.preventDefault();
+    if (key == "Tab") this.type(" ".repeat(TAB - column % TAB));
+    else this.type("\n" + /^[ \t]*/.exec(before)[0]);
+  }
+
+  // What stands before the cursor in its line.
+  lineBefore() {
+    const {selectionStart} = this.text;
+    return this.value.slice(this.value.lastIndexOf("\n", selectionStart - 1) + 1, selectionStart);
+  }
+
+  // Puts in a text as if it was typed, so that it can be undone. Where the browser cannot, it is put in.
+  type(text) {
+    if (document.execCommand("insertText", false, text)) return;
+    const {selectionStart, selectionEnd} = this.text;
+    this.text.setRangeText(text, selectionStart, selectionEnd, "end");
+    this.changed();
   }
 
   numberLines() {
