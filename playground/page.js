@@ -21,6 +21,7 @@ let info = null;           // what the viewer was told of the program
 let breakLines = [];       // numbers of lines with breakpoints
 let warned = "";           // how many warnings the source has, in words
 let hasScreen = false, running = null, checking = 0, isUnsaved = false;
+let clicked = {};          // the line of the source that was clicked last, and the step there
 let wantsInput = false;    // a run waits for input, and goes on by itself
 
 // ---- what was put into the page by the build
@@ -720,6 +721,9 @@ const LETTERS = [
   ["l", "make a link with the source", makeLink], ["h", "save the run as a page", savePage],
 ];
 
+const OUTSIDE = new Set("zoflh");                    // the letters with an effect outside the run
+const COMMANDS = new Set([...LETTERS.map(([key]) => key), ..." bBnNurvVwWaxyscCiI+-0gmt?"]);
+
 // Out of the editor, so that keys without Ctrl work.
 function leave() {
   if (assembled !== null && !isStale()) showMode("run");
@@ -744,6 +748,37 @@ function pressKey(event) {
   else if (FUNCTION_KEYS[named]) safely(FUNCTION_KEYS[named])();
   else return;
   event.preventDefault();
+}
+
+// Keys on the lines of the run's source. Who types there wants to edit: Enter leads to the editor at
+// this line, and so does a character that is no command, or is one with an effect outside the run.
+// The character is typed at the end of the line.
+function lineKey(event) {
+  const {key, target, ctrlKey, metaKey, altKey} = event;
+  if (!target.closest?.("#rows") || running || assembled === null) return;
+  if (ctrlKey || metaKey || altKey || !(key == "Enter" || key.length == 1)) return;
+  if (key != "Enter" && COMMANDS.has(key) && !OUTSIDE.has(key)) return;
+  event.stopPropagation();
+  if (key == "Enter") event.preventDefault();
+  const number = chosenLine(target) || 1;
+  edit(number);
+  const line = editor.value.split("\n")[number - 1] || "";
+  if (key != "Enter") editor.goTo(number, line.length + 1);
+  tell(`This is the source, at line ${number}. Run or Step shows the run again.`);
+}
+
+// The row that comes next alone can have the focus: another one loses it, and keys would go nowhere.
+function lineWasClicked(number) {
+  clicked = {number, step: viewer.step};
+  if (document.body.dataset.mode == "run") $("rows").focus({preventScroll: true});
+}
+
+// The number of the line of the source that has the focus, or was clicked last, or comes next.
+function chosenLine(target) {
+  const row = target.closest("tr"), isHere = clicked.step == viewer.step;
+  const number = row ? parseInt(row.querySelector(".n").textContent) : 0;
+  if (info.source && number) return number;
+  return isHere && clicked.number || session.lineAt(session.run.PC[viewer.step]);
 }
 
 function makeTools() {
@@ -812,6 +847,7 @@ function makeViewer() {
       if (hasScreen && viewer) paintScreen(viewer.memory);
     },
     lineClicked(address, number, event) {
+      queueMicrotask(() => lineWasClicked(number));          // after the click has moved
       if (event.detail == 2 && number) edit(number);
       else if (event.target.classList.contains("n") && number) safely(toggleBreak)(number);
       else return false;
@@ -828,7 +864,9 @@ function makeViewer() {
     ["F2", "assemble"], ["F4", "edit, or back to the run"], ["F8", "step"],
     ["Shift F8", "back one step"], ["F9", "over a subroutine"],
     ["Shift F9", "back to the last write of the chosen byte"],
-    ["Ctrl b", "in the editor: breakpoint at this line"]];
+    ["Ctrl b", "in the editor: breakpoint at this line"],
+    ["Tab (editor)", "blanks to the next column of 8; after Escape it leaves the editor"],
+    ["Enter (line)", "to the editor at this line, as a double click or typed text"]];
   for (const [key, words] of others) viewer.addKey(key, words, () => {});
 }
 
@@ -858,7 +896,9 @@ function listen() {
     if (isUnsaved && $("files").dataset.kept == "no") event.preventDefault();
   });
   $("typing").onsubmit = safely(enterLine);
-  addEventListener("keydown", safely(screenKey), true);      // before the keys of the viewer
+  // before the keys of the viewer
+  addEventListener("keydown", safely(screenKey), true);
+  addEventListener("keydown", safely(lineKey), true);
   $("files").ontoggle = () => $("files").open && showKept();
   addEventListener("click", event => {
     if (!$("files").contains(event.target)) $("files").open = false;

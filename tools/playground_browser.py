@@ -621,6 +621,39 @@ def try_old_browser(page, tally, how):
     page.open()
 
 
+def try_typing(page, tally, how):
+    """Who types on the source of a run comes to the editor; Tab and Enter put blanks there."""
+    source = " LDX #3\nloop: DEX\n BNE loop\ndone: JMP done\n*=$FFFC\n.WORD $0000\n"
+    value, mode = "playground.editor.value", "document.body.dataset.mode"
+    page.choose(1)
+    page.edit(source)
+    for key, wanted in (("L", "loop: DEXL"), ("f", "loop: DEXf"), ("Enter", "loop: DEX")):
+        page.edit(source)
+        page.key("Ctrl Enter")
+        page.settle()
+        page.click_on("document.querySelectorAll('#rows .t')[1]")
+        page.key("n")                         # a command of the run
+        tally.compare("mode after n", page.js(mode), "run")
+        page.click_on("document.querySelectorAll('#rows .t')[1]")
+        page.key(key)
+        tally.compare(f"mode after {key}", page.js(mode), "edit")
+        tally.compare(f"line 2 after {key}", page.js(value).split("\n")[1], wanted)
+    page.edit("x:")
+    for key in ("Tab", "Tab", "Enter"):
+        page.key(key)
+    page.type("NOP")
+    page.key("Tab")
+    tally.compare("blanks", page.js(value), "x:              \nNOP     ")
+    page.edit("   NOP")
+    page.key("Enter")
+    page.type("INX")
+    tally.compare("the next line", page.js(value), "   NOP\n   INX")
+    page.key("Escape")
+    page.key("Tab")
+    tally.compare("Tab after Escape", page.js(value), "   NOP\n   INX")
+    tally.holds("it leads on", page.js("document.activeElement.id") != "text")
+
+
 WALK = """*=$0600
 start: LDA $FF
  BEQ start
@@ -747,7 +780,7 @@ def try_phone(page, tally, how):
 
 
 CHECKS = [try_sessions, try_faults, try_warnings, try_no_vector, try_page, try_hostile, try_link, try_kept, try_own_text, try_endless, try_long,
-          try_refused, try_old_browser, try_screen_keys, try_keyboard, try_names, try_contrast, try_phone]
+          try_refused, try_old_browser, try_typing, try_screen_keys, try_keyboard, try_names, try_contrast, try_phone]
 
 
 def errors_of(page, tally):
