@@ -11,6 +11,7 @@ const KEY = 0xFF;          // where the screen's programs find a key
 const grouped = new Intl.NumberFormat("en").format;
 const hex2 = byte => byte.toString(16).toUpperCase().padStart(2, "0");
 const BREAKS = 256;        // breakpoints, at most
+const FIRST = 8;           // bytes by which output is taken for text
 const LONG = 4000;         // lines of a source that the viewer shows, at most
 
 let session = null, viewer = null, editor = null, shelf = null;
@@ -22,6 +23,7 @@ let breakLines = [];       // numbers of lines with breakpoints
 let warned = "";           // how many warnings the source has, in words
 let hasScreen = false, running = null, checking = 0, isUnsaved = false;
 let clicked = {};          // the line of the source that was clicked last, and the step there
+let isFormChosen = false;  // whether the user has chosen text or hex for the console
 let wantsInput = false;    // a run waits for input, and goes on by itself
 
 // ---- what was put into the page by the build
@@ -175,7 +177,13 @@ function begunTold() {
   return ` No reset vector: begun at ${place}${where}${advice}`;
 }
 
-const notesTold = () => begunTold() + warningTold();
+// Words on a run of which the oldest steps are gone.
+function heldTold() {
+  const {base, total, run} = session;
+  return base > 0 ? ` The last ${grouped(run.n)} of ${grouped(total)} steps are kept.` : "";
+}
+
+const notesTold = () => heldTold() + begunTold() + warningTold();
 
 // Moves breakpoints with their lines where the text is changed. Those of lines that were replaced
 // are dropped.
@@ -258,6 +266,7 @@ function assemble() {
   showProgram();
   setBreaks();
   showMode("run");
+  closeFirst();
   const count = session.loaded.reduce((sum, [, bytes]) => sum + bytes, 0);
   tell(`Assembled: ${grouped(count)} bytes. The next instruction is marked.${notesTold()}`);
   return true;
@@ -266,6 +275,7 @@ function assemble() {
 function showProgram() {
   info = readFacts(session.facts);
   // a longer one makes each step slow: then the viewer shows what ran as instructions
+  isFormChosen = false;
   if (session.lines.length <= LONG) info.source = session.lines.map(line => line.text);
   wantsInput = false;
   viewer.show({info, run: session.run, step: 0});
@@ -296,7 +306,17 @@ function showRun(k = session.run.n) {
   info.why = isOver() ? endTold(session.reason) : "";
   if (viewer.run == session.run) viewer.changed(k);
   else viewer.show({info, run: session.run, step: k});
+  showAsText();
   showMode("run");
+}
+
+// The viewer shows a console with many odd bytes in hex. Output that began as text stays text here,
+// until the user has said.
+function showAsText() {
+  const isHex = !$("form").hidden && $("form").textContent == "as text";
+  if (!isHex || isFormChosen || !session.run.out.length) return;
+  const isText = byte => byte == 10 || byte > 31 && byte < 127;
+  if (session.run.out.slice(0, FIRST).every(isText)) $("form").click();
 }
 
 const isOver = () => ["stuck", "brk", "unwritten", "refused"].includes(session.reason.why);
@@ -304,17 +324,18 @@ const isAtEnd = () => viewer.step == session.run.n;
 
 function stepOn() {
   stop();
-  if (isStale()) return assemble();
+  const isNew = isStale();
+  if (!isReady()) return;
   showMode("run");
   if (!isAtEnd()) return viewer.go(viewer.step + 1);
   const reason = session.step();
   showRun();
-  tell(reasonTold(reason));
+  tell(reasonTold(reason) + (isNew ? " The next instruction is marked." + notesTold() : ""));
 }
 
 function stepOver() {
   stop();
-  if (isStale()) return assemble();
+  if (!isReady()) return;
   showMode("run");
   if (!isAtEnd()) return press("moves", 5);
   session.start(true);
@@ -895,6 +916,7 @@ function listen() {
   addEventListener("beforeunload", event => {
     if (isUnsaved && $("files").dataset.kept == "no") event.preventDefault();
   });
+  $("form").addEventListener("click", event => isFormChosen ||= event.isTrusted);
   $("typing").onsubmit = safely(enterLine);
   // before the keys of the viewer
   addEventListener("keydown", safely(screenKey), true);
@@ -927,10 +949,24 @@ function showAbout() {
 function showFirst() {
   const remembered = shelf.ask(localStorageOrNull(), "mos65.visited");
   $("first").hidden = !!remembered;
-  $("understood").onclick = () => {
-    $("first").hidden = true;
-    shelf.put(localStorageOrNull(), "mos65.visited", "yes");
-  };
+  $("understood").onclick = closeFirst;
+}
+
+function closeFirst() {
+  if ($("first").hidden) return;
+  $("first").hidden = true;
+  shelf.put(localStorageOrNull(), "mos65.visited", "yes");
+}
+
+// The list of keys opens at its top: its button at the end has the focus first, and is scrolled to.
+function openHelpAtTop() {
+  const help = $("help");
+  help.tabIndex = -1;
+  new MutationObserver(() => {
+    if (!help.open) return;
+    help.focus({preventScroll: true});
+    help.scrollTop = 0;
+  }).observe(help, {attributeFilter: ["open"]});
 }
 
 function localStorageOrNull() {
@@ -972,6 +1008,7 @@ async function begin() {
   listen();
   showAbout();
   showFirst();
+  openHelpAtTop();
   await firstText();
   try {
     const engine = await openEngine(moduleBytes());

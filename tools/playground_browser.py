@@ -562,7 +562,7 @@ def try_endless(page, tally, how):
     page.js("new Promise(f => setTimeout(f, 700))")
     tally.holds("while it runs", page.told().startswith("Running"))
     page.click("#go")
-    tally.holds("stopped", re.fullmatch(r"Stopped after [\d,]+ steps\.", page.told()))
+    tally.holds("stopped", re.fullmatch(r"Stopped after ([\d,]+) steps\. The last 65,536 of \1 steps are kept\.", page.told()))
     tally.compare("steps held", page.js("playground.session.run.n"), 65536)
     for _ in range(3):
         page.key("Shift F8")
@@ -652,6 +652,34 @@ def try_typing(page, tally, how):
     page.key("Tab")
     tally.compare("Tab after Escape", page.js(value), "   NOP\n   INX")
     tally.holds("it leads on", page.js("document.activeElement.id") != "text")
+
+
+def try_first_use(page, tally, how):
+    """The first Step makes a step, the hint goes, the keys open at their top, text stays text."""
+    page.js("localStorage.clear(), sessionStorage.clear()")
+    page.open()
+    tally.holds("the hint", page.js("!document.querySelector('#first').hidden"))
+    page.choose(1)
+    page.click("#on")
+    tally.compare("the first step", page.shown()[5:7], [1, 1])
+    tally.holds("the hint is gone", page.js("document.querySelector('#first').hidden"))
+    page.key("?")
+    page.js("new Promise(f => setTimeout(f, 100))")
+    tally.compare("the list of keys", page.js("document.querySelector('#help').scrollTop"), 0)
+    tally.holds("it is longer", page.js("(e => e.scrollHeight > e.clientHeight)"
+                                        "(document.querySelector('#help'))"))
+    page.js("document.querySelector('#help').close()")
+    for text, form in (('"Hello all"', "as hex"), ('1, "ello all"', "as text")):
+        page.edit("*=$0200\nstart: LDA text,X\n STA $F000\n INX\n CPX #40\n BNE start\n BRK\n"
+                  f"text: .BYTE {text}\n*=$FFFC\n.WORD start\n")
+        page.click("#go")
+        page.settle()
+        tally.compare(f"the console with {text}", page.shown()[4][1], form)
+    page.click("#form")
+    page.click("#again")
+    page.click("#go")
+    page.settle()
+    tally.compare("after a click", page.shown()[4][1], "as hex")
 
 
 WALK = """*=$0600
@@ -780,7 +808,7 @@ def try_phone(page, tally, how):
 
 
 CHECKS = [try_sessions, try_faults, try_warnings, try_no_vector, try_page, try_hostile, try_link, try_kept, try_own_text, try_endless, try_long,
-          try_refused, try_old_browser, try_typing, try_screen_keys, try_keyboard, try_names, try_contrast, try_phone]
+          try_refused, try_old_browser, try_first_use, try_typing, try_screen_keys, try_keyboard, try_names, try_contrast, try_phone]
 
 
 def errors_of(page, tally):
