@@ -682,6 +682,23 @@ def try_first_use(page, tally, how):
     tally.compare("after a click", page.shown()[4][1], "as hex")
 
 
+CUT = """(e => { const r = document.createRange(); r.selectNodeContents(e);
+  const a = r.getBoundingClientRect(), b = e.getBoundingClientRect();
+  return a.right > b.right + 1 || a.bottom > b.bottom + 1; })"""
+
+
+def try_effects(page, tally, how):
+    """All that a step did is seen, where its line is long too."""
+    page.choose(1)
+    page.edit("*=$0200\ncounter = $10\nstart: INC counter\n JSR inner\n JMP start\ninner: INC counter,X\n"
+              " RTS\n*=$FFFC\n.WORD start\n")
+    for step in range(1, 5):
+        page.click("#on")
+        did = page.js("document.querySelector('#did').innerText")
+        is_cut = page.js(f"{CUT}(document.querySelector('#did'))")
+        tally.compare(f"step {step} is cut off: {did}", is_cut, False)
+
+
 WALK = """*=$0600
 start: LDA $FF
  BEQ start
@@ -793,6 +810,12 @@ def try_contrast(page, tally, how):
     page.choose(1)
 
 
+# whether a part is seen in its panel
+SEEN = """((part, box) => { const [a, b] = [part, box].map(it =>
+  document.querySelector(it).getBoundingClientRect());
+  return a.height > 20 && a.top >= b.top && a.bottom <= b.bottom + 1; })"""
+
+
 def try_phone(page, tally, how):
     """On a phone nothing is wider than the screen, and a program is run by touching."""
     phone = Page(page.path, width=390, height=844, mobile=True)
@@ -801,14 +824,25 @@ def try_phone(page, tally, how):
         phone.click(f"#tabs [value={tab}]")
         wide = phone.js("document.documentElement.scrollWidth")
         tally.holds(f"{tab} is {wide} wide", wide <= 390)
+    tally.holds("the hint on a phone", phone.js("!document.querySelector('#first').hidden"))
+    phone.click("#tabs [value=machine]")
+    tally.holds("the machine on a phone", phone.js(SEEN + "('#line', '#machine')"))
     phone.click("#go")
     phone.settle()
     tally.holds("run on a phone", phone.told().startswith("The program has ended"))
+    phone.click("#tabs [value=memory]")
+    phone.click_on("document.querySelectorAll('#grid td')[40]")
+    tally.holds("memory on a phone", phone.js(SEEN + "('#cell', '#memory')"))
+    phone.choose(4)
+    phone.click("#go")
+    phone.settle()
+    tally.holds("input on a phone", phone.js(SEEN + "('#line', '#machine')"))
+    tally.compare("its focus", phone.js("document.activeElement.id"), "line")
     phone.close()
 
 
 CHECKS = [try_sessions, try_faults, try_warnings, try_no_vector, try_page, try_hostile, try_link, try_kept, try_own_text, try_endless, try_long,
-          try_refused, try_old_browser, try_first_use, try_typing, try_screen_keys, try_keyboard, try_names, try_contrast, try_phone]
+          try_refused, try_old_browser, try_first_use, try_effects, try_typing, try_screen_keys, try_keyboard, try_names, try_contrast, try_phone]
 
 
 def errors_of(page, tally):
