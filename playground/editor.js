@@ -67,8 +67,8 @@ class Editor {
     this.hooks.changed();
   }
 
-  // Tab puts blanks to the next column of 8, unless Escape came before it. Enter begins the next line
-  // where this one begins.
+  // Tab puts blanks to the next column of 8, unless Escape came before it. Enter begins the next
+  // line where this one begins.
   pressed(event) {
     const {key, shiftKey, ctrlKey, metaKey, altKey, isComposing} = event;
     const isPlain = !(shiftKey || ctrlKey || metaKey || altKey || isComposing);
@@ -88,7 +88,7 @@ class Editor {
     return this.value.slice(this.value.lastIndexOf("\n", selectionStart - 1) + 1, selectionStart);
   }
 
-  // Puts in a text as if it was typed, so that it can be undone. Where the browser cannot, it is put in.
+  // Puts in a text as if it was typed, so that it can be undone, where the browser can do that.
   type(text) {
     if (document.execCommand("insertText", false, text)) return;
     const {selectionStart, selectionEnd} = this.text;

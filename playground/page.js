@@ -143,7 +143,8 @@ function showStale() {
   document.body.classList.toggle("stale", assembled !== null && isStale());
 }
 
-// Shows the faults of the source, or its warnings where it has none. Returns the text of the faults.
+// Shows the faults of the source, or its warnings where it has none. Returns the text of its
+// faults.
 function check() {
   clearTimeout(checking);
   keep();
@@ -771,8 +772,8 @@ function pressKey(event) {
   event.preventDefault();
 }
 
-// Keys on the lines of the run's source. Who types there wants to edit: Enter leads to the editor at
-// this line, and so does a character that is no command, or is one with an effect outside the run.
+// Keys on the lines of the run's source. Who types there wants to edit: Enter leads to the editor
+// at this line, and so does a character that is no command, or is one with an effect outside the run.
 // The character is typed at the end of the line.
 function lineKey(event) {
   const {key, target, ctrlKey, metaKey, altKey} = event;
@@ -788,7 +789,7 @@ function lineKey(event) {
   tell(`This is the source, at line ${number}. Run or Step shows the run again.`);
 }
 
-// The row that comes next alone can have the focus: another one loses it, and keys would go nowhere.
+// The row that comes next alone can have the focus: another one loses it, and keys go nowhere.
 function lineWasClicked(number) {
   clicked = {number, step: viewer.step};
   if (document.body.dataset.mode == "run") $("rows").focus({preventScroll: true});

@@ -125,7 +125,8 @@ class Shelf {
     }
   }
 
-  // The texts of other pages, the newest first; those that are too many, or not worth it, are dropped.
+  // The texts of other pages, the newest first. Those that are too many or not worth it are
+  // dropped.
   others(isWorth = () => true) {
     let keys = [];
     try {

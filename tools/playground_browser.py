@@ -377,7 +377,7 @@ def try_faults(page, tally, how):
     tally.holds("a run of faults", page.told().startswith(f"{len(rows)} faults. Line {rows[0][0]}"))
     tally.compare("mode with faults", page.js("document.body.dataset.mode"), "edit")
     page.edit(source.split("\n")[0] + "\n NOP\n")
-    tally.holds("no fault", page.wait("document.querySelector('#faults').hidden"))
+    tally.holds("no fault", page.wait("!document.querySelector('#faults li:not(.warn)')"))
 
 
 def try_warnings(page, tally, how):
