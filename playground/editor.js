@@ -4,8 +4,8 @@ const {Editor, readFaults, columnOf} = (() => {
 
 const TAB = 8;
 
-// What the text of all faults says, as `mos65 check` prints it: a row NAME:LINE:COLUMN: words, the
-// line, and a mark under the bytes meant. NAME has no colon.
+// What the text of all faults or warnings says, as `mos65 check` prints it: a row
+// NAME:LINE:COLUMN: words, the line, and a mark under the bytes meant. NAME has no colon.
 function readFaults(text) {
   const faults = [], rows = text.split("\n");
   for (let at = 0; at < rows.length; at++) {
@@ -13,7 +13,8 @@ function readFaults(text) {
     if (!found) continue;
     const mark = /\^~*/.exec(/^[ \t]*\^~*$/.test(rows[at + 2] || "") ? rows[at + 2] : "");
     const [line, column] = [+found[1], +found[2]];
-    faults.push({line, column, length: mark ? mark[0].length : 1, words: found[3]});
+    const words = found[3], isWarning = words.startsWith("warning: ");
+    faults.push({line, column, length: mark ? mark[0].length : 1, words, isWarning});
     if (mark) at += 2;
   }
   return faults;
@@ -39,6 +40,7 @@ class Editor {
     this.breaks = [];
     this.count = 0;
     this.text.addEventListener("input", () => this.changed());
+    this.text.addEventListener("keydown", event => this.pressed(event));
     this.text.addEventListener("scroll", () => this.scrolled());
     this.numbers.addEventListener("click", event => this.clicked(event));
     this.list.addEventListener("click", event => {
@@ -63,6 +65,35 @@ class Editor {
   changed() {
     this.numberLines();
     this.hooks.changed();
+  }
+
+  // Tab puts blanks to the next column of 8, unless Escape came before it. Enter begins the next
+  // line where this one begins.
+  pressed(event) {
+    const {key, shiftKey, ctrlKey, metaKey, altKey, isComposing} = event;
+    const isPlain = !(shiftKey || ctrlKey || metaKey || altKey || isComposing);
+    const leaves = this.isLeaving;
+    this.isLeaving = key == "Escape";
+    if (!isPlain || leaves || key != "Tab" && key != "Enter") return;
+    const before = this.lineBefore();
+    const column = columnOf(before, Infinity);
+    event.preventDefault();
+    if (key == "Tab") this.type(" ".repeat(TAB - column % TAB));
+    else this.type("\n" + /^[ \t]*/.exec(before)[0]);
+  }
+
+  // What stands before the cursor in its line.
+  lineBefore() {
+    const {selectionStart} = this.text;
+    return this.value.slice(this.value.lastIndexOf("\n", selectionStart - 1) + 1, selectionStart);
+  }
+
+  // Puts in a text as if it was typed, so that it can be undone, where the browser can do that.
+  type(text) {
+    if (document.execCommand("insertText", false, text)) return;
+    const {selectionStart, selectionEnd} = this.text;
+    this.text.setRangeText(text, selectionStart, selectionEnd, "end");
+    this.changed();
   }
 
   numberLines() {
@@ -112,19 +143,20 @@ class Editor {
     }
   }
 
-  // Shows faults, as `readFaults` gives them, and the lines with breakpoints.
+  // Shows faults or warnings, as `readFaults` gives them, and the lines with breakpoints.
   show(faults, breaks = this.breaks) {
     this.faults = faults;
     this.breaks = breaks;
     const lines = faults.length ? this.value.split("\n") : [];
-    const waves = faults.map(({line, column, length}) =>
-      this.box("wave", line, columnOf(lines[line - 1] || "", column), length));
+    const sort = it => it.isWarning ? "warn" : "bad";
+    const waves = faults.map(it => this.box(sort(it), it.line,
+      columnOf(lines[it.line - 1] || "", it.column), it.length));
     this.marks.firstElementChild.replaceChildren(...waves);
-    this.numbers.lastElementChild.replaceChildren(...faults.map(it => this.box("bad", it.line)),
+    this.numbers.lastElementChild.replaceChildren(...faults.map(it => this.box(sort(it), it.line)),
       ...breaks.map(line => this.box("break", line)));
     this.list.replaceChildren(...faults.map(it => this.row(it)));
     this.list.hidden = !faults.length;
-    this.text.setAttribute("aria-invalid", String(faults.length > 0));
+    this.text.setAttribute("aria-invalid", String(faults.some(it => !it.isWarning)));
     this.scrolled();
   }
 
@@ -135,10 +167,11 @@ class Editor {
     return box;
   }
 
-  row({line, column, words}) {
+  row({line, column, words, isWarning}) {
     const item = document.createElement("li"), button = document.createElement("button");
     const number = document.createElement("b");
     number.textContent = line ? `Line ${line} ` : "";
+    item.className = isWarning ? "warn" : "";
     button.append(number, words);
     button.dataset.line = line || 1;
     button.dataset.column = column;

@@ -10,14 +10,20 @@ const STEPS = 50000;       // steps of one call, at most
 const KEY = 0xFF;          // where the screen's programs find a key
 const grouped = new Intl.NumberFormat("en").format;
 const hex2 = byte => byte.toString(16).toUpperCase().padStart(2, "0");
-const LIMITS = {BREAKS: 256};
+const BREAKS = 256;        // breakpoints, at most
+const FIRST = 8;           // bytes by which output is taken for text
+const LONG = 4000;         // lines of a source that the viewer shows, at most
 
 let session = null, viewer = null, editor = null, shelf = null;
 let name = "program.a65";
+let examples = [];
 let assembled = null;      // the text that the machine runs, or null
 let info = null;           // what the viewer was told of the program
 let breakLines = [];       // numbers of lines with breakpoints
+let warned = "";           // how many warnings the source has, in words
 let hasScreen = false, running = null, checking = 0, isUnsaved = false;
+let clicked = {};          // the line of the source that was clicked last, and the step there
+let isFormChosen = false;  // whether the user has chosen text or hex for the console
 let wantsInput = false;    // a run waits for input, and goes on by itself
 
 // ---- what was put into the page by the build
@@ -126,6 +132,7 @@ const isStale = () => assembled !== editor.value;
 
 function textChanged() {
   isUnsaved = true;
+  setHash("");               // a link there has another text
   clearTimeout(checking);
   checking = setTimeout(safely(check), PAUSE);
   showStale();
@@ -136,17 +143,48 @@ function showStale() {
   document.body.classList.toggle("stale", assembled !== null && isStale());
 }
 
-// Shows the faults of the source. Returns their text.
+// Shows the faults of the source, or its warnings where it has none. Returns the text of its
+// faults.
 function check() {
   clearTimeout(checking);
   keep();
   if (!session) return "";
-  const text = session.faults("source", editor.value);
-  editor.show(readFaults(text), breakLines);
-  if (text) tell(`${text.trimEnd().split("\n").at(-1)}: see below the source.`);
+  const faults = session.faults("source", editor.value);
+  const warnings = faults ? "" : session.warnings("source", editor.value);
+  editor.show(readFaults(faults || warnings), breakLines);
+  warned = countOf(warnings);
+  if (faults) tell(`${countOf(faults)}: see below the source.`);
+  else if (warned) tell(`${warned}: see below the source. It can be run as it is.`);
   else if (isStale()) tell("No faults. Run or Step assembles the source.");
-  return text;
+  return faults;
 }
+
+// How many faults or warnings there are: the last row of their text.
+const countOf = text => text.trimEnd().split("\n").at(-1);
+
+// Words on the warnings of the source, for those who see its run.
+function warningTold() {
+  const isTold = warned == "1 warning" && session.begun >= 0;     // it is of the reset vector
+  return warned && !isTold ? ` The source has ${warned}: see Edit.` : "";
+}
+
+// Words on a program that was not begun at its reset vector.
+function begunTold() {
+  const {begun} = session;
+  if (begun < 0) return "";
+  const place = "$" + begun.toString(16).toUpperCase().padStart(4, "0");
+  const isLow = begun < 256, where = isLow ? `, in the zero page, where variables are` : "";
+  const advice = isLow ? ". Begin the source with *=$0600, and the program stands there." : ".";
+  return ` No reset vector: begun at ${place}${where}${advice}`;
+}
+
+// Words on a run of which the oldest steps are gone.
+function heldTold() {
+  const {base, total, run} = session;
+  return base > 0 ? ` The last ${grouped(run.n)} of ${grouped(total)} steps are kept.` : "";
+}
+
+const notesTold = () => heldTold() + begunTold() + warningTold();
 
 // Moves breakpoints with their lines where the text is changed. Those of lines that were replaced
 // are dropped.
@@ -171,7 +209,7 @@ function addressOf(number) {
 
 function toggleBreak(number) {
   const isSet = breakLines.includes(number);
-  if (!isSet && breakLines.length == LIMITS.BREAKS) return tell("256 breakpoints are set already.");
+  if (!isSet && breakLines.length == BREAKS) return tell("256 breakpoints are set already.");
   breakLines = isSet ? breakLines.filter(it => it != number) : [...breakLines, number];
   setBreaks();
   tell(`Breakpoint ${isSet ? "cleared" : "set"} at line ${number}.`);
@@ -215,7 +253,11 @@ function assemble() {
     showMode("edit");
     const {line, column, words} = editor.faults[0];
     editor.goTo(line, column);
-    tell(`${text.trimEnd().split("\n").at(-1)}. Line ${line}: ${words}`, true);
+    tell(`${countOf(text)}. Line ${line}: ${words}`, true);
+    return false;
+  }
+  if (!editor.value.trim()) {
+    tell("The source is empty: type a program, or choose an example.");
     return false;
   }
   session.breaks.clear();
@@ -225,14 +267,17 @@ function assemble() {
   showProgram();
   setBreaks();
   showMode("run");
+  closeFirst();
   const count = session.loaded.reduce((sum, [, bytes]) => sum + bytes, 0);
-  tell(`Assembled: ${grouped(count)} bytes. The next instruction is marked.`);
+  tell(`Assembled: ${grouped(count)} bytes. The next instruction is marked.${notesTold()}`);
   return true;
 }
 
 function showProgram() {
   info = readFacts(session.facts);
-  info.source = session.lines.map(line => line.text);
+  // a longer one makes each step slow: then the viewer shows what ran as instructions
+  isFormChosen = false;
+  if (session.lines.length <= LONG) info.source = session.lines.map(line => line.text);
   wantsInput = false;
   viewer.show({info, run: session.run, step: 0});
   showStale();
@@ -247,7 +292,7 @@ function restart() {
   wantsInput = false;
   viewer.show({info, run: session.run, step: 0});
   showMode("run");
-  tell("The machine is as it was after the reset.");
+  tell("The machine is as it was after the reset." + begunTold());
 }
 
 // Assembles first where the text is another one. Returns whether a machine is there to go on.
@@ -262,7 +307,17 @@ function showRun(k = session.run.n) {
   info.why = isOver() ? endTold(session.reason) : "";
   if (viewer.run == session.run) viewer.changed(k);
   else viewer.show({info, run: session.run, step: k});
+  showAsText();
   showMode("run");
+}
+
+// The viewer shows a console with many odd bytes in hex. Output that began as text stays text here,
+// until the user has said.
+function showAsText() {
+  const isHex = !$("form").hidden && $("form").textContent == "as text";
+  if (!isHex || isFormChosen || !session.run.out.length) return;
+  const isText = byte => byte == 10 || byte > 31 && byte < 127;
+  if (session.run.out.slice(0, FIRST).every(isText)) $("form").click();
 }
 
 const isOver = () => ["stuck", "brk", "unwritten", "refused"].includes(session.reason.why);
@@ -270,17 +325,18 @@ const isAtEnd = () => viewer.step == session.run.n;
 
 function stepOn() {
   stop();
-  if (isStale()) return assemble();
+  const isNew = isStale();
+  if (!isReady()) return;
   showMode("run");
   if (!isAtEnd()) return viewer.go(viewer.step + 1);
   const reason = session.step();
   showRun();
-  tell(reasonTold(reason));
+  tell(reasonTold(reason) + (isNew ? " The next instruction is marked." + notesTold() : ""));
 }
 
 function stepOver() {
   stop();
-  if (isStale()) return assemble();
+  if (!isReady()) return;
   showMode("run");
   if (!isAtEnd()) return press("moves", 5);
   session.start(true);
@@ -352,6 +408,7 @@ function go() {
   wantsInput = false;
   $("live").textContent = $("past").textContent + $("later").textContent;
   showRunning();
+  if (hasScreen) showInTab("memory", $("screen"));
   tell("Running ..");
   running.timer = setTimeout(safely(slice), 0);
 }
@@ -404,8 +461,15 @@ function ended(reason) {
   session.settle();
   showRun();
   wantsInput = reason.why == "waits";
-  tell(reasonTold(reason) || `Stopped after ${grouped(steps)} steps.`);
-  if (wantsInput) $("line").focus();
+  $("typing").classList.toggle("asked", wantsInput);
+  tell((reasonTold(reason) || `Stopped after ${grouped(steps)} steps.`) + notesTold());
+  if (wantsInput) showInTab("machine", $("line"));
+}
+
+// Gives a part of the page the focus. On a phone, its panel is shown first.
+function showInTab(tab, element) {
+  if ($("tabs").offsetHeight) $("tabs").querySelector(`[value=${tab}]`).click();
+  element.focus({preventScroll: !$("tabs").offsetHeight});
 }
 
 function showRunning() {
@@ -479,12 +543,18 @@ function paintScreen(memory) {
     + countLit(memory) + " of them not black");
 }
 
+// A key while the screen has the focus, or while a program with a screen runs: then it goes to the
+// program wherever the focus is, but for a field of text and the keys of a button.
 function screenKey(event) {
-  const {key, ctrlKey, metaKey, altKey} = event;
+  const {key, target, ctrlKey, metaKey, altKey} = event;
+  const isHere = target == $("screen");
+  if (!isHere && !(running && hasScreen)) return;
   if (keyByte(key) < 0 || ctrlKey || metaKey || altKey || assembled === null) return;
+  if (target.closest?.("textarea,select,input:not([type=range]),dialog")) return;
+  if (target.tagName == "BUTTON" && (key == "Enter" || key == " ")) return;
   event.preventDefault();
   event.stopPropagation();
-  giveKey(key);
+  if (running || !isOver()) giveKey(key);       // a program that has ended takes no key
 }
 
 // Puts a key where programs find it: at $FF.
@@ -523,17 +593,28 @@ async function loadSource() {
   if (!file) return;
   if (file.size > 1 << 21) return tell("The file is too long: a source has 1 MiB at most.", true);
   const text = await file.text();
-  take(text, file.name.replace(/[^\w.-]/g, "_") || "program.a65", hasScreen);
-  tell(`${name} is open.`);
+  const kept = take(text, file.name.replace(/[^\w.-]/g, "_") || "program.a65", hasScreen);
+  tell(`${name} is open.${kept}`);
 }
 
-// Takes another text into the editor. What was there stays in the browser's store.
-function take(text, itsName, withScreen) {
+function setHash(hash) {
+  if (location.hash == hash) return;
+  history.replaceState(null, "", location.href.split("#")[0] + hash);
+}
+
+// Whether a text is the user's: no example, and not blank.
+const isOwn = text => text.trim() != "" && !examples.some(it => it.text == text);
+
+// Takes another text into the editor. What was there stays in the browser's store, if it is the
+// user's own. Returns words on that, or none.
+function take(text, itsName, withScreen, hash = "") {
   stop();
-  if (isUnsaved) {
+  const isKept = isOwn(editor.value) && editor.value != text, old = name;
+  if (isKept) {
     keep();
     shelf.takeNewId();
   }
+  setHash(hash);
   name = itsName;
   hasScreen = withScreen;
   breakLines = [];
@@ -542,6 +623,9 @@ function take(text, itsName, withScreen) {
   showNothing();
   $("name").textContent = name;
   safely(check)();
+  if (!isKept) return "";
+  const isSure = $("files").dataset.kept == "yes";
+  return isSure ? ` Your text ${old} is kept: see File.` : " The browser keeps no text of yours.";
 }
 
 async function makeLink() {
@@ -563,9 +647,10 @@ async function makeLink() {
 // Takes the source of the link that the page was opened by, if it has one. Nothing of it is run.
 async function takeLink() {
   try {
-    const found = await unpackLink(location.hash);
-    if (found) take(found.text, "linked.a65", found.hasScreen);
-    return !!found;
+    const {hash} = location, found = await unpackLink(hash);
+    if (!found) return false;
+    tell("The source of the link." + take(found.text, "linked.a65", found.hasScreen, hash));
+    return true;
   } catch (fault) {
     tell("The source in this link cannot be read: " + fault.message + ".", true);
     return false;
@@ -600,16 +685,16 @@ function keep() {
 }
 
 function showKept() {
-  const others = shelf.others();
-  $("kept").replaceChildren(...(others.length ? [heading("Texts of other visits")] : []),
+  const isFirst = (it, k, all) => all.findIndex(other => other.text == it.text) == k;
+  const others = shelf.others(isOwn).filter(it => it.text != editor.value).filter(isFirst);
+  $("kept").replaceChildren(...(others.length ? [heading("Texts that are kept")] : []),
     ...others.map(it => {
       const button = document.createElement("button");
       const rows = it.text.split("\n").length, when = new Date(it.at).toLocaleString();
       button.textContent = `${it.name}, ${grouped(rows)} lines, ${when}`;
       button.onclick = () => {
         $("files").open = false;
-        take(it.text, it.name, it.hasScreen);
-        tell(`${it.name} is here again. The other text stays where it is.`);
+        tell(`${it.name} is here again.` + take(it.text, it.name, it.hasScreen));
       };
       return button;
     }));
@@ -624,13 +709,15 @@ function heading(text) {
 async function firstText() {
   const mine = shelf.mine();
   if (mine && mine.hash == location.hash) {
-    take(mine.text, mine.name, mine.hasScreen);
+    take(mine.text, mine.name, mine.hasScreen, mine.hash);
     return tell("Your text is here as you left it.");
   }
+  if (mine) shelf.takeNewId();                 // the link's text is not kept in the place of mine
   if (await takeLink()) return;
-  const [first] = readExamples(unescaped(part("examples")));
+  const broken = $("told").textContent, [first] = examples;
   if (first) take(first.text, first.name, first.hasScreen);
-  if (shelf.others().length) tell("A text of another visit is kept: see File.");
+  if (broken) tell(broken, true);
+  else if (shelf.others(isOwn).length) tell("Another text is kept: see File.");
 }
 
 // ---- the document
@@ -656,6 +743,9 @@ const LETTERS = [
   ["l", "make a link with the source", makeLink], ["h", "save the run as a page", savePage],
 ];
 
+const OUTSIDE = new Set("zoflh");                    // the letters with an effect outside the run
+const COMMANDS = new Set([...LETTERS.map(([key]) => key), ..." bBnNurvVwWaxyscCiI+-0gmt?"]);
+
 // Out of the editor, so that keys without Ctrl work.
 function leave() {
   if (assembled !== null && !isStale()) showMode("run");
@@ -680,6 +770,37 @@ function pressKey(event) {
   else if (FUNCTION_KEYS[named]) safely(FUNCTION_KEYS[named])();
   else return;
   event.preventDefault();
+}
+
+// Keys on the lines of the run's source. Who types there wants to edit: Enter leads to the editor
+// at this line, and so does a character that is no command, or is one with an effect outside the run.
+// The character is typed at the end of the line.
+function lineKey(event) {
+  const {key, target, ctrlKey, metaKey, altKey} = event;
+  if (!target.closest?.("#rows") || running || assembled === null) return;
+  if (ctrlKey || metaKey || altKey || !(key == "Enter" || key.length == 1)) return;
+  if (key != "Enter" && COMMANDS.has(key) && !OUTSIDE.has(key)) return;
+  event.stopPropagation();
+  if (key == "Enter") event.preventDefault();
+  const number = chosenLine(target) || 1;
+  edit(number);
+  const line = editor.value.split("\n")[number - 1] || "";
+  if (key != "Enter") editor.goTo(number, line.length + 1);
+  tell(`This is the source, at line ${number}. Run or Step shows the run again.`);
+}
+
+// The row that comes next alone can have the focus: another one loses it, and keys go nowhere.
+function lineWasClicked(number) {
+  clicked = {number, step: viewer.step};
+  if (document.body.dataset.mode == "run") $("rows").focus({preventScroll: true});
+}
+
+// The number of the line of the source that has the focus, or was clicked last, or comes next.
+function chosenLine(target) {
+  const row = target.closest("tr"), isHere = clicked.step == viewer.step;
+  const number = row ? parseInt(row.querySelector(".n").textContent) : 0;
+  if (info.source && number) return number;
+  return isHere && clicked.number || session.lineAt(session.run.PC[viewer.step]);
 }
 
 function makeTools() {
@@ -748,6 +869,7 @@ function makeViewer() {
       if (hasScreen && viewer) paintScreen(viewer.memory);
     },
     lineClicked(address, number, event) {
+      queueMicrotask(() => lineWasClicked(number));          // after the click has moved
       if (event.detail == 2 && number) edit(number);
       else if (event.target.classList.contains("n") && number) safely(toggleBreak)(number);
       else return false;
@@ -764,19 +886,21 @@ function makeViewer() {
     ["F2", "assemble"], ["F4", "edit, or back to the run"], ["F8", "step"],
     ["Shift F8", "back one step"], ["F9", "over a subroutine"],
     ["Shift F9", "back to the last write of the chosen byte"],
-    ["Ctrl b", "in the editor: breakpoint at this line"]];
+    ["Ctrl b", "in the editor: breakpoint at this line"],
+    ["Tab (editor)", "blanks to the next column of 8; after Escape it leaves the editor"],
+    ["Enter (line)", "to the editor at this line, as a double click or typed text"]];
   for (const [key, words] of others) viewer.addKey(key, words, () => {});
 }
 
 function makeChoices() {
-  const all = readExamples(unescaped(part("examples")));
-  all.forEach((it, k) => $("example").add(new Option(it.title, k)));
+  examples = readExamples(unescaped(part("examples")));
+  examples.forEach((it, k) => $("example").add(new Option(it.title, k)));
   $("example").onchange = () => {
-    const it = all[$("example").value];
+    const it = examples[$("example").value];
     $("example").selectedIndex = 0;
     if (!it) return;
-    take(it.text, it.name, it.hasScreen);
-    tell(`${it.name}: press Run or Step.`);
+    const kept = take(it.text, it.name, it.hasScreen);
+    tell(`${it.name}: press Run or Step.${kept}`);
   };
 }
 
@@ -793,8 +917,11 @@ function listen() {
   addEventListener("beforeunload", event => {
     if (isUnsaved && $("files").dataset.kept == "no") event.preventDefault();
   });
+  $("form").addEventListener("click", event => isFormChosen ||= event.isTrusted);
   $("typing").onsubmit = safely(enterLine);
-  $("screen").onkeydown = safely(screenKey);
+  // before the keys of the viewer
+  addEventListener("keydown", safely(screenKey), true);
+  addEventListener("keydown", safely(lineKey), true);
   $("files").ontoggle = () => $("files").open && showKept();
   addEventListener("click", event => {
     if (!$("files").contains(event.target)) $("files").open = false;
@@ -823,10 +950,24 @@ function showAbout() {
 function showFirst() {
   const remembered = shelf.ask(localStorageOrNull(), "mos65.visited");
   $("first").hidden = !!remembered;
-  $("understood").onclick = () => {
-    $("first").hidden = true;
-    shelf.put(localStorageOrNull(), "mos65.visited", "yes");
-  };
+  $("understood").onclick = closeFirst;
+}
+
+function closeFirst() {
+  if ($("first").hidden) return;
+  $("first").hidden = true;
+  shelf.put(localStorageOrNull(), "mos65.visited", "yes");
+}
+
+// The list of keys opens at its top: its button at the end has the focus first, and is scrolled to.
+function openHelpAtTop() {
+  const help = $("help");
+  help.tabIndex = -1;
+  new MutationObserver(() => {
+    if (!help.open) return;
+    help.focus({preventScroll: true});
+    help.scrollTop = 0;
+  }).observe(help, {attributeFilter: ["open"]});
 }
 
 function localStorageOrNull() {
@@ -868,12 +1009,15 @@ async function begin() {
   listen();
   showAbout();
   showFirst();
+  openHelpAtTop();
   await firstText();
   try {
     const engine = await openEngine(moduleBytes());
     session = new Session(engine, Run, {ops: part("ops").trim(), random: anyByte});
     session.hasRandom = hasScreen;
+    const told = $("told").textContent, isBad = $("told").classList.contains("bad");
     safely(check)();
+    if (told) tell(told, isBad);
   } catch (fault) {
     tellNoEngine(fault);
   }

@@ -11,7 +11,7 @@ const {Session, recordByHand, programFacts, escapeText} = (() => {
 const HISTORY = 65536;
 const SLACK = 8192;        // so many steps may be added before the oldest are dropped
 const CHUNK = 50000;       // steps of one call; fewer than the history, see `settle`
-const VECTOR = 0xFFFE, I_FLAG = 4;
+const RESET = 0xFFFC, VECTOR = 0xFFFE, I_FLAG = 4;
 const BRK = 0x00, JSR = 0x20, JMP = 0x4C, JMP_POINTER = 0x6C;
 const RANDOM = 0xFE;
 
@@ -92,6 +92,10 @@ class Session {
     return this.engine.faults(name, source, this.config);
   }
 
+  warnings(name, source) {
+    return this.engine.warnings(name, source, this.config);
+  }
+
   // Assembles a source and opens a machine with it. Throws where the source is refused.
   open(name, source) {
     const assembly = this.engine.assemble(source, this.config);
@@ -131,6 +135,7 @@ class Session {
     this.loaded = stretchesOf(this.lines);
     this.image = new Uint8Array(65536);
     for (const [at, count] of this.loaded) this.image.fill(1, at, at + count);
+    this.begun = this.beginWithoutReset();
     this.total = this.base = this.shown = 0;   // events made, before step 0, and in the run
     this.givenCount = 0;
     this.outside = [];                         // [event number, what came], in order
@@ -138,6 +143,15 @@ class Session {
     this.run = new this.Run(machine.recordStart(false, new Uint8Array()), this.loaded);
     for (const address of this.breaks) machine.setBreak(address);
     this.reason = {why: "start"};
+  }
+
+  // Without a byte at the reset vector a program begins at the first instruction of its source.
+  // Returns that address, or -1.
+  beginWithoutReset() {
+    const first = this.lines.find(line => line.isInstruction);
+    if (this.image[RESET] || this.image[RESET + 1] || !first) return -1;
+    this.machine.set("PC", first.address);
+    return first.address;
   }
 
   get inputWaits() {
@@ -297,10 +311,10 @@ class Session {
   // Makes at most so many steps at full speed. Returns why the run ended, or null.
   slice(limit = CHUNK) {
     const inner = this.setInnerBreaks();
-    let left = limit, reason = null;
+    let left = limit, reason = this.restHere();
     while (left > 0 && !reason) {
       const did = this.total;
-      reason = this.restHere() || this.stretch(left, inner);
+      reason = this.stretch(left, inner);
       left -= this.total - did;
     }
     for (const address of inner) this.machine.clearBreak(address);
@@ -317,7 +331,7 @@ class Session {
     if (ending.why == "refused") return ending;
     if (ending.why == "break") return this.breakAt(ending.address);
     if (ending.did == limit) return null;
-    const rest = this.restHere() || this.stepHere();
+    const rest = this.restHere() || this.stepHere();         // what is marked comes next
     if (rest) return rest;
     const {pc} = this.machine.registers();
     return this.breaks.has(pc) || inner.has(pc) ? this.breakAt(pc) : null;
@@ -325,7 +339,8 @@ class Session {
 
   // Breakpoints of the run's own: where a BRK leads to, and where a call returns to.
   setInnerBreaks() {
-    const wanted = new Set([this.vector()]);
+    this.vectorHere = this.vector();
+    const wanted = new Set([this.vectorHere]);
     if (this.over) wanted.add(this.over.address);
     for (const address of this.breaks) wanted.delete(address);
     for (const address of wanted) this.machine.setBreak(address);
@@ -333,7 +348,7 @@ class Session {
   }
 
   breakAt(address) {
-    const wasBrk = this.brkBefore();
+    const wasBrk = address == this.vectorHere ? this.brkBefore() : null;
     if (wasBrk) return wasBrk;
     const {over} = this;
     const isBack = over && address == over.address && this.machine.registers().s >= over.s;
@@ -343,8 +358,7 @@ class Session {
 
   // Goes back before a BRK that has no handler, or stands where nothing was written.
   brkBefore() {
-    if (this.machine.registers().pc != this.vector() || this.total == this.began) return null;
-    if (this.lastIsOutside()) return null;
+    if (this.total == this.began || this.lastIsOutside() || !this.mayFollowBrk()) return null;
     this.machine.back(1);
     const rest = this.restHere();
     if (rest && rest.why != "waits") {
@@ -353,6 +367,15 @@ class Session {
     }
     this.machine.recordRun(1);
     return null;
+  }
+
+  // Whether the last step may have been a BRK, by what it would have pushed: P with B set, and its own
+  // address and 2.
+  mayFollowBrk() {
+    const {s} = this.machine.registers();
+    const page = this.machine.read(0x0100, 256);
+    const [p, low, high] = [1, 2, 3].map(k => page[s + k & 255]);
+    return (p & 0x30) == 0x30 && this.machine.read((low | high << 8) - 2 & 65535, 1)[0] == BRK;
   }
 
   lastIsOutside() {

@@ -3,7 +3,7 @@
 const {packLink, unpackLink, Shelf} = (() => {
 
 const MOST_TEXT = 1 << 20;
-const SHELVES = 8;
+const SHELVES = 16;
 const KEY = "mos65.text.";
 
 function toBase64Url(bytes) {
@@ -125,18 +125,21 @@ class Shelf {
     }
   }
 
-  // The texts of other pages, the newest first; those that are too many are dropped.
-  others() {
+  // The texts of other pages, the newest first. Those that are too many or not worth it are
+  // dropped.
+  others(isWorth = () => true) {
     let keys = [];
     try {
       keys = Object.keys(this.local).filter(key => key.startsWith(KEY) && !this.isMine(key));
     } catch {
       return [];
     }
-    const found = keys.map(key => this.read(key.slice(KEY.length))).filter(it => it);
+    const all = keys.map(key => this.read(key.slice(KEY.length))).filter(it => it);
+    const found = all.filter(it => isWorth(it.text));
     found.sort((a, b) => (b.at || 0) - (a.at || 0));
-    for (const {id} of found.splice(SHELVES)) this.drop(id);
-    return found;
+    const kept = found.slice(0, SHELVES);
+    for (const it of all) if (!kept.includes(it)) this.drop(it.id);
+    return kept;
   }
 
   drop(id) {

@@ -184,6 +184,8 @@ def a_program(rng):
         rows[4:4] = [" LDA #1", " STA $F003"] if rng.random() < .7 else []
         vectors = "main,handler"
     rows += ["*=$0010", f".BYTE {','.join(str(rng.randrange(48, 52)) for _ in range(16))}"]
+    if vectors == "main" and rng.random() < .2:         # then `helper` comes first, and returns
+        return "\n".join([*rows, ""])
     return "\n".join([*rows, "*=$FFFC", f".WORD {vectors}", ""])
 
 
@@ -316,6 +318,8 @@ class Trial:
           const {{engine}} = playground.session, config = {{history: 65536, port: 0xF000}};
           const assembly = engine.assemble({json.dumps(self.source)}, config);
           const machine = engine.open(assembly, config);
+          const begun = {json.dumps(self.model.begun)};
+          if (begun !== null) machine.set("PC", begun);
           for (const [name, word] of {json.dumps(runs)}) machine[name](word);
           const r = machine.registers(), memory = machine.read(0, 65536);
           let sum = 0; for (const byte of memory) sum = (sum * 31 + byte) % 4294967291;
@@ -373,7 +377,51 @@ def try_faults(page, tally, how):
     tally.holds("a run of faults", page.told().startswith(f"{len(rows)} faults. Line {rows[0][0]}"))
     tally.compare("mode with faults", page.js("document.body.dataset.mode"), "edit")
     page.edit(source.split("\n")[0] + "\n NOP\n")
-    tally.holds("no fault", page.wait("document.querySelector('#faults').hidden"))
+    tally.holds("no fault", page.wait("!document.querySelector('#faults li:not(.warn)')"))
+
+
+def try_warnings(page, tally, how):
+    """Warnings are told as `mos65 check` does, and the program runs all the same."""
+    source, told = source_and_faults("warned.a65")
+    page.choose(1)
+    page.edit(source)
+    page.wait("document.querySelectorAll('#faults .warn').length")
+    rows = re.findall(r"^warned\.a65:(\d+):\d+: (.*)$", told, re.M)
+    shown = page.js("[...document.querySelectorAll('#faults .warn')].map(e => e.textContent)")
+    tally.compare("warnings", shown, [f"Line {line} {words}" for line, words in rows])
+    tally.compare("their marks", page.js("document.querySelectorAll('#marks .warn').length"), len(rows))
+    page.click("#on")
+    tally.compare("mode with warnings", page.js("document.body.dataset.mode"), "run")
+    with open(f"{TOP}/README.md", encoding="utf-8") as it:
+        slip = re.search(r"CPX \d+", it.read())[0]
+    page.edit(f"*=$0200\nstart: LDX #0\n {slip}\ndone: JMP done\n*=$FFFC\n.WORD start\n")
+    page.wait("document.querySelectorAll('#faults .warn').length == 1")
+    words = page.js("document.querySelector('#faults').textContent")
+    tally.holds(f"{slip}: {words}", words.startswith("Line 3 warning: PlainNumber"))
+    for number in range(1, page.js("document.querySelector('#example').length")):
+        page.choose(number)
+        tally.compare(f"warnings of example {number}", page.js("playground.editor.faults"), [])
+
+
+def try_no_vector(page, tally, how):
+    """Without a reset vector a program begins at its first instruction, and the page says so."""
+    for origin, begun in (("*=$0600\n", "$0600"), ("", "$0000")):
+        page.choose(1)
+        page.edit(f"{origin} LDX #7\n STX $90\ndone: JMP done\n")
+        page.click("#go")
+        page.settle()
+        tally.compare(f"the byte written from {begun}",
+                      page.js("playground.session.machine.read(0x90, 1)[0]"), 7)
+        told = page.told()
+        tally.holds(f"begun: {told}", f"No reset vector: begun at {begun}" in told)
+        tally.compare(f"zero page: {told}", "zero page" in told, not origin)
+        page.click("#undo")
+        page.click("#undo")
+        page.click("#undo")
+        tally.compare("step 0", page.shown()[5], 0)
+    page.edit("")
+    page.click("#go")
+    tally.holds(f"no source: {page.told()}", "is empty" in page.told())
 
 
 def load_file(page, path):
@@ -464,6 +512,47 @@ def try_kept(page, tally, how):
     tally.compare("texts kept then", page.js("localStorage.length"), ids[1] + 1)
 
 
+KEPT = "document.querySelector('#files').open = true, new Promise(f => setTimeout(() => f([" \
+    "...document.querySelectorAll('#kept button')].map(e => e.textContent)), 100))"
+
+
+def try_own_text(page, tally, how):
+    """A text of one's own is kept where another one takes its place, also after a reload."""
+    def by_example():
+        page.choose(2)
+
+    def by_file():
+        load_file(page, f"{TOP}/examples/hunt.a65")
+        page.wait("document.querySelector('#told').textContent.includes('is open')")
+
+    def by_link():
+        page.js(f"location.hash = {json.dumps(link)}")
+        page.wait("document.querySelector('#told').textContent.includes('link')")
+
+    def by_opened_link():
+        page.open(link)
+
+    link = page.js("packLink('; in a link\\n', false)")
+    for act in (by_example, by_file, by_link, by_opened_link):
+        page.js("localStorage.clear(), sessionStorage.clear()")
+        page.open()
+        page.edit("; mine\n")
+        page.js("new Promise(f => setTimeout(f, 500))")
+        page.open()
+        act()
+        is_told = "is kept" in page.told() or act == by_opened_link
+        tally.holds(f"{act.__name__}: {page.told()}", is_told)
+        tally.compare(f"{act.__name__}: texts kept", len(page.js(KEPT)), 1)
+        page.click("#kept button")
+        tally.compare(f"{act.__name__}: taken again", page.js("playground.editor.value"), "; mine\n")
+    page.open(link)
+    page.edit("; changed\n")
+    tally.compare("the link after a change", page.js("location.hash"), "")
+    page.js("localStorage.clear(), sessionStorage.clear()")
+    page.open("#z=AAAA")
+    tally.holds(f"a broken link: {page.told()}", "cannot be read" in page.told())
+
+
 def try_endless(page, tally, how):
     """A program that never ends is stopped, and 65,536 steps are held."""
     source = "*=$0200\nstart: INC $10\n BNE start\n INC $11\n JMP start\n*=$FFFC\n.WORD start\n"
@@ -473,7 +562,7 @@ def try_endless(page, tally, how):
     page.js("new Promise(f => setTimeout(f, 700))")
     tally.holds("while it runs", page.told().startswith("Running"))
     page.click("#go")
-    tally.holds("stopped", re.fullmatch(r"Stopped after [\d,]+ steps\.", page.told()))
+    tally.holds("stopped", re.fullmatch(r"Stopped after ([\d,]+) steps\. The last 65,536 of \1 steps are kept\.", page.told()))
     tally.compare("steps held", page.js("playground.session.run.n"), 65536)
     for _ in range(3):
         page.key("Shift F8")
@@ -530,6 +619,123 @@ def try_old_browser(page, tally, how):
     tally.holds("no button works", page.js("document.querySelector('#go').disabled"))
     page.browser.call("Page.removeScriptToEvaluateOnNewDocument", identifier=script)
     page.open()
+
+
+def try_typing(page, tally, how):
+    """Who types on the source of a run comes to the editor; Tab and Enter put blanks there."""
+    source = " LDX #3\nloop: DEX\n BNE loop\ndone: JMP done\n*=$FFFC\n.WORD $0000\n"
+    value, mode = "playground.editor.value", "document.body.dataset.mode"
+    page.choose(1)
+    page.edit(source)
+    for key, wanted in (("L", "loop: DEXL"), ("f", "loop: DEXf"), ("Enter", "loop: DEX")):
+        page.edit(source)
+        page.key("Ctrl Enter")
+        page.settle()
+        page.click_on("document.querySelectorAll('#rows .t')[1]")
+        page.key("n")                         # a command of the run
+        tally.compare("mode after n", page.js(mode), "run")
+        page.click_on("document.querySelectorAll('#rows .t')[1]")
+        page.key(key)
+        tally.compare(f"mode after {key}", page.js(mode), "edit")
+        tally.compare(f"line 2 after {key}", page.js(value).split("\n")[1], wanted)
+    page.edit("x:")
+    for key in ("Tab", "Tab", "Enter"):
+        page.key(key)
+    page.type("NOP")
+    page.key("Tab")
+    tally.compare("blanks", page.js(value), "x:              \nNOP     ")
+    page.edit("   NOP")
+    page.key("Enter")
+    page.type("INX")
+    tally.compare("the next line", page.js(value), "   NOP\n   INX")
+    page.key("Escape")
+    page.key("Tab")
+    tally.compare("Tab after Escape", page.js(value), "   NOP\n   INX")
+    tally.holds("it leads on", page.js("document.activeElement.id") != "text")
+
+
+def try_first_use(page, tally, how):
+    """The first Step makes a step, the hint goes, the keys open at their top, text stays text."""
+    page.js("localStorage.clear(), sessionStorage.clear()")
+    page.open()
+    tally.holds("the hint", page.js("!document.querySelector('#first').hidden"))
+    page.choose(1)
+    page.click("#on")
+    tally.compare("the first step", page.shown()[5:7], [1, 1])
+    tally.holds("the hint is gone", page.js("document.querySelector('#first').hidden"))
+    page.key("?")
+    page.js("new Promise(f => setTimeout(f, 100))")
+    tally.compare("the list of keys", page.js("document.querySelector('#help').scrollTop"), 0)
+    tally.holds("it is longer", page.js("(e => e.scrollHeight > e.clientHeight)"
+                                        "(document.querySelector('#help'))"))
+    page.js("document.querySelector('#help').close()")
+    for text, form in (('"Hello all"', "as hex"), ('1, "ello all"', "as text")):
+        page.edit("*=$0200\nstart: LDA text,X\n STA $F000\n INX\n CPX #40\n BNE start\n BRK\n"
+                  f"text: .BYTE {text}\n*=$FFFC\n.WORD start\n")
+        page.click("#go")
+        page.settle()
+        tally.compare(f"the console with {text}", page.shown()[4][1], form)
+    page.click("#form")
+    page.click("#again")
+    page.click("#go")
+    page.settle()
+    tally.compare("after a click", page.shown()[4][1], "as hex")
+
+
+CUT = """(e => { const r = document.createRange(); r.selectNodeContents(e);
+  const a = r.getBoundingClientRect(), b = e.getBoundingClientRect();
+  return a.right > b.right + 1 || a.bottom > b.bottom + 1; })"""
+
+
+def try_effects(page, tally, how):
+    """All that a step did is seen, where its line is long too."""
+    page.choose(1)
+    page.edit("*=$0200\ncounter = $10\nstart: INC counter\n JSR inner\n JMP start\ninner: INC counter,X\n"
+              " RTS\n*=$FFFC\n.WORD start\n")
+    for step in range(1, 5):
+        page.click("#on")
+        did = page.js("document.querySelector('#did').innerText")
+        is_cut = page.js(f"{CUT}(document.querySelector('#did'))")
+        tally.compare(f"step {step} is cut off: {did}", is_cut, False)
+
+
+WALK = """*=$0600
+start: LDA $FF
+ BEQ start
+ STA $10,X
+ INX
+ LDA #0
+ STA $FF
+ CPX #4
+ BNE start
+ BRK
+*=$FFFC
+.WORD start
+"""
+
+
+def try_screen_keys(page, tally, how):
+    """While a program with a screen runs, keys are its own; what is told of its end stays."""
+    page.choose(1)
+    page.edit(WALK)
+    page.click("#see")
+    page.click("#go")
+    tally.compare("the focus of a run", page.js("document.activeElement.id"), "screen")
+    for key in "dz":
+        page.key(key)
+        page.js("new Promise(f => setTimeout(f, 300))")
+    page.click("#cycles")                    # the focus is on the page
+    for key in "fs":
+        page.key(key)
+        page.js("new Promise(f => setTimeout(f, 300))")
+    page.settle()
+    tally.compare("keys", page.js("[...playground.session.machine.read(0x10, 4)]"), list(b"dzfs"))
+    told = page.told()
+    page.click("#screen")
+    page.key("d")
+    tally.compare("after the end", page.told(), told)
+    tally.holds(f"the end: {told}", told.startswith("BRK"))
+    page.click("#see")
 
 
 FOCUS = """(() => { const e = document.activeElement; return e == document.body ? '' :
@@ -604,6 +810,12 @@ def try_contrast(page, tally, how):
     page.choose(1)
 
 
+# whether a part is seen in its panel
+SEEN = """((part, box) => { const [a, b] = [part, box].map(it =>
+  document.querySelector(it).getBoundingClientRect());
+  return a.height > 20 && a.top >= b.top && a.bottom <= b.bottom + 1; })"""
+
+
 def try_phone(page, tally, how):
     """On a phone nothing is wider than the screen, and a program is run by touching."""
     phone = Page(page.path, width=390, height=844, mobile=True)
@@ -612,14 +824,25 @@ def try_phone(page, tally, how):
         phone.click(f"#tabs [value={tab}]")
         wide = phone.js("document.documentElement.scrollWidth")
         tally.holds(f"{tab} is {wide} wide", wide <= 390)
+    tally.holds("the hint on a phone", phone.js("!document.querySelector('#first').hidden"))
+    phone.click("#tabs [value=machine]")
+    tally.holds("the machine on a phone", phone.js(SEEN + "('#line', '#machine')"))
     phone.click("#go")
     phone.settle()
     tally.holds("run on a phone", phone.told().startswith("The program has ended"))
+    phone.click("#tabs [value=memory]")
+    phone.click_on("document.querySelectorAll('#grid td')[40]")
+    tally.holds("memory on a phone", phone.js(SEEN + "('#cell', '#memory')"))
+    phone.choose(4)
+    phone.click("#go")
+    phone.settle()
+    tally.holds("input on a phone", phone.js(SEEN + "('#line', '#machine')"))
+    tally.compare("its focus", phone.js("document.activeElement.id"), "line")
     phone.close()
 
 
-CHECKS = [try_sessions, try_faults, try_page, try_hostile, try_link, try_kept, try_endless, try_long,
-          try_refused, try_old_browser, try_keyboard, try_names, try_contrast, try_phone]
+CHECKS = [try_sessions, try_faults, try_warnings, try_no_vector, try_page, try_hostile, try_link, try_kept, try_own_text, try_endless, try_long,
+          try_refused, try_old_browser, try_first_use, try_effects, try_typing, try_screen_keys, try_keyboard, try_names, try_contrast, try_phone]
 
 
 def errors_of(page, tally):

@@ -20,9 +20,16 @@ class Model:
         self.restart()
 
     def restart(self):
-        self.states, self.events = [machine.start(self.spec, self.assembly.image)], []
+        self.states, self.events = [self.begin()], []
         self.written = set(self.assembly.image)
         self.at, self.why = 0, "start"
+
+    def begin(self):
+        """The first state. Without a reset vector it stands at the source's first instruction."""
+        image, state = self.assembly.image, machine.start(self.spec, self.assembly.image)
+        codes = [it.address for it in self.assembly.layouts if it.row is not None]
+        self.begun = codes[0] if codes and not {0xFFFC, 0xFFFD} & set(image) else None
+        return state if self.begun is None else state._replace(pc=self.begun)
 
     @property
     def state(self):
