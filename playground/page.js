@@ -95,8 +95,8 @@ function tellFault(fault) {
   if (fault.isOutOfMemory) {
     session.close();
     showNothing();
-    tell(`OutOfMemory, status ${fault.status}: the browser refused a block of memory. The source is `
-      + "as it was; assemble it again.", true);
+    tell(`OutOfMemory, status ${fault.status}: the browser refused a block of memory. `
+      + "The source is as it was; assemble it again.", true);
   } else if (fault.status) {
     tell(`The engine refused it: ${fault.name}, status ${fault.status}.`, true);
   } else {
@@ -773,8 +773,8 @@ function pressKey(event) {
 }
 
 // Keys on the lines of the run's source. Who types there wants to edit: Enter leads to the editor
-// at this line, and so does a character that is no command, or is one with an effect outside the run.
-// The character is typed at the end of the line.
+// at this line, and so does a character that is no command, or is one with an effect outside the
+// run. The character is typed at the end of the line.
 function lineKey(event) {
   const {key, target, ctrlKey, metaKey, altKey} = event;
   if (!target.closest?.("#rows") || running || assembled === null) return;

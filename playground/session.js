@@ -369,8 +369,8 @@ class Session {
     return null;
   }
 
-  // Whether the last step may have been a BRK, by what it would have pushed: P with B set, and its own
-  // address and 2.
+  // Whether the last step may have been a BRK, by what it would have pushed: P with B set, and its
+  // own address and 2.
   mayFollowBrk() {
     const {s} = this.machine.registers();
     const page = this.machine.read(0x0100, 256);
@@ -383,8 +383,8 @@ class Session {
     return last !== undefined && last[0] == this.total - 1;
   }
 
-  // Whether the next step would jump to itself: it is made and taken back, where the instruction may
-  // be such a jump, since a step that is made drops the oldest one.
+  // Whether the next step would jump to itself: it is made and taken back, where the instruction
+  // may be such a jump, since a step that is made drops the oldest one.
   stuckHere() {
     const {pc} = this.machine.registers();
     const [opcode, low, high] = this.machine.read(pc, Math.min(3, 65536 - pc));

@@ -562,7 +562,8 @@ def try_endless(page, tally, how):
     page.js("new Promise(f => setTimeout(f, 700))")
     tally.holds("while it runs", page.told().startswith("Running"))
     page.click("#go")
-    tally.holds("stopped", re.fullmatch(r"Stopped after ([\d,]+) steps\. The last 65,536 of \1 steps are kept\.", page.told()))
+    words = r"Stopped after ([\d,]+) steps\. The last 65,536 of \1 steps are kept\."
+    tally.holds("stopped", re.fullmatch(words, page.told()))
     tally.compare("steps held", page.js("playground.session.run.n"), 65536)
     for _ in range(3):
         page.key("Shift F8")
@@ -841,8 +842,9 @@ def try_phone(page, tally, how):
     phone.close()
 
 
-CHECKS = [try_sessions, try_faults, try_warnings, try_no_vector, try_page, try_hostile, try_link, try_kept, try_own_text, try_endless, try_long,
-          try_refused, try_old_browser, try_first_use, try_effects, try_typing, try_screen_keys, try_keyboard, try_names, try_contrast, try_phone]
+CHECKS = [try_sessions, try_faults, try_warnings, try_no_vector, try_page, try_hostile, try_link,
+          try_kept, try_own_text, try_endless, try_long, try_refused, try_old_browser, try_first_use,
+          try_effects, try_typing, try_screen_keys, try_keyboard, try_names, try_contrast, try_phone]
 
 
 def errors_of(page, tally):

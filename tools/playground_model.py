@@ -72,6 +72,10 @@ class Model:
             return "waits"
         return None
 
+    def is_due(self, state):
+        """Whether an interrupt comes in place of the instruction at PC."""
+        return not state.i and state.control and machine.input_waits(state)
+
     def make(self):
         """Makes a step at the end. Returns why it was refused, or the program now rests, or None."""
         before = self.states[-1]
@@ -123,7 +127,10 @@ class Model:
                 return True
         first = self.states[-1]
         for _ in range(MOST):
-            why = self.rest(self.states[-1]) or self.make()
+            rest = self.rest(self.states[-1])
+            if rest and self.is_due(self.states[-1]):
+                return False           # the page sees only from the outside whether it rests here
+            why = rest or self.make()
             state = self.states[-1]
             if is_over and not why and state.pc == first.pc + 3 & 0xFFFF and state.s >= first.s:
                 why = "over"
