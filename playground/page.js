@@ -587,6 +587,15 @@ function saveSource() {
   tell(`The source is saved as ${name}.`);
 }
 
+// The paper tape of the image, as `mos65 asm` writes it.
+function saveTape() {
+  stop();
+  if ((assembled === null || isStale()) && !assemble()) return;
+  const file = name.replace(/\.\w+$/, "") + ".tape";
+  download(new TextEncoder().encode(session.assembly.tape()), "text/plain", file);
+  tell(`The tape is saved as ${file}.`);
+}
+
 async function loadSource() {
   const file = $("file").files[0];
   $("file").value = "";
@@ -741,9 +750,10 @@ const LETTERS = [
   ["k", "the screen of 32 by 32, on or off", toggleScreen],
   ["o", "open a source", () => $("file").click()], ["f", "save the source", saveSource],
   ["l", "make a link with the source", makeLink], ["h", "save the run as a page", savePage],
+  ["p", "save the paper tape", saveTape],
 ];
 
-const OUTSIDE = new Set("zoflh");                    // the letters with an effect outside the run
+const OUTSIDE = new Set("zoflhp");                   // the letters with an effect outside the run
 const COMMANDS = new Set([...LETTERS.map(([key]) => key), ..." bBnNurvVwWaxyscCiI+-0gmt?"]);
 
 // Out of the editor, so that keys without Ctrl work.
@@ -926,7 +936,10 @@ function listen() {
   addEventListener("click", event => {
     if (!$("files").contains(event.target)) $("files").open = false;
   });
-  const menu = {load: () => $("file").click(), save: saveSource, link: makeLink, print: savePage};
+  const menu = {
+    load: () => $("file").click(), save: saveSource, link: makeLink, print: savePage,
+    tape: saveTape,
+  };
   for (const [id, act] of Object.entries(menu)) {
     $(id).onclick = () => {
       $("files").open = false;

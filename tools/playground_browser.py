@@ -442,6 +442,18 @@ def try_page(page, tally, how):
         tally.holds("the page of a run", page.js("playground.runPage()") == it.read())
 
 
+def try_tape(page, tally, how):
+    """The tape is one by the KIM-1 manual: a data record, and the end record with their count."""
+    page.edit("*=$0200\n .BYTE 1,2\n")
+    page.click("#files summary")
+    page.js("HTMLAnchorElement.prototype.click = function () { window.file = this.download; }")
+    page.click("#tape")
+    name = page.js("document.querySelector('#name').textContent").rsplit(".", 1)[0]
+    tally.compare("the name of a tape", page.js("window.file"), name + ".tape")
+    tally.compare("a tape", page.js("playground.session.assembly.tape()"),
+                  ";02020001020007\r\n;0000010001\r\n")
+
+
 HOSTILE = """; </script><img src=x onerror="document.title='owned'"> %3Cb%3E &lt; \\u003c ]]> */ //
 start:  LDA #1
 </script>:
@@ -842,7 +854,7 @@ def try_phone(page, tally, how):
     phone.close()
 
 
-CHECKS = [try_sessions, try_faults, try_warnings, try_no_vector, try_page, try_hostile, try_link,
+CHECKS = [try_sessions, try_faults, try_warnings, try_no_vector, try_page, try_tape, try_hostile, try_link,
           try_kept, try_own_text, try_endless, try_long, try_refused, try_old_browser, try_first_use,
           try_effects, try_typing, try_screen_keys, try_keyboard, try_names, try_contrast, try_phone]
 
