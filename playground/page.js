@@ -740,7 +740,7 @@ const BUTTONS = [
   ["see", "Screen", "k", toggleScreen],
 ];
 const FUNCTION_KEYS = {
-  "F2": assemble, "F4": () => document.body.dataset.mode == "edit" ? leave() : edit(),
+  "F2": assemble, "F4": () => document.activeElement == editor.text ? leave() : edit(),
   "F8": stepOn, "Shift F8": back, "F9": stepOver, "Shift F9": toLastWrite, "Ctrl Enter": runOrStop,
 };
 const LETTERS = [

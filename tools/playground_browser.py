@@ -672,6 +672,8 @@ def try_first_use(page, tally, how):
     page.js("localStorage.clear(), sessionStorage.clear()")
     page.open()
     tally.holds("the hint", page.js("!document.querySelector('#first').hidden"))
+    page.key("F4")
+    tally.compare("F4 before all", page.js("document.activeElement.id"), "text")
     page.choose(1)
     page.click("#on")
     tally.compare("the first step", page.shown()[5:7], [1, 1])
