@@ -37,11 +37,13 @@ def look_at_end(browser, compare, name, run, facts):
     browser.key("End")
     words = [fact.split() for fact in facts.decode().split("\n") if fact.startswith("line ")]
     pc = run.pcs[-1]
-    there = [number for _, number, at, count in words if 0 <= pc - int(at, 16) < int(count)]
+    ends = [(number, pc - int(at, 16)) for _, number, at, count in words
+            if 0 <= pc - int(at, 16) < int(count)]
+    there, is_within = [number for number, _ in ends], any(byte for _, byte in ends)
     marked = "[...document.querySelectorAll('#lines tr.now td.n')].map(e => e.textContent)"
     source = browser.js("document.querySelector('#views [value=source]')?.click(), "
                         "document.querySelector('#views [value=source]') != null")
-    if source:
+    if source and not is_within:       # the row of an instruction stands for its first byte alone
         compare(f"{name} line at the end", browser.js(marked), there)
     browser.js("document.querySelector('#views [value=code]').click()")
     compare(f"{name} address at the end", browser.js(marked), ["$%04X" % pc])
