@@ -3,7 +3,8 @@
  * A call answers a status: MOS65_OK, which is 0, or why it was refused. A refused call changes nothing, and
  * what it was to fill in stays as it was, but for *fault, which always tells. There are two exceptions: mos65_write
  * is many calls, and those before the refused one were made; and where mos65_record_run is refused for memory,
- * some of its steps were made. A call on what is not open answers MOS65_CLOSED before anything else. Four statuses say that memory was refused: mos65_is_out_of_memory knows them.
+ * some of its steps were made. A call on what is not open answers MOS65_CLOSED before anything else. Four
+ * statuses say that memory was refused: mos65_is_out_of_memory knows them.
  * A machine and an assembly are variables of the caller, MOS65_INIT before they are opened and again after
  * they are closed:
  *
