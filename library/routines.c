@@ -1,4 +1,4 @@
-/* Calls routines for tools/random-routines. Each comes on stdin: a line with the length of its source, a limit, the registers that are
+/* Calls routines for tools/check/random-routines. Each comes on stdin: a line with the length of its source, a limit, the registers that are
  * given (-1 for none) and how many bytes of input there are; then the source, 16 bytes of memory for $10 on, and the input. Each is
  * answered with a line of what came: how the call ended, the registers, the cycles, the output, and a checksum of the memory. */
 #include <mos65.h>

@@ -1,5 +1,5 @@
 /* Makes calls for tools/measure-rigs, and prints how many nanoseconds each takes: the least of five rounds. The words are the file of
- * the program of tools/bench.s, and how many steps it is to make. */
+ * the program of tools/speed/bench.s, and how many steps it is to make. */
 #include <mos65.h>
 #include <stdio.h>
 #include <stdlib.h>

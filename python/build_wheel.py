@@ -37,7 +37,7 @@ Summary: A 6502 with a history of its whole states, for test rigs
 Author: Cekwobi maintainers
 Classifier: Framework :: Pytest
 Classifier: Programming Language :: Python :: 3
-Requires-Python: >=3.9
+Requires-Python: >=3.8
 Description-Content-Type: text/markdown
 
 """

@@ -4,7 +4,7 @@
 
 The counter is loaded and started by a store at base+5, and sets bit 6 of base+13 when it has passed
 0; with bit 6 of base+11 it starts again from the latch. Reading base+4 clears the bit, and so does a
-store at base+5. The IRQ line is 1 while base+13 and base+14 have a bit in common.
+store at base+5. It asks for an IRQ while base+13 and base+14 have a bit in common.
 
 Of the cycles within an instruction nothing is known: a read sees the counter as it was before its
 instruction, and a store sets it after its instruction. Source: MOS 6522 data sheet."""
@@ -37,7 +37,7 @@ class Timer(mos65.Device):
         self.state = after = before._replace(**values)
         is_asked = bool(after.flags & after.enabled)
         if is_asked != bool(before.flags & before.enabled):
-            self.machine.irq(is_asked)
+            self.machine.irq(is_asked, by=self)
 
     def read(self, address):
         now, register = self.state, address - self.base

@@ -1,6 +1,6 @@
 " Vim syntax file
 " Language: sources of mos65 (.a65), a 6502 assembler
-" Tested by tools/check-editors.
+" Tested by tools/check/editors.
 
 if exists('b:current_syntax')
   finish

@@ -1,0 +1,131 @@
+"""What a page owes every reader: that the last line is marked, that texts can be told from what is
+behind them, that the keyboard alone reaches what a click does, that its address says what is shown,
+that it can be searched, and that lines and bytes have names."""
+
+# The contrast that WCAG 2 asks for at level AA.
+LEAST = 4.5
+CONTRAST = """(() => {
+  const pen = document.createElement('canvas').getContext('2d', {willReadFrequently: true});
+  const known = {};
+  const rgba = color => known[color] ||= (pen.clearRect(0, 0, 1, 1), pen.fillStyle = color,
+    pen.fillRect(0, 0, 1, 1), [...pen.getImageData(0, 0, 1, 1).data]);
+  const behind = e => {
+    const [r, g, b, a] = rgba(getComputedStyle(e).backgroundColor), up = e.parentElement;
+    if (a == 255 || !up) return [r, g, b];
+    return behind(up).map((c, k) => c + ([r, g, b][k] - c) * a / 255);
+  };
+  const linear = c => c <= .04045 ? c / 12.92 : ((c + .055) / 1.055) ** 2.4;
+  const light = color => color.map(c => linear(c / 255))
+    .reduce((sum, c, k) => sum + c * [.2126, .7152, .0722][k], .05);
+  const walk = document.createTreeWalker(document.body, NodeFilter.SHOW_TEXT), weak = [];
+  for (let node; node = walk.nextNode();) {
+    const e = node.parentElement;
+    if (!node.data.trim() || !e.checkVisibility() || e.closest('.off,script,:disabled')) continue;
+    const [one, other] = [light(rgba(getComputedStyle(e).color).slice(0, 3)), light(behind(e))];
+    const ratio = Math.max(one, other) / Math.min(one, other);
+    const told = [e.className || e.tagName, node.data.slice(0, 20), ratio.toFixed(2)];
+    if (ratio < %s) weak.push(told.join(' '));
+  }
+  return [...new Set(weak)].slice(0, 5);
+})()""" % LEAST
+FOCUS = """(e => e.dataset.r || e.id || e.tagName)(document.activeElement)"""
+CLICKED = {"A", "X", "Y", "S", "SPAN", "TR", "TD", "step", "slider", "rows", "out", "find"}
+MOST_TABS = 99
+
+
+def look_at_end(browser, compare, name, run, facts):
+    """The line on which the run ends is the one that is marked, whatever stands there."""
+    browser.key("End")
+    words = [fact.split() for fact in facts.decode().split("\n") if fact.startswith("line ")]
+    pc = run.pcs[-1]
+    ends = [(number, pc - int(at, 16)) for _, number, at, count in words
+            if 0 <= pc - int(at, 16) < int(count)]
+    there, is_within = [number for number, _ in ends], any(byte for _, byte in ends)
+    marked = "[...document.querySelectorAll('#lines tr.now td.n')].map(e => e.textContent)"
+    source = browser.js("document.querySelector('#views [value=source]')?.click(), "
+                        "document.querySelector('#views [value=source]') != null")
+    if source and not is_within:       # the row of an instruction stands for its first byte alone
+        compare(f"{name} line at the end", browser.js(marked), there)
+    browser.js("document.querySelector('#views [value=code]').click()")
+    compare(f"{name} address at the end", browser.js(marked), ["$%04X" % pc])
+    said = ("(e => e ? getComputedStyle(e, '::after').content : '')"
+            "(document.querySelector('#lines tr.now .t'))")
+    compare(f"{name} said at the end", "the run ends here" in browser.js(said), True)
+
+
+def look_at_address(browser, compare, name, at):
+    """An address has the step, the chosen byte, the list, and the page of memory."""
+    part = f"#{at}&byte=0010&view=labels&page=01"
+    browser.js(f"location.hash = '{part}', new Promise(f => setTimeout(f, 600))")
+    shown = browser.js("[viewer.step, viewer.chosen, viewer.view, viewer.page, location.hash]")
+    compare(f"{name} at {part}", shown, [at, 16, "labels", 1, part])
+
+
+def look_at_search(browser, compare, name, run, at):
+    """Enter in the field leads to where a condition begins to hold, with Shift back."""
+    stack = run.stack
+    begins = [k for k in range(1, run.last + 1) if stack[k] == stack[-1] != stack[k - 1]]
+    after = next((k for k in begins if k > at), at)
+    browser.js(f"viewer.go({at}), document.querySelector('#find').value = 'S=${stack[-1]:02X}',"
+               "document.querySelector('#find').focus()")
+    browser.key("Enter")
+    compare(f"{name} found by S={stack[-1]:02X} after {at}", browser.js("viewer.step"), after)
+    browser.js("document.activeElement.blur()")
+
+
+def look_at_names(browser, compare, name, run, at):
+    """The line that comes next and a byte say what they are, for those who do not see it."""
+    browser.js(f"document.querySelector('#views [value=source]').click(), viewer.go({at}),"
+               "viewer.choose(0x105)")
+    label = browser.js("document.querySelector('#lines tr.now')?.ariaLabel") or ""
+    line = run.lines.get(run.pcs[at])
+    is_named = label.startswith(f"line {line}, comes next")
+    compare(f"{name} name of {label}", is_named, line is not None)
+    cell = browser.js("document.querySelectorAll('#grid td')[5].ariaLabel")
+    compare(f"{name} name of {cell}", cell.startswith("0105, "), True)
+
+
+def look_at_contrast(browser, compare, name, last):
+    """No text is too like what is behind it, in the light and in the dark."""
+    for light in ("dark", "light"):
+        scheme = {"name": "prefers-color-scheme", "value": light}
+        browser.call("Emulation.setEmulatedMedia", features=[scheme])
+        for step in (last // 2, last):
+            browser.js(f"viewer.go({step})")
+            for view in ("labels", "code", "source"):
+                browser.js(f"document.querySelector('#views [value={view}]')?.click()")
+                compare(f"{name} contrast {light} {step} {view}", browser.js(CONTRAST), [])
+
+
+def tab_to(browser, wanted):
+    for _ in range(MOST_TABS):
+        browser.key("Tab")
+        if browser.js(FOCUS) == wanted:
+            return True
+    return False
+
+
+def look_at_keyboard(browser, compare, name, run):
+    """Tab reaches registers, lines, memory and the console, and Enter there is a click."""
+    browser.js("document.activeElement.blur(),"
+               "document.querySelector('#views [value=source]').click()")
+    reached = set()
+    for _ in range(MOST_TABS):
+        browser.key("Tab")
+        reached.add(browser.js(FOCUS))
+    compare(f"{name} reached by Tab", CLICKED - reached, set())
+    at = run.last // 2
+    browser.js(f"viewer.go({at})")
+    compare(f"{name} Tab to X", tab_to(browser, "X"), True)
+    browser.key("Enter")
+    at = run.set_before(at, 1)
+    compare(f"{name} Enter on X", [browser.js("viewer.step"), browser.js(FOCUS)], [at, "X"])
+    compare(f"{name} Tab to a line", tab_to(browser, "TR"), True)
+    browser.key("ArrowDown")
+    number = browser.js("+document.activeElement.cells[0].textContent")
+    address = next(at for at, line in run.lines.items() if line == number)
+    browser.key("Enter")
+    wanted = [run.visit(address, at, True), number]
+    compare(f"{name} Enter on a line",
+            browser.js("[viewer.step, +document.activeElement.cells[0].textContent]"), wanted)
+    browser.js("document.activeElement.blur()")
