@@ -356,7 +356,8 @@ class Session {
     return this.breaks.has(address) ? {why: "break", address} : null;
   }
 
-  // Goes back before a BRK that has no handler, or stands where nothing was written.
+  // Goes back before a BRK that has no handler, or stands where nothing was written; so too where
+  // an interrupt came in its place.
   brkBefore() {
     if (this.total == this.began || this.lastIsOutside() || !this.mayFollowBrk()) return null;
     this.machine.back(1);
@@ -370,12 +371,13 @@ class Session {
   }
 
   // Whether the last step may have been a BRK, by what it would have pushed: P with B set, and its
-  // own address and 2.
+  // own address and 2; or an interrupt before one: P with B clear, and its own address.
   mayFollowBrk() {
     const {s} = this.machine.registers();
     const page = this.machine.read(0x0100, 256);
     const [p, low, high] = [1, 2, 3].map(k => page[s + k & 255]);
-    return (p & 0x30) == 0x30 && this.machine.read((low | high << 8) - 2 & 65535, 1)[0] == BRK;
+    const at = (low | high << 8) - (p & 0x10 ? 2 : 0) & 65535;
+    return (p & 0x20) != 0 && this.machine.read(at, 1)[0] == BRK;
   }
 
   lastIsOutside() {

@@ -56,8 +56,9 @@ async function packLink(text, hasScreen) {
 
 // What such a part holds, or null where it is none. It is thrown where it cannot be read.
 async function unpackLink(hash) {
+  if (!/^#[zt]=/.test(hash)) return null;
   const found = /^#([zt])=([\w-]*)(&screen)?$/.exec(hash);
-  if (!found) return null;
+  if (!found) throw new Error("it is cut off, or no base64");
   const bytes = fromBase64Url(found[2]);
   const plain = found[1] == "t" ? bytes
     : await through(bytes, new DecompressionStream("deflate-raw"), MOST_TEXT);

@@ -17,7 +17,7 @@
 //   xor            old XOR new of the byte there
 // An access stands in the groups of `uses` at its address, a store 65,536 behind it, and a step
 // that ran an instruction in those of `visits`.
-const {Run, decodeRun, readFacts} = (() => {
+const {Run, decodeRun, readFacts, STORE, BY_HAND, NO_INSTRUCTION} = (() => {
 
 const STORE = 65536, BY_HAND = 4, NO_INSTRUCTION = 8, JSR = 0x20;
 const STATES = {
@@ -356,6 +356,8 @@ function readFact(info, line) {
   else if (word) info[word] = unescaped(line.slice(word.length + 1));
 }
 
-return {Run, decodeRun, readFacts};
+return {Run, decodeRun, readFacts, STORE, BY_HAND, NO_INSTRUCTION};
 })();
-if (typeof module !== "undefined") module.exports = {Run, decodeRun, readFacts};
+if (typeof module !== "undefined") {
+  module.exports = {Run, decodeRun, readFacts, STORE, BY_HAND, NO_INSTRUCTION};
+}
