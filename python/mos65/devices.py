@@ -65,6 +65,13 @@ class Devices:
         self._writers: Dict[int, Taker] = {}
         # A mark for each address at which a device stands.
         self._marks = b""
+        # What is called where a step begins, by address.
+        self._reaches: Dict[int, Callable[[], None]] = {}
+        # Such a call: its address, and how many events there were before it and after it.
+        self._reached: Deque[Tuple[int, int, int]] = deque()
+        # Where runs stop for the user: the breakpoints, and where this run is to end.
+        self.breaks: List[int] = []
+        self.until: Optional[int] = None
         # Whether there ever was a device or something at a cycle.
         self.is_used = False
         self._told_back: List[Callable[[int], None]] = []
@@ -88,6 +95,20 @@ class Devices:
         marks = bytearray(self._marks or bytes(0x10000))
         marks[places[0] : places[-1] + 1] = b"\1" * len(places)
         self._marks = bytes(marks)
+
+    def place_reach(self, address: int, call: Callable[[], None]) -> None:
+        """What is called where a step begins at an address. Raises Refused, Taken, where something
+        is; SessionFault, TableFull."""
+        if address in self._reaches:
+            raise Refused("Taken", text=f"${address:04X}")
+        if address not in self.breaks:
+            self._way.set_break(address)
+        self.is_used = True
+        self._reaches[address] = call
+
+    def is_reach(self, address: int) -> bool:
+        """Whether runs of the machine itself stop at an address, whatever the user's do."""
+        return address in self._reaches
 
     # ---- what a device does
 
@@ -124,8 +145,8 @@ class Devices:
             byte = self._told(self._events.number + 2, giver, address)
         finally:
             self._is_later = False
-        if not 0 <= byte <= 0xFF:
-            raise Refused("Value", text=f"a device gives {byte} at ${address:04X}")
+        if not isinstance(byte, int) or not 0 <= byte <= 0xFF:
+            raise Refused("Value", text=f"a device gives {byte!r} at ${address:04X}")
         self._make(("write", (address, bytes([byte])), 1))
 
     def _gave(self) -> None:
@@ -163,6 +184,32 @@ class Devices:
         self._fired = [it for it in self._fired if it.fired > oldest]
         return max(1, self._waiting[0].cycle - now) if self._waiting else None
 
+    # ---- places
+
+    def _reach(self) -> Optional[int]:
+        """Calls what waits at PC, and then at the place to which that call has set PC.
+
+        Returns where the run has to stop because of that."""
+        while True:
+            here, start = self._way.registers().pc, self._events.number
+            if here not in self._reaches or self._is_called(here, start):
+                return None
+            self._told(start + 1, self._reaches[here])
+            self._reacted(start, start + 1)
+            self._reached.append((here, start, self._events.number))
+            while self._reached and self._reached[0][2] < self._events.number - self._history:
+                self._reached.popleft()
+            there = self._way.registers().pc
+            if there != here and self._is_stop(there):
+                return there
+
+    def _is_called(self, address: int, number: int) -> bool:
+        """Whether the call at an address was made, and no event came after those of the call."""
+        return bool(self._reached) and self._reached[-1][::2] == (address, number)
+
+    def _is_stop(self, address: Optional[int]) -> bool:
+        return address == self.until or address in self.breaks
+
     # ---- going back
 
     def on_back(self, call: Callable[[int], None]) -> None:
@@ -182,6 +229,8 @@ class Devices:
         self._waiting.sort(key=lambda it: it.cycle)
         while self._reactions and self._reactions[-1].least > number:
             self._reactions.pop()
+        while self._reached and self._reached[-1][1] >= number:
+            self._reached.pop()
         self._owed = []
         if self._reactions and self._reactions[-1].end > number:
             left = self._reactions[-1].end - number
@@ -192,20 +241,35 @@ class Devices:
 
     # ---- runs
 
+    def step(self) -> RunEnd:
+        """A run of one step, which no breakpoint keeps from it."""
+        end = self.run(1)
+        while end.why is Why.BREAK and end.steps == 0:
+            end = self.run(1)
+        return end
+
     def run(self, limit: int) -> RunEnd:
         """A run, with each device told."""
         steps = 0
         while steps < limit:
             wait = self._ready()
+            stop = self._reach() if self._reaches else None
+            if stop is not None:
+                return RunEnd(steps, Why.BREAK, stop)
             left = limit - steps if wait is None else min(limit - steps, steps_to(wait))
             end = self._some(left)
             steps += end.steps
             if end.why is Why.LIMIT and end.steps < left:
                 end = self._step()
                 steps += end.steps
-            if end.why is not Why.LIMIT:
+            if self._is_over(end):
                 return replace(end, steps=steps)
         return RunEnd(steps, Why.LIMIT)
+
+    def _is_over(self, end: RunEnd) -> bool:
+        """Whether a part of a run ends the run too: its own stops for calls do not."""
+        is_own = end.why is Why.BREAK and end.address in self._reaches
+        return end.why is not Why.LIMIT and not (is_own and not self._is_stop(end.address))
 
     def _ready(self) -> Optional[int]:
         """Makes what is owed and calls what is due, and returns in how many cycles the next is."""

@@ -7,7 +7,7 @@ import ctypes.util
 import os
 import shutil
 import struct
-from typing import Optional, Tuple
+from typing import Any, Optional, Tuple
 
 from .accesses import Access
 from .faults import (
@@ -20,8 +20,10 @@ from .faults import (
     Refused,
     SessionFault,
     TapeFault,
+    with_faults,
 )
 from .values import Registers, RunEnd, Source, Why, made
+from .words import UNNAMED
 
 VERSION_NUMBER = 100
 NO_PORT = 0xFFFF
@@ -140,6 +142,8 @@ _CALLS = {
     "symbol_at": [_M, _N, _BYTES, _N, _P(_N), _P(ctypes.c_int32)],
     "line_count": [_M, _P(_N)],
     "line": [_M, _N, _P(_Line), _BYTES, _N, _P(_N)],
+    "faults": [_P(_Config), _BYTES, _N, _BYTES, _N, _BYTES, _N, _P(_N)],
+    "warnings": [_P(_Config), _BYTES, _N, _BYTES, _N, _BYTES, _N, _P(_N)],
     "assembly_close": [_M],
     "open": [_M, _P(_Config), _M],
     "open_tape": [_M, _P(_Config), _BYTES, _N, _P(_Fault)],
@@ -177,9 +181,9 @@ _OWN_FILE = os.path.join(os.path.dirname(os.path.abspath(__file__)), "libmos65.s
 
 
 def find_library(library: Optional[str] = None) -> Optional[str]:
-    """The library's file: the one that is given, that of MOS65_LIBRARY, the one in this package, the
-    one in `lib` beside the program's folder, the one in ~/.local, or the system's. None where there
-    is none."""
+    """The library's file: the one that is given, that of MOS65_LIBRARY, the one in this package,
+    the one in `lib` beside the program's folder, the one in ~/.local, or the system's. None where
+    there is none."""
     found = library or os.environ.get("MOS65_LIBRARY")
     if found:
         return found
@@ -233,28 +237,51 @@ class Session:
     """A machine by the library, with the same methods as `pipe.Pipe`."""
 
     def __init__(
-        self, library: Library, config: _Config, source: bytes, kind: str, at: Optional[int]
+        self,
+        library: Library,
+        config: _Config,
+        source: bytes,
+        form: str,
+        at: Optional[int],
+        name: str,
     ) -> None:
         self._lib, self._slot = library, _Slot()
+        self._text = config, os.fsencode(name or UNNAMED), source
         self._m = ctypes.byref(self._slot)
         self._regs, self._ending, self._count = _Registers(), _Ending(), _U32()
         self._given, self._called, self._touch = _Given(), _Called(), _Touch()
         self._given_ref, self._called_ref = ctypes.byref(self._given), ctypes.byref(self._called)
         self.source = Source()
         told = _Fault()
-        if kind == "image":
+        if form == "bin":
             self._check(library.open_bytes(self._m, config, at, source, len(source)))
             return
-        if kind == "tape":
+        if form == "tape":
             self._check(library.open_tape(self._m, config, source, len(source), told), told)
             return
         assembly = _Slot()
-        self._check(library.assemble(assembly, config, source, len(source), told), told)
+        status = library.assemble(assembly, config, source, len(source), told)
+        if status:
+            fault = fault_of(status, told)
+            is_source = isinstance(fault, AssemblyFault)
+            raise with_faults(fault, self._notes(library.faults)) if is_source else fault
         try:
             self.source = self._source_of(assembly)
             self._check(library.open(self._m, config, assembly))
         finally:
             library.assembly_close(assembly)
+
+    def _notes(self, call: Any) -> str:
+        """What a call tells of the source: all faults, or all warnings."""
+        (config, name, source), length = self._text, _N()
+        given = config, name, len(name), source, len(source)
+        self._check(call(*given, ctypes.create_string_buffer(1), 0, length))
+        out = ctypes.create_string_buffer(max(length.value, 1))
+        self._check(call(*given, out, length.value, length))
+        return out.raw[: length.value].decode("utf-8", "replace")
+
+    def warnings(self) -> str:
+        return self._notes(self._lib.warnings)
 
     def _source_of(self, assembly: _Slot) -> Source:
         found, count, length, number = Source(), _N(), _N(), ctypes.c_int32()

@@ -2,24 +2,29 @@
 
 from __future__ import annotations
 
+import operator
 import os
 import re
 import tempfile
+import warnings
 import weakref
 from contextlib import contextmanager
 from dataclasses import replace
 from types import TracebackType
-from typing import Callable, Dict, Iterator, List, Optional, Tuple, Type, Union
+from typing import Any, Callable, Dict, Hashable, Iterable, Iterator, List, Optional, Tuple
+from typing import Type, Union
 
-from . import events
+from . import events, images, pipe, words
 from . import library as by_library
-from . import pipe
 from .devices import Devices, has_entered, steps_to
-from .faults import DidNotReturn, EventFault, MapFault, NoSuchName, Refused
-from .image import kind_of, tape_of
+from .faults import AssemblyFault, DidNotReturn, EventFault, Fault, MapFault, NoSuchName, Refused
+from .faults import SessionFault, with_faults
+from .request_line import RequestLine
 from .values import Call, Registers, RunEnd, Source, Step, Why, made
 
 Place = Union[int, str]
+File = Union[str, "os.PathLike[str]"]
+Bytes = Union[int, bytes, Iterable[int]]
 
 _CALL_EVENTS = events.CALL_EVENTS
 _LIMIT = 1_000_000
@@ -43,31 +48,49 @@ def _check_map(
             raise MapFault("Map", text=hex(it))
 
 
+def _bytes_of(data: Bytes) -> bytes:
+    """Bytes, or one byte that is given as a number. Raises Refused for a number that is none."""
+    try:
+        data = [operator.index(data)]
+    except TypeError:
+        pass
+    try:
+        return bytes(data)
+    except ValueError:
+        raise Refused("Value", text="a byte is 0 to 255") from None
+
+
 class Machine:
     """A 6502 that starts with the image of a source, of a tape or of bytes, and the history of its
     whole states.
 
     source: a file; or what would be in it, as bytes
-    tape: True for a tape, False for a source, None for a tape where the text begins with a whole
-        and right record of one, and else a source
-    at: where the first byte goes, if the file has the bytes of the image themselves
+    form: "source", "tape", "hex" for Intel HEX, "srec" for S-records, "prg", or "bin" for bytes
+        alone. If it is not given the file's ending tells it, as .hex, .s19 and .prg; with no such
+        ending it is a tape if it begins with a whole and right record of one, and else a source
+    tape: True for the form "tape", False for "source"
+    at: the address of the first byte, for the form "bin"
+    symbols: a file of names for an image: a source, or what `asm --symbols`, VICE, ld65 or 64tass
+        write
     history: how many events can be gone back over, 0 to 65,536
     port: the first of the console's four addresses, or None for a machine without a console
     rom: the first and the last address that stores leave as they are
     profile: "N" or "C", which has 19 opcodes more
     library: True for the library, False for the program, None for the library where it is found;
         or the library's file
-    program: the program's file, where it is not `mos65` on the PATH
+    program: the program's file, where it is not `mos65` on the PATH. It reads Intel HEX, S-records,
+        PRG files and files of names, also for a machine by the library
     timeout: how many seconds the program may take for a reply
 
-    `symbols` has the names of the source with their numbers, `lines` the line of each address at
-    which one with bytes begins. A tape and an image have neither.
+    `symbols` has the names with their numbers, `lines` the line of each address at which one of the
+    source with bytes begins. An image has no lines. Names that no source can have are left out,
+    and so are further names of an address in a file of VICE or ld65; a Python warning counts them.
 
-    Raises FileNotFoundError, or another OSError, where the file cannot be read; AssemblyFault and
-    TapeFault for what is in it; MapFault where history, port, ROM or profile are none;
-    SessionFault, PortAddress, where a tape or an image has a byte at the port; Refused where an
-    image goes past 0xFFFF, `at` is given with a tape, or no library is found; Fault, OutOfMemory;
-    EngineDied where there is no program, or it ends; Timeout.
+    Raises FileNotFoundError, or another OSError, where the file cannot be read; AssemblyFault,
+    TapeFault and ImageFault for what is in it; MapFault where history, port, ROM or profile are
+    none; SessionFault, PortAddress, where an image has a byte at the port; Refused where bytes go
+    past 0xFFFF, two forms are said, a source is given names, or no library is found; Fault,
+    OutOfMemory; EngineDied where there is no program, or it ends; Timeout.
 
     Every call raises Closed once the machine is closed, and over the pipe EngineDied where the
     program has ended and Timeout where it does not answer. The calls name what they raise beside
@@ -75,13 +98,17 @@ class Machine:
     """
 
     open_machines: "weakref.WeakSet[Machine]" = weakref.WeakSet()
+    # What is called with each machine before it is closed.
+    closing: List[Callable[["Machine"], None]] = []
 
     def __init__(
         self,
-        source: Union[str, "os.PathLike[str]", bytes],
+        source: Union[File, bytes],
         *,
+        form: Optional[str] = None,
         tape: Optional[bool] = None,
         at: Optional[int] = None,
+        symbols: Optional[File] = None,
         history: int = 1024,
         port: Optional[int] = 0xF000,
         rom: Optional[Tuple[int, int]] = None,
@@ -91,14 +118,13 @@ class Machine:
         timeout: float = 10.0,
     ) -> None:
         _check_map(history, port, rom, profile)
-        self.port, self.history = port, history
-        if not isinstance(source, bytes):
-            with open(source, "rb") as it:
-                source = it.read()
-        kind = kind_of(source, tape, at)
+        self.port, self.history, self._name, self._program = port, history, "", program
+        source, form = self._read(source, form, tape, at)
+        if symbols is not None and form == "source":
+            raise Refused("Words", text="a source has its own names")
         # What a copy is opened with.
         self._opening = source, {
-            "tape": kind == "tape",
+            "form": form,
             "at": at,
             "history": history,
             "port": port,
@@ -108,45 +134,92 @@ class Machine:
             "program": program,
             "timeout": timeout,
         }
-        file = None
+        names = None if symbols is None else self._names_of(symbols)
+        found = self._open()
+        self.symbols: Dict[str, int] = found.symbols if names is None else names
+        self.lines: Dict[int, int] = found.lines
+        self._texts = found.texts
+        self._events = events.Events()
+        self._devices = Devices(self._way, self._events, history)
+        self._breaks: List[int] = self._devices.breaks
+        self._watches: List[int] = []
+        self._request = RequestLine()
+        Machine.open_machines.add(self)
+
+    def _read(
+        self, source: Any, form: Optional[str], tape: Optional[bool], at: Optional[int]
+    ) -> Tuple[bytes, str]:
+        """What the source or the image has, and its form. HEX, S-records and PRG become a tape."""
+        if not isinstance(source, bytes):
+            self._name = os.fspath(source)
+            with open(source, "rb") as it:
+                source = it.read()
+        form = images.form_of(self._name, source, form, tape, at)
+        if form not in images.CONVERTED:
+            return source, form
+        return words.converted(words.find_program(self._program), source, form), "tape"
+
+    def _open(self) -> Source:
+        """Opens the machine by the library or the program, as `library` says."""
+        library, file = self._opening[1]["library"], None
         if library is not False:
             file = by_library.find_library(library if isinstance(library, str) else None)
             if library is True and not file:
                 raise Refused("NoLibrary", text="libmos65.so is not found")
         self.is_library = file is not None
-        if file is not None:
-            found = self._open_library(file, source, kind, at, rom, profile)
-        else:
-            found = self._open_pipe(source, kind, at, rom, profile, program, timeout)
-        self.symbols: Dict[str, int] = found.symbols
-        self.lines: Dict[int, int] = found.lines
-        self._texts = found.texts
-        self._events = events.Events()
-        self._devices = Devices(self._way, self._events, history)
-        self._breaks: List[int] = []
-        self._watches: List[int] = []
-        Machine.open_machines.add(self)
+        try:
+            return self._open_pipe() if file is None else self._open_library(file)
+        except SessionFault as fault:
+            if fault.name != "PortAddress":
+                raise
+            first = 0 if self.port is None else self.port
+            text = f"the image has a byte at ${first:04X}-${first + 3:04X}"
+            text += "; port= moves the console, and port=None leaves it out"
+            raise SessionFault(fault.name, fault.number, text=text) from None
 
-    def _open_library(self, file, source, kind, at, rom, profile) -> Source:
-        config = by_library.config_of(self.history, self.port, rom, profile)
-        self._way = by_library.Session(by_library.Library(file), config, source, kind, at)
+    def _open_library(self, file: str) -> Source:
+        source, options = self._opening
+        form, at = options["form"], options["at"]
+        config = by_library.config_of(self.history, self.port, options["rom"], options["profile"])
+        library = by_library.Library(file)
+        self._way: Any = by_library.Session(library, config, source, form, at, self._name)
         return self._way.source
 
-    def _open_pipe(self, source, kind, at, rom, profile, program, timeout) -> Source:
-        found = pipe.find_program(program)
+    def _map_options(self) -> List[str]:
+        """The port and the profile as the program's words take them."""
         port = "none" if self.port is None else f"{self.port:04X}"
-        options = [f"--port={port}", f"--profile={profile}"]
-        words = [f"--history={self.history}", *options]
-        words += [f"--rom={rom[0]:04X}-{rom[1]:04X}"] if rom else []
-        if kind != "source":
-            words.append("--tape")
+        return [f"--port={port}", f"--profile={self._opening[1]['profile']}"]
+
+    def _open_pipe(self) -> Source:
+        source, options = self._opening
+        program, form, rom = words.find_program(self._program), options["form"], options["rom"]
+        given = [f"--history={self.history}", *self._map_options()]
+        given += [f"--rom={rom[0]:04X}-{rom[1]:04X}"] if rom else []
+        given += {"tape": ["--tape"], "bin": [f"--bin={options['at'] or 0:04X}"]}.get(form, [])
         with tempfile.TemporaryDirectory() as folder:
             path = os.path.join(folder, "image")
             with open(path, "wb") as it:
-                it.write(tape_of(at, source) if kind == "image" else source)
-            told = pipe.source_of(found, path, options) if kind == "source" else Source()
-            self._way = pipe.Pipe(found, [path, *words], timeout)
+                it.write(source)
+            told = self._source_of(program, path) if form == "source" else Source()
+            self._way = pipe.Pipe(program, [path, *given], options["timeout"])
         return told
+
+    def _source_of(self, program: str, path: str) -> Source:
+        try:
+            return words.source_of(program, path, self._map_options())
+        except AssemblyFault as fault:
+            raise with_faults(fault, self._checked(program)) from None
+
+    def _checked(self, program: str) -> str:
+        return words.checked(program, self._name, self._opening[0], self._map_options())
+
+    def _names_of(self, symbols: File) -> Dict[str, int]:
+        with open(symbols, "rb"):
+            pass
+        found, left_out = words.names_of(words.find_program(self._program), os.fspath(symbols))
+        if left_out:
+            warnings.warn(f"{os.fspath(symbols)}: names left out: {left_out}", stacklevel=3)
+        return found
 
     # ---- opening and closing
 
@@ -163,6 +236,9 @@ class Machine:
 
     def close(self) -> None:
         """Closes the machine. Each later call raises Closed; a second close does nothing."""
+        if self in Machine.open_machines:
+            for call in Machine.closing:
+                call(self)
         Machine.open_machines.discard(self)
         self._way.close()
 
@@ -180,6 +256,7 @@ class Machine:
         try:
             events.make_all(other._way, self._events.runs)
             other._events.take(self._events)
+            other._request.take(self._request)
             for place in self._breaks:
                 other.break_at(place)
             for place in self._watches:
@@ -196,7 +273,9 @@ class Machine:
         if not self._events.is_whole:
             raise Refused("TooMany", text="the first events are no longer known")
         source, options = self._opening
-        return Machine(source, **options)
+        other = Machine(source, **options)
+        other.symbols, other._name = self.symbols, self._name
+        return other
 
     # ---- places
 
@@ -273,14 +352,14 @@ class Machine:
             raise Refused("Count", text=str(count))
         return self._way.read(self._range(place, count), count)
 
-    def write(self, place: Place, data: bytes) -> int:
-        """Puts bytes into memory, into ROM too. Returns how many events that were: one for each
-        three bytes.
+    def write(self, place: Place, data: Bytes) -> int:
+        """Puts bytes into memory, or one byte that is given as a number; into ROM too. Returns how
+        many events that were: one for each three bytes.
 
         Raises EventFault, PastEnd where they go past 0xFFFF and PortAddress where one stands at
-        the port; nothing is changed then.
+        the port; Refused for a number that is no byte. Nothing is changed then.
         """
-        data = bytes(data)
+        data = _bytes_of(data)
         address = self._range(place, len(data))
         port = self.port
         if port is not None and data and address < port + 4 and port < address + len(data):
@@ -288,6 +367,52 @@ class Machine:
         count = (len(data) + 2) // 3
         self._make("write", (address, data), count)
         return count
+
+    def word(self, place: Place) -> int:
+        """The two bytes from a place on, the low one first. Raises what `read` raises."""
+        return int.from_bytes(self.read(place, 2), "little")
+
+    def set_word(self, place: Place, value: int) -> int:
+        """Puts a word into memory, the low byte first. Returns how many events that were, 1.
+
+        Raises what `write` raises, and Refused outside 0..0xFFFF.
+        """
+        if not 0 <= value <= 0xFFFF:
+            raise Refused("Value", text=hex(value))
+        return self.write(place, value.to_bytes(2, "little"))
+
+    def __getitem__(self, place: Union[Place, slice]) -> Union[int, bytes]:
+        """`m[place]` is a byte of memory, `m[first:end]` the bytes from first up to end - 1."""
+        if isinstance(place, slice):
+            first, count = self._span(place)
+            return self.read(first, count) if count else b""
+        return self.read(place)[0]
+
+    def __setitem__(self, place: Union[Place, slice], data: Bytes) -> None:
+        """Does what `write` does. Raises Refused, Count, where a byte is given more bytes than one,
+        or a slice has another number of bytes."""
+        first, count = self._span(place) if isinstance(place, slice) else (place, 1)
+        data = _bytes_of(data)
+        if len(data) != count:
+            raise Refused("Count", text=f"{len(data)} bytes for {count}")
+        if count:
+            self.write(first, data)
+
+    # A machine is no sequence, whose end could be found by looking at each place.
+    __iter__ = None
+    __contains__ = None
+
+    def _span(self, places: slice) -> Tuple[int, int]:
+        """The first address of a slice, and how many bytes it has."""
+        if places.step is not None:
+            raise Refused("Range", text=str(places))
+        first = 0 if places.start is None else self.address(places.start)
+        end = 0x10000 if places.stop is None else places.stop
+        if end != 0x10000:
+            end = self.address(end)
+        if end < first:
+            raise Refused("Range", text=f"${first:04X} to ${end:04X}")
+        return first, end - first
 
     def disassemble(self, place: Place, count: int = 1) -> List[Tuple[int, str]]:
         """The address and the text of so many instructions, or up to 0xFFFF."""
@@ -307,25 +432,31 @@ class Machine:
         """All bytes that the program has put out."""
         return self._way.output()
 
-    def send(self, data: bytes) -> None:
-        """Hands in input, one event for each byte.
+    def send(self, data: Bytes) -> None:
+        """Hands in input, bytes or one byte that is given as a number, one event for each byte.
 
         Raises EventFault, InputFull, at the first byte for which there is no room; those before it
-        were handed in.
+        were handed in. Raises Refused for a number that is no byte.
         """
-        for byte in bytes(data):
+        for byte in _bytes_of(data):
             self._make("send", bytes([byte]), 1)
 
     def reset(self) -> None:
         """Resets the machine, which takes 7 cycles. Raises EventFault, CyclesFull."""
         self._make("reset", None, 1)
 
-    def irq(self, level: bool, at: Optional[int] = None) -> None:
-        """Sets the IRQ line, now or at a cycle, as `at` says. Raises Refused as `at` does."""
+    def irq(self, level: bool, at: Optional[int] = None, *, by: Hashable = None) -> None:
+        """Asks for an IRQ, or no longer, now or at a cycle, as `at` says; one event.
+
+        The line is 1 while anybody asks: each device says its own name or itself by `by`, and
+        those that say none are one. Raises Refused as `at` does.
+        """
         if at is not None:
-            self.at(at, lambda: self.irq(level))
+            self.at(at, lambda: self.irq(level, by=by))
             return
-        self._make("irq", bool(level), 1)
+        asking = self._request.after(level, by)
+        self._make("irq", bool(asking), 1)
+        self._request.note(self.event_number, asking, self.history)
 
     def nmi(self, at: Optional[int] = None) -> None:
         """Signals an NMI, now or at a cycle, as `at` says. Raises Refused as `at` does."""
@@ -384,6 +515,28 @@ class Machine:
             raise Refused("Rom", text=f"${rom[0]:04X}..${rom[1]:04X}")
         self._devices.place(places, None, call)
 
+    def on_reach(self, place: Place, call: Callable[[], None]) -> None:
+        """Has `call()` made before each step that begins at a place, also where an interrupt comes
+        in that step's place. It takes one of the 256 breakpoints.
+
+        `call` may do what that of `on_write` may, and its events come before the step. Where it
+        moves PC, as by `rts`, the run goes on there, and stops where a breakpoint is. Raises
+        Refused: Taken where something is called already, History where the machine holds none,
+        Busy where a device asks; SessionFault, TableFull.
+        """
+        address = self.address(place)
+        self._needs_rest()
+        if self.history == 0:
+            raise Refused("History", text="a call at a place needs a history of one event")
+        self._devices.place_reach(address, call)
+
+    def rts(self) -> None:
+        """Does what an RTS does, by events: pulls PC. For what `on_reach` calls in place of a
+        subroutine. It takes no cycles."""
+        s = self.registers.s
+        low, high = (self.read(0x100 + (s + it) % 256)[0] for it in (1, 2))
+        self.set(s=(s + 2) % 256, pc=(low + 256 * high + 1) % 0x10000)
+
     def on_back(self, call: Callable[[int], None]) -> None:
         """Tells a device where the machine went back to: `call(event_number)` after each `back`.
 
@@ -413,7 +566,7 @@ class Machine:
         moves the machine, it raises Refused, Busy, where a device calls it.
         """
         self._needs_rest()
-        if not self._devices.is_used or self._devices.run(1).why is Why.REFUSED:
+        if not self._devices.is_used or self._devices.step().why is Why.REFUSED:
             self._make("step", None, 1)
         return self._way.registers()
 
@@ -465,14 +618,16 @@ class Machine:
     def _stop_at(self, address: int) -> Iterator[None]:
         """Sets a breakpoint for one run; one that was set before stays."""
         self._needs_rest()
-        if address in self._breaks:
-            yield
-            return
-        self._way.set_break(address)
+        is_set = address in self._breaks or self._devices.is_reach(address)
+        if not is_set:
+            self._way.set_break(address)
+        self._devices.until = address
         try:
             yield
         finally:
-            self._way.clear_break(address)
+            self._devices.until = None
+            if not is_set:
+                self._way.clear_break(address)
 
     def call(
         self,
@@ -512,7 +667,7 @@ class Machine:
             self._events.note("call", (address, a, x, y), given + _CALL_EVENTS + steps)
         count = self._events.number - number
         if end is not None:
-            raise DidNotReturn(str(place), end, count)
+            raise DidNotReturn(str(place), end, count, self._told_of(end))
         return made(Call, {"registers": after, "cycles": cycles, "steps": steps, "events": count})
 
     def _ready(self, address, a, x, y, interrupt) -> List[events.Run]:
@@ -533,6 +688,18 @@ class Machine:
         is_back = end.why is Why.BREAK and end.address == _RETURN
         return None if is_back else end, end.steps, after.cycles - before, after
 
+    def _told_of(self, end: RunEnd) -> str:
+        """Why a call did not return, in words."""
+        here = self.where(self.registers.pc)
+        if end.why is Why.LIMIT:
+            return f"no return in {end.steps} steps; then at {here}"
+        if end.why is Why.BREAK:
+            return f"stopped at the breakpoint {here}, after {end.steps} steps"
+        if end.why is Why.WATCH:
+            return f"${end.address:04X} changed after {end.steps} steps; then at {here}"
+        opcode = "" if end.opcode is None else f" ${end.opcode:02X}"
+        return f"stopped at {here} after {end.steps} steps: {end.fault}{opcode}"
+
     @staticmethod
     def _limit(limit: int) -> int:
         if not 0 <= limit <= _MOST:
@@ -546,14 +713,11 @@ class Machine:
         """
         if not 0 <= count <= _MOST:
             raise Refused("Count", text=str(count))
-        if not self._devices.is_used:
-            self._way.back(count)
-            self._events.undo(count)
-            return
         self._needs_rest()
         self._way.back(count)
         self._events.undo(count)
-        if count:
+        self._request.went_back(self._events.number)
+        if count and self._devices.is_used:
             self._devices.went_back()
 
     @property
@@ -564,13 +728,19 @@ class Machine:
     def break_at(self, place: Place) -> None:
         """Sets a breakpoint. Raises SessionFault: AlreadySet, TableFull."""
         address = self.address(place)
-        self._way.set_break(address)
+        if not self._devices.is_reach(address):
+            self._way.set_break(address)
+        elif address in self._breaks:
+            raise SessionFault("AlreadySet", 3)
         self._breaks.append(address)
 
     def clear_break(self, place: Place) -> None:
         """Clears a breakpoint. Raises SessionFault: NotSet."""
         address = self.address(place)
-        self._way.clear_break(address)
+        if not self._devices.is_reach(address):
+            self._way.clear_break(address)
+        elif address not in self._breaks:
+            raise SessionFault("NotSet", 4)
         self._breaks.remove(address)
 
     def watch(self, place: Place) -> None:
@@ -590,6 +760,37 @@ class Machine:
         self._watches.remove(address)
 
     # ---- looking back
+
+    def __repr__(self) -> str:
+        try:
+            r = self._way.registers()
+        except Fault as fault:
+            return f"<mos65.Machine: {fault.name}>"
+        state = f"A={r.a:02X} X={r.x:02X} Y={r.y:02X} S={r.s:02X} {r.flags}"
+        return f"<mos65.Machine {state} PC={self.where(r.pc)[1:]} cycle {r.cycles}>"
+
+    def where(self, place: Place) -> str:
+        """A place in words: its address, the name there or up to 63 bytes before it, and its line.
+        As `$0206 next+2, multiply.a65:6`."""
+        address = self.address(place)
+        shown, line = f"${address:04X}", self.lines.get(address)
+        names = [it for it in self.symbols.items() if not self.lines or it[1] in self.lines]
+        near = [(address - number, name) for name, number in names if 0 <= address - number < 64]
+        if near:
+            offset, name = min(near)
+            shown += f" {name}+{offset}" if offset else f" {name}"
+        file = f"{self._name}:" if self._name else "line "
+        return shown if line is None else f"{shown}, {file}{line}"
+
+    def warnings(self) -> str:
+        """The warnings of the source as `mos65 check` prints them, an empty text where there is
+        none; of an image none is known."""
+        self._way.registers()
+        if self._opening[1]["form"] != "source":
+            return ""
+        if self.is_library:
+            return self._way.warnings()
+        return self._checked(words.find_program(self._program))
 
     def line(self, place: Place) -> Optional[Tuple[int, str]]:
         """The line of the source that begins at a place, counted from 1, and its text."""
@@ -632,6 +833,8 @@ class Machine:
         """
         counts = {self.lines[it]: 0 for it in self.lines if not self._is_data(self.lines[it])}
         with self._reopened() as other:
+            # It is no machine of the user's, of which a test that fails shows steps.
+            Machine.open_machines.discard(other)
             for run in self._events.runs:
                 for it in events.parts(run):
                     if it[0] != "step":

@@ -5,7 +5,6 @@ from __future__ import annotations
 import os
 import re
 import select
-import shutil
 import subprocess
 import tempfile
 import time
@@ -13,19 +12,9 @@ from dataclasses import replace
 from typing import List, Optional, Sequence, Set, Tuple
 
 from .accesses import Access, access_here, run_to_access
-from .faults import (
-    AssemblyFault,
-    Closed,
-    EngineDied,
-    EventFault,
-    Fault,
-    MapFault,
-    Refused,
-    SessionFault,
-    TapeFault,
-    Timeout,
-)
-from .values import Registers, RunEnd, Source, Why
+from .faults import Closed, EngineDied, EventFault, Fault, Refused, SessionFault, Timeout
+from .values import Registers, RunEnd, Why
+from .words import refusal
 
 _REGISTERS = re.compile(r"A=(..) X=(..) Y=(..) S=(..) P=(..) PC=(....) CYC=(\d+)")
 _END = re.compile(
@@ -42,55 +31,6 @@ _LOOKING = ("regs", "break", "unbreak", "watch", "unwatch", "out", "dis", "mem")
 _KEEPING = (*_LOOKING, "patch", "in ", "irq", "nmi")
 # So many lines go out at once: their replies fit in a pipe.
 _BATCH = 400
-
-
-def find_program(program: Optional[str]) -> str:
-    """The program to run: the one that is given, that of MOS65_PROGRAM, or `mos65` on the PATH."""
-    found = program or os.environ.get("MOS65_PROGRAM") or shutil.which("mos65")
-    if not found:
-        raise EngineDied("NoProgram", text="mos65 is not on the PATH")
-    return found
-
-
-def refusal(text: str, status: int) -> Fault:
-    """The fault that the program's last line on its error stream tells."""
-    lines = text.strip().split("\n")
-    line = lines[-1]
-    if found := re.fullmatch(r"mos65: (?:.+: )?SOURCE line (\d+) (\w+) (\d+)", line):
-        return AssemblyFault(found[2], int(found[3]), line=int(found[1]))
-    if found := re.fullmatch(r"mos65: (?:.+: )?TAPE byte (\d+) (\w+) (\d+)", line):
-        return TapeFault(found[2], int(found[3]), offset=int(found[1]))
-    if found := re.fullmatch(r"mos65: (?:.+: )?TAPE (\w+) (\d+)", line):
-        return SessionFault(found[1], int(found[2]))
-    if found := re.fullmatch(r"mos65: (?:.+: )?MAP (\w+) (\d+)", line):
-        return MapFault(found[1], int(found[2]))
-    return EngineDied("EngineDied", text=f"status {status}: {line}")
-
-
-def source_of(program: str, source: str, options: Sequence[str]) -> Source:
-    """The names and the lines of a source's file."""
-    with tempfile.TemporaryDirectory() as folder:
-        tape, names, places = (os.path.join(folder, it) for it in ("tape", "names", "places"))
-        words = [program, "asm", source, tape, "--symbols", names, "--map", places, *options]
-        ran = subprocess.run(words, capture_output=True)
-        if ran.returncode:
-            # With no file beside the tape, `asm` tells the source's fault in one line.
-            alone = subprocess.run([program, "asm", source, tape, *options], capture_output=True)
-            failed = alone if alone.returncode else ran
-            raise refusal(failed.stderr.decode("ascii", "replace"), failed.returncode)
-        found = Source()
-        with open(names, encoding="ascii") as it:
-            for row in it:
-                name, number = row.split(" = ")
-                found.symbols[name] = int(number[1:], 16) if number[0] == "$" else int(number)
-        with open(places, encoding="ascii") as it:
-            for row in it:
-                address, _, line = row.split("\t")
-                found.lines.setdefault(int(address, 16), int(line))
-    # Only these bytes end a line, and what stands behind `.END` may be no ASCII.
-    with open(source, encoding="latin-1", newline="") as it:
-        found.texts = [row[:-1] if row.endswith("\r") else row for row in it.read().split("\n")]
-    return found
 
 
 class Pipe:

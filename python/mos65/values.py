@@ -49,6 +49,12 @@ class Registers:
     cycles: int
 
     @property
+    def flags(self) -> str:
+        """The flags as letters, a capital for 1, as `nv-bdIzc`."""
+        bits = zip("NV-BDIZC", (0x80, 0x40, 0, 0, 0x08, 0x04, 0x02, 0x01))
+        return "".join(letter if self.p & bit else letter.lower() for letter, bit in bits)
+
+    @property
     def n(self) -> bool:
         """Negative."""
         return bool(self.p & 0x80)

@@ -69,6 +69,49 @@ class Calls(Ways):
         self.assertEqual(m.disassemble("next", 2), [(0x0204, "LSR $10"), (0x0206, "BCC $020B")])
         self.refused(mos65.NoSuchName, "NoSuchName", 4, m.call, "gone")
 
+    def test_bytes_and_words(self):
+        m = self.machine()
+        self.assertEqual((m.write(0x20, 7), m.read(0x20, 2)), (1, b"\x07\0"))
+        self.assertEqual((m.write(0x21, [8, 9]), m.read(0x20, 3)), (1, b"\x07\x08\x09"))
+        self.assertEqual((m[0x20], m[0x20:0x23], m[0x22:0x22]), (7, b"\x07\x08\x09", b""))
+        self.assertEqual((m.word(0x20), m.word("multiply")), (0x0807, 0x00A9))
+        self.assertEqual((m.set_word(0x20, 0x1234), m[0x20:0x22]), (1, b"\x34\x12"))
+        m[0x30] = 5
+        m[0x31:0x33] = b"ab"
+        self.assertEqual((m[0x30:0x33], m.held), (b"\x05ab", 5))
+        self.assertEqual(m["multiply":"next"], m.read("multiply", 4))
+        self.assertEqual((len(m[:]), m[0xFFFC:]), (0x10000, m.read(0xFFFC, 4)))
+        m.send(105)
+        m.call("hello")
+        self.assertEqual(m.output, b"Hi")
+
+    def test_bytes_that_are_refused(self):
+        m = self.machine()
+        for byte in (-1, 256, [0, 256]):
+            self.refused(mos65.Refused, "Value", None, m.write, 0x20, byte)
+            self.refused(mos65.Refused, "Value", None, m.send, byte)
+        self.refused(mos65.Refused, "Value", None, m.set_word, 0x20, 0x10000)
+        self.refused(mos65.EventFault, "PastEnd", 4, m.word, 0xFFFF)
+        self.refused(mos65.Refused, "Count", None, m.__setitem__, 0x20, b"ab")
+        self.refused(mos65.Refused, "Count", None, m.__setitem__, slice(0x20, 0x22), 7)
+        for places in (slice(0, 4, 2), slice(5, 4)):
+            self.refused(mos65.Refused, "Range", None, m.__getitem__, places)
+        with self.assertRaises(TypeError):
+            m.write(0x20, "a")
+        with self.assertRaises(TypeError):
+            iter(m)
+        self.assertEqual(m.held, 0)
+
+    def test_places_in_words(self):
+        m = self.machine()
+        self.assertEqual(m.where(0x0206), f"$0206 next+2, {SOURCE}:6")
+        self.assertEqual((m.where(0x0205), m.where(0x0100)), ("$0205 next+1", "$0100"))
+        m.set(pc="next", p=0xC3)
+        text = f"A=00 X=00 Y=00 S=FD NV-bdiZC PC=0204 next, {SOURCE}:5 cycle 7"
+        self.assertEqual(repr(m), f"<mos65.Machine {text}>")
+        m.close()
+        self.assertEqual(repr(m), "<mos65.Machine: Closed>")
+
     def test_the_console(self):
         m = self.machine()
         m.send(b"i")
@@ -125,6 +168,14 @@ class Calls(Ways):
         with self.assertRaises(mos65.DidNotReturn) as raised:
             m.call("forever", limit=100)
         self.assertEqual(raised.exception.end, mos65.RunEnd(100, Why.LIMIT))
+        place = f"${m.symbols['forever']:04X} forever, {SOURCE}:27"
+        told = f"no return in 100 steps; then at {place}"
+        self.assertEqual(str(raised.exception), f"DidNotReturn: forever: {told}")
+        m.break_at("next")
+        with self.assertRaises(mos65.DidNotReturn) as raised:
+            m.call("multiply")
+        told = f"stopped at the breakpoint $0204 next, {SOURCE}:5, after 2 steps"
+        self.assertIn(told, str(raised.exception))
 
     def test_registers_that_a_call_is_given(self):
         m = self.machine()
@@ -319,6 +370,21 @@ class Calls(Ways):
         self.assertEqual(len(text.splitlines()), 7)
         self.assertIn("ADC $10", text)
         self.assertEqual(m.held, 12)
+
+    def test_the_last_steps_of_a_closed_machine(self):
+        item = pytest_plugin.pytest_runtest_protocol(None, None)
+        next(item)
+        with self.machine() as m:
+            m.call("times10", a=7)
+        with self.machine() as m:
+            m.set(pc="next")
+            m.run(2)
+        steps = pytest_plugin.told().split("\n\n")
+        self.assertEqual([len(it.splitlines()) for it in steps], [7, 2])
+        self.assertIn("BCC $020B", steps[1])
+        with self.assertRaises(StopIteration):
+            next(item)
+        self.assertEqual((pytest_plugin.told(), Machine.closing), ("", []))
 
     def test_signals(self):
         m = self.machine(rom=(0x8000, 0x8FFF), profile="C")

@@ -22,6 +22,8 @@ from mos65 import Machine  # noqa: E402
 SOURCE = os.path.join(HERE, "routines.a65")
 PROGRAM = os.environ.get("MOS65_PROGRAM")
 LIBRARY = os.environ.get("MOS65_LIBRARY")
+# A program that is not proved is slow, the more so beside other checks.
+SECONDS = 600 if os.environ.get("MOS65_SLOW") == "1" else 10
 
 
 class Ways:
@@ -30,7 +32,7 @@ class Ways:
     way: dict = {}
 
     def machine(self, source=SOURCE, **options):
-        made = Machine(source, **options, **self.way)
+        made = Machine(source, timeout=SECONDS, **options, **self.way)
         self.addCleanup(made.close)
         return made
 
