@@ -39,7 +39,8 @@ fn serve_line(alloc: Global, desk: &mut Desk, line: &[u8]) -> Result<(String, bo
         (λ p. ServesConsole line.now p.1 desk.old desk.new (string_bytes p.0)) }
 {
     desk.text.clear();
-    let read = ReadLine::new(line, &desk.places, desk.session.regs().pc);
+    let pc = desk.session.regs().pc;
+    let read = ReadLine::new(line, &desk.places, pc);
     let is_over = serve(desk, alloc, &read)?;
     let said = String::from_utf8_lossy(alloc, desk.text.as_slice())?;
     desk.text.clear();

@@ -220,12 +220,10 @@ too_long = record { asked = Err (None, long); decimal = None }
 read_long : (desk : Desk) (line : List ℕ) → 255 < length line → read_at desk line ≡ too_long
 unfolding too_long line_of decimal_address
 read_long desk line h =
-    let names = desk.places.names in
-    let pc = desk.session.current.regs.pc in
-    let read = line_from names pc line (skip line) in
+    let read = line_from desk.places.names desk.session.current.regs.pc line (skip line) in
     let decimal = decimal_behind (skip line) (word_of (after_word (skip line))) in
-    ap (λ t. record { asked = cond t (Err (None, long)) read; decimal = cond t None decimal })
-    (lt-ltb 255 (length line) h)
+    let by : Bool → SeenLine = λ t. record { asked = cond t (Err (None, long)) read; decimal = cond t None decimal } in
+    ap by (lt-ltb 255 (length line) h)
 
 -- it is not noted
 noted_long : (kept line : List ℕ) (a b : Seat) → IsNoted too_long.asked kept a b

@@ -50,9 +50,11 @@ fn repeat_line(
         noted.now.pc noted.now.line notes.old.items)) }
 {
     let pc = noted.pc();
-    let read = ReadLine::new(noted.line(), &desk.places, pc);
+    let line = noted.line();
+    let read = ReadLine::new(line, &desk.places, pc);
     follow(desk, alloc, &read.asked)?;
-    note_line(alloc, notes, desk, placed_in(&read.asked), pc, noted.line())
+    let placed = placed_in(&read.asked);
+    note_line(alloc, notes, desk, placed, pc, line)
 }
 
 /// Serves lines that were noted once more, and returns those that have placed something.

@@ -12,7 +12,7 @@ returns c = (
   (refl, refl, refl, refl, refl),
   c.clear.ensures.items,
   subst (λ (r : SeenLine). Serves r c.in_ok-is_over.is_over (record c.args.desk.now { text = c.clear.new.self }) c.serve.new.desk)
-      (c.new-read.ensures ∙ ap (λ (regs : Regs). seen_line c.args.desk.now.places.names regs.pc c.args.line.now) c.regs.ensures) c.in_ok-is_over.ensures,
+      (c.new-read.ensures ∙ ap (λ (regs : Regs). seen_line c.args.desk.now.places.names regs.pc c.args.line.now) c.regs-pc.ensures) c.in_ok-is_over.ensures,
   (refl, refl, refl, refl, refl),
   c.in_ok-said.ensures.lossy ∙ ap utf8_lossy c.as_slice.ensures.value,
 )
