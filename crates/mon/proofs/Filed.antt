@@ -1,6 +1,6 @@
 -- What is said of a line, with files and without.
 use Rattle.std.proofs.Common.{◌≡◌, ◌∙◌, ℕ, Bool, List, [], ◌∷◌, ◌++◌, append_assoc, append-nil, None, Result, Ok, Err, inl, inr, ap, sym}
-use Rattle.mon.specs.Attended.{Obeys}
+use Rattle.mon.specs.Attended.{Obeys, ObeysRead}
 use Rattle.mon.specs.Files.{IsReloaded, Reloads, Repeats, ServesAgain}
 use Rattle.mon.specs.Notes.{SeenNote, notes_after, placed_in}
 use Rattle.mon.specs.declared.seat.Seat.{Seat}
@@ -59,17 +59,25 @@ reloads_say a b (inl p) = reloaded_says a b p
 reloads_say a b (inr p) = (p.4.0, p.4.3)
 
 -- something is said of what is asked for of files
-obeys_say : (asked : Result SeenCommand SeenSlip) (a b : Seat) → Obeys asked a b
-    → (said : List ℕ) × Says said a.desk b.desk
-obeys_say (Ok (save file stretch)) a b p = (p.1, p.2)
-obeys_say (Ok (page file)) a b p = p.shown.1
-obeys_say (Ok reload) a b p = reloads_say a b p
-obeys_say asked a b p =
+none_said : (a b : Seat) → b ≡ a → (said : List ℕ) × Says said a.desk b.desk
+none_said a b p =
     ([], ap (λ (s : Seat). s.desk.text.items) p ∙ sym (append-nil a.desk.text.items))
+
+command_says : (command : SeenCommand) (a b : Seat) → Obeys command a b
+    → (said : List ℕ) × Says said a.desk b.desk
+command_says (save file stretch) a b p = (p.1, p.2)
+command_says (page file) a b p = p.shown.1
+command_says reload a b p = reloads_say a b p
+command_says command a b p = none_said a b p
+
+obeys_say : (asked : Result SeenCommand SeenSlip) (a b : Seat) → ObeysRead asked a b
+    → (said : List ℕ) × Says said a.desk b.desk
+obeys_say (Ok command) a b p = command_says command a b p
+obeys_say (Err slip) a b p = none_said a b p
 
 -- of a line and of its files
 pub both_say : (read : SeenLine) (is_over : Bool) (a b c : Seat)
-    → Serves read is_over a.desk b.desk → Obeys read.asked b c
+    → Serves read is_over a.desk b.desk → ObeysRead read.asked b c
     → (said : List ℕ) × Says said a.desk c.desk
 both_say read is_over a b c p q =
     let first = serves_say read is_over a.desk b.desk p in
@@ -83,9 +91,13 @@ reloads_view : (a b : Seat) → Reloads a b → b.view ≡ a.view
 reloads_view a b (inl p) = p.3
 reloads_view a b (inr p) = p.0.1
 
-pub obeys_view : (asked : Result SeenCommand SeenSlip) (a b : Seat) → Obeys asked a b
+command_keeps_view : (command : SeenCommand) (a b : Seat) → Obeys command a b → b.view ≡ a.view
+command_keeps_view (save file stretch) a b p = p.0.1
+command_keeps_view (page file) a b p = p.view
+command_keeps_view reload a b p = reloads_view a b p
+command_keeps_view command a b p = ap (λ (s : Seat). s.view) p
+
+pub obeys_view : (asked : Result SeenCommand SeenSlip) (a b : Seat) → ObeysRead asked a b
     → b.view ≡ a.view
-obeys_view (Ok (save file stretch)) a b p = p.0.1
-obeys_view (Ok (page file)) a b p = p.view
-obeys_view (Ok reload) a b p = reloads_view a b p
-obeys_view asked a b p = ap (λ (s : Seat). s.view) p
+obeys_view (Ok command) a b p = command_keeps_view command a b p
+obeys_view (Err slip) a b p = ap (λ (s : Seat). s.view) p

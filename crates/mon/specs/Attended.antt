@@ -1,6 +1,6 @@
 -- Which lines of its input a session of `mon` serves, in which order, and what it writes.
 -- Source: mos65.
-use Rattle.std.specs.Prelude.{ℕ, ◌≡◌, ◌⊎◌, Bool, true, false, if◌then◌else◌, List, [], ◌∷◌, ◌++◌, Option, Result, Ok, codes}
+use Rattle.std.specs.Prelude.{ℕ, ◌≡◌, ◌⊎◌, Bool, true, false, if◌then◌else◌, List, [], ◌∷◌, ◌++◌, Option, Result, Ok, Err, codes}
 use Rattle.std.specs.Io.BufRead.{strip_last}
 use Rattle.std.specs.Io.KnownBytes.{Consumes, IsAtEnd}
 use Rattle.model.specs.TextLines.{ended_lines_of, lines_from}
@@ -49,19 +49,23 @@ pub record IsShown (old new : Seat) : Type 0 where
 -- What a line does that asks for something of a file. A line that saves says something and changes
 -- nothing else. Which bytes a file gets, no clause can say: those of the tape of the image that is
 -- saved, or of the page of the session, as `mon_files` defines them. Any other line does nothing.
-abbrev pub Obeys : Result SeenCommand SeenSlip → Seat → Seat → Type 0
-Obeys (Ok (save file stretch)) old new
+abbrev pub Obeys : SeenCommand → Seat → Seat → Type 0
+Obeys (save file stretch) old new
     = Rests old new × (said : List ℕ) × Says said old.desk new.desk
-Obeys (Ok (page file)) old new = IsShown old new
-Obeys (Ok reload) old new = Reloads old new
-Obeys asked old new = new ≡ old
+Obeys (page file) old new = IsShown old new
+Obeys reload old new = Reloads old new
+Obeys command old new = new ≡ old
+
+abbrev pub ObeysRead : Result SeenCommand SeenSlip → Seat → Seat → Type 0
+ObeysRead (Ok command) old new = Obeys command old new
+ObeysRead (Err slip) old new = new ≡ old
 
 -- A line does what it asks for and is noted, then what it asks for of a file is done, and so much is
 -- said. Then only the text changes, which is written.
 abbrev pub ServesRead : SeenLine → List ℕ → Bool → Seat → Seat → List ℕ → Type 0
 ServesRead read line is_over old new said = (served : Seat)
     × Serves read is_over old.desk served.desk × IsNoted read.asked line old served
-    × (obeyed : Seat) × Obeys read.asked served obeyed
+    × (obeyed : Seat) × ObeysRead read.asked served obeyed
     × Says said old.desk obeyed.desk × Rests obeyed new
 
 -- A line is read once.

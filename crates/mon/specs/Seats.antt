@@ -1,5 +1,5 @@
 -- What is written of a session: its text, or a screen. Source: mos65.
-use Rattle.std.specs.Prelude.{◌≡◌, ℕ, Bool, true, false, List, ◌++◌, Option, None, Some, Result, Ok}
+use Rattle.std.specs.Prelude.{◌≡◌, ℕ, Bool, true, false, List, ◌++◌, Option, None, Some, Result, Ok, Err}
 use Rattle.mon.specs.declared.seat.Seat.{Seat}
 use Rattle.mon_lines.specs.Lines.{SeenCommand, SeenSlip, mem}
 use Rattle.mon_lines.specs.declared.command.Stretch.{Stretch}
@@ -16,9 +16,13 @@ Rests old new = ShowsOnly old.desk new.desk × (new.view ≡ old.view) × (new.n
 -- ---- what a screen shows
 
 -- The memory that a line asks for, otherwise what was shown before it.
+abbrev pub stretch_in : SeenCommand → Stretch → Stretch
+stretch_in (mem stretch) shown = stretch
+stretch_in command shown = shown
+
 abbrev pub stretch_by : Result SeenCommand SeenSlip → Stretch → Stretch
-stretch_by (Ok (mem stretch)) shown = stretch
-stretch_by asked shown = shown
+stretch_by (Ok command) shown = stretch_in command shown
+stretch_by (Err slip) shown = shown
 
 -- What a screen shows after a line that is served at a desk: registers and cycles there are those
 -- before the line.

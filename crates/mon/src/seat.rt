@@ -4,11 +4,12 @@ ghost use Rattle.std.specs.Prelude.{◌≡◌, ◌++◌, [], ℕ, IfErr, IfOk, L
 ghost use Rattle.std.specs.Prelude.{if◌then◌else◌};
 ghost use Rattle.std.specs.Io.KnownBytes.{Appends};
 ghost use Rattle.model.specs.Writers.{AppendsFront};
-ghost use Rattle.mon.specs.Attended.{IsNoted, IsShown, Obeys, ServesLine, prompt_of};
+ghost use Rattle.mon.specs.Attended.{IsNoted, IsShown, Obeys, ObeysRead, ServesLine};
+ghost use Rattle.mon.specs.Attended.{prompt_of};
 ghost use Rattle.mon.specs.Done.{EndsAnswer};
-ghost use Rattle.mon.specs.Seats.{Rests, answer_text, drawn, stretch_by, view_after};
+ghost use Rattle.mon.specs.Seats.{Rests, answer_text, drawn, stretch_by, stretch_in, view_after};
 ghost use Rattle.mon_dispatch.specs.Lines.{Says, Serves};
-ghost use Rattle.mon_lines.specs.Lines.{asked_view, line_view};
+ghost use Rattle.mon_lines.specs.Lines.{asked_view, command_view, line_view};
 
 use crate::notes::{Note, note_line, placed_in};
 use crate::reloading::reload;
@@ -123,13 +124,23 @@ pub fn answer(
     say_if(seat, prompts, PROMPT)
 }
 
+/// Returns the memory that a line asks for that can be read, otherwise what was shown before it.
+fn stretch_in(command: &Command<'_>, shown: Stretch) -> Stretch
+    ensures { result ≡ stretch_in (command_view command.now) shown }
+{
+    match command {
+        Command::Mem(stretch) => *stretch,
+        _ => shown,
+    }
+}
+
 /// Returns the memory that a line asks for, otherwise what was shown before it.
 fn stretch_by(asked: &Result<Command<'_>, Slip<'_>>, shown: Stretch) -> Stretch
     ensures { result ≡ stretch_by (asked_view asked.now) shown }
 {
     match asked {
-        Ok(Command::Mem(stretch)) => *stretch,
-        _ => shown,
+        Ok(command) => stretch_in(command, shown),
+        Err(_) => shown,
     }
 }
 
@@ -199,16 +210,31 @@ fn show<H: Files + AllocGlobal>(rt: &H, seat: &mut Seat<'_>, file: &[u8]) -> Res
 fn obey<H: Files + AllocGlobal>(
     rt: &H,
     seat: &mut Seat<'_>,
+    command: &Command<'_>,
+) -> Result<(), Refusal>
+    ensures obeyed { OnOk result (Obeys (command_view command.now) seat.old seat.new) }
+    ensures refused { IfErr result EndsAnswer }
+{
+    match command {
+        Command::Save { file, stretch } => save(rt, seat, *file, *stretch),
+        Command::Page(file) => show(rt, seat, *file),
+        Command::Reload => reload(rt, seat),
+        _ => Ok(()),
+    }
+}
+
+/// Does what a line asks for that reads or writes a file, if the line can be read.
+fn obey_read<H: Files + AllocGlobal>(
+    rt: &H,
+    seat: &mut Seat<'_>,
     asked: &Result<Command<'_>, Slip<'_>>,
 ) -> Result<(), Refusal>
-    ensures obeyed { OnOk result (Obeys (asked_view asked.now) seat.old seat.new) }
+    ensures obeyed { OnOk result (ObeysRead (asked_view asked.now) seat.old seat.new) }
     ensures refused { IfErr result EndsAnswer }
 {
     match asked {
-        Ok(Command::Save { file, stretch }) => save(rt, seat, *file, *stretch),
-        Ok(Command::Page(file)) => show(rt, seat, *file),
-        Ok(Command::Reload) => reload(rt, seat),
-        _ => Ok(()),
+        Ok(command) => obey(rt, seat, command),
+        Err(_) => Ok(()),
     }
 }
 
@@ -226,6 +252,6 @@ pub fn serve_line<H: Files + AllocGlobal>(
     let pc = seat.desk.session.regs().pc;
     let read = ReadLine::new(line, &seat.desk.places, pc);
     let is_over = of_memory(serve_noted(rt.alloc(), seat, &read, line))?;
-    obey(rt, seat, &read.asked)?;
+    obey_read(rt, seat, &read.asked)?;
     Ok(is_over)
 }

@@ -1,6 +1,6 @@
 //! What a line does.
 
-ghost use Rattle.std.specs.Prelude.{◌≡◌, ◌++◌, IfOk, OnOk, Some, codes};
+ghost use Rattle.std.specs.Prelude.{◌≡◌, ◌≤◌, ◌++◌, IfOk, OnOk, Some, codes, length};
 ghost use Rattle.std.specs.Option.{option_copied};
 ghost use Rattle.mon_dispatch.specs.Lines.{Does, Follows, Says, Serves, is_over, outcome_of};
 ghost use Rattle.mon_dispatch.specs.LineTexts.{behind_text, if_decimal, line_text, moved_text};
@@ -61,12 +61,23 @@ fn display_or_list(desk: &mut Desk, place: Option<u16>) -> Result<(), AllocError
 }
 
 /// Returns a copy of tests.
-fn copy_of(tests: &ArrayVec<Test, 4>) -> ArrayVec<Test, 4>
-    ensures { result.items ≡ tests.now.items }
+fn copy_of(tests: &[Test]) -> ArrayVec<Test, 4>
+    requires { length tests.now ≤ 4 }
+    ensures { result.items ≡ tests.now }
 {
     let mut copy = ArrayVec::new();
-    let _ = copy.try_extend_from_slice(tests.as_slice());
+    let _ = copy.try_extend_from_slice(tests);
     copy
+}
+
+/// Makes a break that was not visited yet.
+fn break_of(address: u16, tests: &ArrayVec<Test, 4>, times: u32) -> Break
+    ensures address { result.address ≡ address }
+    ensures tests { result.tests.items ≡ tests.now.items }
+    ensures times { result.times ≡ times }
+    ensures visits { result.visits ≡ 0 }
+{
+    Break::new(address, copy_of(tests.as_slice()), times)
 }
 
 /// Does what a line asks for, and says so.
@@ -89,7 +100,7 @@ fn obey(desk: &mut Desk, alloc: Global, command: &Command<'_>) -> Result<(), All
             address,
             tests,
             times,
-        } => set_break(desk, Break::new(*address, copy_of(tests), *times)),
+        } => set_break(desk, break_of(*address, tests, *times)),
         Command::Watch { stretch, kind } => {
             let bytes = Watch::Bytes {
                 stretch: *stretch,

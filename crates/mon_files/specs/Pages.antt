@@ -32,7 +32,8 @@ pub record IsPageOf (room : ℕ) (typed : List ℕ) (before after : Session) (te
     pub safe : AreSafe texts bytes HERE.now
     pub held : AreHeld room typed before bytes after
 
--- What becomes of a session whose page is written: it goes back and comes again if it holds an event.
+-- What becomes of a session whose page is written: if it holds an event, it goes back and comes
+-- again.
 abbrev pub after_page : Course → Course
 after_page course = if nat_lt 0 (length course.0.earlier) then shown_again course else course
 

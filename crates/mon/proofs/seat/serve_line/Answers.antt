@@ -1,4 +1,4 @@
-use Rattle.std.proofs.Common.{◌≡◌, ◌∙◌, ap, subst, sym}
+use Rattle.std.proofs.Common.{◌≡◌, ◌∙◌, ap, subst}
 use Rattle.model.specs.declared.registers.Regs.{Regs}
 use Rattle.mon.proofs.Filed.{both_say}
 use Rattle.mon.proofs.LinesServed.{rests_same}
@@ -13,12 +13,12 @@ returns-clause-served g c =
     let line = c.args.line.now in
     let first = c.args.seat.now in
     let between = c.serve_noted.new.seat in
-    let last = c.obey.new.seat in
+    let last = c.obey_read.new.seat in
     let is_over = c.in_ok-is_over.is_over in
     let read = line_view c.new-read.result in
     let answers = rw c.in_ok-is_over.ensures.made at c.serve_noted.ensures.served in
     let noted = rw c.in_ok-is_over.ensures.made at c.serve_noted.ensures.noted in
-    let obeyed = c.in_ok-obey.ensures.obeyed in
+    let obeyed = c.in_ok-obey_read.ensures.obeyed in
     let said = both_say read is_over first between last answers obeyed in
     let same : read ≡ read_at first.desk line = c.new-read.ensures ∙ ap (λ (regs : Regs). seen_line first.desk.places.names regs.pc line) c.regs-pc.ensures in (
       said.0,
