@@ -1,5 +1,5 @@
 -- Lines of the console. Source: Debug Adapter Protocol 1.65, "Evaluate Request"; mos65.
-use Rattle.std.specs.Prelude.{ℕ, ◌≡◌, ◌<◌, ◌≤◌, ⊤, Bool, true, false, List, [], ◌∷◌, codes, length, string_bytes, Some, unwrap_or}
+use Rattle.std.specs.Prelude.{ℕ, ◌≡◌, ⊤, Bool, true, false, List, [], ◌∷◌, codes, string_bytes, Some, unwrap_or}
 use Rattle.std.specs.Str.{bytes_eq}
 use Rattle.std.specs.Str.Lossy.{utf8_lossy}
 use Rattle.dap_messages.specs.Answers.{evaluated_body}
@@ -10,22 +10,18 @@ use Rattle.dap_session.specs.declared.fault.Fault.{Fault}
 use Rattle.dap_session.specs.declared.fault.Fault.TheVariants as fault
 use Rattle.dap_session.specs.Told.{IsDone}
 use Rattle.dap_views.specs.Looks.{look_at}
-use Rattle.mon_dispatch.specs.Lines.{IsTooLong, Serves}
+use Rattle.mon_dispatch.specs.Lines.{Serves, read_at}
 use Rattle.mon_session.specs.Course.{ShowsOnly}
 use Rattle.mon_session.specs.declared.desk.Desk.{Desk}
 use Rattle.serde_json.specs.Data.{Data}
 
 -- ---- a line of `mon`
 
--- A line of at most 255 bytes does what it asks for. A longer one asks for nothing.
-abbrev pub AnswersLine : List ℕ → Bool → Desk → Desk → Type 0
-AnswersLine line is_over old new = (length line ≤ 255 → Serves line is_over old new)
-    × (255 < length line → IsTooLong is_over old new)
-
 -- A line is served, and this is what it says.
 abbrev pub ServesConsole : List ℕ → Bool → Desk → Desk → List ℕ → Type 0
 ServesConsole line is_over old new said = (begun : Desk) × (served : Desk)
-    × ShowsOnly old begun × (begun.text.items ≡ []) × AnswersLine line is_over begun served
+    × ShowsOnly old begun × (begun.text.items ≡ [])
+    × Serves (read_at begun line) is_over begun served
     × ShowsOnly served new × (said ≡ utf8_lossy served.text.items)
 
 -- A line that ends the session is said to have ended it.

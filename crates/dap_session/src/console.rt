@@ -25,7 +25,7 @@ use dap_messages::{Message, Reason, evaluated, nothing, stand_by, value_set};
 use dap_views::{look_at, variables_shown};
 use json_values::{number_at, text_at, text_or};
 use mon_dispatch::serve;
-use mon_lines::{Command, read_line};
+use mon_lines::{Command, ReadLine, read_line};
 use mon_runs::Event;
 use mon_session::Desk;
 use mon_settings::set_flag;
@@ -39,7 +39,9 @@ fn serve_line(alloc: Global, desk: &mut Desk, line: &[u8]) -> Result<(String, bo
         (λ p. ServesConsole line.now p.1 desk.old desk.new (string_bytes p.0)) }
 {
     desk.text.clear();
-    let is_over = serve(desk, alloc, line)?;
+    let pc = desk.session.regs().pc;
+    let read = ReadLine::new(line, &desk.places, pc);
+    let is_over = serve(desk, alloc, &read)?;
     let said = String::from_utf8_lossy(alloc, desk.text.as_slice())?;
     desk.text.clear();
     Ok((said, is_over))

@@ -1,37 +1,30 @@
 -- What is said of a line, with files and without.
-use Rattle.std.proofs.Common.{◌≡◌, ◌∙◌, ℕ, Bool, List, [], ◌∷◌, ◌++◌, append_assoc, append-nil, Option, None, Result, Ok, Err, inl, inr, ap, sym, length}
-use Rattle.std.proofs.lemmas.Bool.{cases_lt}
-use Rattle.mon.specs.Attended.{AnswersLine}
-use Rattle.mon.specs.Files.{IsReloaded, Reloads, Repeats, SeenFiling, ServesAgain, ServesFiles, no_file, to_reload, to_save}
+use Rattle.std.proofs.Common.{◌≡◌, ◌∙◌, ℕ, Bool, List, [], ◌∷◌, ◌++◌, append_assoc, append-nil, None, Result, Ok, Err, inl, inr, ap, sym}
+use Rattle.mon.specs.Attended.{Obeys, ObeysRead}
+use Rattle.mon.specs.Files.{IsReloaded, Reloads, Repeats, ServesAgain}
 use Rattle.mon.specs.Notes.{SeenNote, notes_after, placed_in}
 use Rattle.mon.specs.declared.seat.Seat.{Seat}
-use Rattle.mon_dispatch.specs.Lines.{Follows, Says, read_at}
-use Rattle.mon_dispatch.specs.LineTexts.{behind_text, line_text, slip_line, too_long}
+use Rattle.mon_dispatch.specs.Lines.{Follows, Says, Serves}
+use Rattle.mon_dispatch.specs.LineTexts.{behind_text, line_text, slip_line}
 use Rattle.mon_dispatch.specs.declared.lines.Outcome.{Outcome}
-use Rattle.mon_lines.specs.Lines.{SeenCommand, line_of}
-use Rattle.mon_line_parts.specs.declared.topic.Topic.{Topic}
-use Rattle.mon_line_parts.specs.Reading.{SeenWhy}
+use Rattle.mon_lines.specs.Lines.{SeenCommand, SeenLine, SeenSlip, line_of, page, reload, save}
 use Rattle.mon_session.specs.EventTexts.{shown_text}
 use Rattle.mon_session.specs.declared.desk.Desk.{Desk}
 
 -- something is said of each line
-says_of : (read : Result SeenCommand (Option Topic × SeenWhy)) (outcome : Outcome) (a b : Desk)
+says_of : (read : Result SeenCommand SeenSlip) (outcome : Outcome) (a b : Desk)
     → Follows read outcome a b → (said : List ℕ) × Says said a b
 says_of (Ok seen) outcome a b p = (line_text p.0 a, p.4)
 says_of (Err slip) outcome a b p = (slip_line slip, p.2)
 
-pub answer_says : (line : List ℕ) (is_over : Bool) (a b : Desk) → AnswersLine line is_over a b
+serves_say : (read : SeenLine) (is_over : Bool) (a b : Desk) → Serves read is_over a b
     → (said : List ℕ) × Says said a b
-answer_says line is_over a b p = elim (cases_lt 255 (length line)) [
-  | inl long ↦ (too_long, (p.1 long).2)
-  | inr short ↦
-      let s = p.0 short in
-      let f = says_of (read_at a line) s.1 a s.0 s.2 in
-      let behind = behind_text s.1 line s.0 in (
-        f.0 ++ behind,
-        s.5 ∙ ap (λ t. t ++ behind) f.1 ∙ append_assoc a.text.items f.0 behind,
-      )
-]
+serves_say read is_over a b s =
+    let f = says_of read.asked s.1 a s.0 s.2 in
+    let behind = behind_text s.1 read.decimal s.0 in (
+      f.0 ++ behind,
+      s.5 ∙ ap (λ t. t ++ behind) f.1 ∙ append_assoc a.text.items f.0 behind,
+    )
 
 -- lines that are served again say something
 repeats_say : (notes : List SeenNote) (a : Desk) (noted : List SeenNote) (b : Desk)
@@ -66,20 +59,29 @@ reloads_say a b (inl p) = reloaded_says a b p
 reloads_say a b (inr p) = (p.4.0, p.4.3)
 
 -- something is said of what is asked for of files
-files_say : (filing : SeenFiling) (a b : Seat) → ServesFiles filing a b
-    → (said : List ℕ) × Says said a.desk b.desk
-files_say (to_save file stretch) a b p = (p.1, p.2)
-files_say to_reload a b p = reloads_say a b p
-files_say no_file a b p =
+none_said : (a b : Seat) → b ≡ a → (said : List ℕ) × Says said a.desk b.desk
+none_said a b p =
     ([], ap (λ (s : Seat). s.desk.text.items) p ∙ sym (append-nil a.desk.text.items))
 
+command_says : (command : SeenCommand) (a b : Seat) → Obeys command a b
+    → (said : List ℕ) × Says said a.desk b.desk
+command_says (save file stretch) a b p = (p.1, p.2)
+command_says (page file) a b p = p.shown.1
+command_says reload a b p = reloads_say a b p
+command_says command a b p = none_said a b p
+
+obeys_say : (asked : Result SeenCommand SeenSlip) (a b : Seat) → ObeysRead asked a b
+    → (said : List ℕ) × Says said a.desk b.desk
+obeys_say (Ok command) a b p = command_says command a b p
+obeys_say (Err slip) a b p = none_said a b p
+
 -- of a line and of its files
-pub both_say : (line : List ℕ) (is_over : Bool) (filing : SeenFiling) (a b c : Seat)
-    → AnswersLine line is_over a.desk b.desk → ServesFiles filing b c
+pub both_say : (read : SeenLine) (is_over : Bool) (a b c : Seat)
+    → Serves read is_over a.desk b.desk → ObeysRead read.asked b c
     → (said : List ℕ) × Says said a.desk c.desk
-both_say line is_over filing a b c p q =
-    let first = answer_says line is_over a.desk b.desk p in
-    let rest = files_say filing b c q in (
+both_say read is_over a b c p q =
+    let first = serves_say read is_over a.desk b.desk p in
+    let rest = obeys_say read.asked b c q in (
       first.0 ++ rest.0,
       rest.1 ∙ ap (λ t. t ++ rest.0) first.1 ∙ append_assoc a.desk.text.items first.0 rest.0,
     )
@@ -89,7 +91,13 @@ reloads_view : (a b : Seat) → Reloads a b → b.view ≡ a.view
 reloads_view a b (inl p) = p.3
 reloads_view a b (inr p) = p.0.1
 
-pub files_view : (filing : SeenFiling) (a b : Seat) → ServesFiles filing a b → b.view ≡ a.view
-files_view (to_save file stretch) a b p = p.0.1
-files_view to_reload a b p = reloads_view a b p
-files_view no_file a b p = ap (λ (s : Seat). s.view) p
+command_keeps_view : (command : SeenCommand) (a b : Seat) → Obeys command a b → b.view ≡ a.view
+command_keeps_view (save file stretch) a b p = p.0.1
+command_keeps_view (page file) a b p = p.view
+command_keeps_view reload a b p = reloads_view a b p
+command_keeps_view command a b p = ap (λ (s : Seat). s.view) p
+
+pub obeys_view : (asked : Result SeenCommand SeenSlip) (a b : Seat) → ObeysRead asked a b
+    → b.view ≡ a.view
+obeys_view (Ok command) a b p = command_keeps_view command a b p
+obeys_view (Err slip) a b p = ap (λ (s : Seat). s.view) p

@@ -1,19 +1,15 @@
 -- Lines that are served one after another.
-use Rattle.std.proofs.Common.{◌≡◌, ◌≤◌, ◌<◌, ◌∙◌, ℕ, ◌-◌, ◌+◌, Bool, true, false, cond, List, [], ◌∷◌, ◌++◌, append_assoc, append-nil, Option, None, Some, inl, inr, refl, sym, ap, subst, length, take, arith, length-take, true≢false}
+use Rattle.std.proofs.Common.{◌≡◌, ◌≤◌, ◌<◌, ◌∙◌, ℕ, ◌-◌, ◌+◌, Bool, true, false, cond, List, [], ◌∷◌, ◌++◌, append_assoc, append-nil, Option, None, Some, Err, inl, inr, refl, sym, ap, subst, length, take, arith, length-take, true≢false}
 use Rattle.std.proofs.lemmas.Bool.{cases_lt, lt-ltb}
 use Rattle.std.proofs.lemmas.List.{take_all}
 use Rattle.std.specs.Io.BufRead.{ends_with_byte, strip_last}
 use Rattle.model.specs.TextLines.{ended_lines_of}
-use Rattle.mon.specs.Attended.{AnswersLine, IsAttended, IsAttendedInPart, IsAttendedSoFar, IsNoted, ServesBy, ServesLine, ServesLines, prompt_of}
-use Rattle.mon_files.specs.Asked.{SeenPage, page_in, page_line}
-use Rattle.mon_line_parts.specs.Reading.{skip}
-use Rattle.mon.specs.Files.{SeenFiling, ServesFiles, filing_at, filing_in, no_file}
-use Rattle.mon.specs.Notes.{notes_after, placed_at, placed_in}
-use Rattle.mon.specs.declared.notes.Placed.{Placed}
-use Rattle.mon.proofs.Filed.{files_view}
-use Rattle.mon.specs.Seats.{Rests, answer_text, drawn, stretch_after, stretch_by, view_after, without_screen}
+use Rattle.mon.specs.Attended.{IsAttended, IsAttendedInPart, IsAttendedSoFar, IsNoted, ServesLine, ServesLines, ServesRead, prompt_of}
+use Rattle.mon_line_parts.specs.Reading.{after_word, long, skip, word_of}
+use Rattle.mon_lines.specs.Lines.{SeenLine, decimal_address, decimal_behind, line_from, line_of}
+use Rattle.mon.proofs.Filed.{obeys_view}
+use Rattle.mon.specs.Seats.{Rests, answer_text, drawn, view_after, without_screen}
 use Rattle.mon.specs.declared.seat.Seat.{Seat}
-use Rattle.mon_lines.specs.declared.command.Stretch.{Stretch}
 use Rattle.mon_screen.specs.View.{view_text}
 use Rattle.mon_screen.specs.declared.view.View.{View}
 use Rattle.mon_dispatch.specs.Lines.{read_at}
@@ -62,17 +58,12 @@ plain_answer true seat said none = refl
 plain_answer false seat said none = ap (λ v. drawn v seat.desk said ++ []) none ∙ append-nil said
 
 -- where no screen is drawn, no line draws one
-plain_by : (asked : Option SeenPage) (line : List ℕ) (is_over : Bool) (a b : Seat) (said : List ℕ)
-    → a.view ≡ None → ServesBy asked line is_over a b said → b.view ≡ None
-plain_by None line is_over a b said none p = p.6.1
-    ∙ files_view (filing_at p.0.desk line) p.0 p.3 p.4 ∙ p.2.view ∙ ap (view_after a.desk line) none
-plain_by (Some asked) line is_over a b said none p =
-    p.4.1 ∙ p.2.view ∙ ap (view_after a.desk line) none
-
 plain_view : (line : List ℕ) (is_over : Bool) (a b : Seat) (said : List ℕ) → a.view ≡ None
     → ServesLine line is_over a b said → b.view ≡ None
 unfolding ServesLine
-plain_view line is_over a b said none p = plain_by (page_line line) line is_over a b said none p
+plain_view line is_over a b said none p =
+    let asked = (read_at a.desk line).asked in
+    p.6.1 ∙ obeys_view asked p.0 p.3 p.4 ∙ p.2.view ∙ ap (view_after asked a.desk) none
 
 pub plain_line : (line : List ℕ) (is_over : Bool) (a b : Seat) (said text : List ℕ) → a.view ≡ None
     → ServesLine line is_over a b said → answer_text is_over [] b text ≡ text
@@ -80,16 +71,11 @@ plain_line line is_over a b said text none p =
     plain_answer is_over b text (plain_view line is_over a b said none p)
 
 -- only the text changes after a line
-then_by : (asked : Option SeenPage) (line : List ℕ) (is_over : Bool) (a b c : Seat) (said : List ℕ)
-    → ServesBy asked line is_over a b said → Rests b c → ServesBy asked line is_over a c said
-then_by None line is_over a b c said p q =
-    (p.0, p.1, p.2, p.3, p.4, p.5, rests_then p.3 b c p.6 q)
-then_by (Some asked) line is_over a b c said p q = (p.0, p.1, p.2, p.3, rests_then p.1 b c p.4 q)
-
 pub line_then : (line : List ℕ) (is_over : Bool) (a b c : Seat) (said : List ℕ)
     → ServesLine line is_over a b said → Rests b c → ServesLine line is_over a c said
 unfolding ServesLine
-line_then line is_over a b c said p q = then_by (page_line line) line is_over a b c said p q
+line_then line is_over a b c said p q =
+    (p.0, p.1, p.2, p.3, p.4, p.5, rests_then p.3 b c p.6 q)
 
 pub lines_then : (prompt : List ℕ) (lines : List (List ℕ)) (is_over : Bool) (a b c : Seat)
     (w : List ℕ) → ServesLines prompt lines is_over a b w → Rests b c
@@ -227,55 +213,24 @@ length-strip b xs = by (ends_with_byte b xs)
     by true = omega (arith, length-take (length xs - 1) xs)
     by false = omega arith
 
-both_long : (kept line : List ℕ) (is_over : Bool) (a b : Desk) → 255 < length kept
-    → 255 < length line → AnswersLine kept is_over a b → AnswersLine line is_over a b
-both_long kept line is_over a b h i p = (λ short. absurd (omega (arith, short, i)), λ long. p.1 h)
+-- what a line is read as that is too long
+too_long : SeenLine
+too_long = record { asked = Err (None, long); decimal = None }
 
--- a line that is too long asks for no memory
-too_long_asks : (desk : Desk) (line : List ℕ) (shown : Stretch) → 255 < length line
-    → stretch_after desk line shown ≡ shown
-too_long_asks desk line shown h =
-    ap (λ t. cond t shown (stretch_by (read_at desk line) shown)) (lt-ltb 255 (length line) h)
+read_long : (desk : Desk) (line : List ℕ) → 255 < length line → read_at desk line ≡ too_long
+unfolding too_long line_of decimal_address
+read_long desk line h =
+    let read = line_from desk.places.names desk.session.current.regs.pc line (skip line) in
+    let decimal = decimal_behind (skip line) (word_of (after_word (skip line))) in
+    let by : Bool → SeenLine = λ t. record { asked = cond t (Err (None, long)) read; decimal = cond t None decimal } in
+    ap by (lt-ltb 255 (length line) h)
 
-long_view : (desk : Desk) (kept line : List ℕ) (view : Option View) → 255 < length kept
-    → 255 < length line → view_after desk kept view ≡ view_after desk line view
-long_view desk kept line None h i = refl
-long_view desk kept line (Some view) h i = ap (λ (stretch : Stretch). Some (record {
-  size = view.size;
-  stretch = stretch;
-  regs = desk.session.current.regs;
-  cycles = Some desk.session.current.cycles;
-})) (too_long_asks desk kept view.stretch h ∙ sym (too_long_asks desk line view.stretch i))
-
--- a line that is too long places nothing, and asks for no file
-placed_long : (desk : Desk) (line : List ℕ) → 255 < length line → placed_at desk line ≡ None
-placed_long desk line h =
-    ap (λ t. cond t None (placed_in (read_at desk line))) (lt-ltb 255 (length line) h)
-
-filing_long : (desk : Desk) (line : List ℕ) → 255 < length line → filing_at desk line ≡ no_file
-filing_long desk line h =
-    ap (λ t. cond t no_file (filing_in (read_at desk line))) (lt-ltb 255 (length line) h)
-
-noted_long : (kept line : List ℕ) (a b : Seat) → 255 < length kept → 255 < length line
-    → IsNoted kept a b → IsNoted line a b
-noted_long kept line a b h i n = record {
-  view = n.view ∙ long_view a.desk kept line a.view h i;
-  notes = n.notes
-      ∙ ap (λ (placed : Option Placed). notes_after b.desk placed a.desk.session.current.regs.pc kept a.notes.items) (placed_long a.desk kept h)
-      ∙ sym (ap (λ (placed : Option Placed). notes_after b.desk placed a.desk.session.current.regs.pc line a.notes.items) (placed_long a.desk line i));
-  loaded = n.loaded;
-  words = n.words;
-}
-
-files_long : (desk : Desk) (kept line : List ℕ) (a b : Seat) → 255 < length kept → 255 < length line
-    → ServesFiles (filing_at desk kept) a b → ServesFiles (filing_at desk line) a b
-files_long desk kept line a b h i p =
-    subst (λ (filing : SeenFiling). ServesFiles filing a b) (filing_long desk kept h ∙ sym (filing_long desk line i)) p
-
--- a line that is too long is not about a page
-page_long : (line : List ℕ) → 255 < length line → page_line line ≡ None
-unfolding page_line
-page_long line h = ap (λ t. cond t None (page_in (skip line))) (lt-ltb 255 (length line) h)
+-- it is not noted
+noted_long : (kept line : List ℕ) (a b : Seat) → IsNoted too_long.asked kept a b
+    → IsNoted too_long.asked line a b
+unfolding too_long
+noted_long kept line a b n =
+    record { view = n.view; notes = n.notes; loaded = n.loaded; words = n.words }
 
 -- what is kept is all of the line, or too long as the line is
 pub line_kept : (begun : List ℕ) (is_over : Bool) (a b : Seat) (said : List ℕ)
@@ -286,18 +241,11 @@ line_kept begun is_over a b said p = elim (cases_lt 257 (length begun)) [
   | inl more ↦
       let kept = strip_last 13 (take 257 begun) in
       let line = strip_last 13 begun in
-      let long : 255 < length (strip_last 13 (take 257 begun))
+      let kept_long : 255 < length (strip_last 13 (take 257 begun))
       = omega (arith, length-take 257 begun, length-strip 13 (take 257 begun)) in
-      let also : 255 < length (strip_last 13 begun) = omega (arith, length-strip 13 begun) in
-      let p = subst (λ (asked : Option SeenPage). ServesBy asked kept is_over a b said) (page_long kept long) p in
-      subst (λ (asked : Option SeenPage). ServesBy asked line is_over a b said) (sym (page_long line also)) (
-        p.0,
-        both_long kept line is_over a.desk p.0.desk long also p.1,
-        noted_long kept line a p.0 long also p.2,
-        p.3,
-        files_long p.0.desk kept line p.0 p.3 long also p.4,
-        p.5,
-        p.6,
-      )
+      let line_long : 255 < length (strip_last 13 begun) = omega (arith, length-strip 13 begun) in
+      let p = subst (λ (read : SeenLine). ServesRead read kept is_over a b said) (read_long a.desk kept kept_long) p in
+      subst (λ (read : SeenLine). ServesRead read line is_over a b said) (sym (read_long a.desk line line_long))
+      (p.0, p.1, noted_long kept line a p.0 p.2, p.3, p.4, p.5, p.6)
   | inr less ↦ subst (λ l. ServesLine (strip_last 13 l) is_over a b said) (take_all 257 begun less) p
 ]

@@ -1,17 +1,16 @@
 -- Which lines of its input a session of `mon` serves, in which order, and what it writes.
 -- Source: mos65.
-use Rattle.std.specs.Prelude.{ℕ, ◌≡◌, ◌<◌, ◌≤◌, ◌⊎◌, Bool, true, false, if◌then◌else◌, List, [], ◌∷◌, ◌++◌, length, Option, Some, None, codes}
+use Rattle.std.specs.Prelude.{ℕ, ◌≡◌, ◌⊎◌, Bool, true, false, if◌then◌else◌, List, [], ◌∷◌, ◌++◌, Option, Result, Ok, Err, codes}
 use Rattle.std.specs.Io.BufRead.{strip_last}
 use Rattle.std.specs.Io.KnownBytes.{Consumes, IsAtEnd}
 use Rattle.model.specs.TextLines.{ended_lines_of, lines_from}
 use Rattle.model.specs.Writers.{AppendsFront}
 use Rattle.mon.specs.declared.wording.TheConstants.{PROMPT}
-use Rattle.mon_dispatch.specs.Lines.{IsTooLong, Says, Serves}
-use Rattle.mon_files.specs.Asked.{SeenPage, page_line}
+use Rattle.mon_dispatch.specs.Lines.{Says, Serves, read_at}
 use Rattle.mon_files.specs.Pages.{ShowsPage}
-use Rattle.mon_session.specs.declared.desk.Desk.{Desk}
-use Rattle.mon.specs.Files.{ServesFiles, filing_at}
-use Rattle.mon.specs.Notes.{notes_after, placed_at}
+use Rattle.mon_lines.specs.Lines.{SeenCommand, SeenLine, SeenSlip, page, reload, save}
+use Rattle.mon.specs.Files.{Reloads}
+use Rattle.mon.specs.Notes.{notes_after, placed_in}
 use Rattle.mon.specs.Seats.{Rests, answer_text, view_after, without_screen}
 use Rattle.mon.specs.declared.seat.Seat.{Seat}
 
@@ -29,44 +28,50 @@ input_lines input = lines_from line_at_end [] input
 
 -- ---- one line
 
--- A line of at most 255 bytes does what it asks for. A longer one asks for nothing.
-abbrev pub AnswersLine : List ℕ → Bool → Desk → Desk → Type 0
-AnswersLine line is_over old new = (length line ≤ 255 → Serves line is_over old new)
-    × (255 < length line → IsTooLong is_over old new)
-
 -- What a line leaves at a seat besides its desk: a screen shows what it shows after the line, and the
 -- line is noted if it has placed something.
-pub record IsNoted (line : List ℕ) (old new : Seat) : Type 0 where
-  pub view : new.view ≡ view_after old.desk line old.view
-  pub notes : new.notes.items ≡ notes_after new.desk (placed_at old.desk line)
-      old.desk.session.current.regs.pc line old.notes.items
-  pub loaded : new.loaded ≡ old.loaded
-  pub words : new.words ≡ old.words
+pub record IsNoted (asked : Result SeenCommand SeenSlip) (line : List ℕ) (old new : Seat) : Type 0
+  where
+    pub view : new.view ≡ view_after asked old.desk old.view
+    pub notes : new.notes.items ≡ notes_after new.desk (placed_in asked)
+        old.desk.session.current.regs.pc line old.notes.items
+    pub loaded : new.loaded ≡ old.loaded
+    pub words : new.words ≡ old.words
 
--- A line about a page: the session is shown, goes back and comes again. A screen shows what it shows
--- after the line.
-pub record IsShown (asked : SeenPage) (line : List ℕ) (old new : Seat) : Type 0 where
-  pub shown : ShowsPage asked old.words.now.history old.desk new.desk
-  pub view : new.view ≡ view_after old.desk line old.view
+-- The session is shown on a page: it goes back and comes again.
+pub record IsShown (old new : Seat) : Type 0 where
+  pub shown : ShowsPage old.words.now.history old.desk new.desk
+  pub view : new.view ≡ old.view
   pub notes : new.notes ≡ old.notes
   pub loaded : new.loaded ≡ old.loaded
   pub words : new.words ≡ old.words
 
--- Another line is answered and noted, then it saves or reloads if it asks for that.
-abbrev pub ServesOther : List ℕ → Bool → Seat → Seat → List ℕ → Type 0
-ServesOther line is_over old new said = (served : Seat)
-    × AnswersLine line is_over old.desk served.desk × IsNoted line old served
-    × (filed : Seat) × ServesFiles (filing_at served.desk line) served filed
-    × Says said old.desk filed.desk × Rests filed new
+-- What a line does that asks for something of a file. A line that saves says something and changes
+-- nothing else. Which bytes a file gets, no clause can say: those of the tape of the image that is
+-- saved, or of the page of the session, as `mon_files` defines them. Any other line does nothing.
+abbrev pub Obeys : SeenCommand → Seat → Seat → Type 0
+Obeys (save file stretch) old new
+    = Rests old new × (said : List ℕ) × Says said old.desk new.desk
+Obeys (page file) old new = IsShown old new
+Obeys reload old new = Reloads old new
+Obeys command old new = new ≡ old
 
--- What a line does, and so much is said. Then only the text changes, which is written.
-abbrev pub ServesBy : Option SeenPage → List ℕ → Bool → Seat → Seat → List ℕ → Type 0
-ServesBy None line is_over old new said = ServesOther line is_over old new said
-ServesBy (Some asked) line is_over old new said = (is_over ≡ false) × (shown : Seat)
-    × IsShown asked line old shown × Says said old.desk shown.desk × Rests shown new
+abbrev pub ObeysRead : Result SeenCommand SeenSlip → Seat → Seat → Type 0
+ObeysRead (Ok command) old new = Obeys command old new
+ObeysRead (Err slip) old new = new ≡ old
 
+-- A line does what it asks for and is noted, then what it asks for of a file is done, and so much is
+-- said. Then only the text changes, which is written.
+abbrev pub ServesRead : SeenLine → List ℕ → Bool → Seat → Seat → List ℕ → Type 0
+ServesRead read line is_over old new said = (served : Seat)
+    × Serves read is_over old.desk served.desk × IsNoted read.asked line old served
+    × (obeyed : Seat) × ObeysRead read.asked served obeyed
+    × Says said old.desk obeyed.desk × Rests obeyed new
+
+-- A line is read once.
 unfoldable pub ServesLine : List ℕ → Bool → Seat → Seat → List ℕ → Type 0
-ServesLine line is_over old new said = ServesBy (page_line line) line is_over old new said
+ServesLine line is_over old new said
+    = ServesRead (read_at old.desk line) line is_over old new said
 
 -- ---- lines one after another
 

@@ -1,5 +1,5 @@
--- Lines that save memory, and the file that `reload` loads again. Source: mos65.
-use Rattle.std.specs.Prelude.{◌≡◌, ◌⊎◌, ℕ, nat_lt, Bool, true, false, if◌then◌else◌, List, [], ◌∷◌, ◌++◌, length, Option, Some, None, Result, Ok, Err}
+-- The file that `reload` loads again. Source: mos65.
+use Rattle.std.specs.Prelude.{◌≡◌, ◌⊎◌, ℕ, Bool, true, false, List, [], ◌∷◌, ◌++◌, Some, None}
 use Rattle.arguments.specs.FaultLines.{load_text}
 use Rattle.arguments.specs.declared.load_fault.LoadFault.{LoadFault}
 use Rattle.arguments.specs.declared.load_fault.LoadFault.TheVariants.{Refused}
@@ -11,49 +11,13 @@ use Rattle.model.specs.Writers.{AppendsFront}
 use Rattle.mon.specs.Notes.{SeenNote, notes_after, placed_in}
 use Rattle.mon.specs.Seats.{Rests}
 use Rattle.mon.specs.Starts.{StartsMon}
-use Rattle.mon.specs.declared.files.Filing.{Filing}
-use Rattle.mon.specs.declared.files.Filing.TheVariants as filing
 use Rattle.mon.specs.declared.seat.Seat.{Seat}
-use Rattle.mon_dispatch.specs.Lines.{Follows, Says, read_at}
+use Rattle.mon_dispatch.specs.Lines.{Follows, Says}
 use Rattle.mon_dispatch.specs.declared.lines.Outcome.{Outcome}
-use Rattle.mon_lines.specs.Lines.{SeenCommand, SeenSlip, command_view, line_of, reload, save}
-use Rattle.mon_lines.specs.declared.command.Command.{Command}
-use Rattle.mon_lines.specs.declared.command.Stretch.{Stretch}
+use Rattle.mon_lines.specs.Lines.{line_of}
 use Rattle.mon_session.specs.Course.{ShowsOnly}
 use Rattle.mon_session.specs.EventTexts.{shown_text}
 use Rattle.mon_session.specs.declared.desk.Desk.{Desk}
-
--- ---- what a line asks for
-
--- To save a file, of a stretch of memory if one is given; to reload; or neither.
-pub data SeenFiling : Type 0 where
-  to_save : List ℕ → Option Stretch → SeenFiling
-  to_reload : SeenFiling
-  no_file : SeenFiling
-
--- The same without where the file's name lies in memory.
-abbrev pub filing_view : Filing → SeenFiling
-filing_view (filing.Save file stretch) = to_save file.now stretch
-filing_view filing.Reload = to_reload
-filing_view filing.Nothing = no_file
-
-abbrev pub filing_seen : SeenCommand → SeenFiling
-filing_seen (save file stretch) = to_save file stretch
-filing_seen reload = to_reload
-filing_seen command = no_file
-
-abbrev pub filing_by : Command → SeenFiling
-filing_by command = filing_seen (command_view command)
-
-abbrev pub filing_in : Result SeenCommand SeenSlip → SeenFiling
-filing_in (Ok command) = filing_seen command
-filing_in (Err slip) = no_file
-
--- At a desk. A line of more than 255 bytes asks for nothing.
-abbrev pub filing_at : Desk → List ℕ → SeenFiling
-filing_at desk line = if nat_lt 255 (length line) then no_file else filing_in (read_at desk line)
-
--- ---- what is loaded again
 
 -- Lines that were noted do at a desk what they ask for, one after another, and are noted anew if
 -- they have placed something there. `PC` in each is what it was.
@@ -103,13 +67,3 @@ KeepsSession old new = Rests old new
 
 abbrev pub Reloads : Seat → Seat → Type 0
 Reloads old new = IsReloaded old new ⊎ KeepsSession old new
-
--- ---- the whole
-
--- A line that saves says something and changes nothing else. Which bytes a file gets, no clause can
--- say: those of the tape of the image that is saved, as `mon_files` defines it.
-abbrev pub ServesFiles : SeenFiling → Seat → Seat → Type 0
-ServesFiles (to_save file stretch) old new
-    = Rests old new × (said : List ℕ) × Says said old.desk new.desk
-ServesFiles to_reload old new = Reloads old new
-ServesFiles no_file old new = new ≡ old

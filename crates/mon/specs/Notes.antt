@@ -1,10 +1,9 @@
 -- The lines that have placed what stands: breaks, watches, and bytes that are shown at each stop.
 -- Source: mos65.
-use Rattle.std.specs.Prelude.{ℕ, ◌==◌, nat_lt, not, Bool, false, if◌then◌else◌, List, [], ◌∷◌, ◌++◌, filter, length, Option, None, Some, Result, Ok, Err}
+use Rattle.std.specs.Prelude.{ℕ, ◌==◌, not, Bool, false, List, [], ◌∷◌, ◌++◌, filter, Option, None, Some, Result, Ok, Err}
 use Rattle.std.specs.List.{list_any}
 use Rattle.mon.specs.declared.notes.Placed.{Placed}
 use Rattle.mon.specs.declared.notes.Placed.TheVariants as placing
-use Rattle.mon_dispatch.specs.Lines.{read_at}
 use Rattle.mon_lines.specs.Lines.{SeenCommand, SeenSlip, break_at, command_view, display, watch, watch_register}
 use Rattle.mon_lines.specs.declared.command.Command.{Command}
 use Rattle.mon_session.specs.declared.desk.Desk.{Desk}
@@ -40,10 +39,6 @@ placed_by command = placed_seen (command_view command)
 abbrev pub placed_in : Result SeenCommand SeenSlip → Option Placed
 placed_in (Ok command) = placed_seen command
 placed_in (Err slip) = None
-
--- At a desk. A line of more than 255 bytes places nothing.
-abbrev pub placed_at : Desk → List ℕ → Option Placed
-placed_at desk line = if nat_lt 255 (length line) then None else placed_in (read_at desk line)
 
 -- ---- what is noted
 

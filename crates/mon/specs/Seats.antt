@@ -1,7 +1,6 @@
 -- What is written of a session: its text, or a screen. Source: mos65.
-use Rattle.std.specs.Prelude.{◌≡◌, ℕ, nat_lt, Bool, true, false, if◌then◌else◌, List, ◌++◌, length, Option, None, Some, Result, Ok}
+use Rattle.std.specs.Prelude.{◌≡◌, ℕ, Bool, true, false, List, ◌++◌, Option, None, Some, Result, Ok, Err}
 use Rattle.mon.specs.declared.seat.Seat.{Seat}
-use Rattle.mon_dispatch.specs.Lines.{read_at}
 use Rattle.mon_lines.specs.Lines.{SeenCommand, SeenSlip, mem}
 use Rattle.mon_lines.specs.declared.command.Stretch.{Stretch}
 use Rattle.mon_screen.specs.View.{view_text}
@@ -17,22 +16,21 @@ Rests old new = ShowsOnly old.desk new.desk × (new.view ≡ old.view) × (new.n
 -- ---- what a screen shows
 
 -- The memory that a line asks for, otherwise what was shown before it.
-abbrev pub stretch_by : Result SeenCommand SeenSlip → Stretch → Stretch
-stretch_by (Ok (mem stretch)) shown = stretch
-stretch_by read shown = shown
+abbrev pub stretch_in : SeenCommand → Stretch → Stretch
+stretch_in (mem stretch) shown = stretch
+stretch_in command shown = shown
 
--- A line of more than 255 bytes asks for nothing.
-abbrev pub stretch_after : Desk → List ℕ → Stretch → Stretch
-stretch_after desk line shown
-    = if nat_lt 255 (length line) then shown else stretch_by (read_at desk line) shown
+abbrev pub stretch_by : Result SeenCommand SeenSlip → Stretch → Stretch
+stretch_by (Ok command) shown = stretch_in command shown
+stretch_by (Err slip) shown = shown
 
 -- What a screen shows after a line that is served at a desk: registers and cycles there are those
 -- before the line.
-abbrev pub view_after : Desk → List ℕ → Option View → Option View
-view_after desk line None = None
-view_after desk line (Some view) = Some (record {
+abbrev pub view_after : Result SeenCommand SeenSlip → Desk → Option View → Option View
+view_after asked desk None = None
+view_after asked desk (Some view) = Some (record {
   size = view.size;
-  stretch = stretch_after desk line view.stretch;
+  stretch = stretch_by asked view.stretch;
   regs = desk.session.current.regs;
   cycles = Some desk.session.current.cycles;
 })

@@ -1,13 +1,13 @@
 //! The lines that have placed what stands: breaks, watches, and bytes that are shown at each stop.
 
 ghost use Rattle.std.specs.Prelude.{◌≡◌, ◌++◌, ◌∷◌, [], OnOk, filter, not};
-ghost use Rattle.mon.specs.Notes.{note_of, notes_after, placed_at, placed_by, placed_in};
+ghost use Rattle.mon.specs.Notes.{note_of, notes_after, placed_by, placed_in};
 ghost use Rattle.mon.specs.Notes.{placed_seen, placed_shown, replaces, stands, with_note};
-ghost use Rattle.mon_lines.specs.Lines.{line_of};
+ghost use Rattle.mon_lines.specs.Lines.{asked_view};
 ghost use Rattle.mon_stops.specs.Stops.{has, is_at, is_of};
 ghost use Rattle.std.specs.List.{list_any};
 
-use mon_lines::{Command, Register, read_line};
+use mon_lines::{Command, Register, Slip};
 use mon_session::Desk;
 use mon_settings::is_displayed;
 use mon_stops::{Break, Watch};
@@ -163,25 +163,14 @@ fn placed_by(command: &Command<'_>) -> Option<Placed>
     }
 }
 
-/// Returns what a line places at a desk where `PC` is this, if it places something.
-pub fn placed_in(desk: &Desk, pc: u16, line: &[u8]) -> Option<Placed>
-    ensures { result ≡ placed_in (line_of desk.now.places.names pc line.now) }
+/// Returns what a line places, if it places something.
+pub fn placed_in(asked: &Result<Command<'_>, Slip<'_>>) -> Option<Placed>
+    ensures { result ≡ placed_in (asked_view asked.now) }
 {
-    match read_line(line, &desk.places, pc) {
-        Ok(command) => placed_by(&command),
+    match asked {
+        Ok(command) => placed_by(command),
         Err(_) => None,
     }
-}
-
-/// Returns what a line places at a desk, if it places something. A line of more than 255 bytes
-/// places nothing.
-pub fn placed_at(desk: &Desk, line: &[u8]) -> Option<Placed>
-    ensures { result ≡ placed_at desk.now line.now }
-{
-    if line.len() > 255 {
-        return None;
-    }
-    placed_in(desk, desk.session.regs().pc, line)
 }
 
 /// Forgets the lines whose place something takes.

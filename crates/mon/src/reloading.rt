@@ -27,6 +27,7 @@ use arguments::{LoadFault, Refusal};
 use loading::{Loaded, load_with_history};
 use mon_dispatch::follow;
 use mon_files::say_name;
+use mon_lines::ReadLine;
 use mon_session::Desk;
 use std::alloc::{AllocError, Global};
 use std::rt::Files;
@@ -49,9 +50,11 @@ fn repeat_line(
         noted.now.pc noted.now.line notes.old.items)) }
 {
     let pc = noted.pc();
-    let placed = placed_in(desk, pc, noted.line());
-    follow(desk, alloc, pc, noted.line())?;
-    note_line(alloc, notes, desk, placed, pc, noted.line())
+    let line = noted.line();
+    let read = ReadLine::new(line, &desk.places, pc);
+    follow(desk, alloc, &read.asked)?;
+    let placed = placed_in(&read.asked);
+    note_line(alloc, notes, desk, placed, pc, line)
 }
 
 /// Serves lines that were noted once more, and returns those that have placed something.

@@ -4,21 +4,21 @@ ghost use Rattle.std.specs.Prelude.{◌≡◌, ◌++◌, [], ℕ, IfErr, IfOk, L
 ghost use Rattle.std.specs.Prelude.{if◌then◌else◌};
 ghost use Rattle.std.specs.Io.KnownBytes.{Appends};
 ghost use Rattle.model.specs.Writers.{AppendsFront};
-ghost use Rattle.mon.specs.Attended.{AnswersLine, IsNoted, IsShown, ServesLine, ServesOther};
+ghost use Rattle.mon.specs.Attended.{IsNoted, IsShown, Obeys, ObeysRead, ServesLine};
 ghost use Rattle.mon.specs.Attended.{prompt_of};
 ghost use Rattle.mon.specs.Done.{EndsAnswer};
-ghost use Rattle.mon.specs.Seats.{Rests, answer_text, drawn, stretch_after, view_after};
-ghost use Rattle.mon_dispatch.specs.Lines.{Says};
-ghost use Rattle.mon_files.specs.Asked.{page_view};
+ghost use Rattle.mon.specs.Seats.{Rests, answer_text, drawn, stretch_by, stretch_in, view_after};
+ghost use Rattle.mon_dispatch.specs.Lines.{Says, Serves};
+ghost use Rattle.mon_lines.specs.Lines.{asked_view, command_view, line_view};
 
-use crate::files::serve_files;
-use crate::notes::{Note, note_line, placed_at};
+use crate::notes::{Note, note_line, placed_in};
+use crate::reloading::reload;
 use crate::wording::PROMPT;
 use arguments::{Refusal, write_text};
 use arguments_play::MonWords;
 use mon_dispatch::serve;
-use mon_files::{Known, PageLine, page_line, show_page};
-use mon_lines::{Command, Stretch, read_line};
+use mon_files::{Known, save_tape, show_page};
+use mon_lines::{Command, ReadLine, Slip, Stretch};
 use mon_screen::{View, push_view};
 use mon_session::Desk;
 use std::alloc::{AllocError, Global};
@@ -124,27 +124,38 @@ pub fn answer(
     say_if(seat, prompts, PROMPT)
 }
 
-/// Returns the memory that a line asks for, otherwise what was shown before it.
-fn stretch_after(desk: &Desk, line: &[u8], shown: Stretch) -> Stretch
-    ensures { result ≡ stretch_after desk.now line.now shown }
+/// Returns the memory that a line asks for that can be read, otherwise what was shown before it.
+fn stretch_in(command: &Command<'_>, shown: Stretch) -> Stretch
+    ensures { result ≡ stretch_in (command_view command.now) shown }
 {
-    if line.len() > 255 {
-        return shown;
-    }
-    match read_line(line, &desk.places, desk.session.regs().pc) {
-        Ok(Command::Mem(stretch)) => stretch,
+    match command {
+        Command::Mem(stretch) => *stretch,
         _ => shown,
     }
 }
 
+/// Returns the memory that a line asks for, otherwise what was shown before it.
+fn stretch_by(asked: &Result<Command<'_>, Slip<'_>>, shown: Stretch) -> Stretch
+    ensures { result ≡ stretch_by (asked_view asked.now) shown }
+{
+    match asked {
+        Ok(command) => stretch_in(command, shown),
+        Err(_) => shown,
+    }
+}
+
 /// Returns what a screen shows after a line that is served at a desk.
-fn view_after(desk: &Desk, line: &[u8], view: Option<View>) -> Option<View>
-    ensures { result ≡ view_after desk.now line.now view }
+fn view_after(
+    asked: &Result<Command<'_>, Slip<'_>>,
+    desk: &Desk,
+    view: Option<View>,
+) -> Option<View>
+    ensures { result ≡ view_after (asked_view asked.now) desk.now view }
 {
     let view = view?;
     Some(View {
         size: view.size,
-        stretch: stretch_after(desk, line, view.stretch),
+        stretch: stretch_by(asked, view.stretch),
         regs: desk.session.regs(),
         cycles: Some(desk.session.cycles()),
     })
@@ -152,54 +163,82 @@ fn view_after(desk: &Desk, line: &[u8], view: Option<View>) -> Option<View>
 
 /// Does what a line asks for at a desk, notes it if it has placed something, keeps what it has
 /// handed in, and returns whether the session is to end.
-fn serve_noted(alloc: Global, seat: &mut Seat<'_>, line: &[u8]) -> Result<bool, AllocError>
+fn serve_noted(
+    alloc: Global,
+    seat: &mut Seat<'_>,
+    read: &ReadLine<'_>,
+    line: &[u8],
+) -> Result<bool, AllocError>
     ensures served { IfOk result
-        (λ is_over. AnswersLine line.now is_over seat.old.desk seat.new.desk) }
-    ensures noted { OnOk result (IsNoted line.now seat.old seat.new) }
+        (λ is_over. Serves (line_view read.now) is_over seat.old.desk seat.new.desk) }
+    ensures noted { OnOk result (IsNoted (asked_view read.now.asked) line.now seat.old seat.new) }
 {
-    seat.view = view_after(&seat.desk, line, seat.view);
+    seat.view = view_after(&read.asked, &seat.desk, seat.view);
     let pc = seat.desk.session.regs().pc;
     let room = seat.desk.session.input_room();
-    let placed = placed_at(&seat.desk, line);
-    let is_over = serve(&mut seat.desk, alloc, line)?;
-    seat.loaded.keep_typed(&seat.desk, line, room)?;
+    let is_over = serve(&mut seat.desk, alloc, read)?;
+    seat.loaded.keep_typed(&seat.desk, &read.asked, room)?;
+    let placed = placed_in(&read.asked);
     note_line(alloc, &mut seat.notes, &seat.desk, placed, pc, line)?;
     Ok(is_over)
 }
 
-/// Does what a line about a page asks for.
-fn serve_page<H: Files + AllocGlobal>(
+/// Writes the tape of memory to a file, of a stretch if one is given, and says what became of it.
+fn save<H: Files + AllocGlobal>(
     rt: &H,
     seat: &mut Seat<'_>,
-    line: &[u8],
-    asked: PageLine<'_>,
+    file: &[u8],
+    stretch: Option<Stretch>,
 ) -> Result<(), Refusal>
-    ensures shown { OnOk result (IsShown (page_view asked.entry) line.now seat.old seat.new) }
+    ensures rests { Rests seat.old seat.new }
+    ensures said { OnOk result ((said : List ℕ) × Says said seat.old.desk seat.new.desk) }
     ensures refused { IfErr result EndsAnswer }
 {
-    seat.view = view_after(&seat.desk, line, seat.view);
-    let program = seat.loaded.program(seat.words);
-    show_page(rt, &mut seat.desk, &program, asked)
+    save_tape(rt, &mut seat.desk, seat.words, &seat.loaded, file, stretch)
 }
 
-/// Does what a line asks for that is not about a page, also with files, and returns whether the
-/// session is to end.
-fn serve_other<H: Files + AllocGlobal>(
+/// Writes the page of what the session holds to a file, and says what became of it.
+fn show<H: Files + AllocGlobal>(rt: &H, seat: &mut Seat<'_>, file: &[u8]) -> Result<(), Refusal>
+    ensures shown { OnOk result (IsShown seat.old seat.new) }
+    ensures refused { IfErr result EndsAnswer }
+{
+    let program = seat.loaded.program(seat.words);
+    show_page(rt, &mut seat.desk, &program, file)
+}
+
+/// Does what a line asks for that reads or writes a file. Any other line does nothing here.
+fn obey<H: Files + AllocGlobal>(
     rt: &H,
     seat: &mut Seat<'_>,
-    line: &[u8],
-) -> Result<bool, Refusal>
-    ensures served { IfOk result (λ is_over. (said : List ℕ)
-        × ServesOther line.now is_over seat.old seat.new said
-        × Says said seat.old.desk seat.new.desk) }
+    command: &Command<'_>,
+) -> Result<(), Refusal>
+    ensures obeyed { OnOk result (Obeys (command_view command.now) seat.old seat.new) }
     ensures refused { IfErr result EndsAnswer }
 {
-    let is_over = of_memory(serve_noted(rt.alloc(), seat, line))?;
-    serve_files(rt, seat, line)?;
-    Ok(is_over)
+    match command {
+        Command::Save { file, stretch } => save(rt, seat, *file, *stretch),
+        Command::Page(file) => show(rt, seat, *file),
+        Command::Reload => reload(rt, seat),
+        _ => Ok(()),
+    }
 }
 
-/// Does what a line asks for, also with files, and returns whether the session is to end.
+/// Does what a line asks for that reads or writes a file, if the line can be read.
+fn obey_read<H: Files + AllocGlobal>(
+    rt: &H,
+    seat: &mut Seat<'_>,
+    asked: &Result<Command<'_>, Slip<'_>>,
+) -> Result<(), Refusal>
+    ensures obeyed { OnOk result (ObeysRead (asked_view asked.now) seat.old seat.new) }
+    ensures refused { IfErr result EndsAnswer }
+{
+    match asked {
+        Ok(command) => obey(rt, seat, command),
+        Err(_) => Ok(()),
+    }
+}
+
+/// Reads a line, does what it asks for, also with files, and returns whether the session is to end.
 pub fn serve_line<H: Files + AllocGlobal>(
     rt: &H,
     seat: &mut Seat<'_>,
@@ -210,11 +249,9 @@ pub fn serve_line<H: Files + AllocGlobal>(
         × Says said seat.old.desk seat.new.desk) }
     ensures refused { IfErr result EndsAnswer }
 {
-    match page_line(line) {
-        Some(asked) => {
-            serve_page(rt, seat, line, asked)?;
-            Ok(false)
-        }
-        None => serve_other(rt, seat, line),
-    }
+    let pc = seat.desk.session.regs().pc;
+    let read = ReadLine::new(line, &seat.desk.places, pc);
+    let is_over = of_memory(serve_noted(rt.alloc(), seat, &read, line))?;
+    obey_read(rt, seat, &read.asked)?;
+    Ok(is_over)
 }

@@ -10,7 +10,7 @@ use Rattle.mon_settings.specs.Names.{without_names}
 use Rattle.mon_settings.specs.ChangeTexts.{assembled_text, handed_text, irq_text, nmi_text, put_text, shown_event}
 use Rattle.mon_session.specs.Course.{course_of}
 use Rattle.mon_session.specs.declared.desk.Desk.{Desk}
-use Rattle.mon_lines.specs.Lines.{decimal_address}
+use Rattle.mon_lines.specs.Lines.{SeenSlip}
 use Rattle.mon_lines.specs.declared.command.Command.{Command}
 use Rattle.mon_lines.specs.declared.command.Command.TheVariants as line
 use Rattle.mon_dispatch.specs.LookTexts.{look_text}
@@ -20,13 +20,11 @@ use Rattle.mon_steps.specs.BackTexts.{history_text, redo_text, undo_text, undo_t
 use Rattle.mon_stops.specs.Stops.{is_watched}
 use Rattle.mon_stops.specs.declared.watches.Watch.{Watch}
 use Rattle.mon_stops.specs.declared.watches.Watch.TheVariants as watching
-use Rattle.mon_line_parts.specs.declared.topic.Topic.{Topic}
-use Rattle.mon_line_parts.specs.Reading.{SeenWhy}
 use Rattle.mon_texts.specs.Help.{example_text}
 use Rattle.mon_texts.specs.Slips.{slip_text}
 use Rattle.mon_dispatch.specs.declared.lines.Outcome.{Outcome}
 use Rattle.mon_dispatch.specs.declared.lines.Outcome.TheVariants as outcome
-use Rattle.mon_dispatch.specs.declared.wording.TheConstants.{IS_DECIMAL, IS_HEX, LINE_TOO_LONG}
+use Rattle.mon_dispatch.specs.declared.wording.TheConstants.{IS_DECIMAL, IS_HEX}
 
 -- A line at a desk that can be read.
 abbrev pub line_text : Command → Desk → List ℕ
@@ -81,21 +79,14 @@ line_text line.Reset desk = shown_event desk.places.names event.Reset (course_of
 line_text command desk = look_text command desk.session.current desk.places
 
 -- A line that cannot be read: what is wrong, and an example.
-abbrev pub slip_line : Option Topic × SeenWhy → List ℕ
+abbrev pub slip_line : SeenSlip → List ℕ
 slip_line slip = slip_text slip.1 ++ example_text slip.0 ++ codes "\n"
-
--- A line of more than 255 bytes.
-abbrev pub too_long : List ℕ
-too_long = LINE_TOO_LONG.now
 
 -- A number in decimal where an address is wanted.
 abbrev pub if_decimal : Option (List ℕ) → List ℕ
 if_decimal None = []
 if_decimal (Some word)
     = word ++ (IS_DECIMAL.now ++ (word ++ IS_HEX.now))
-
-abbrev pub decimal_text : List ℕ → List ℕ
-decimal_text line = if_decimal (decimal_address line)
 
 -- The bytes that are displayed, once the session has moved.
 abbrev pub moved_text : Outcome → Desk → List ℕ
@@ -105,5 +96,5 @@ moved_text outcome.Over desk = []
 moved_text outcome.Stays desk = []
 
 -- What is written behind what a line says, where the desk is now this.
-abbrev pub behind_text : Outcome → List ℕ → Desk → List ℕ
-behind_text result line desk = moved_text result desk ++ decimal_text line
+abbrev pub behind_text : Outcome → Option (List ℕ) → Desk → List ℕ
+behind_text result decimal desk = moved_text result desk ++ if_decimal decimal

@@ -1,12 +1,10 @@
 -- What each kind of line does. Source: mos65.
-use Rattle.std.specs.Prelude.{ℕ, ◌≡◌, Bool, true, false, if◌then◌else◌, List, [], ◌∷◌, ◌++◌, Option, Some, Result, Ok, Err}
+use Rattle.std.specs.Prelude.{ℕ, ◌≡◌, Bool, true, false, if◌then◌else◌, List, [], ◌∷◌, ◌++◌, Some, Result, Ok, Err}
 use Rattle.model.specs.Breakpoints.{break_set}
 use Rattle.model.specs.declared.event.Event.TheVariants as event
-use Rattle.mon_lines.specs.Lines.{SeenCommand, command_view, line_of}
-use Rattle.mon_line_parts.specs.Reading.{SeenWhy}
+use Rattle.mon_lines.specs.Lines.{SeenCommand, SeenLine, SeenSlip, command_view, seen_line}
 use Rattle.mon_lines.specs.declared.command.Command.{Command}
 use Rattle.mon_lines.specs.declared.command.Command.TheVariants as line
-use Rattle.mon_line_parts.specs.declared.topic.Topic.{Topic}
 use Rattle.mon_stops.specs.Stops.{first_with, new_changes, without, without_first_with, without_register}
 use Rattle.mon_stops.specs.declared.breaks.Break.{Break}
 use Rattle.mon_stops.specs.declared.watches.Watch.{Watch}
@@ -21,7 +19,7 @@ use Rattle.mon_settings.specs.Names.{without_names}
 use Rattle.mon_steps.specs.BackLines.{history_shown, most_remade, remade, undone_by, undone_by_watches}
 use Rattle.mon_steps.specs.RunLines.{KeepsWatches, Stand, ran_by, ran_until, returned, some_steps, stand_of, stepped_over, watches_of}
 use Rattle.mon_session.specs.declared.desk.Desk.{Desk}
-use Rattle.mon_dispatch.specs.LineTexts.{behind_text, line_text, slip_line, too_long}
+use Rattle.mon_dispatch.specs.LineTexts.{behind_text, line_text, slip_line}
 use Rattle.mon_dispatch.specs.declared.lines.Outcome.{Outcome}
 use Rattle.mon_dispatch.specs.declared.lines.Outcome.TheVariants as outcome
 
@@ -101,7 +99,7 @@ Does (line.Redo count) old new
     = Becomes (remade (most_remade count old.events.undone) (course_of old)) old new
 Does (line.History count) old new = Becomes (history_shown count (course_of old)) old new
 Does (line.Break address tests times) old new = (stop : Break) × (stop.address ≡ address)
-    × (stop.tests ≡ tests) × (stop.times ≡ times) × (stop.visits ≡ 0) × SetsBreak stop old new
+    × (stop.tests.items ≡ tests.items) × (stop.times ≡ times) × (stop.visits ≡ 0) × SetsBreak stop old new
 Does (line.Watch stretch kind) old new
     = SetsWatch (watching.Bytes stretch kind) old new
 Does (line.WatchRegister register) old new = SetsWatch (watching.Register register) old new
@@ -145,23 +143,20 @@ is_over outcome.Over = true
 is_over outcome.Moved = false
 is_over outcome.Stays = false
 
--- What a line asks for at a desk, or what is missing in it.
-abbrev pub read_at : Desk → List ℕ → Result SeenCommand (Option Topic × SeenWhy)
-read_at desk line = line_of desk.places.names desk.session.current.regs.pc line
+-- What a line is read as at a desk.
+abbrev pub read_at : Desk → List ℕ → SeenLine
+read_at desk line = seen_line desk.places.names desk.session.current.regs.pc line
 
 -- A line that can be read does what it asks for, and says so. Any other only says what is wrong.
-abbrev pub Follows : Result SeenCommand (Option Topic × SeenWhy) → Outcome → Desk → Desk → Type 0
+abbrev pub Follows : Result SeenCommand SeenSlip → Outcome → Desk → Desk → Type 0
 Follows (Ok seen) result old new = (command : Command) × (command_view command ≡ seen)
     × (result ≡ outcome_of command) × Does command old new × Says (line_text command old) old new
 Follows (Err slip) result old new = (result ≡ outcome.Stays) × ShowsOnly old new
     × Says (slip_line slip) old new
 
--- A line of at most 255 bytes does what it asks for. If the session has moved, the bytes that are
--- displayed are shown then. A longer line asks for nothing.
-abbrev pub Serves : List ℕ → Bool → Desk → Desk → Type 0
+-- A line does what it asks for. If the session has moved, the bytes that are displayed are shown
+-- then.
+abbrev pub Serves : SeenLine → Bool → Desk → Desk → Type 0
 Serves line over old new = (between : Desk) × (result : Outcome)
-    × Follows (read_at old line) result old between × (over ≡ is_over result)
-    × ShowsOnly between new × Says (behind_text result line between) between new
-
-abbrev pub IsTooLong : Bool → Desk → Desk → Type 0
-IsTooLong over old new = (over ≡ false) × ShowsOnly old new × Says too_long old new
+    × Follows line.asked result old between × (over ≡ is_over result)
+    × ShowsOnly between new × Says (behind_text result line.decimal between) between new

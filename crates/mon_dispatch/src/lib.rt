@@ -1,6 +1,6 @@
 //! What each line of `mon` does to a session, and what it writes.
 //!
-//! `lines` reads a line by `mon_lines`, and passes what it asks for to `mon_steps`, `mon_settings`,
+//! `lines` passes what a line asks for, which `mon_lines` has read, to `mon_steps`, `mon_settings`,
 //! or `looks`, which has the lines that change nothing. `finding` looks for bytes in memory;
 //! `forms` has help on instructions, with the flags of `opcode_facts`. What each line does stands
 //! in `specs/Lines.antt`, what it writes in `specs/LineTexts.antt`.
@@ -13,4 +13,3 @@ mod looks;
 pub mod wording;
 
 pub use lines::{Outcome, follow, serve};
-pub use looks::look;

@@ -1,17 +1,17 @@
 //! What a line does.
 
-ghost use Rattle.std.specs.Prelude.{◌≡◌, ◌<◌, ◌≤◌, ◌++◌, IfOk, OnOk, Some, codes, length};
-ghost use Rattle.mon_dispatch.specs.Lines.{Does, Follows, IsTooLong, Says, Serves, is_over};
-ghost use Rattle.mon_dispatch.specs.Lines.{outcome_of, read_at};
-ghost use Rattle.mon_dispatch.specs.LineTexts.{behind_text, decimal_text, if_decimal, line_text};
-ghost use Rattle.mon_dispatch.specs.LineTexts.{moved_text};
-ghost use Rattle.mon_lines.specs.Lines.{line_of};
+ghost use Rattle.std.specs.Prelude.{◌≡◌, ◌≤◌, ◌++◌, IfOk, OnOk, Some, codes, length};
+ghost use Rattle.std.specs.Option.{option_copied};
+ghost use Rattle.mon_dispatch.specs.Lines.{Does, Follows, Says, Serves, is_over, outcome_of};
+ghost use Rattle.mon_dispatch.specs.LineTexts.{behind_text, if_decimal, line_text, moved_text};
+ghost use Rattle.mon_lines.specs.Lines.{asked_view, line_view};
 ghost use Rattle.mon_session.specs.Course.{ShowsOnly};
 
-use crate::look;
-use crate::wording::{IS_DECIMAL, IS_HEX, LINE_TOO_LONG};
+use crate::looks::look;
+use crate::wording::{IS_DECIMAL, IS_HEX};
+use arrayvec::ArrayVec;
 use formatting::push_text;
-use mon_lines::{Command, decimal_address, read_line};
+use mon_lines::{Command, ReadLine, Slip, Test};
 use mon_session::Desk;
 use mon_settings::{
     ask_nmi, assemble, delete, delete_register, display, hand_in, list, list_displays, put, reset,
@@ -60,40 +60,66 @@ fn display_or_list(desk: &mut Desk, place: Option<u16>) -> Result<(), AllocError
     }
 }
 
+/// Returns a copy of tests.
+fn copy_of(tests: &[Test]) -> ArrayVec<Test, 4>
+    requires { length tests.now ≤ 4 }
+    ensures { result.items ≡ tests.now }
+{
+    let mut copy = ArrayVec::new();
+    let _ = copy.try_extend_from_slice(tests);
+    copy
+}
+
+/// Makes a break that was not visited yet.
+fn break_of(address: u16, tests: &ArrayVec<Test, 4>, times: u32) -> Break
+    ensures address { result.address ≡ address }
+    ensures tests { result.tests.items ≡ tests.now.items }
+    ensures times { result.times ≡ times }
+    ensures visits { result.visits ≡ 0 }
+{
+    Break::new(address, copy_of(tests.as_slice()), times)
+}
+
 /// Does what a line asks for, and says so.
-fn obey(desk: &mut Desk, alloc: Global, command: Command<'_>) -> Result<(), AllocError>
-    ensures does { OnOk result (Does command.entry desk.old desk.new) }
-    ensures text { OnOk result (Says (line_text command.entry desk.old) desk.old desk.new) }
+fn obey(desk: &mut Desk, alloc: Global, command: &Command<'_>) -> Result<(), AllocError>
+    ensures does { OnOk result (Does command.now desk.old desk.new) }
+    ensures text { OnOk result (Says (line_text command.now desk.old) desk.old desk.new) }
 {
     match command {
         Command::Nothing => steps(desk, 1),
-        Command::Step(count) => steps(desk, count),
+        Command::Step(count) => steps(desk, *count),
         Command::Over => step_over(desk),
         Command::Out => step_out(desk),
-        Command::Until(address) => run_until(desk, address),
-        Command::Go(count) => run(desk, count),
-        Command::Back(undoing) => undo(desk, undoing),
+        Command::Until(address) => run_until(desk, *address),
+        Command::Go(count) => run(desk, *count),
+        Command::Back(undoing) => undo(desk, *undoing),
         Command::Rback => undo_to_stop(desk),
-        Command::Redo(count) => redo(desk, count),
-        Command::History(count) => show_history(desk, count),
+        Command::Redo(count) => redo(desk, *count),
+        Command::History(count) => show_history(desk, *count),
         Command::Break {
             address,
             tests,
             times,
-        } => set_break(desk, Break::new(address, tests, times)),
-        Command::Watch { stretch, kind } => set_watch(desk, Watch::Bytes { stretch, kind }),
-        Command::WatchRegister(register) => set_watch(desk, Watch::Register(register)),
+        } => set_break(desk, break_of(*address, tests, *times)),
+        Command::Watch { stretch, kind } => {
+            let bytes = Watch::Bytes {
+                stretch: *stretch,
+                kind: *kind,
+            };
+            set_watch(desk, bytes)
+        }
+        Command::WatchRegister(register) => set_watch(desk, Watch::Register(*register)),
         Command::List => list(desk),
-        Command::Delete(address) => delete(desk, address),
-        Command::DeleteRegister(register) => delete_register(desk, register),
-        Command::Display(place) => display_or_list(desk, place),
-        Command::Undisplay(address) => undisplay(desk, address),
-        Command::Set(setting) => set(desk, setting),
-        Command::SetFlag { flag, value } => set_flag(desk, flag, value),
-        Command::Put { address, bytes } => put(desk, address, bytes.as_slice()),
-        Command::Asm { address, text } => assemble(desk, alloc, address, text),
+        Command::Delete(address) => delete(desk, *address),
+        Command::DeleteRegister(register) => delete_register(desk, *register),
+        Command::Display(place) => display_or_list(desk, *place),
+        Command::Undisplay(address) => undisplay(desk, *address),
+        Command::Set(setting) => set(desk, *setting),
+        Command::SetFlag { flag, value } => set_flag(desk, *flag, *value),
+        Command::Put { address, bytes } => put(desk, *address, bytes.as_slice()),
+        Command::Asm { address, text } => assemble(desk, alloc, *address, *text),
         Command::Type(bytes) => hand_in(desk, bytes.as_slice()),
-        Command::Irq(level) => set_irq(desk, level),
+        Command::Irq(level) => set_irq(desk, *level),
         Command::Nmi => ask_nmi(desk),
         Command::Reset => reset(desk),
         command => look(desk, command),
@@ -101,28 +127,30 @@ fn obey(desk: &mut Desk, alloc: Global, command: Command<'_>) -> Result<(), Allo
 }
 
 /// Does what a line asks for, says so, and returns what it has made of the session.
-fn execute(desk: &mut Desk, alloc: Global, command: Command<'_>) -> Result<Outcome, AllocError>
-    ensures does { OnOk result (Does command.entry desk.old desk.new) }
-    ensures text { OnOk result (Says (line_text command.entry desk.old) desk.old desk.new) }
-    ensures outcome { IfOk result (λ outcome. outcome ≡ outcome_of command.entry) }
+fn execute(desk: &mut Desk, alloc: Global, command: &Command<'_>) -> Result<Outcome, AllocError>
+    ensures does { OnOk result (Does command.now desk.old desk.new) }
+    ensures text { OnOk result (Says (line_text command.now desk.old) desk.old desk.new) }
+    ensures outcome { IfOk result (λ outcome. outcome ≡ outcome_of command.now) }
 {
-    let outcome = outcome_of(&command);
     obey(desk, alloc, command)?;
-    Ok(outcome)
+    Ok(outcome_of(command))
 }
 
-/// Does what a line asks for, or says what is wrong in it. `PC` in the line is `pc`. Returns what
-/// the line has made of the session.
+/// Does what a line asks for, or says what is missing or wrong in it. Returns what the line has
+/// made of the session.
 ///
 /// Errors: `AllocError` if an allocation fails.
-pub fn follow(desk: &mut Desk, alloc: Global, pc: u16, line: &[u8]) -> Result<Outcome, AllocError>
-    ensures { IfOk result (λ outcome. Follows (line_of desk.old.places.names pc line.now) outcome
-        desk.old desk.new) }
+pub fn follow(
+    desk: &mut Desk,
+    alloc: Global,
+    asked: &Result<Command<'_>, Slip<'_>>,
+) -> Result<Outcome, AllocError>
+    ensures { IfOk result (λ outcome. Follows (asked_view asked.now) outcome desk.old desk.new) }
 {
-    match read_line(line, &desk.places, pc) {
+    match asked {
         Ok(command) => execute(desk, alloc, command),
         Err(slip) => {
-            push_slip(&mut desk.text, slip)?;
+            push_slip(&mut desk.text, *slip)?;
             Ok(Outcome::Stays)
         }
     }
@@ -154,11 +182,12 @@ fn push_decimal(text: &mut Vec<u8>, word: &[u8]) -> Result<(), AllocError>
 }
 
 /// Says so if a line has a decimal number where an address is wanted.
-fn tell_decimal(desk: &mut Desk, line: &[u8]) -> Result<(), AllocError>
+fn tell_decimal(desk: &mut Desk, decimal: Option<&[u8]>) -> Result<(), AllocError>
     ensures shows { ShowsOnly desk.old desk.new }
-    ensures text { OnOk result (Says (decimal_text line.now) desk.old desk.new) }
+    ensures text { OnOk result
+        (Says (if_decimal (option_copied decimal.entry)) desk.old desk.new) }
 {
-    match decimal_address(line) {
+    match decimal {
         Some(word) => push_decimal(&mut desk.text, word),
         None => Ok(()),
     }
@@ -177,13 +206,13 @@ fn tell_moved(desk: &mut Desk, outcome: Outcome) -> Result<(), AllocError>
 
 /// Shows the bytes that are displayed, if the session has moved, and says so if the line has a
 /// decimal number where an address is wanted.
-fn tell_behind(desk: &mut Desk, outcome: Outcome, line: &[u8]) -> Result<(), AllocError>
+fn tell_behind(desk: &mut Desk, outcome: Outcome, decimal: Option<&[u8]>) -> Result<(), AllocError>
     ensures shows { ShowsOnly desk.old desk.new }
     ensures text { OnOk result
-        (Says (behind_text outcome line.now desk.old) desk.old desk.new) }
+        (Says (behind_text outcome (option_copied decimal.entry) desk.old) desk.old desk.new) }
 {
     tell_moved(desk, outcome)?;
-    tell_decimal(desk, line)
+    tell_decimal(desk, decimal)
 }
 
 /// Returns whether a session is to end.
@@ -193,22 +222,14 @@ fn is_over(outcome: Outcome) -> bool
     matches!(outcome, Outcome::Over)
 }
 
-/// Does what a line asks for, or says what is wrong in it. Returns whether the session is to end. A
-/// line of more than 255 bytes asks for nothing. What is said is appended to the desk's text.
+/// Does what a line asks for, or says what is missing or wrong in it. Returns whether the session
+/// is to end. What is said is appended to the desk's text.
 ///
 /// Errors: `AllocError` if an allocation fails.
-pub fn serve(desk: &mut Desk, alloc: Global, line: &[u8]) -> Result<bool, AllocError>
-    ensures served { length line.now ≤ 255 → IfOk result
-        (λ over. Serves line.now over desk.old desk.new) }
-    ensures long { 255 < length line.now → IfOk result
-        (λ over. IsTooLong over desk.old desk.new) }
+pub fn serve(desk: &mut Desk, alloc: Global, line: &ReadLine<'_>) -> Result<bool, AllocError>
+    ensures { IfOk result (λ over. Serves (line_view line.now) over desk.old desk.new) }
 {
-    if line.len() > 255 {
-        desk.say(LINE_TOO_LONG)?;
-        return Ok(false);
-    }
-    let pc = desk.session.regs().pc;
-    let outcome = follow(desk, alloc, pc, line)?;
-    tell_behind(desk, outcome, line)?;
+    let outcome = follow(desk, alloc, &line.asked)?;
+    tell_behind(desk, outcome, line.decimal)?;
     Ok(is_over(outcome))
 }

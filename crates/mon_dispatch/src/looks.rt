@@ -46,22 +46,24 @@ fn show_instructions(desk: &mut Desk, address: u16, count: u32) -> Result<(), Al
 /// Shows what a line asks for that changes nothing. Other lines show nothing here.
 ///
 /// Errors: `AllocError` if an allocation fails.
-pub fn look(desk: &mut Desk, command: Command<'_>) -> Result<(), AllocError>
+pub fn look(desk: &mut Desk, command: &Command<'_>) -> Result<(), AllocError>
     ensures shows { ShowsOnly desk.old desk.new }
     ensures text { OnOk result (desk.new.text.items ≡ desk.old.text.items
-        ++ look_text command.entry desk.old.session.current desk.old.places) }
+        ++ look_text command.now desk.old.session.current desk.old.places) }
 {
     match command {
         Command::Where => push_calls(&mut desk.text, &desk.session, &desk.places),
         Command::Regs => push_state(&mut desk.text, &desk.session, &desk.places, None),
         Command::Flags => push_flags(&mut desk.text, &desk.session),
-        Command::Mem(stretch) => push_memory(&mut desk.text, &desk.session, stretch),
-        Command::Dis { address, count } => show_instructions(desk, address, count),
+        Command::Mem(stretch) => push_memory(&mut desk.text, &desk.session, *stretch),
+        Command::Dis { address, count } => show_instructions(desk, *address, *count),
         Command::Find(bytes) => find(desk, bytes.as_slice()),
         Command::Stack => push_stack(&mut desk.text, &desk.session, &desk.places),
         Command::Screen => push_screen(&mut desk.text, &desk.session),
-        Command::Help(topic) => push_help(&mut desk.text, topic),
-        Command::Forms(mnemonic) => { push_forms(&mut desk.text, desk.session.profile(), mnemonic) }
+        Command::Help(topic) => push_help(&mut desk.text, *topic),
+        Command::Forms(mnemonic) => {
+            push_forms(&mut desk.text, desk.session.profile(), *mnemonic)
+        }
         _ => Ok(()),
     }
 }

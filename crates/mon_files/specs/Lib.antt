@@ -1,4 +1,3 @@
-pub mod Asked
 pub mod First
 pub mod Held
 pub mod Pages

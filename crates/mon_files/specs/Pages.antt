@@ -2,7 +2,6 @@
 use Rattle.std.specs.Prelude.{◌≡◌, ◌≤◌, ℕ, nat_lt, if◌then◌else◌, List, length}
 use Rattle.model.specs.Session.{Session}
 use Rattle.mon_dispatch.specs.Lines.{Says}
-use Rattle.mon_files.specs.Asked.{SeenPage, to, slip}
 use Rattle.mon_files.specs.First.{given_in}
 use Rattle.mon_files.specs.Held.{oldest, shown_again}
 use Rattle.mon_files.specs.declared.wording.TheConstants.{HERE}
@@ -33,14 +32,13 @@ pub record IsPageOf (room : ℕ) (typed : List ℕ) (before after : Session) (te
     pub safe : AreSafe texts bytes HERE.now
     pub held : AreHeld room typed before bytes after
 
--- What becomes of a session by a line about a page.
-abbrev pub after_page : SeenPage → Course → Course
-after_page (to file) course = if nat_lt 0 (length course.0.earlier) then shown_again course
-    else course
-after_page (slip why) course = course
+-- What becomes of a session whose page is written: if it holds an event, it goes back and comes
+-- again.
+abbrev pub after_page : Course → Course
+after_page course = if nat_lt 0 (length course.0.earlier) then shown_again course else course
 
--- A line about a page says something. Where the session has room for as many events as are said, it
--- goes back over those that it holds, and comes again by the same.
-abbrev pub ShowsPage : SeenPage → ℕ → Desk → Desk → Type 0
-ShowsPage asked room old new = KeepsStops old new × ((said : List ℕ) × Says said old new)
-    × (room ≤ old.session.history → course_of new ≡ after_page asked (course_of old))
+-- Something is said of the page. Where the session has room for as many events as are said, it goes
+-- back over those that it holds, and comes again by the same.
+abbrev pub ShowsPage : ℕ → Desk → Desk → Type 0
+ShowsPage room old new = KeepsStops old new × ((said : List ℕ) × Says said old new)
+    × (room ≤ old.session.history → course_of new ≡ after_page (course_of old))

@@ -5,9 +5,8 @@ ghost use Rattle.std.specs.Prelude.{◌≡◌, ◌-◌, ◌++◌, OnOk, take};
 use crate::page::Program;
 use accesses::Written;
 use arguments_play::MonWords;
-use arrayvec::ArrayVec;
 use assembler::Assembly;
-use mon_lines::{Command, read_line};
+use mon_lines::{Command, Slip};
 use mon_session::Desk;
 use std::alloc::{AllocError, Global};
 use std::marker::Model;
@@ -44,28 +43,12 @@ fn put_typed(typed: &mut Vec<u8>, bytes: &[u8], before: u32, after: u32) -> Resu
     typed.extend_from_slice(&bytes[..count.min(bytes.len())])
 }
 
-/// Returns the bytes that a line hands in at a desk, if it hands in bytes.
-fn typed_by(desk: &Desk, line: &[u8]) -> Option<ArrayVec<u8, 256>> {
-    if line.len() > 255 {
-        return None;
-    }
-    match read_line(line, &desk.places, desk.session.regs().pc) {
-        Ok(Command::Type(bytes)) => Some(bytes),
-        _ => None,
-    }
-}
-
-/// Keeps the bytes that a line has handed in at a desk, before which there was room for so many. An
-/// event that was undone, and is made again, finds its byte there.
-fn keep_bytes(typed: &mut Vec<u8>, desk: &Desk, line: &[u8], room: u32) -> Result<(), AllocError> {
-    match typed_by(desk, line) {
-        Some(bytes) => {
-            let before = INPUT_SIZE.saturating_sub(room);
-            let after = INPUT_SIZE.saturating_sub(desk.session.input_room());
-            put_typed(typed, bytes.as_slice(), before, after)
-        }
-        None => Ok(()),
-    }
+/// Keeps bytes that were handed in at a desk, before which there was room for so many. An event that
+/// was undone, and is made again, finds its byte there.
+fn keep_bytes(typed: &mut Vec<u8>, desk: &Desk, bytes: &[u8], room: u32) -> Result<(), AllocError> {
+    let before = INPUT_SIZE.saturating_sub(room);
+    let after = INPUT_SIZE.saturating_sub(desk.session.input_room());
+    put_typed(typed, bytes, before, after)
 }
 
 impl Known {
@@ -99,10 +82,18 @@ impl Known {
     /// bytes of it. A page shows it.
     ///
     /// Errors: `AllocError` if an allocation fails.
-    pub fn keep_typed(&mut self, desk: &Desk, line: &[u8], room: u32) -> Result<(), AllocError>
+    pub fn keep_typed(
+        &mut self,
+        desk: &Desk,
+        asked: &Result<Command<'_>, Slip<'_>>,
+        room: u32,
+    ) -> Result<(), AllocError>
         ensures { self.new ≡ self.old }
     {
-        keep_bytes(&mut self.typed, desk, line, room)
+        match asked {
+            Ok(Command::Type(bytes)) => keep_bytes(&mut self.typed, desk, bytes.as_slice(), room),
+            _ => Ok(()),
+        }
     }
 
     /// Returns what a page shows of the program of a session that was begun by some words.

@@ -2,12 +2,10 @@
 //!
 //! `page` writes what a session holds as one page for a browser: `held` goes back over the events
 //! that the session holds and makes them again, and records each as `page_data` does. `first` says
-//! of the oldest state what a session does not tell, and `known` what else the page shows. `asked`
-//! reads the line. `saving` writes the tape of `save`. `writing` writes a file unless the session
-//! has read it.
+//! of the oldest state what a session does not tell, and `known` what else the page shows. `saving`
+//! writes the tape of `save`. `writing` writes a file unless the session has read it.
 #![tactic(auto)]
 
-mod asked;
 mod first;
 mod held;
 mod known;
@@ -16,7 +14,6 @@ mod saving;
 pub mod wording;
 mod writing;
 
-pub use asked::{PageLine, page_line};
 pub use known::Known;
 pub use page::{Program, show_page};
 pub use saving::save_tape;

@@ -2,13 +2,10 @@
 
 ghost use Rattle.std.specs.Prelude.{◌≡◌, ◌<◌, ◌≤◌, ◌++◌, ℕ, List, IfErr, IfOk, IfSome, OnOk, length};
 ghost use Rattle.mon_dispatch.specs.Lines.{Says};
-ghost use Rattle.mon_files.specs.Asked.{page_view, slip, to};
 ghost use Rattle.mon_files.specs.Held.{shown_again};
 ghost use Rattle.mon_files.specs.Pages.{IsPageOf, ShowsPage};
-ghost use Rattle.mon_line_parts.specs.Reading.{why_view};
 ghost use Rattle.mon_session.specs.Course.{KeepsStops, ShowsOnly, course_of};
 
-use crate::asked::PageLine;
 use crate::held::record_held;
 use crate::wording::{BYTE, BYTES, EVENT, EVENTS, HERE, NONE_HELD, UNKNOWN_FIRST};
 use crate::writing::{Outcome, of_memory, say_failure, say_of, say_own, write_new};
@@ -16,10 +13,7 @@ use accesses::Written;
 use arguments::Refusal;
 use arguments_play::MonWords;
 use assembler::Assembly;
-use mon_line_parts::Why;
-use mon_lines::Slip;
 use mon_session::Desk;
-use mon_texts::push_slip;
 use page_facts::{Program as Facts, facts_of, source_of, viewer};
 use page_writer::{Texts, page_of};
 use std::alloc::{AllocError, Global};
@@ -136,36 +130,9 @@ fn write_page<H: Files + AllocGlobal>(
     of_memory(say_outcome(desk, file, outcome, events, page.len()))
 }
 
-/// Writes the page of what a session holds to a file, if it holds an event.
-fn show_held<H: Files + AllocGlobal>(
-    rt: &H,
-    desk: &mut Desk,
-    program: &Program<'_>,
-    file: &[u8],
-) -> Result<(), Refusal>
-    ensures shown { OnOk result (ShowsPage (to file.now) program.now.words.now.history
-        desk.old desk.new) }
-    ensures refused { IfErr result (λ fault. fault ≡ Refusal.OutOfMemory) }
-{
-    let held = desk.session.held();
-    if held == 0 {
-        return of_memory(say_of(desk, file, NONE_HELD));
-    }
-    let page = of_memory(page_of_held(rt.alloc(), desk, program))?;
-    write_page(rt, desk, program.words, file, &page, held)
-}
-
-/// Says what is missing or left over in a line.
-fn say_slip(desk: &mut Desk, why: Why<'_>) -> Result<(), AllocError>
-    ensures shows { ShowsOnly desk.old desk.new }
-    ensures said { OnOk result ((said : List ℕ) × Says said desk.old desk.new) }
-{
-    push_slip(&mut desk.text, Slip { topic: None, why })
-}
-
-/// Does what a line about a page asks for: writes what the session holds to a file, as one page for
-/// a browser, and says how many events and bytes it has. A file that the session has read is not
-/// overwritten. The events that are held are undone and made again.
+/// Writes what the session holds to a file, as one page for a browser, and says how many events and
+/// bytes it has, or that it holds none. A file that the session has read is not overwritten. The
+/// events that are held are undone and made again.
 ///
 /// # Errors
 ///
@@ -174,14 +141,15 @@ pub fn show_page<H: Files + AllocGlobal>(
     rt: &H,
     desk: &mut Desk,
     program: &Program<'_>,
-    asked: PageLine<'_>,
+    file: &[u8],
 ) -> Result<(), Refusal>
-    ensures shown { OnOk result (ShowsPage (page_view asked.entry) program.now.words.now.history
-        desk.old desk.new) }
+    ensures shown { OnOk result (ShowsPage program.now.words.now.history desk.old desk.new) }
     ensures refused { IfErr result (λ fault. fault ≡ Refusal.OutOfMemory) }
 {
-    match asked {
-        PageLine::To(file) => show_held(rt, desk, program, file),
-        PageLine::Slip(why) => of_memory(say_slip(desk, why)),
+    let held = desk.session.held();
+    if held == 0 {
+        return of_memory(say_of(desk, file, NONE_HELD));
     }
+    let page = of_memory(page_of_held(rt.alloc(), desk, program))?;
+    write_page(rt, desk, program.words, file, &page, held)
 }

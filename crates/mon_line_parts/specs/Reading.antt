@@ -7,11 +7,11 @@ use Rattle.model.specs.Digits.{hex_value, number_from}
 use Rattle.model.specs.Token.{begins, is_blank, is_word_byte}
 use Rattle.mon_line_parts.specs.declared.slip.Lack.{Lack}
 use Rattle.mon_line_parts.specs.declared.slip.Why.{Why}
-use Rattle.mon_line_parts.specs.declared.slip.Why.TheVariants.{Unknown, Several, Missing, Unreadable, Behind, NoName, Range, Many}
+use Rattle.mon_line_parts.specs.declared.slip.Why.TheVariants.{Unknown, Several, Missing, Unreadable, Behind, NoName, Range, Many, Long}
 
 -- Why a line asks for nothing that can be done: no word or more than one word begins so; something
 -- is missing; a piece cannot be read there, is left over, or is no name; a number is not between two
--- others; there are more than fit.
+-- others; there are more than fit; the line is too long.
 pub data SeenWhy : Type 0 where
   unknown : List ℕ → SeenWhy
   several : List ℕ → SeenWhy
@@ -21,6 +21,7 @@ pub data SeenWhy : Type 0 where
   no_name : List ℕ → SeenWhy
   range : ℕ → ℕ → SeenWhy
   many : SeenWhy
+  long : SeenWhy
 
 -- The same without where its pieces lie in memory.
 abbrev pub why_view : Why → SeenWhy
@@ -32,6 +33,7 @@ why_view (Behind piece) = behind piece.now
 why_view (NoName word) = no_name word.now
 why_view (Range least most) = range least most
 why_view Many = many
+why_view Long = long
 
 -- What was read and the text after it, or why it is nothing.
 abbrev pub Reads : Type 0 → Type 0

@@ -49,4 +49,6 @@ pub enum Why<'a> {
     Range { least: u32, most: u32 },
     /// There are more than fit.
     Many,
+    /// The line has more than 255 bytes.
+    Long,
 }

@@ -1,11 +1,12 @@
 -- What a line asks for. Source: mos65.
-use Rattle.std.specs.Prelude.{ℕ, ◌==◌, ◌&&◌, ◌||◌, is_some, Bool, true, false, codes, if◌then◌else◌, List, [], length, Option, Some, None, unwrap_or, Result, Ok, Err}
+use Rattle.std.specs.Prelude.{ℕ, ◌==◌, ◌&&◌, ◌||◌, nat_lt, is_some, Bool, true, false, codes, if◌then◌else◌, List, [], length, Option, Some, None, unwrap_or, Result, Ok, Err}
+use Rattle.std.specs.Option.{option_copied}
 use Rattle.std.specs.Str.{byte}
 use Rattle.model.specs.Mnemonics.{mnemonic_named}
 use Rattle.model.specs.declared.event.Setting.{Setting}
 use Rattle.model.specs.declared.instruction.Mnemonic.{Mnemonic}
 use Rattle.model.specs.declared.instruction.Profile.TheVariants.{C}
-use Rattle.mon_line_parts.specs.Reading.{Reads, SeenWhy, unknown, several, missing, behind, after, after_word, and_then, file_of, is_empty, is_next, is_word, number_in, past, skip, word_of}
+use Rattle.mon_line_parts.specs.Reading.{Reads, SeenWhy, unknown, several, missing, behind, long, after, after_word, and_then, file_of, is_empty, is_next, is_word, number_in, past, skip, why_view, word_of}
 use Rattle.mon_line_parts.specs.Values.{Named, bit_of, bytes_of, count_of}
 use Rattle.mon_lines.specs.Parts.{address_at, ends_of, flag_of, kind_of, level_of, setting_of, shown_of, stretch_of, tests_of, times_of, undoing_of, watched_register}
 use Rattle.mon_line_parts.specs.Topics.{topic_of}
@@ -13,6 +14,8 @@ use Rattle.mon_lines.specs.declared.command.Command.{Command}
 use Rattle.mon_lines.specs.declared.command.Command.TheVariants as command
 use Rattle.mon_lines.specs.declared.command.Flag.{Flag}
 use Rattle.mon_lines.specs.declared.command.Register.{Register}
+use Rattle.mon_lines.specs.declared.line.ReadLine.{ReadLine}
+use Rattle.mon_lines.specs.declared.slip.Slip.{Slip}
 use Rattle.mon_lines.specs.declared.command.Stretch.{Stretch}
 use Rattle.mon_lines.specs.declared.command.Test.{Test}
 use Rattle.mon_lines.specs.declared.command.Undoing.{Undoing}
@@ -60,6 +63,7 @@ pub data SeenCommand : Type 0 where
   reset : SeenCommand
   save : List ℕ → Option Stretch → SeenCommand
   reload : SeenCommand
+  page : List ℕ → SeenCommand
   help : Option Topic → SeenCommand
   forms : Mnemonic → SeenCommand
   quit : SeenCommand
@@ -102,6 +106,7 @@ command_view command.Nmi = nmi
 command_view command.Reset = reset
 command_view (command.Save file stretch) = save file.now stretch
 command_view command.Reload = reload
+command_view (command.Page file) = page file.now
 command_view (command.Help about) = help about
 command_view (command.Forms mnemonic) = forms mnemonic
 command_view command.Quit = quit
@@ -202,6 +207,11 @@ abbrev pub saved_from : List Named → ℕ → List ℕ → Reads SeenCommand
 saved_from names pc text = if is_empty (file_of text).0 then Err (missing lacking.File)
     else saved_in names pc (file_of text).0 (file_of text).1
 
+-- The name of a file.
+abbrev pub paged_from : List ℕ → Reads SeenCommand
+paged_from text = if is_empty (file_of text).0 then Err (missing lacking.File)
+    else Ok (page (file_of text).0, (file_of text).1)
+
 -- What `help` asks for by a word. What stands behind the word does not count.
 abbrev pub helped_by : List ℕ → Option Topic × Bool → Reads SeenCommand
 helped_by word (Some about, many) = Ok (help (Some about), [])
@@ -226,9 +236,9 @@ putting names pc text topic.«Type» =
     and_then (bytes_of names text) (λ bytes rest. Ok (type_in bytes, rest))
 putting names pc text topic.Save = saved_from names pc text
 putting names pc text topic.Reload = Ok (reload, text)
+putting names pc text topic.Page = paged_from text
 putting names pc text topic.Help = helped_from text
 putting names pc text topic.Trace = Ok (help (Some topic.Trace), text)
-putting names pc text topic.Page = Ok (help (Some topic.Page), text)
 putting names pc text _ = Ok (quit, text)
 
 -- What follows a word that shows something, or sets or clears a stop.
@@ -277,9 +287,15 @@ moving names pc text other = seeing names pc text other
 abbrev pub SeenSlip : Type 0
 SeenSlip = Option Topic × SeenWhy
 
+-- A slip of `page` is shown without what the line is about.
+abbrev pub slip_about : Topic → Option Topic
+slip_about topic.Page = None
+slip_about about = Some about
+
 abbrev pub whole_line : Topic → Reads SeenCommand → Result SeenCommand SeenSlip
-whole_line about (Ok read) = if is_empty read.1 then Ok read.0 else Err (Some about, behind read.1)
-whole_line about (Err why) = Err (Some about, why)
+whole_line about (Ok read) = if is_empty read.1 then Ok read.0
+    else Err (slip_about about, behind read.1)
+whole_line about (Err why) = Err (slip_about about, why)
 
 -- The rest of a line behind its first word, by the topic of the word.
 abbrev pub line_by : List Named → ℕ → List ℕ → List ℕ → List ℕ
@@ -302,8 +318,13 @@ line_from names pc line text =
     then line_by names pc line (codes "?") (after 1 text) (topic_of (codes "?"))
     else line_by names pc line (word_of text) (after_word text) (topic_of (word_of text))
 
+-- A line of more than 255 bytes asks for nothing.
+abbrev pub is_long : List ℕ → Bool
+is_long line = nat_lt 255 (length line)
+
 unfoldable pub line_of : List Named → ℕ → List ℕ → Result SeenCommand SeenSlip
-line_of names pc line = line_from names pc line (skip line)
+line_of names pc line = if is_long line then Err (None, long)
+    else line_from names pc line (skip line)
 
 -- ---- an address that may be meant as a hex number
 
@@ -331,4 +352,30 @@ decimal_behind text word = if has_address (topic_of (word_of text)).0 && is_shor
 
 -- The decimal digits that stand where a line has an address, if there are two or three.
 unfoldable pub decimal_address : List ℕ → Option (List ℕ)
-decimal_address line = decimal_behind (skip line) (word_of (after_word (skip line)))
+decimal_address line = if is_long line then None
+    else decimal_behind (skip line) (word_of (after_word (skip line)))
+
+-- ---- a line that was read
+
+-- What it asks for, or what is missing or wrong in it; and the decimal digits that stand where it
+-- has an address.
+pub record SeenLine : Type 0 where
+  pub asked : Result SeenCommand SeenSlip
+  pub decimal : Option (List ℕ)
+
+abbrev pub seen_line : List Named → ℕ → List ℕ → SeenLine
+seen_line names pc line = record {
+  asked = line_of names pc line;
+  decimal = decimal_address line;
+}
+
+-- The same without where its parts lie in memory.
+abbrev pub asked_view : Result Command Slip → Result SeenCommand SeenSlip
+asked_view (Ok command) = Ok (command_view command)
+asked_view (Err slip) = Err (slip.topic, why_view slip.why)
+
+abbrev pub line_view : ReadLine → SeenLine
+line_view line = record {
+  asked = asked_view line.asked;
+  decimal = option_copied line.decimal;
+}

@@ -158,6 +158,8 @@ pub enum Command<'a> {
     },
     /// The file of the session is loaded again.
     Reload,
+    /// The page of what is held is written to a file.
+    Page(&'a [u8]),
     Help(Option<Topic>),
     /// The forms of an instruction.
     Forms(Mnemonic),

@@ -7,7 +7,8 @@ ghost use Rattle.mon_lines.specs.Parts.{level_of, setting_by, setting_of, undoin
 ghost use Rattle.mon_lines.specs.Lines.{assembled_from, break_from, bytes_watched_from};
 ghost use Rattle.mon_lines.specs.Lines.{command_view, decimal_address, deleted_from, displayed_from};
 ghost use Rattle.mon_lines.specs.Lines.{going_from, helped_from, helped_on, instructions_from};
-ghost use Rattle.mon_lines.specs.Lines.{is_back, line_of, set_from, undisplayed_from};
+ghost use Rattle.mon_lines.specs.Lines.{is_back, is_long, line_of, paged_from, set_from};
+ghost use Rattle.mon_lines.specs.Lines.{slip_about, undisplayed_from};
 ghost use Rattle.mon_lines.specs.Lines.{has_address, is_short_decimal, line_by, put_from, putting};
 ghost use Rattle.mon_lines.specs.Lines.{moving, saved_from, saved_in, seeing, until_from};
 ghost use Rattle.mon_lines.specs.Lines.{watched_from, whole_line};
@@ -300,6 +301,18 @@ fn saved<'a>(names: &Names, pc: u16, text: &'a [u8]) -> Result<(Command<'a>, &'a
     saved_in(names, pc, file, rest)
 }
 
+/// Reads `FILE`.
+fn paged(text: &[u8]) -> Result<(Command<'_>, &[u8]), Why<'_>>
+    ensures ok { IfOk result (λ p. paged_from text.now ≡ Ok (command_view p.0, p.1.now)) }
+    ensures err { IfErr result (λ why. paged_from text.now ≡ Err (why_view why)) }
+{
+    let (file, rest) = file_of(text);
+    if is_empty(file) {
+        return Err(Why::Missing(Lack::File));
+    }
+    Ok((Command::Page(file), rest))
+}
+
 /// Reads the word behind `help`: a mnemonic if it is one. `rest` is what is left, which is nothing.
 fn helped_on<'a>(
     word: &'a [u8],
@@ -434,9 +447,17 @@ fn putting<'a>(
         Topic::Save => saved(names, pc, text),
         Topic::Reload => Ok((Command::Reload, text)),
         Topic::Help => helped(text),
-        Topic::Trace | Topic::Page => Ok((Command::Help(Some(topic)), text)),
+        Topic::Page => paged(text),
+        Topic::Trace => Ok((Command::Help(Some(topic)), text)),
         _ => Ok((Command::Quit, text)),
     }
+}
+
+/// Whether a line is too long to ask for something.
+fn is_long(line: &[u8]) -> bool
+    ensures { result ≡ is_long line.now }
+{
+    line.len() > 255
 }
 
 /// Whether a line about a topic has an address behind its first word.
@@ -464,6 +485,9 @@ fn is_short_decimal(word: &[u8]) -> bool
 pub fn decimal_address<'a>(line: &'a [u8]) -> Option<&'a [u8]>
     ensures { option_copied result ≡ decimal_address line.now }
 {
+    if is_long(line) {
+        return None;
+    }
     let text = skip(line);
     let (topic, _) = topic_of(word_of(text));
     let word = word_of(after_word(text));
@@ -471,6 +495,16 @@ pub fn decimal_address<'a>(line: &'a [u8]) -> Option<&'a [u8]>
         Some(word)
     } else {
         None
+    }
+}
+
+/// Returns what a slip is about in a line about a topic: of `page` no example is shown.
+fn slip_about(topic: Topic) -> Option<Topic>
+    ensures { result ≡ slip_about topic }
+{
+    match topic {
+        Topic::Page => None,
+        _ => Some(topic),
     }
 }
 
@@ -492,13 +526,13 @@ fn line_about<'a>(
                 Ok(command)
             } else {
                 Err(Slip {
-                    topic: Some(topic),
+                    topic: slip_about(topic),
                     why: Why::Behind(rest),
                 })
             }
         }
         Err(why) => Err(Slip {
-            topic: Some(topic),
+            topic: slip_about(topic),
             why,
         }),
     }
@@ -537,8 +571,8 @@ fn is_back(text: &[u8]) -> bool
     is_word(b"b", text) && is_empty(after_word(text))
 }
 
-/// Returns what a line asks for, or what is missing in it. Names are those of the places, `PC` is
-/// the program counter.
+/// Returns what a line asks for, or what is missing or wrong in it. Names are those of the places,
+/// `PC` is the program counter.
 #[tactic(auto, unfolding(crate::specs::Lines::line_of))]
 pub fn read_line<'a>(line: &'a [u8], places: &Places, pc: u16) -> Result<Command<'a>, Slip<'a>>
     ensures ok { IfOk result (λ command. line_of places.now.names pc line.now
@@ -546,6 +580,12 @@ pub fn read_line<'a>(line: &'a [u8], places: &Places, pc: u16) -> Result<Command
     ensures err { IfErr result (λ slip. line_of places.now.names pc line.now
         ≡ Err (slip.topic, why_view slip.why)) }
 {
+    if is_long(line) {
+        return Err(Slip {
+            topic: None,
+            why: Why::Long,
+        });
+    }
     let text = skip(line);
     let names = places.names();
     if is_empty(text) {

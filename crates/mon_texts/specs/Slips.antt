@@ -3,11 +3,11 @@ use Rattle.std.specs.Prelude.{ℕ, if◌then◌else◌, List, [], ◌∷◌, ◌
 use Rattle.std.specs.List.{flat_map}
 use Rattle.std.specs.Str.{byte}
 use Rattle.model.specs.Token.{is_printable}
-use Rattle.mon_line_parts.specs.Reading.{SeenWhy, unknown, several, missing, unreadable, behind, no_name, range, many}
+use Rattle.mon_line_parts.specs.Reading.{SeenWhy, unknown, several, missing, unreadable, behind, no_name, range, many, long}
 use Rattle.mon_line_parts.specs.Topics.{TopicWord, begins_with, words}
 use Rattle.mon_line_parts.specs.declared.slip.Lack.{Lack}
 use Rattle.mon_line_parts.specs.declared.slip.Lack.TheVariants as lacking
-use Rattle.mon_texts.specs.declared.wording.TheConstants.{ADDEND, AND, AN_ADDRESS, AN_INSTRUCTION, A_FILE, A_NUMBER, A_REGISTER, A_VALUE, BINARY_DIGITS, COMPARISON, HEX_DIGITS, LAST_ADDRESS, LEFT_OVER, LEVEL, MISSING, NOT_BETWEEN, NO_NAME, NO_WORD, POINTS, QUOTED_TEXT, SEVERAL_WORDS, SUBTRAHEND, TIMES_NUMBER, TOO_MANY, UNREADABLE}
+use Rattle.mon_texts.specs.declared.wording.TheConstants.{ADDEND, AND, AN_ADDRESS, AN_INSTRUCTION, A_FILE, A_NUMBER, A_REGISTER, A_VALUE, BINARY_DIGITS, COMPARISON, HEX_DIGITS, LAST_ADDRESS, LEFT_OVER, LEVEL, LINE_TOO_LONG, MISSING, NOT_BETWEEN, NO_NAME, NO_WORD, POINTS, QUOTED_TEXT, SEVERAL_WORDS, SUBTRAHEND, TIMES_NUMBER, TOO_MANY, UNREADABLE}
 
 -- A byte between quotes: `?` is put for one that is no character.
 abbrev pub quoted_byte : ℕ → List ℕ
@@ -62,3 +62,4 @@ slip_text (no_name word)
     = quoted_and word NO_NAME.now
 slip_text (range least most) = range_text least most
 slip_text many = TOO_MANY.now
+slip_text long = LINE_TOO_LONG.now

@@ -12,8 +12,9 @@ ghost use Rattle.mon_texts.specs.Slips.{slip_text};
 use crate::help::push_example;
 use crate::wording::{
     A_FILE, A_NUMBER, A_REGISTER, A_VALUE, ADDEND, AN_ADDRESS, AN_INSTRUCTION, AND, BINARY_DIGITS,
-    COMPARISON, HEX_DIGITS, LAST_ADDRESS, LEFT_OVER, LEVEL, MISSING, NO_NAME, NO_WORD, NOT_BETWEEN,
-    POINTS, QUOTED_TEXT, SEVERAL_WORDS, SUBTRAHEND, TIMES_NUMBER, TOO_MANY, UNREADABLE,
+    COMPARISON, HEX_DIGITS, LAST_ADDRESS, LEFT_OVER, LEVEL, LINE_TOO_LONG, MISSING, NO_NAME,
+    NO_WORD, NOT_BETWEEN, POINTS, QUOTED_TEXT, SEVERAL_WORDS, SUBTRAHEND, TIMES_NUMBER, TOO_MANY,
+    UNREADABLE,
 };
 use formatting::{push_count, push_text};
 use mon_line_parts::{Lack, Topic, Why, all_words, begins_with};
@@ -151,6 +152,7 @@ fn push_why(text: &mut Vec<u8>, why: Why<'_>) -> Result<(), AllocError>
         Why::NoName(word) => push_quoted_and(text, word, NO_NAME),
         Why::Range { least, most } => push_range(text, least, most),
         Why::Many => push_text(text, TOO_MANY),
+        Why::Long => push_text(text, LINE_TOO_LONG),
     }
 }
 

@@ -59,6 +59,8 @@ pub const NOT_BETWEEN: &str = "the number is not between ";
 
 pub const TOO_MANY: &str = "there are too many";
 
+pub const LINE_TOO_LONG: &str = "a line has at most 255 bytes";
+
 // Calls, memory, the stack and the screen.
 pub const CALLED_FROM: &str = "called from ";
 

@@ -1,29 +1,27 @@
-use Rattle.std.proofs.Common.{◌≡◌, ◌∙◌, false, List, ℕ, Option, None, Some, IfOk, ap, option_map, refl, subst, sym}
-use Rattle.mon.specs.Attended.{ServesBy, ServesLine}
+use Rattle.std.proofs.Common.{◌≡◌, ◌∙◌, ap, subst}
+use Rattle.model.specs.declared.registers.Regs.{Regs}
+use Rattle.mon.proofs.Filed.{both_say}
 use Rattle.mon.proofs.LinesServed.{rests_same}
-use Rattle.mon_dispatch.specs.Lines.{Says}
-use Rattle.mon_files.specs.Asked.{SeenPage, page_line, page_view}
+use Rattle.mon.specs.Attended.{ServesLine, ServesRead}
+use Rattle.mon_dispatch.specs.Lines.{read_at}
+use Rattle.mon_lines.specs.Lines.{SeenLine, line_view, seen_line}
 use Rattle.mon.proofs.seat.serve_line.Goals as goal
 
-pub returns-in_ok-serve_page-in-Some-clause-served : goal.returns-in_ok-serve_page-in-Some-clause-served
+pub returns-clause-served : goal.returns-clause-served
 unfolding ServesLine
-returns-in_ok-serve_page-in-Some-clause-served g c =
+returns-clause-served g c =
     let line = c.args.line.now in
     let first = c.args.seat.now in
-    let last = c.serve_page.new.seat in
-    let shown = c.in_ok-serve_page-in-Some.ensures.shown in
-    let said = shown.shown.1 in
-    let at : page_line line ≡ Some (page_view c.in-Some.asked) = sym c.page_line.ensures ∙ ap (option_map page_view) c.in-Some.is in (
+    let between = c.serve_noted.new.seat in
+    let last = c.obey_read.new.seat in
+    let is_over = c.in_ok-is_over.is_over in
+    let read = line_view c.new-read.result in
+    let answers = rw c.in_ok-is_over.ensures.made at c.serve_noted.ensures.served in
+    let noted = rw c.in_ok-is_over.ensures.made at c.serve_noted.ensures.noted in
+    let obeyed = c.in_ok-obey_read.ensures.obeyed in
+    let said = both_say read is_over first between last answers obeyed in
+    let same : read ≡ read_at first.desk line = c.new-read.ensures ∙ ap (λ (regs : Regs). seen_line first.desk.places.names regs.pc line) c.regs-pc.ensures in (
       said.0,
-      subst (λ (asked : Option SeenPage). ServesBy asked line false first last said.0) (sym at) (refl, last, shown, said.1, rests_same last),
+      subst (λ (r : SeenLine). ServesRead r line is_over first last said.0) same (between, answers, noted, last, obeyed, said.1, rests_same last),
       said.1,
     )
-
-pub returns-in-None-clause-served : goal.returns-in-None-clause-served
-unfolding ServesLine
-returns-in-None-clause-served g c =
-    let line = c.args.line.now in
-    let first = c.args.seat.now in
-    let last = c.serve_other.new.seat in
-    let at : page_line line ≡ None = sym c.page_line.ensures ∙ ap (option_map page_view) c.in-None.is in
-    subst (λ (asked : Option SeenPage). IfOk c.serve_other.result (λ is_over. (said : List ℕ) × ServesBy asked line is_over first last said × Says said first.desk last.desk)) (sym at) c.serve_other.ensures.served

@@ -1,9 +1,9 @@
+use Rattle.std.proofs.Common.{ap}
 use Rattle.mon_dispatch.proofs.Followed.{followed}
-use Rattle.mon_lines.specs.Lines.{line_of}
+use Rattle.mon_lines.specs.Lines.{asked_view}
 use Rattle.mon_dispatch.proofs.lines.follow.Goals as goal
 
 pub returns-in-Ok : goal.returns-in-Ok
 returns-in-Ok c =
-    followed c.execute.result (line_of c.args.desk.now.places.names c.args.pc c.args.line.now) c.in-Ok.command c.args.desk.now c.execute.new.desk
-    c.in-Ok.ensures.ok
+    followed c.execute.result (asked_view c.args.asked.now) c.in-Ok.command c.args.desk.now c.execute.new.desk (ap asked_view c.in-Ok.is)
     c.execute.ensures.does c.execute.ensures.text c.execute.ensures.outcome
