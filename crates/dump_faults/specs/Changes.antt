@@ -26,8 +26,8 @@ lone_line byte = if byte == 1 then Some 0 else if byte == 2 then Some 1
     else if byte == 16 then Some 4 else if byte == 32 then Some 5
     else if byte == 64 then Some 6 else if byte == 128 then Some 7 else None
 
--- The line in which alone two bytes differ, with its value in the first of them: that is 1 where the
--- first is greater.
+-- The line in which alone two bytes differ, with its value in the first of them: that is 1 where
+-- the first is greater.
 abbrev pub flip_at : Option ℕ → Bool → Option Flip
 flip_at None was = None
 flip_at (Some line) was = Some (record { line = line; was = was })

@@ -1,5 +1,6 @@
--- Faults of the lines between a chip and its reader, and which of them explain an image. Source: mos65.
-use Rattle.std.specs.Prelude.{◌≡◌, ⊤, ℕ, zero, suc, ◌-◌, ◌<◌, ◌==◌, ◌&&◌, nat_le, Bool, true, false, if◌then◌else◌, List, [], ◌∷◌, ◌++◌, is_some, length, Option, Some, None}
+-- Faults of the lines between a chip and its reader, and which of them explain an image.
+-- Source: mos65.
+use Rattle.std.specs.Prelude.{◌≡◌, ⊤, ℕ, zero, suc, ◌-◌, ◌<◌, ◌==◌, ◌&&◌, nat_le, nat_lt, Bool, true, false, if◌then◌else◌, List, [], ◌∷◌, ◌++◌, is_some, length, Option, Some, None}
 use Rattle.std.specs.List.{count_by}
 use Rattle.model.specs.Image.{cell_at}
 use Rattle.dump_faults.specs.Lines.{exchanged, with_line}
@@ -22,8 +23,7 @@ IsFault (stuck_at stuck) = stuck.line < lines_of stuck.bus
 IsFault (Exchanged bus one other) = (one < lines_of bus) × (other < lines_of bus)
 IsFault Inverted = ⊤
 
--- The number that comes over a bus with a line that always has one value, and with two lines
--- exchanged, where these are lines of the bus.
+-- The address and the byte with a line of a bus at a value.
 abbrev pub address_at : Bus → ℕ → Bool → ℕ → ℕ
 address_at Data line value address = address
 address_at Address line value address = with_line line value address
@@ -115,11 +115,15 @@ exchanged_of dump good bus = joined_below (exchanged_with dump good bus) (lines_
 
 -- ---- what is told
 
--- Whether an image has enough bytes to be judged: those of a page.
-unfoldable pub is_dump : List (Option ℕ) → Bool
-is_dump cells = nat_le 256 (count_by is_some cells)
+-- Whether the bytes of an image are not all the same: not all data lines have one value.
+abbrev pub is_varied : List (Option ℕ) → Bool
+is_varied cells = nat_lt (length (stuck_of cells cells Data)) 8
 
--- The lines at one value that explain all bytes of a dump by a good image.
+-- Whether an image is judged: it has at least the bytes of a page, and these are not all the same.
+unfoldable pub is_dump : List (Option ℕ) → Bool
+is_dump cells = nat_le 256 (count_by is_some cells) && is_varied cells
+
+-- The lines that explain all bytes of a dump by a good image if they always have one value.
 unfoldable pub stuck_between : List (Option ℕ) → List (Option ℕ) → List Stuck
 stuck_between dump good = if is_dump dump && is_dump good
     then stuck_of dump good Data ++ stuck_of dump good Address else []
@@ -127,7 +131,8 @@ stuck_between dump good = if is_dump dump && is_dump good
 -- The lines exchanged or inverted that explain all bytes of one image by another.
 unfoldable pub faults_between : List (Option ℕ) → List (Option ℕ) → List Fault
 faults_between one other = if is_dump one && is_dump other
-    then exchanged_of one other Data ++ explained one other Inverted ++ exchanged_of one other Address
+    then exchanged_of one other Data ++ explained one other Inverted
+    ++ exchanged_of one other Address
     else []
 
 -- The address lines without effect on an image: those that could as well be at 0.
@@ -137,11 +142,7 @@ without_effect_at cells line = explained_line cells cells (line_at Address line 
 unfoldable pub without_effect : List (Option ℕ) → List Stuck
 without_effect cells = joined_below (without_effect_at cells) 16
 
--- The data lines at one value, and the address lines without effect. Where all data lines are at one
--- value, all bytes are the same, and no line is told.
-abbrev pub unless_one_value : List (Option ℕ) → List Stuck → List Stuck
-unless_one_value cells data_lines = if nat_le 8 (length data_lines) then []
-    else data_lines ++ without_effect cells
-
+-- The data lines that have one value in all bytes of an image, and the address lines without
+-- effect.
 unfoldable pub stuck_lines : List (Option ℕ) → List Stuck
-stuck_lines cells = if is_dump cells then unless_one_value cells (stuck_of cells cells Data) else []
+stuck_lines cells = if is_dump cells then stuck_of cells cells Data ++ without_effect cells else []

@@ -6,8 +6,8 @@ use Rattle.dump_faults.specs.declared.regions.Region.{Region}
 abbrev pub one_byte : ℕ → ℕ → Region
 one_byte address byte = record { first = address; last = address; value = byte }
 
--- A byte before runs of equal bytes: it begins the first of them, if that begins right after it with
--- the same byte.
+-- A byte before runs of equal bytes: it begins the first of them, if that begins right after it
+-- with the same byte.
 abbrev pub before_runs : ℕ → ℕ → List Region → List Region
 before_runs address byte [] = one_byte address byte ∷ []
 before_runs address byte (next ∷ later) = if (next.first == address + 1) && (next.value == byte)

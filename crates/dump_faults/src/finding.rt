@@ -1,11 +1,12 @@
 //! The faults that explain a dump.
 
-ghost use Rattle.std.specs.Prelude.{◌≡◌, ◌↔◌, ◌<◌, ◌++◌, IfOk, OnOk, true};
+ghost use Rattle.std.specs.Prelude.{◌≡◌, ◌↔◌, ◌<◌, ◌++◌, IfOk, OnOk, is_some, nat_le, true};
+ghost use Rattle.std.specs.List.{count_by};
 ghost use Rattle.dump_faults.specs.Faults.{IsFault, IsReadWith, exchanged_of, exchanged_with};
 ghost use Rattle.dump_faults.specs.Faults.{explained, explained_line, faults_between, is_dump};
 ghost use Rattle.dump_faults.specs.Faults.{is_read_with, is_right_at, lines_of, same_cell};
 ghost use Rattle.dump_faults.specs.Faults.{stuck_at_both, stuck_between, stuck_lines, stuck_of};
-ghost use Rattle.dump_faults.specs.Faults.{without_effect};
+ghost use Rattle.dump_faults.specs.Faults.{is_varied, without_effect};
 ghost use Rattle.dump_faults.specs.declared.faults.Fault.TheVariants.{Stuck as stuck_at};
 
 use crate::faults::{Bus, Fault, Stuck, address_by, cell_by};
@@ -180,12 +181,37 @@ fn push_exchanged(found: &mut Vec<Fault>, pair: Pair<'_>, bus: Bus) -> Result<()
     Ok(())
 }
 
-/// Returns whether an image has enough bytes to be judged.
-#[tactic(auto, unfolding(crate::specs::Faults::is_dump))]
-fn is_dump(image: &Image) -> bool
-    ensures { result ≡ is_dump image.now }
+/// Returns whether an image has at least the bytes of a page.
+fn has_page(image: &Image) -> bool
+    ensures { result ≡ nat_le 256 (count_by is_some image.now) }
 {
     image.cells().iter().filter(|cell| cell.is_some()).count() >= FEWEST
+}
+
+/// Returns whether the bytes of an image are not all the same: not all data lines have one value.
+fn is_varied(alloc: Global, image: &Image) -> Result<bool, AllocError>
+    ensures { IfOk result (λ is. is ≡ is_varied image.now) }
+{
+    let mut found = Vec::new(alloc);
+    let first = first_byte(image);
+    let pair = Pair {
+        dump: image,
+        good: image,
+        first,
+    };
+    push_stuck(&mut found, pair, Bus::Data)?;
+    Ok(found.len() < 8)
+}
+
+/// Returns whether an image is judged: it has enough bytes, and they are not all the same.
+#[tactic(auto, unfolding(crate::specs::Faults::is_dump))]
+fn is_dump(alloc: Global, image: &Image) -> Result<bool, AllocError>
+    ensures { IfOk result (λ is. is ≡ is_dump image.now) }
+{
+    if !has_page(image) {
+        return Ok(false);
+    }
+    is_varied(alloc, image)
 }
 
 /// Returns the lines that explain all bytes of a dump by a good image if they always have one
@@ -197,7 +223,8 @@ pub fn stuck_between(alloc: Global, dump: &Image, good: &Image) -> Result<Vec<St
     ensures { IfOk result (λ found. found.items ≡ stuck_between dump.now good.now) }
 {
     let mut found = Vec::new(alloc);
-    if is_dump(dump) && is_dump(good) {
+    let (one, other) = (is_dump(alloc, dump)?, is_dump(alloc, good)?);
+    if one && other {
         let first = first_difference(dump, good);
         let pair = Pair { dump, good, first };
         push_stuck(&mut found, pair, Bus::Data)?;
@@ -211,17 +238,14 @@ pub fn stuck_between(alloc: Global, dump: &Image, good: &Image) -> Result<Vec<St
 ///
 /// Errors: `AllocError` if an allocation fails.
 #[tactic(auto, unfolding(crate::specs::Faults::faults_between))]
-pub fn faults_between(alloc: Global, one: &Image, other: &Image) -> Result<Vec<Fault>, AllocError>
-    ensures { IfOk result (λ found. found.items ≡ faults_between one.now other.now) }
+pub fn faults_between(alloc: Global, dump: &Image, good: &Image) -> Result<Vec<Fault>, AllocError>
+    ensures { IfOk result (λ found. found.items ≡ faults_between dump.now good.now) }
 {
     let mut found = Vec::new(alloc);
-    if is_dump(one) && is_dump(other) {
-        let first = first_difference(one, other);
-        let pair = Pair {
-            dump: one,
-            good: other,
-            first,
-        };
+    let (one, other) = (is_dump(alloc, dump)?, is_dump(alloc, good)?);
+    if one && other {
+        let first = first_difference(dump, good);
+        let pair = Pair { dump, good, first };
         push_exchanged(&mut found, pair, Bus::Data)?;
         push_explained(&mut found, pair, Fault::Inverted)?;
         push_exchanged(&mut found, pair, Bus::Address)?;
@@ -247,27 +271,23 @@ fn push_without_effect(found: &mut Vec<Stuck>, image: &Image, first: u16) -> Res
 }
 
 /// Returns the data lines that have one value in all bytes of an image, and the address lines
-/// without effect on it; none if all bytes are the same, or if these are few.
+/// without effect on it; none if its bytes are few, or all the same.
 ///
 /// Errors: `AllocError` if an allocation fails.
 #[tactic(auto, unfolding(crate::specs::Faults::stuck_lines))]
 pub fn stuck_lines(alloc: Global, image: &Image) -> Result<Vec<Stuck>, AllocError>
     ensures { IfOk result (λ found. found.items ≡ stuck_lines image.now) }
 {
-    if !is_dump(image) {
-        return Ok(Vec::new(alloc));
-    }
     let mut found = Vec::new(alloc);
-    let first = first_byte(image);
-    let pair = Pair {
-        dump: image,
-        good: image,
-        first,
-    };
-    push_stuck(&mut found, pair, Bus::Data)?;
-    if found.len() >= 8 {
-        return Ok(Vec::new(alloc));
+    if is_dump(alloc, image)? {
+        let first = first_byte(image);
+        let pair = Pair {
+            dump: image,
+            good: image,
+            first,
+        };
+        push_stuck(&mut found, pair, Bus::Data)?;
+        push_without_effect(&mut found, image, first)?;
     }
-    push_without_effect(&mut found, image, first)?;
     Ok(found)
 }

@@ -1,10 +1,10 @@
 //! The faults of a dump: what its bytes tell of the lines between a chip and its reader.
 //!
-//! `Fault` is a fault of lines, and `is_read_with` says whether an image is another one read with it
-//! (`specs/Faults.antt`). `stuck_lines` has the lines without effect on one image, `stuck_between`
-//! and `faults_between` the faults that explain all differences of two. `regions_of` has the
-//! regions of one value (`specs/Regions.antt`). `changes_of` has the bytes that differ, and
-//! `flips_of` those of them that differ in one line alone (`specs/Changes.antt`).
+//! `Fault` is a fault of lines, and `is_read_with` says whether an image is another one that is
+//! read with it (`specs/Faults.antt`). `stuck_lines` has the lines without effect on one image,
+//! `stuck_between` and `faults_between` the faults that explain all differences of two.
+//! `regions_of` has the regions of one value (`specs/Regions.antt`). `changes_of` has the bytes
+//! that differ, and `flips_of` those of them that differ in one line alone (`specs/Changes.antt`).
 #![tactic(auto)]
 
 mod changes;

@@ -1,7 +1,8 @@
 //! The regions of an image in which all bytes are the same.
 
 ghost use Rattle.std.specs.Prelude.{◌≡◌, ◌≤◌, IfOk, filter, length, reverse};
-ghost use Rattle.dump_faults.specs.Regions.{before_runs, equal_runs, is_long, regions_of, with_cell};
+ghost use Rattle.dump_faults.specs.Regions.{before_runs, equal_runs, is_long, regions_of};
+ghost use Rattle.dump_faults.specs.Regions.{with_cell};
 
 use memory_map::Image;
 use std::alloc::{AllocError, Global};
