@@ -1,9 +1,9 @@
 -- A test of each number below a bound.
-use Rattle.std.proofs.Common.{◌≡◌, ◌∙◌, ℕ, zero, suc, ◌+◌, ◌<◌, ◌≤◌, ◌↔◌, ◌&&◌, Bool, true, false, List, Option, Some, None, inl, inr, refl, sym, ap, subst, arith, add-one, eq-eqb}
+use Rattle.std.proofs.Common.{◌≡◌, ◌∙◌, ℕ, zero, suc, ◌+◌, ◌<◌, ◌↔◌, Bool, true, false, List, Option, Some, None, inl, inr, refl, sym, ap, subst, arith, add-one, eq-eqb}
 use Rattle.std.proofs.lemmas.Bool.{cases_Bool, eqb-true}
 use Rattle.std.proofs.lemmas.Bool.Decides.{leb_tells}
 use Rattle.model.specs.Image.{cell_at}
-use Rattle.dump_faults.specs.Faults.{IsReadWith, address_by, cell_by, holds_below, is_right_at, same_cell}
+use Rattle.dump_faults.specs.Faults.{IsReadWith, holds_below, is_right_at, same_cell}
 use Rattle.dump_faults.specs.declared.faults.Fault.{Fault}
 
 pub none_below : (test : ℕ → Bool) → holds_below test 0 ≡ true

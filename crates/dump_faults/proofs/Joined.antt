@@ -1,5 +1,5 @@
 -- Lists that grow by what each number adds.
-use Rattle.std.proofs.Common.{◌≡◌, ◌∙◌, ℕ, ◌+◌, List, [], ◌++◌, refl, sym, ap, append_assoc, append-nil, add-one}
+use Rattle.std.proofs.Common.{◌≡◌, ◌∙◌, ℕ, ◌+◌, List, ◌++◌, sym, ap, append_assoc, append-nil, add-one}
 use Rattle.dump_faults.specs.Faults.{joined_below}
 
 pub none : {X : Type 0} (add : ℕ → List X) (found : List X) → found ≡ found ++ joined_below add 0

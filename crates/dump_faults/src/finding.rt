@@ -7,7 +7,6 @@ ghost use Rattle.dump_faults.specs.Faults.{explained, explained_line, faults_bet
 ghost use Rattle.dump_faults.specs.Faults.{is_read_with, is_right_at, lines_of, same_cell};
 ghost use Rattle.dump_faults.specs.Faults.{stuck_at_both, stuck_between, stuck_lines, stuck_of};
 ghost use Rattle.dump_faults.specs.Faults.{is_varied, without_effect};
-ghost use Rattle.dump_faults.specs.declared.faults.Fault.TheVariants.{Stuck as stuck_at};
 
 use crate::faults::{Bus, Fault, Stuck, address_by, cell_by};
 use memory_map::Image;

@@ -1,7 +1,7 @@
 //! The lines of a number: line 0 is its lowest bit.
 
 ghost use Rattle.std.specs.Prelude.{◌≡◌, ◌^◌, ◌<◌};
-ghost use Rattle.dump_faults.specs.Lines.{are_same_lines, block_of, exchanged, with_line};
+ghost use Rattle.dump_faults.specs.Lines.{block_of, exchanged, with_line};
 
 /// Returns the place value of a data line.
 fn data_weight(line: u8) -> u8

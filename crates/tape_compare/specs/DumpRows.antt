@@ -26,9 +26,16 @@ is_from true flip = flip.was
 is_from false flip = not flip.was
 
 -- Which value a line has on each side, if it is always the same: ` is 0 in ONE and 1 in OTHER`.
-abbrev pub sides_text : SideView → SideView → Bool → List ℕ
-sides_text one other true = IS_1_IN.now ++ one.name ++ AND_0_IN.now ++ other.name
-sides_text one other false = IS_0_IN.now ++ one.name ++ AND_1_IN.now ++ other.name
+abbrev pub first_value : Bool → List ℕ
+first_value true = IS_1_IN.now
+first_value false = IS_0_IN.now
+
+abbrev pub second_value : Bool → List ℕ
+second_value true = AND_0_IN.now
+second_value false = AND_1_IN.now
+
+unfoldable pub sides_text : SideView → SideView → Bool → List ℕ
+sides_text one other was = first_value was ++ one.name ++ second_value was ++ other.name
 
 abbrev pub values_text : SideView → SideView → Bool → List Flip → List ℕ
 values_text one other was flips = if list_all (is_from was) flips
@@ -84,10 +91,13 @@ fault_text (stuck_at stuck) = stuck_text stuck
 fault_text (Exchanged bus one other) = exchange_text bus one other
 fault_text Inverted = INVERTED.now
 
--- The row of a fault that explains all bytes of one side by the other: `ONE is OTHER with D3 at 0`.
+-- How the row of a fault begins that explains one side by the other: `ONE is OTHER with `.
+unfoldable pub explained_text : SideView → SideView → List ℕ
+explained_text one other = one.name ++ IS.now ++ other.name ++ WITH.now
+
+-- The row: `ONE is OTHER with D3 at 0`.
 unfoldable pub fault_row : SideView → SideView → Fault → List ℕ
-fault_row one other fault = one.name ++ IS.now ++ other.name ++ WITH.now ++ fault_text fault
-    ++ codes "\n"
+fault_row one other fault = explained_text one other ++ fault_text fault ++ codes "\n"
 
 -- The rows of lines that always have one value on one side.
 abbrev pub stuck_row : SideView → SideView → Stuck → List ℕ

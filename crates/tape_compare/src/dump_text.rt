@@ -1,11 +1,13 @@
 //! What is said last of two images that differ: in how many bytes, and which fault explains it.
 
-ghost use Rattle.std.specs.Prelude.{◌≡◌, ◌++◌, ◌∷◌, OnOk, length, string_bytes};
+ghost use Rattle.std.specs.Prelude.{◌≡◌, ◌++◌, OnOk, string_bytes};
 ghost use Rattle.dump_faults.specs.Changes.{changes_of};
 ghost use Rattle.tape_compare.specs.DumpRows.{changes_text, count_row, dump_text, exchange_text};
-ghost use Rattle.tape_compare.specs.DumpRows.{fault_row, fault_rows, fault_text, flips_text, is_from};
+ghost use Rattle.tape_compare.specs.DumpRows.{fault_row, fault_rows, fault_text, flips_text};
+ghost use Rattle.tape_compare.specs.DumpRows.{is_from};
 ghost use Rattle.tape_compare.specs.DumpRows.{is_of_line, known_line_text, line_name, sides_text};
 ghost use Rattle.tape_compare.specs.DumpRows.{some_flips_text, stuck_rows, stuck_text, value_name};
+ghost use Rattle.tape_compare.specs.DumpRows.{explained_text, first_value, second_value};
 ghost use Rattle.tape_compare.specs.DumpRows.{values_text, which_text};
 ghost use Rattle.tape_compare.specs.Sides.{side_view};
 
@@ -31,7 +33,30 @@ fn is_from(was: bool, flip: Flip) -> bool
     if was { flip.was } else { !flip.was }
 }
 
+/// Returns the words for a line's value on the first side.
+fn first_value(was: bool) -> &'static str
+    ensures { result.now ≡ first_value was }
+{
+    if was {
+        wording::IS_1_IN
+    } else {
+        wording::IS_0_IN
+    }
+}
+
+/// Returns the words for its value on the second side.
+fn second_value(was: bool) -> &'static str
+    ensures { result.now ≡ second_value was }
+{
+    if was {
+        wording::AND_0_IN
+    } else {
+        wording::AND_1_IN
+    }
+}
+
 /// Appends which value a line has on each side.
+#[tactic(auto, unfolding(crate::specs::DumpRows::sides_text))]
 fn push_sides(
     words: &mut String,
     one: &Side<'_>,
@@ -41,17 +66,9 @@ fn push_sides(
     ensures { OnOk result (string_bytes words.new ≡ string_bytes words.old
         ++ sides_text (side_view one.now) (side_view other.now) was) }
 {
-    words.push_str(if was {
-        wording::IS_1_IN
-    } else {
-        wording::IS_0_IN
-    })?;
+    words.push_str(first_value(was))?;
     words.push_str(one.name())?;
-    words.push_str(if was {
-        wording::AND_0_IN
-    } else {
-        wording::AND_1_IN
-    })?;
+    words.push_str(second_value(was))?;
     words.push_str(other.name())
 }
 
@@ -231,7 +248,20 @@ fn push_fault(words: &mut String, fault: Fault) -> Result<(), AllocError>
     }
 }
 
+/// Appends that one side is the other with a fault.
+#[tactic(auto, unfolding(crate::specs::DumpRows::explained_text))]
+fn push_explained(words: &mut String, one: &Side<'_>, other: &Side<'_>) -> Result<(), AllocError>
+    ensures { OnOk result (string_bytes words.new ≡ string_bytes words.old
+        ++ explained_text (side_view one.now) (side_view other.now)) }
+{
+    words.push_str(one.name())?;
+    words.push_str(wording::IS)?;
+    words.push_str(other.name())?;
+    words.push_str(wording::WITH)
+}
+
 /// Appends the row of a fault that explains all bytes of one side by the other.
+#[tactic(auto, unfolding(crate::specs::DumpRows::fault_row))]
 fn push_fault_row(
     words: &mut String,
     one: &Side<'_>,
@@ -241,10 +271,7 @@ fn push_fault_row(
     ensures { OnOk result (string_bytes words.new ≡ string_bytes words.old
         ++ fault_row (side_view one.now) (side_view other.now) fault) }
 {
-    words.push_str(one.name())?;
-    words.push_str(wording::IS)?;
-    words.push_str(other.name())?;
-    words.push_str(wording::WITH)?;
+    push_explained(words, one, other)?;
     push_fault(words, fault)?;
     words.push_str("\n")
 }

@@ -1,4 +1,4 @@
-use Rattle.std.proofs.Common.{◌≡◌, ◌∙◌, ℕ, sym, ap, arith, refl}
+use Rattle.std.proofs.Common.{◌≡◌, ◌∙◌, ℕ, sym, ap, arith}
 use Rattle.dump_faults.specs.Faults.{holds_below, is_right_at}
 use Rattle.dump_faults.proofs.Below.{fails_below, none_below, one_more, told}
 use Rattle.dump_faults.proofs.finding.is_read_with.Goals as goal

@@ -1,4 +1,4 @@
-use Rattle.std.proofs.Common.{◌≡◌, ◌∙◌, ℕ, List, ◌++◌, ap}
+use Rattle.std.proofs.Common.{◌∙◌, ℕ, List, ◌++◌, ap}
 use Rattle.tape_compare.specs.DifferenceRows.{rows_of}
 use Rattle.tape_compare.specs.DumpRows.{dump_text}
 use Rattle.tape_compare.specs.Sides.{side_view}
