@@ -1,5 +1,5 @@
 -- What `cmp` has done. Source: mos65. No clause can say what two files have.
-use Rattle.std.specs.Prelude.{◌≡◌, ◌≢◌, ℕ, ◌==◌, if◌then◌else◌, Bool, true, false, List, [], Option, Some, string_bytes}
+use Rattle.std.specs.Prelude.{◌≡◌, ◌≢◌, ℕ, ◌==◌, if◌then◌else◌, Bool, true, false, List, [], ◌++◌, Option, Some, string_bytes}
 use Rattle.arguments.specs.Streams.{Tells, TellsFront}
 use Rattle.arguments.specs.Words.{Fits}
 use Rattle.clap.specs.Words.{Text}
@@ -8,6 +8,7 @@ use Rattle.tape_compare.specs.AlignedRows.{rows_text}
 use Rattle.tape_compare.specs.Alignment.{IsAlignment}
 use Rattle.tape_compare.specs.Differences.{differences}
 use Rattle.tape_compare.specs.DifferenceRows.{SideView, rows_of, side_of}
+use Rattle.tape_compare.specs.DumpRows.{dump_text}
 use Rattle.tape_compare.specs.Parts.{parts_of}
 use Rattle.tape_compare.specs.declared.alignment.Row.{Row}
 use Rattle.tape_words.specs.Answers.{EndsLine}
@@ -21,12 +22,13 @@ pub record IsAlignedText (one other : SideView) (said : List ℕ) : Type 0 where
   pub are : IsAlignment (parts_of one) (parts_of other) rows
   pub text : said ≡ rows_text one other rows
 
--- The rows of two sides that differ: those of an alignment, or of all addresses at which they differ.
--- The latter end with a line's end.
+-- The rows of two sides that differ: those of an alignment; or of all addresses at which they
+-- differ, with what is said last. The latter end with a line's end.
 abbrev pub IsTextOf : Bool → SideView → SideView → List ℕ → Type 0
 IsTextOf true one other said = IsAlignedText one other said
 IsTextOf false one other said
-    = (said ≡ rows_of one other (differences one.image other.image)) × EndsLine said
+    = (said ≡ rows_of one other (differences one.image other.image) ++ dump_text one other)
+    × EndsLine said
 
 -- What is said of two sides: nothing if their images are equal, and rows if they are not.
 abbrev pub IsSaidOf : Bool → SideView → SideView → Bool → List ℕ → Type 0

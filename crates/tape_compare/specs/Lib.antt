@@ -3,6 +3,7 @@ pub mod Alignment
 pub mod CompareWord
 pub mod DifferenceRows
 pub mod Differences
+pub mod DumpRows
 pub mod Parts
 pub mod Rests
 pub mod Sides

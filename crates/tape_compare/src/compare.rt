@@ -16,6 +16,7 @@ ghost use Rattle.tape_words.specs.CommandLines.{cmp};
 use crate::aligned_rows::aligned_rows;
 use crate::alignment::alignment_of;
 use crate::comparing::differences;
+use crate::dump_text::push_dump_text;
 use crate::parts::parts_of;
 use crate::row_text::rows;
 use crate::sides::Side;
@@ -62,6 +63,23 @@ fn aligned(alloc: Global, one: &Side<'_>, other: &Side<'_>) -> Result<String, Al
     aligned_rows(alloc, one, other, &rows)
 }
 
+/// Returns the rows of all addresses at which two sides differ, and how many bytes that are.
+fn all_rows(
+    alloc: Global,
+    one: &Side<'_>,
+    other: &Side<'_>,
+    differences: &[u16],
+) -> Result<String, AllocError>
+    requires some { 0 < length differences.now }
+    requires all { differences.now ≡ differences_of one.now.image other.now.image }
+    ensures { IfOk result (λ text. IsTextOf false (side_view one.now) (side_view other.now)
+        (string_bytes text)) }
+{
+    let mut text = rows(alloc, one, other, differences)?;
+    push_dump_text(alloc, &mut text, one, other)?;
+    Ok(text)
+}
+
 /// Returns the rows between two sides that differ.
 fn rows_between(
     alloc: Global,
@@ -78,7 +96,7 @@ fn rows_between(
     if align {
         aligned(alloc, one, other)
     } else {
-        rows(alloc, one, other, differences)
+        all_rows(alloc, one, other, differences)
     }
 }
 

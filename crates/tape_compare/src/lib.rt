@@ -2,6 +2,8 @@
 //!
 //! `differences` has the addresses at which two images differ, and none exactly if they are equal.
 //! `rows` has their text with the instructions there, as `specs/DifferenceRows.antt` defines it.
+//! `push_dump_text` has how many they are, and which fault of lines explains them
+//! (`specs/DumpRows.antt`).
 //! `parts_of` has the instructions of an image, `alignment_of` puts those of two images beside each
 //! other, and `aligned_rows` has the text of that. `tape_cmp` is the word `cmp`: it reads both
 //! images, and writes the rows of their differences, or with `--align` those of an alignment.
@@ -11,6 +13,7 @@ mod aligned_rows;
 mod alignment;
 mod compare;
 mod comparing;
+mod dump_text;
 mod parts;
 mod row_text;
 mod search;

@@ -5,6 +5,11 @@ use Rattle.std.specs.List.{flat_map, zip}
 use Rattle.arguments.specs.Shown.{shown_name}
 use Rattle.model.specs.State.{no_port}
 use Rattle.model.specs.declared.instruction.Profile.{Profile}
+use Rattle.dump_faults.specs.Lines.{block_of}
+use Rattle.dump_faults.specs.declared.faults.Bus.{Bus}
+use Rattle.dump_faults.specs.declared.faults.Bus.TheVariants.{Address, Data}
+use Rattle.dump_faults.specs.declared.faults.Stuck.{Stuck}
+use Rattle.dump_faults.specs.declared.regions.Region.{Region}
 use Rattle.tape_words.specs.Answers.{counted}
 use Rattle.tape_words.specs.Instructions.{row_at, text_by}
 use Rattle.tape_info.specs.Facts.{gap_size}
@@ -18,7 +23,7 @@ use Rattle.tape_info.specs.declared.fact_list.Facts.{Facts}
 use Rattle.tape_info.specs.declared.gaps.Gap.{Gap}
 use Rattle.tape_info.specs.declared.ranges.Range.{Range}
 use Rattle.tape_words.specs.declared.wording.TheConstants.{BYTE, BYTES, RECORD, RECORDS}
-use Rattle.tape_info.specs.declared.wording.TheConstants.{TAPE_ROW, IMAGE_ROW, IN, AND, RANGE, RANGES, RANGE_ROW, CRC_32, SUM_16, SUM_8, CLASH, NO_BASE, FREE, OVERLAP_ROW, AGAIN, GAP_ROW, NOTHING, NMI_ROW, RESET_ROW, IRQ_ROW, PAGE_0_ROW, PAGE_1_ROW, PORT_ROW}
+use Rattle.tape_info.specs.declared.wording.TheConstants.{TAPE_ROW, IMAGE_ROW, IN, AND, RANGE, RANGES, RANGE_ROW, CRC_32, SUM_16, SUM_8, REGION_ROW, EACH, LINE_ROW, IS_0, IS_1, NO_EFFECT, TWICE, CLASH, NO_BASE, FREE, OVERLAP_ROW, AGAIN, GAP_ROW, NOTHING, NMI_ROW, RESET_ROW, IRQ_ROW, PAGE_0_ROW, PAGE_1_ROW, PORT_ROW}
 
 -- ---- words of the rows
 
@@ -74,6 +79,42 @@ range_row summed = stretch_text RANGE_ROW.now summed.0.first summed.0.last
 -- A row for each range with its check sum.
 abbrev pub range_rows : Facts → List ℕ
 range_rows facts = flat_map range_row (zip facts.ranges.items facts.checksums.items)
+
+-- The row of a region of one value: `same    E123-FFF9  7895 bytes $FF`.
+unfoldable pub region_row : Region → List ℕ
+region_row region = stretch_text REGION_ROW.now region.first region.last
+    ++ byte_count (region.last - region.first + 1) ++ EACH.now ++ hex_digits true 2 region.value
+    ++ codes "\n"
+
+-- A row for each of them.
+abbrev pub region_rows : List Region → List ℕ
+region_rows regions = flat_map region_row regions
+
+-- The row of a data line that has one value in every byte: `line    D3 is 0 in every byte`.
+abbrev pub value_text : Bool → List ℕ
+value_text true = IS_1.now
+value_text false = IS_0.now
+
+unfoldable pub data_line_row : ℕ → Bool → List ℕ
+data_line_row line value = LINE_ROW.now ++ codes "D" ++ decimal line ++ value_text value
+
+-- The row of an address line without effect:
+-- `line    A12 makes no difference: each block of 4096 bytes stands twice`.
+unfoldable pub address_line_row : ℕ → List ℕ
+address_line_row line = LINE_ROW.now ++ codes "A" ++ decimal line ++ NO_EFFECT.now
+    ++ byte_count (block_of line) ++ TWICE.now
+
+-- The row of a line.
+abbrev pub line_text : Bus → ℕ → Bool → List ℕ
+line_text Data line value = data_line_row line value
+line_text Address line value = address_line_row line
+
+abbrev pub line_row : Stuck → List ℕ
+line_row stuck = line_text stuck.bus stuck.line stuck.value
+
+-- A row for each of some lines.
+abbrev pub line_rows : List Stuck → List ℕ
+line_rows lines = flat_map line_row lines
 
 -- The row of addresses at which more than one record puts a byte:
 -- `overlap 0201-0201  1 byte written more than once`.
@@ -151,6 +192,7 @@ part_rows port facts = part_row PAGE_0_ROW.now 0 255 facts.in_page_0
 -- overlap.
 unfoldable pub rows_of : Profile → List (Option ℕ) → ℕ → Facts → Option ℕ → List Range → List ℕ
 rows_of profile image port facts records overlaps = tape_row facts records ++ range_rows facts
+    ++ region_rows facts.regions.items ++ line_rows facts.lines.items
     ++ overlap_rows overlaps ++ gap_row facts.gap ++ vector_rows profile image facts
     ++ part_rows port facts
 

@@ -1,5 +1,7 @@
 -- What `info` says of a tape. Source: mos65. No clause can say which tape a file has.
 use Rattle.std.specs.Prelude.{◌≡◌, ◌⊎◌, ℕ, Bool, true, false, List, [], ◌++◌, Option, None, Some, Result, Ok, codes}
+use Rattle.dump_faults.specs.Faults.{stuck_lines}
+use Rattle.dump_faults.specs.Regions.{regions_of}
 use Rattle.image_files.specs.Bytes.{IsImage, IsNoImage, form_by}
 use Rattle.image_files.specs.FreeBase.{IsFreeBase}
 use Rattle.image_files.specs.declared.refusal.ImageRefusal.TheVariants as why
@@ -27,6 +29,8 @@ use Rattle.tape_info.specs.declared.wording.TheConstants.{MEND_MENDS_IT, MENDED_
 pub record AreFacts (image : List (Option ℕ)) (port : ℕ) (f : Facts) : Type 0 where
   pub ranges : f.ranges.items ≡ ranges_of image
   pub checksums : f.checksums.items ≡ checksums_of (memory_of image) (ranges_of image)
+  pub regions : f.regions.items ≡ regions_of image
+  pub lines : f.lines.items ≡ stuck_lines image
   pub bytes : f.bytes ≡ bytes_among image 0 65536
   pub gap : f.gap ≡ largest_gap (ranges_of image)
   pub page_0 : f.in_page_0 ≡ bytes_among image 0 256

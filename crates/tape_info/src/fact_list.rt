@@ -7,10 +7,13 @@ ghost use Rattle.model.specs.Tape.{TapeDenotes, count_of};
 ghost use Rattle.model.specs.State.{memory_of};
 ghost use Rattle.tape_info.specs.Facts.{address_in, bytes_among, checksums_of, data_records};
 ghost use Rattle.tape_info.specs.Facts.{largest_gap, ranges_of, vector_at};
+ghost use Rattle.dump_faults.specs.Faults.{stuck_lines};
+ghost use Rattle.dump_faults.specs.Regions.{regions_of};
 
 use crate::checksum::{Sums, checksums_of};
 use crate::gaps::{Gap, largest_gap};
 use crate::ranges::{Range, ranges_of};
+use dump_faults::{Region, Stuck, regions_of, stuck_lines};
 use image_files::free_base;
 use memory_map::{Image, MapSpec, memory_of};
 use std::alloc::{AllocError, Global};
@@ -22,6 +25,10 @@ pub struct Facts {
     pub ranges: Vec<Range>,
     /// The check sums of each range.
     pub checksums: Vec<Sums>,
+    /// The regions in which all bytes are the same.
+    pub regions: Vec<Region>,
+    /// The data lines that have one value in all bytes, and the address lines without effect.
+    pub lines: Vec<Stuck>,
     /// How many bytes there are.
     pub bytes: u32,
     /// The largest gap between two ranges, if there are two.
@@ -95,6 +102,8 @@ pub fn facts_of(alloc: Global, image: &Image, map: &MapSpec) -> Result<Facts, Al
     ensures ranges { IfOk result (λ f. f.ranges.items ≡ ranges_of image.now) }
     ensures checksums { IfOk result
         (λ f. f.checksums.items ≡ checksums_of (memory_of image.now) (ranges_of image.now)) }
+    ensures regions { IfOk result (λ f. f.regions.items ≡ regions_of image.now) }
+    ensures lines { IfOk result (λ f. f.lines.items ≡ stuck_lines image.now) }
     ensures bytes { IfOk result (λ f. f.bytes ≡ bytes_among image.now 0 65536) }
     ensures gap { IfOk result (λ f. f.gap ≡ largest_gap (ranges_of image.now)) }
     ensures page_0 { IfOk result (λ f. f.in_page_0 ≡ bytes_among image.now 0 256) }
@@ -109,10 +118,14 @@ pub fn facts_of(alloc: Global, image: &Image, map: &MapSpec) -> Result<Facts, Al
     let ranges = ranges_of(alloc, cells)?;
     let memory = memory_of(alloc, image)?;
     let checksums = checksums_of(alloc, &memory, &ranges)?;
+    let regions = regions_of(alloc, image)?;
+    let lines = stuck_lines(alloc, image)?;
     let gap = largest_gap(&ranges);
     Ok(Facts {
         ranges,
         checksums,
+        regions,
+        lines,
         bytes: bytes_among(cells, 0, 65536),
         gap,
         in_page_0: bytes_among(cells, 0, 256),

@@ -6,6 +6,8 @@ ghost use Rattle.tape_info.specs.Rows.{gap_row, kind_text, overlap_row, overlap_
 ghost use Rattle.tape_info.specs.Rows.{known_gap_row, part_row, part_rows, port_row, range_row};
 ghost use Rattle.tape_info.specs.Rows.{range_rows, records_text, rows_of, stretch_text, sum_text};
 ghost use Rattle.tape_info.specs.Rows.{image_name, no_image_text, tape_row, target_text, vector_rows};
+ghost use Rattle.tape_info.specs.Rows.{address_line_row, data_line_row, line_row, line_rows};
+ghost use Rattle.tape_info.specs.Rows.{region_row, region_rows, value_text};
 ghost use Rattle.image_files.specs.declared.refusal.NoImage.TheVariants.{Record};
 
 use crate::checksum::Sums;
@@ -14,6 +16,7 @@ use crate::gaps::Gap;
 use crate::ranges::Range;
 use crate::wording;
 use arguments::shown_name;
+use dump_faults::{Bus, Region, Stuck, block_of};
 use image_files::NoImage;
 use image_reader::{RecordFault, RecordFaultKind};
 use memory_map::{Image, MapSpec};
@@ -127,6 +130,85 @@ fn push_ranges(words: &mut String, facts: &Facts) -> Result<(), AllocError>
 {
     for (range, sums) in facts.ranges.iter().zip(facts.checksums.iter()) {
         push_range(words, *range, *sums)?;
+    }
+    Ok(())
+}
+
+/// Appends the row of a region of one value: its addresses, its size and the byte.
+#[tactic(auto, unfolding(crate::specs::Rows::region_row))]
+fn push_region(words: &mut String, region: Region) -> Result<(), AllocError>
+    ensures { OnOk result (string_bytes words.new ≡ string_bytes words.old ++ region_row region) }
+{
+    push_stretch(
+        words,
+        wording::REGION_ROW,
+        region.first as u32,
+        region.last as u32,
+    )?;
+    push_bytes(words, region.last.saturating_sub(region.first) as u64 + 1)?;
+    let value = region.value;
+    words.push_str(wording::EACH)?;
+    writeln!(words, "{value:02X}")
+}
+
+/// Appends a row for each region of one value.
+fn push_regions(words: &mut String, regions: &[Region]) -> Result<(), AllocError>
+    ensures { OnOk result (string_bytes words.new
+        ≡ string_bytes words.old ++ region_rows regions.now) }
+{
+    for region in regions {
+        push_region(words, *region)?;
+    }
+    Ok(())
+}
+
+/// Returns what is said of a data line by its value.
+fn value_text(value: bool) -> &'static str
+    ensures { result.now ≡ value_text value }
+{
+    if value { wording::IS_1 } else { wording::IS_0 }
+}
+
+/// Appends the row of a data line that has one value in every byte.
+#[tactic(auto, unfolding(crate::specs::Rows::data_line_row))]
+fn push_data_line(words: &mut String, line: u8, value: bool) -> Result<(), AllocError>
+    ensures { OnOk result (string_bytes words.new
+        ≡ string_bytes words.old ++ data_line_row line value) }
+{
+    words.push_str(wording::LINE_ROW)?;
+    write!(words, "D{line}")?;
+    words.push_str(value_text(value))
+}
+
+/// Appends the row of an address line without effect.
+#[tactic(auto, unfolding(crate::specs::Rows::address_line_row))]
+fn push_address_line(words: &mut String, line: u8) -> Result<(), AllocError>
+    ensures { OnOk result (string_bytes words.new
+        ≡ string_bytes words.old ++ address_line_row line) }
+{
+    words.push_str(wording::LINE_ROW)?;
+    write!(words, "A{line}")?;
+    words.push_str(wording::NO_EFFECT)?;
+    push_bytes(words, block_of(line) as u64)?;
+    words.push_str(wording::TWICE)
+}
+
+/// Appends the row of a line.
+fn push_line(words: &mut String, stuck: Stuck) -> Result<(), AllocError>
+    ensures { OnOk result (string_bytes words.new ≡ string_bytes words.old ++ line_row stuck) }
+{
+    match stuck.bus {
+        Bus::Data => push_data_line(words, stuck.line, stuck.value),
+        Bus::Address => push_address_line(words, stuck.line),
+    }
+}
+
+/// Appends a row for each of some lines.
+fn push_lines(words: &mut String, lines: &[Stuck]) -> Result<(), AllocError>
+    ensures { OnOk result (string_bytes words.new ≡ string_bytes words.old ++ line_rows lines.now) }
+{
+    for stuck in lines {
+        push_line(words, *stuck)?;
     }
     Ok(())
 }
@@ -322,8 +404,9 @@ fn push_parts(words: &mut String, map: &MapSpec, facts: &Facts) -> Result<(), Al
     push_port(words, map, facts)
 }
 
-/// Returns the rows of `info`: the image, its ranges, where records overlap, the largest gap,
-/// the vectors, and what stands in pages 0 and 1 and at the port.
+/// Returns the rows of `info`: the image, its ranges, regions of one value, lines without effect,
+/// where records overlap, the largest gap, the vectors, and what stands in pages 0 and 1 and at the
+/// port.
 ///
 /// Errors: `AllocError` if an allocation fails.
 #[tactic(auto, unfolding(crate::specs::Rows::rows_of))]
@@ -342,6 +425,8 @@ pub fn image_text(
     let mut words = String::new(alloc);
     push_tape(&mut words, facts, tape.records)?;
     push_ranges(&mut words, facts)?;
+    push_regions(&mut words, &facts.regions)?;
+    push_lines(&mut words, &facts.lines)?;
     push_overlaps(&mut words, &tape.overlaps)?;
     push_gap(&mut words, facts.gap)?;
     push_vectors(&mut words, profile, image, facts)?;

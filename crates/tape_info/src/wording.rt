@@ -20,6 +20,20 @@ pub const SUM_16: &str = "  sum16 ";
 
 pub const SUM_8: &str = "  sum8 ";
 
+pub const REGION_ROW: &str = "same    ";
+
+pub const EACH: &str = " $";
+
+pub const LINE_ROW: &str = "line    ";
+
+pub const IS_0: &str = " is 0 in every byte\n";
+
+pub const IS_1: &str = " is 1 in every byte\n";
+
+pub const NO_EFFECT: &str = " makes no difference: each block of ";
+
+pub const TWICE: &str = " stands twice\n";
+
 pub const OVERLAP_ROW: &str = "overlap ";
 
 pub const AGAIN: &str = " written more than once\n";

@@ -1,0 +1,4 @@
+pub mod Below
+pub mod ChangesBelow
+pub mod Joined
+pub mod Runs

@@ -1,0 +1,4 @@
+pub mod Changes
+pub mod Faults
+pub mod Lines
+pub mod Regions

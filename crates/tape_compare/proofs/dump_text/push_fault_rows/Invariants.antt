@@ -1,0 +1,10 @@
+use Rattle.std.proofs.Common.{◌≡◌, ◌++◌, drop}
+use Rattle.std.specs.Prelude.{string_bytes}
+use Rattle.std.specs.List.{flat_map}
+use Rattle.tape_compare.specs.DumpRows.{fault_row}
+use Rattle.tape_compare.specs.Sides.{side_view}
+use Rattle.tape_compare.proofs.dump_text.push_fault_rows.Given as goal
+
+abbrev pub invariant-loop-fault : goal.invariant-loop-fault
+invariant-loop-fault l = string_bytes l.words ++ flat_map (fault_row (side_view l.one) (side_view l.other)) (drop l.fault-index l.found.items)
+    ≡ string_bytes l.initial.words ++ flat_map (fault_row (side_view l.one) (side_view l.other)) l.found.items
