@@ -43,8 +43,8 @@ fn put_typed(typed: &mut Vec<u8>, bytes: &[u8], before: u32, after: u32) -> Resu
     typed.extend_from_slice(&bytes[..count.min(bytes.len())])
 }
 
-/// Keeps bytes that were handed in at a desk, before which there was room for so many. An event that
-/// was undone, and is made again, finds its byte there.
+/// Keeps bytes that were handed in at a desk, before which there was room for so many. An event
+/// that was undone, and is made again, finds its byte there.
 fn keep_bytes(typed: &mut Vec<u8>, desk: &Desk, bytes: &[u8], room: u32) -> Result<(), AllocError> {
     let before = INPUT_SIZE.saturating_sub(room);
     let after = INPUT_SIZE.saturating_sub(desk.session.input_room());
