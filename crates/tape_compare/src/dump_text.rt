@@ -1,5 +1,6 @@
 //! What is said last of two images that differ: in how many bytes, and which fault explains it.
 
+ghost use Rattle.std.specs.List.{list_all};
 ghost use Rattle.std.specs.Prelude.{◌≡◌, ◌++◌, OnOk, string_bytes};
 ghost use Rattle.dump_faults.specs.Changes.{changes_of};
 ghost use Rattle.tape_compare.specs.DumpRows.{changes_text, count_row, dump_text, exchange_text};
@@ -72,6 +73,13 @@ fn push_sides(
     words.push_str(other.name())
 }
 
+/// Returns whether changes of one line are all from a value.
+fn are_from(was: bool, flips: &[Flip]) -> bool
+    ensures { result ≡ list_all (is_from was) flips.now }
+{
+    flips.iter().all(|flip| is_from(was, *flip))
+}
+
 /// Appends which value a line has on each side, if it is always the same.
 fn push_values(
     words: &mut String,
@@ -83,7 +91,7 @@ fn push_values(
     ensures { OnOk result (string_bytes words.new ≡ string_bytes words.old
         ++ values_text (side_view one.now) (side_view other.now) was flips.now) }
 {
-    if flips.iter().all(|flip| is_from(was, *flip)) {
+    if are_from(was, flips) {
         return push_sides(words, one, other, was);
     }
     Ok(())
@@ -106,6 +114,13 @@ fn push_known_line(
     push_values(words, one, other, flip.was, flips)
 }
 
+/// Returns whether changes of one line are all of the same line.
+fn are_of_line(line: u8, flips: &[Flip]) -> bool
+    ensures { result ≡ list_all (is_of_line line) flips.now }
+{
+    flips.iter().all(|flip| is_of_line(line, *flip))
+}
+
 /// Appends which line it is, if it is always the same.
 fn push_which(
     words: &mut String,
@@ -117,8 +132,7 @@ fn push_which(
     ensures { OnOk result (string_bytes words.new ≡ string_bytes words.old
         ++ which_text (side_view one.now) (side_view other.now) flip flips.now) }
 {
-    let line = flip.line;
-    if flips.iter().all(|flip| is_of_line(line, *flip)) {
+    if are_of_line(flip.line, flips) {
         return push_known_line(words, one, other, flip, flips);
     }
     Ok(())

@@ -6,5 +6,5 @@ use Rattle.tape_compare.specs.Sides.{side_view}
 use Rattle.tape_compare.proofs.dump_text.push_fault_rows.Given as goal
 
 abbrev pub invariant-loop-fault : goal.invariant-loop-fault
-invariant-loop-fault l = string_bytes l.words ++ flat_map (fault_row (side_view l.one) (side_view l.other)) (drop l.fault-index l.found.items)
-    ≡ string_bytes l.initial.words ++ flat_map (fault_row (side_view l.one) (side_view l.other)) l.found.items
+invariant-loop-fault l = string_bytes l.words ++ flat_map (fault_row (side_view l.one) (side_view l.other)) (drop l.fault-index l.fault-items)
+    ≡ string_bytes l.initial.words ++ flat_map (fault_row (side_view l.one) (side_view l.other)) l.fault-items

@@ -6,5 +6,5 @@ use Rattle.tape_compare.specs.Sides.{side_view}
 use Rattle.tape_compare.proofs.dump_text.push_stuck_rows.Given as goal
 
 abbrev pub invariant-loop-stuck : goal.invariant-loop-stuck
-invariant-loop-stuck l = string_bytes l.words ++ flat_map (stuck_row (side_view l.one) (side_view l.other)) (drop l.stuck-index l.found.items)
-    ≡ string_bytes l.initial.words ++ flat_map (stuck_row (side_view l.one) (side_view l.other)) l.found.items
+invariant-loop-stuck l = string_bytes l.words ++ flat_map (stuck_row (side_view l.one) (side_view l.other)) (drop l.stuck-index l.stuck-items)
+    ≡ string_bytes l.initial.words ++ flat_map (stuck_row (side_view l.one) (side_view l.other)) l.stuck-items
