@@ -48,22 +48,16 @@ fn tell_met(desk: &mut Desk, end: Ended) -> Result<bool, AllocError>
     Ok(false)
 }
 
-/// Says what a step did and met. Its row stands in the text from the byte `length` on. `stack` and
-/// `cycles` are the stack pointer and the cycle count before it. Returns whether the steps go on.
-fn tell_made(
-    desk: &mut Desk,
-    end: Ended,
-    length: usize,
-    stack: u8,
-    cycles: u64,
-) -> Result<bool, AllocError>
+/// Says what a step did and met. Its row stands in the text from the byte `length` on. Returns
+/// whether the steps go on.
+fn tell_made(desk: &mut Desk, end: Ended, length: usize, is_entry: bool) -> Result<bool, AllocError>
     ensures shows { ShowsOnly desk.old desk.new }
     ensures on { IfOk result (λ is_on. is_on ≡ is_limit end.why) }
     ensures text { OnOk result (desk.new.text.items ≡ take length desk.old.text.items
-        ++ made_text stack cycles desk.old.session.current desk.old.places.names end
+        ++ made_text is_entry desk.old.session.current desk.old.places.names end
         (drop length desk.old.text.items)) }
 {
-    desk.tell_entry(length, stack, cycles)?;
+    desk.tell_entry(length, is_entry)?;
     tell_met(desk, end)
 }
 
@@ -78,19 +72,13 @@ fn fault_in(why: EndWhy) -> Option<EventFault>
 }
 
 /// Says what a step did, or why it was rejected. Its row stands in the text from the byte `length`
-/// on. `stack` and `cycles` are the stack pointer and the cycle count before it. Returns whether
-/// the steps go on.
-fn tell_step(
-    desk: &mut Desk,
-    end: Ended,
-    length: usize,
-    stack: u8,
-    cycles: u64,
-) -> Result<bool, AllocError>
+/// on. `is_entry` says whether the step is an interrupt entry, if it was made. Returns whether the
+/// steps go on.
+fn tell_step(desk: &mut Desk, end: Ended, length: usize, is_entry: bool) -> Result<bool, AllocError>
     ensures shows { ShowsOnly desk.old desk.new }
     ensures on { IfOk result (λ is_on. is_on ≡ is_limit end.why) }
     ensures text { OnOk result (desk.new.text.items ≡ take length desk.old.text.items
-        ++ step_text stack cycles desk.old.session.current desk.old.places.names end
+        ++ step_text is_entry desk.old.session.current desk.old.places.names end
         (drop length desk.old.text.items)) }
 {
     match fault_in(end.why) {
@@ -99,7 +87,7 @@ fn tell_step(
             desk.reject(fault)?;
             Ok(false)
         }
-        None => tell_made(desk, end, length, stack, cycles),
+        None => tell_made(desk, end, length, is_entry),
     }
 }
 
@@ -135,11 +123,10 @@ fn show_step(desk: &mut Desk) -> Result<bool, AllocError>
     ensures text { OnOk result (desk.new.text.items ≡ desk.old.text.items
         ++ one_step_text (watches_of desk.old) desk.old.places (stand_of desk.old)) }
 {
-    let before = desk.session.regs();
-    let cycles = desk.session.cycles();
+    let is_entry = desk.session.entry_is_due();
     let length = desk.text.len();
     let end = step_with_row(desk)?;
-    tell_step(desk, end, length, before.s, cycles)
+    tell_step(desk, end, length, is_entry)
 }
 
 /// Makes `count` steps, or those up to a stop, and shows each.
@@ -240,20 +227,14 @@ pub fn steps(desk: &mut Desk, count: u32) -> Result<(), AllocError>
 
 /// Says that the first step of a JSR was the entry of an interrupt, in place of the row from
 /// `length` on, if it was the only one and was one.
-fn tell_call(
-    desk: &mut Desk,
-    did: u64,
-    length: usize,
-    stack: u8,
-    cycles: u64,
-) -> Result<(), AllocError>
+fn tell_call(desk: &mut Desk, did: u64, length: usize, is_entry: bool) -> Result<(), AllocError>
     ensures shows { ShowsOnly desk.old desk.new }
     ensures text { OnOk result (desk.new.text.items ≡ take length desk.old.text.items
-        ++ call_row did stack cycles desk.old.session.current desk.old.places.names
+        ++ call_row did is_entry desk.old.session.current desk.old.places.names
         (drop length desk.old.text.items)) }
 {
     if did == 1 {
-        return desk.tell_entry(length, stack, cycles);
+        return desk.tell_entry(length, is_entry);
     }
     Ok(())
 }
@@ -272,12 +253,11 @@ fn call_with_row(desk: &mut Desk) -> Result<Ended, AllocError>
     ensures text { OnOk result (desk.new.text.items ≡ desk.old.text.items
         ++ called_row (watches_of desk.old) desk.old.places (stand_of desk.old)) }
 {
-    let before = desk.session.regs();
-    let cycles = desk.session.cycles();
+    let is_entry = desk.session.entry_is_due();
     let length = desk.text.len();
     desk.show_next()?;
     let end = make_call(desk);
-    tell_call(desk, end.did, length, before.s, cycles)?;
+    tell_call(desk, end.did, length, is_entry)?;
     Ok(end)
 }
 

@@ -22,10 +22,8 @@ pub fn check_lines<H: Files + AllocGlobal>(rt: &H, words: &TraceWords<'_>) -> Re
     ensures apart { IfOk result (λ _. IsApart (trace_view words.now)) }
     ensures fault { IfErr result IsOfStreams }
 {
-    match check_outputs(rt, &[Some(words.file.file), words.symbols], &[words.lcov]) {
-        Ok(()) => Ok(()),
-        Err(why) => Err(why.refusal),
-    }
+    check_outputs(rt, &[Some(words.file.file), words.symbols], &[words.lcov])?;
+    Ok(())
 }
 
 /// Returns the record of a source; no byte where there is none.
@@ -58,11 +56,9 @@ pub fn write_lines<H: Files + AllocGlobal>(
     let (Some(path), Some(tally)) = (words.lcov, tally) else {
         return Ok(());
     };
-    let Ok(text) = lines_text(rt.alloc(), words.file.file, assembly, tally) else {
-        return Err(Refusal::OutOfMemory);
-    };
-    match write_file(rt, path, &text) {
-        Ok(()) => Ok(()),
-        Err(fault) => Err(fault),
-    }
+    let text = lines_text(rt.alloc(), words.file.file, assembly, tally).map_err(
+        |_| Refusal::OutOfMemory,
+    )?;
+    write_file(rt, path, &text)?;
+    Ok(())
 }

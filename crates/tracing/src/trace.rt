@@ -296,10 +296,10 @@ fn trace_on<R: Read, O: Write, E: Write>(
         tracer, session, player, span.to, span.limit, input, output, errors,
     );
     match run {
-        Ok(played) => match tracer.finish(alloc, output) {
-            Ok(()) => Ok(played),
-            Err(fault) => Err(fault),
-        },
+        Ok(played) => {
+            tracer.finish(alloc, output)?;
+            Ok(played)
+        }
         Err(fault) => {
             tracer.write_cut(output);
             Err(fault)
@@ -346,13 +346,10 @@ fn trace_between<R: Read, O: Write, E: Write>(
         × Writes (E.contents errors.old) (E.contents errors.new) text result }
 {
     let mut player = begin(session, written);
-    let reached = match run_to_start(tracer, session, &mut player, span.from, input, errors) {
-        Ok(reached) => reached,
-        Err(fault) => return Err(fault),
-    };
+    let reached = run_to_start(tracer, session, &mut player, span.from, input, errors)?;
     match reached.ending {
         Ending::Until => {
-            match trace_on(
+            let played = trace_on(
                 alloc,
                 tracer,
                 session,
@@ -361,13 +358,11 @@ fn trace_between<R: Read, O: Write, E: Write>(
                 input,
                 output,
                 errors,
-            ) {
-                Ok(played) => Ok(Traced {
-                    played,
-                    has_begun: true,
-                }),
-                Err(fault) => Err(fault),
-            }
+            )?;
+            Ok(Traced {
+                played,
+                has_begun: true,
+            })
         }
         ending => Ok(Traced {
             played: Played { steps: 0, ending },
