@@ -267,19 +267,6 @@ static void accesses(void) {
 
 static const uint8_t nothing[256];
 
-/* The record of an NMI that comes at $0200, and the state before it, where the IRQ line is 1. */
-static void record_of_nmi(mos65_t *m) {
-    /* 7 cycles, two reads and three stores: S, PC, the signals; $FFFA, $FFFB; PC and P at $01FD, $01FC, $01FB */
-    static const uint8_t entry[] = {0xE7, 0xC8, 0x07, 0x02, 0x50, 0xFA, 0xFF, 0xFB, 0xFF,
-        0xFD, 0x01, 0x02, 0xFC, 0x01, 0x00, 0xFB, 0x01, 0x24};
-    mos65_ending_t end;
-    uint8_t out[600];
-    size_t n;
-    CHECK(mos65_nmi(m) == MOS65_OK && mos65_record_start(m, out, sizeof out, &n) == MOS65_OK && out[527] == 24);
-    CHECK(mos65_record_run(m, 1, &end, out, sizeof out, &n) == MOS65_OK && end.did == 1);
-    CHECK(n == sizeof entry && memcmp(out, entry, n) == 0 && mos65_back(m, 2) == MOS65_OK);
-}
-
 /* A state and three steps as a page holds them, written by hand from crates/page_data/specs/{Start,Format}.antt. */
 static void records(void) {
     mos65_config_t config = MOS65_CONFIG;
@@ -297,16 +284,15 @@ static void records(void) {
     };
     uint8_t out[600] = {0};
     size_t n = 9;
-    CHECK(mos65_record_start(&m, out, sizeof out, &n) == MOS65_CLOSED && n == 9);
+    CHECK(mos65_record_start(&m, false, nothing, 0, out, sizeof out, &n) == MOS65_CLOSED && n == 9);
     CHECK(mos65_record_run(&m, 9, &end, out, sizeof out, &n) == MOS65_CLOSED && n == 9 && end.did == 7);
     CHECK(mos65_open_bytes(&m, &config, 0x0200, code, sizeof code) == MOS65_OK && mos65_set(&m, MOS65_PC, 0x0200) == MOS65_OK);
     CHECK(mos65_irq(&m, true) == MOS65_OK && mos65_input(&m, 'x') == MOS65_OK && mos65_break(&m, 0x0207) == MOS65_OK);
-    CHECK(mos65_record_start(&m, out, sizeof out, &n) == MOS65_OK);
+    CHECK(mos65_record_start(&m, true, (const uint8_t *)"x", 1, out, sizeof out, &n) == MOS65_OK);
     CHECK(n == 2 + 257 + 253 + sizeof rest && out[0] == 0 && out[1] == 0 && out[2] == 1);
     CHECK(memcmp(out + 3, code, sizeof code) == 0 && memcmp(out + 3 + sizeof code, nothing, 256 - sizeof code) == 0);
     CHECK(memcmp(out + 259, nothing, 253) == 0 && memcmp(out + 512, rest, sizeof rest) == 0);
-    CHECK(mos65_record_start(&m, out, 0, &n) == MOS65_OK && out[2] == 1);
-    record_of_nmi(&m);
+    CHECK(mos65_record_start(&m, true, nothing, 0, out, 0, &n) == MOS65_OK && out[2] == 1);
     CHECK(mos65_record_run(&m, 9, &end, out, sizeof out, &n) == MOS65_OK && n == sizeof steps && memcmp(out, steps, n) == 0);
     CHECK(end.why == MOS65_BREAK && end.address == 0x0207 && end.did == 3);
     memset(out, 9, sizeof out);

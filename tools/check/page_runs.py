@@ -142,8 +142,6 @@ SESSIONS = [
     ("session.a65", 8, [("step 50", [50]), ("irq on", [(IRQ, True)]), ("step 9", [9]),
                         ("irq off", [(IRQ, False)])]),
     ("session.tape", 5, [("step 50", [50]), ("nmi", [(NMI,)]), ("back 3", [-3])]),
-    # a short history, whose oldest state has an NMI pending
-    ("session.a65", 2, [("step 30", [30]), ("nmi", [(NMI,)]), ("step 2", [2])]),
 ]
 
 

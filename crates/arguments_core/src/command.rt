@@ -92,19 +92,16 @@ pub fn debug_command<'a>(alloc: Global) -> Result<Command<'a>, Error>
 }
 
 /// What the program's help shows below its words.
-const STATUSES: &str = "Other words, served by the whole program:
-  check SOURCE         tells all faults of a source, each with what a person needs
+const STATUSES: &str = "Other words:
   run SOURCE           runs a program: its console is the terminal
-  trace SOURCE         a row for each step, or how often each line was reached
-  page SOURCE OUT      writes a run as a page for a browser, with its way back
   mon SOURCE           a monitor for people: names, breaks, steps and the way back
+  trace SOURCE         a row for each step, or how often each line was reached
+  check SOURCE         tells all faults of a source, each with what a person needs
   test FILE.t65        tests routines by rows: a call, and what it has to leave
   info TAPE            tells what a tape holds
   cmp TAPE TAPE        tells where two tapes differ
   mend TAPE OUT        writes a tape whose line ends and end record are right
-  convert IN OUT       writes an image in another form
-  lsp                  tells an editor faults, meanings and names while typing
-  dap                  steps through a program in an editor
+  dis TAPE --source    writes what a tape has as a source that `asm` takes
 
 Exit status: 0 done, 1 bad source or tape, 2 bad words or map, 3 out of memory, 4 I/O failed";
 

@@ -1,14 +1,13 @@
 -- What `asm` has to be told of a source. Source: mos65.
-use Rattle.std.specs.Prelude.{ℕ, ◌+◌, Bool, true, false, List, [], ◌∷◌, ◌++◌, ◌||◌, ◌==◌, codes, decimal, Option, if◌then◌else◌}
-use Rattle.memory_map.specs.declared.port.TheConstants.{DEFAULT_PORT}
+use Rattle.std.specs.Prelude.{ℕ, Bool, true, false, List, [], ◌∷◌, ◌++◌, ◌||◌, ◌==◌, codes, decimal, Option, if◌then◌else◌}
 use Rattle.model.specs.Image.{has_byte}
 use Rattle.model.specs.declared.instruction.Profile.{Profile}
 use Rattle.model.specs.declared.instruction.Profile.TheVariants.{N, C}
 
--- Whether an image has a byte at one of the four addresses where the port is if nothing is said.
+-- Whether an image has a byte where the port is if nothing is said, from $F000 to $F003.
 abbrev pub is_at_port : List (Option ℕ) → Bool
-is_at_port part = has_byte part DEFAULT_PORT || has_byte part (DEFAULT_PORT + 1)
-    || has_byte part (DEFAULT_PORT + 2) || has_byte part (DEFAULT_PORT + 3)
+is_at_port part = has_byte part 61440 || has_byte part 61441 || has_byte part 61442
+    || has_byte part 61443
 
 abbrev pub port_words : Bool → List ℕ
 port_words true = codes " --port none"

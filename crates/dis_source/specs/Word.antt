@@ -15,16 +15,15 @@ use Rattle.dis_source.specs.Advice.{advice, is_at_port, remark}
 use Rattle.dis_source.specs.Fill.{bytes_left_out}
 use Rattle.dis_source.specs.Written.{IsSourceOfPart}
 use Rattle.names_files.specs.NamesFile.{names_file}
-use Rattle.memory_map.specs.declared.port.TheConstants.{DEFAULT_PORT}
 use Rattle.model.specs.Names.{Definitions}
 use Rattle.model.specs.Source.{HasFault}
 use Rattle.model.specs.State.{Map}
 use Rattle.model.specs.declared.instruction.Profile.{Profile}
 use Rattle.model.specs.declared.source_fault.AsmFault.{AsmFault}
 
--- The map by which a source of names is read: no ROM, and the port where it is if nothing is said.
+-- The map by which a source of names is read: no ROM, and a port at $F000.
 abbrev pub names_map : Profile → Map
-names_map profile = record { profile = profile; rom = None; port = DEFAULT_PORT }
+names_map profile = record { profile = profile; rom = None; port = 61440 }
 
 -- Names that a source defines.
 abbrev pub AreNames : Profile → List ℕ → Definitions → Type 0

@@ -8,7 +8,6 @@ ghost use Rattle.dis_source.specs.Advice.{advice, bytes_text, is_at_port, left_o
 use arguments::put_three;
 use bus::Image;
 use formatting::{Text, push_bytes, push_decimal};
-use memory_map::DEFAULT_PORT;
 use model::Profile;
 use std::io::Write;
 
@@ -24,10 +23,10 @@ fn has_byte(part: &Image, address: u16) -> bool
 pub fn is_at_port(part: &Image) -> bool
     ensures { result ≡ is_at_port part.now }
 {
-    has_byte(part, DEFAULT_PORT)
-        || has_byte(part, DEFAULT_PORT + 1)
-        || has_byte(part, DEFAULT_PORT + 2)
-        || has_byte(part, DEFAULT_PORT + 3)
+    has_byte(part, 0xf000)
+        || has_byte(part, 0xf001)
+        || has_byte(part, 0xf002)
+        || has_byte(part, 0xf003)
 }
 
 /// The line that says what `asm` has to be told, or nothing.

@@ -19,7 +19,6 @@ use crate::marks::{between, marks_of};
 use arguments::{Refusal, map_of};
 use assembler::{Assembly, assemble};
 use bus::{Image, Port};
-use memory_map::DEFAULT_PORT;
 use model::Profile;
 use named_source::named_text;
 use reached::{followed_marks, vectors};
@@ -36,7 +35,7 @@ pub fn defined(alloc: Global, profile: Profile, source: &[u8]) -> Result<Assembl
     ensures kept { IfOk result (λ a. a.source ≡ source.now) }
     ensures refused { IfErr result (EndsNames profile source.now) }
 {
-    let map = map_of(profile, None, Port::based(DEFAULT_PORT))?;
+    let map = map_of(profile, None, Port::based(0xf000))?;
     let names = assemble(alloc, source, &map)?;
     Ok(names)
 }

@@ -1,11 +1,10 @@
 //! Why the tokens of a line are none of the grammar.
 
-ghost use Rattle.std.specs.Prelude.{◌≡◌, ℕ, Bool, true, IfOk, IfSome, List};
+ghost use Rattle.std.specs.Prelude.{◌≡◌, IfOk};
 ghost use Rattle.std.specs.Option.{option_map};
-ghost use Rattle.fault_notes.specs.Marks.{IsNote, IsPlain, closed_place, count_of, expression_place};
-ghost use Rattle.fault_notes.specs.Marks.{first_of, first_or, form_place, inside_place, is_directive};
-ghost use Rattle.fault_notes.specs.Marks.{is_operation, is_word, line_place, may_be_defined};
-ghost use Rattle.fault_notes.specs.Marks.{operation_place, token_place};
+ghost use Rattle.fault_notes.specs.Marks.{closed_place, count_of, expression_place, first_of, first_or};
+ghost use Rattle.fault_notes.specs.Marks.{form_place, inside_place, is_directive, is_word, line_place};
+ghost use Rattle.fault_notes.specs.Marks.{may_be_defined, note_place, operation_place, token_place};
 ghost use Rattle.fault_notes.specs.Marks.{unclosed, whole, wrong_operand_place};
 ghost use Rattle.line_parts.specs.Lexemes.{lexemes};
 ghost use Rattle.source_notes.specs.Operands.{end_of};
@@ -13,18 +12,27 @@ ghost use Rattle.source_notes.specs.Operands.{end_of};
 use crate::near::is_near;
 use line_parts::Token;
 use model::{LineFault, Profile, TokenKind};
-use opcode_facts::mnemonics_in;
-use optable::{letters_of, mnemonic_in};
+use optable::mnemonic_in;
 use parser::parse_expr;
 use source_notes::{
-    Hint, Note, after_label, concat, defines_next, describe, directive_hint, gives_value,
-    is_symbol, operation_hint, phrase,
+    Note, after_label, concat, defines_next, describe, directive_hint, gives_value, is_symbol,
+    operation_hint, phrase,
 };
 use std::alloc::{AllocError, Global};
 
+/// The mnemonics, those of profile C last.
+const MNEMONICS: [&[u8]; 62] = [
+    b"ADC", b"AND", b"ASL", b"BCC", b"BCS", b"BEQ", b"BIT", b"BMI", b"BNE", b"BPL", b"BRK", b"BVC",
+    b"BVS", b"CLC", b"CLD", b"CLI", b"CLV", b"CMP", b"CPX", b"CPY", b"DEC", b"DEX", b"DEY", b"EOR",
+    b"INC", b"INX", b"INY", b"JMP", b"JSR", b"LDA", b"LDX", b"LDY", b"LSR", b"NOP", b"ORA", b"PHA",
+    b"PHP", b"PLA", b"PLP", b"ROL", b"ROR", b"RTI", b"RTS", b"SBC", b"SEC", b"SED", b"SEI", b"STA",
+    b"STX", b"STY", b"TAX", b"TAY", b"TSX", b"TXA", b"TXS", b"TYA", b"BRA", b"PHX", b"PHY", b"PLX",
+    b"PLY", b"STZ",
+];
+
 /// Returns a note about one token.
 pub fn about(token: &Token<'_>, words: Vec<u8>) -> Note
-    ensures { IsPlain (token_place token.now) result }
+    ensures { note_place result ≡ token_place token.now }
 {
     Note::new(token.start, token.text.len(), words)
 }
@@ -116,82 +124,38 @@ fn label_hint_words(
     alloc: Global,
     label: &[u8],
     directive: &[u8],
-    hint: Hint,
+    hint: &str,
 ) -> Result<Vec<u8>, AllocError> {
-    let (before, hinted) = hint.parts();
     let mut words = label_words(alloc, label)?;
-    words.extend_from_slice(b", and for ")?;
-    words.extend_from_slice(directive)?;
-    words.extend_from_slice(b" ")?;
-    words.extend_from_slice(before)?;
-    words.extend_from_slice(hinted)?;
+    let pieces: [&[u8]; 4] = [b", and for ", directive, b" ", hint.as_bytes()];
+    words.extend_from_slice(&concat(alloc, &pieces)?)?;
     Ok(words)
 }
 
-/// Returns a note about a token whose words name the right word for it, between these.
-pub fn naming(
-    alloc: Global,
-    token: &Token<'_>,
-    before: Vec<u8>,
-    right: &[u8],
-    behind: &[u8],
-) -> Result<Note, AllocError>
-    ensures { (may_be : List ℕ → Bool) → may_be right.now ≡ true
-        → IfOk result (IsNote (token_place token.now) may_be) }
-{
-    let mut words = before;
-    words.extend_from_slice(right)?;
-    words.extend_from_slice(behind)?;
-    let right = Vec::from_slice(alloc, right)?;
-    Ok(Note::new(token.start, token.text.len(), words).with_right(right))
-}
-
-/// Returns whether a word is a mnemonic of a profile or a directive.
-fn is_operation(profile: Profile, word: &[u8]) -> bool
-    ensures { result ≡ is_operation profile word.now }
-{
-    mnemonic_in(profile, word).is_some() || is_directive(word)
-}
-
-/// Returns a note about a token of another assembler or processor, and what to write here: the
-/// right word for it, where that is an operation.
-#[tactic(auto, using(crate::proofs::Marked::plain_steps))]
-fn hint_note(
-    alloc: Global,
-    profile: Profile,
-    token: &Token<'_>,
-    reason: &str,
-    hint: Hint,
-) -> Result<Note, AllocError>
-    ensures { IfOk result (IsNote (token_place token.now) (is_operation profile)) }
-{
-    let (before, hinted) = hint.parts();
-    let mut words = describe(alloc, token.text, reason)?;
-    words.extend_from_slice(before)?;
-    match hint {
-        Hint::Word(word) if is_operation(profile, word) => naming(alloc, token, words, word, b""),
-        _ => {
-            words.extend_from_slice(hinted)?;
-            Ok(about(token, words))
-        }
-    }
-}
-
-/// Returns the letters of the first mnemonic of a profile that is near a word.
-fn near_mnemonic(profile: Profile, word: &[u8]) -> Option<[u8; 3]>
-    ensures { IfSome result (λ letters. is_operation profile letters ≡ true) }
-{
-    for mnemonic in mnemonics_in(Profile::C) {
-        let letters = letters_of(*mnemonic);
-        if is_near(&letters, word) && mnemonic_in(profile, &letters).is_some() {
-            return Some(letters);
+/// Returns the first mnemonic of a profile that is near a word.
+fn near_mnemonic<'w>(profile: Profile, word: &'w [u8]) -> Option<&'w [u8]> {
+    for name in &MNEMONICS {
+        if is_near(name, word) && mnemonic_in(profile, name).is_some() {
+            return Some(name);
         }
     }
     None
 }
 
-/// Returns why a word is no mnemonic, where none is near: its profile, or that it may be a label.
-fn far_words(alloc: Global, word: &[u8], is_alone: bool) -> Result<Vec<u8>, AllocError> {
+/// Returns why a word is no mnemonic: its profile, the nearest mnemonic, or that it may be a label.
+fn mnemonic_words(
+    alloc: Global,
+    profile: Profile,
+    word: &[u8],
+    is_alone: bool,
+) -> Result<Vec<u8>, AllocError> {
+    if mnemonic_in(Profile::C, word).is_some() {
+        return describe(alloc, word, " is a mnemonic of profile C (--profile C)");
+    }
+    if let Some(name) = near_mnemonic(profile, word) {
+        let pieces: [&[u8]; 4] = [word, b" is no mnemonic; ", name, b" is"];
+        return concat(alloc, &pieces);
+    }
     if is_alone {
         let pieces: [&[u8]; 4] = [
             word,
@@ -204,79 +168,42 @@ fn far_words(alloc: Global, word: &[u8], is_alone: bool) -> Result<Vec<u8>, Allo
     describe(alloc, word, " is no mnemonic")
 }
 
-/// Returns why a word is no mnemonic: its profile, the nearest mnemonic, or that it may be a label.
-#[tactic(auto, using(crate::proofs::Marked::plain_steps))]
-fn mnemonic_note(
-    alloc: Global,
-    profile: Profile,
-    word: &Token<'_>,
-    is_alone: bool,
-) -> Result<Note, AllocError>
-    ensures { IfOk result (IsNote (token_place word.now) (is_operation profile)) }
-{
-    if mnemonic_in(Profile::C, word.text).is_some() {
-        let reason = " is a mnemonic of profile C (--profile C)";
-        return Ok(about(word, describe(alloc, word.text, reason)?));
-    }
-    match near_mnemonic(profile, word.text) {
-        Some(letters) => {
-            let before = describe(alloc, word.text, " is no mnemonic; ")?;
-            naming(alloc, word, before, &letters, b" is")
-        }
-        None => Ok(about(word, far_words(alloc, word.text, is_alone)?)),
-    }
-}
-
-/// Returns words about a definition or a label, if one is written as in another assembler.
-fn named_words(
-    alloc: Global,
-    profile: Profile,
-    word: &Token<'_>,
-    rest: &[Token<'_>],
-) -> Result<Option<Vec<u8>>, AllocError> {
-    let words = match rest {
-        [next, value @ ..] if gives_value(next.text) => {
-            definition_words(alloc, word.text, value)?
-        }
-        [next, value @ ..] if defines_next(word.text) && is_word(next) => {
-            definition_words(alloc, next.text, value)?
-        }
-        [next, ..] if begins_operation(profile, next) => label_words(alloc, word.text)?,
-        _ => return Ok(None),
-    };
-    Ok(Some(words))
+/// Returns words about a word of another assembler or processor, and what to write here.
+fn here_words(alloc: Global, word: &[u8], hint: &str) -> Result<Vec<u8>, AllocError> {
+    let pieces: [&[u8]; 3] = [word, b" is no mnemonic here; ", hint.as_bytes()];
+    concat(alloc, &pieces)
 }
 
 /// Returns why a word that is no mnemonic begins no operation, by the tokens after it.
-#[tactic(auto, using(crate::proofs::Marked::plain_steps))]
-fn word_note(
+fn word_words(
     alloc: Global,
     profile: Profile,
     word: &Token<'_>,
     rest: &[Token<'_>],
-) -> Result<Note, AllocError>
-    ensures { IfOk result (IsNote (token_place word.now) (is_operation profile)) }
-{
-    if let Some(words) = named_words(alloc, profile, word, rest)? {
-        return Ok(about(word, words));
+) -> Result<Vec<u8>, AllocError> {
+    match rest {
+        [next, value @ ..] if gives_value(next.text) => {
+            return definition_words(alloc, word.text, value);
+        }
+        [next, value @ ..] if defines_next(word.text) && is_word(next) => {
+            return definition_words(alloc, next.text, value);
+        }
+        [next, ..] if begins_operation(profile, next) => return label_words(alloc, word.text),
+        _ => {}
     }
     if let Some(hint) = operation_hint(word.text) {
-        return hint_note(alloc, profile, word, NO_MNEMONIC, hint);
+        return here_words(alloc, word.text, hint);
     }
     if let [next, _, ..] = rest {
         if let Some(hint) = directive_hint(next.text) {
-            let words = label_hint_words(alloc, word.text, next.text, hint)?;
-            return Ok(about(word, words));
+            return label_hint_words(alloc, word.text, next.text, hint);
         }
     }
-    match directive_hint(word.text) {
-        Some(hint) => hint_note(alloc, profile, word, NO_MNEMONIC, hint),
-        None => mnemonic_note(alloc, profile, word, rest.is_empty()),
+    if let Some(hint) = directive_hint(word.text) {
+        return here_words(alloc, word.text, hint);
     }
+    mnemonic_words(alloc, profile, word.text, rest.is_empty())
 }
-
-/// Follows a word of another assembler or processor.
-const NO_MNEMONIC: &str = " is no mnemonic here; ";
 
 /// What is said of a comment that begins as in another language.
 const COMMENT: &str = "a comment begins with ;";
@@ -343,7 +270,7 @@ fn left_note(
     rest: &[Token<'_>],
     is_list: bool,
 ) -> Result<Note, AllocError>
-    ensures { IfOk result (IsPlain (first_or index (lexemes rest.now))) }
+    ensures { IfOk result (λ note. note_place note ≡ first_or index (lexemes rest.now)) }
 {
     match rest {
         [token, ..] => Ok(about(token, left_words(alloc, token, rest, is_list)?)),
@@ -394,7 +321,7 @@ fn no_value_note(
     tokens: &[Token<'_>],
     is_list: bool,
 ) -> Result<Note, AllocError>
-    ensures { IfOk result (IsPlain (first_or index (lexemes tokens.now))) }
+    ensures { IfOk result (λ note. note_place note ≡ first_or index (lexemes tokens.now)) }
 {
     match tokens {
         [token, ..] => Ok(about(
@@ -412,7 +339,7 @@ fn expression_note(
     tokens: &[Token<'_>],
     is_list: bool,
 ) -> Result<Note, AllocError>
-    ensures { IfOk result (IsPlain (expression_place index tokens.now)) }
+    ensures { IfOk result (λ note. note_place note ≡ expression_place index tokens.now) }
 {
     match parse_expr(alloc, tokens) {
         Ok((_, taken)) => left_note(alloc, index, tokens.split_at(taken).1, is_list),
@@ -445,7 +372,7 @@ const BRACKETS: &str = "round brackets stand round a pointer; in an expression w
 
 /// Returns a note about tokens from the first to the last.
 fn whole_note(tokens: &[Token<'_>], words: Vec<u8>) -> Note
-    ensures { IsPlain (whole tokens.now) result }
+    ensures { note_place result ≡ whole tokens.now }
 {
     match (tokens.first(), tokens.last()) {
         (Some(first), Some(last)) => {
@@ -457,7 +384,8 @@ fn whole_note(tokens: &[Token<'_>], words: Vec<u8>) -> Note
 
 /// Returns what is said of an expression, which may have a round bracket in it.
 fn inside_note(alloc: Global, index: usize, tokens: &[Token<'_>]) -> Result<Note, AllocError>
-    ensures { IfOk result (IsPlain (inside_place index tokens.now (first_of 40 tokens.now))) }
+    ensures { IfOk result
+        (λ note. note_place note ≡ inside_place index tokens.now (first_of 40 tokens.now)) }
 {
     match first_of(b'(', tokens) {
         Some(bracket) => Ok(about(bracket, phrase(alloc, BRACKETS)?)),
@@ -467,7 +395,7 @@ fn inside_note(alloc: Global, index: usize, tokens: &[Token<'_>]) -> Result<Note
 
 /// Returns what is said of an operand whose brackets are closed.
 fn closed_note(alloc: Global, index: usize, tokens: &[Token<'_>]) -> Result<Note, AllocError>
-    ensures { IfOk result (IsPlain (closed_place index tokens.now)) }
+    ensures { IfOk result (λ note. note_place note ≡ closed_place index tokens.now) }
 {
     let [first, rest @ ..] = tokens else {
         return expression_note(alloc, index, &[], false);
@@ -484,7 +412,7 @@ fn closed_note(alloc: Global, index: usize, tokens: &[Token<'_>]) -> Result<Note
 
 /// Returns why the operand of an instruction is wrong, which stands behind this index.
 fn wrong_operand_note(alloc: Global, index: usize, tokens: &[Token<'_>]) -> Result<Note, AllocError>
-    ensures { IfOk result (IsPlain (wrong_operand_place index tokens.now)) }
+    ensures { IfOk result (λ note. note_place note ≡ wrong_operand_place index tokens.now) }
 {
     if let Some(bracket) = unclosed(b'(', b')', tokens) {
         return Ok(about(bracket, phrase(alloc, "this bracket is not closed")?));
@@ -506,21 +434,19 @@ fn is_directive(text: &[u8]) -> bool
         || text.eq_ignore_ascii_case(b".END")
 }
 
-/// Returns a note about a directive that is none of the five.
-#[tactic(auto, using(crate::proofs::Marked::plain_steps))]
-fn directive_note(
-    alloc: Global,
-    profile: Profile,
-    directive: &Token<'_>,
-) -> Result<Note, AllocError>
-    ensures { IfOk result (IsNote (token_place directive.now) (is_operation profile)) }
-{
-    match directive_hint(directive.text) {
-        Some(hint) => hint_note(alloc, profile, directive, " is no directive here; ", hint),
-        None => {
-            let reason = " is no directive; there are .BYTE .WORD .DBYTE .RES .END";
-            Ok(about(directive, describe(alloc, directive.text, reason)?))
+/// Returns words about a text that is none of the five directives.
+fn directive_words(alloc: Global, text: &[u8]) -> Result<Vec<u8>, AllocError> {
+    match directive_hint(text) {
+        Some(hint) => {
+            let mut words = describe(alloc, text, " is no directive here; ")?;
+            words.extend_from_slice(hint.as_bytes())?;
+            Ok(words)
         }
+        None => describe(
+            alloc,
+            text,
+            " is no directive; there are .BYTE .WORD .DBYTE .RES .END",
+        ),
     }
 }
 
@@ -546,28 +472,27 @@ fn other_words(first: &Token<'_>, rest: &[Token<'_>]) -> &'static str {
 }
 
 /// Returns why an operation that begins with this token is wrong.
-#[tactic(auto, using(crate::proofs::Marked::plain_steps))]
 fn operation_note(
     alloc: Global,
     profile: Profile,
     first: &Token<'_>,
     rest: &[Token<'_>],
 ) -> Result<Note, AllocError>
-    ensures { IfOk result (IsNote
-        (operation_place profile first.now.kind first.now rest.now) (is_operation profile)) }
+    ensures { IfOk result (λ note. note_place note
+        ≡ operation_place profile first.now.kind first.now rest.now) }
 {
     match first.kind {
         TokenKind::Word => {
             if mnemonic_in(profile, first.text).is_some() {
                 return wrong_operand_note(alloc, behind(first), rest);
             }
-            word_note(alloc, profile, first, rest)
+            Ok(about(first, word_words(alloc, profile, first, rest)?))
         }
         TokenKind::Directive => {
             if is_directive(first.text) {
                 return expression_note(alloc, behind(first), rest, true);
             }
-            directive_note(alloc, profile, first)
+            Ok(about(first, directive_words(alloc, first.text)?))
         }
         _ => Ok(about(first, phrase(alloc, other_words(first, rest))?)),
     }
@@ -588,10 +513,9 @@ fn no_label_words(label: &Token<'_>) -> &'static str {
     }
 }
 
-/// Returns why the tokens of a line are none of the grammar, and which operation may be meant.
-#[tactic(auto, using(crate::proofs::Marked::plain_steps))]
+/// Returns why the tokens of a line are none of the grammar.
 pub fn line_note(alloc: Global, profile: Profile, tokens: &[Token<'_>]) -> Result<Note, AllocError>
-    ensures { IfOk result (IsNote (line_place profile tokens.now) (is_operation profile)) }
+    ensures { IfOk result (λ note. note_place note ≡ line_place profile tokens.now) }
 {
     match tokens {
         [label, colon, ..] if is_symbol(colon, b':') && !is_word(label) => {
@@ -602,9 +526,8 @@ pub fn line_note(alloc: Global, profile: Profile, tokens: &[Token<'_>]) -> Resul
 }
 
 /// Returns why the tokens of a line behind its label are none of the grammar.
-#[tactic(auto, using(crate::proofs::Marked::plain_steps))]
 fn form_note(alloc: Global, profile: Profile, tokens: &[Token<'_>]) -> Result<Note, AllocError>
-    ensures { IfOk result (IsNote (form_place profile tokens.now) (is_operation profile)) }
+    ensures { IfOk result (λ note. note_place note ≡ form_place profile tokens.now) }
 {
     match tokens {
         [first, second, rest @ ..] if is_symbol(second, b'=') && may_be_defined(first) => {

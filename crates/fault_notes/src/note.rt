@@ -1,18 +1,17 @@
 //! What is said of each kind of fault.
 
-ghost use Rattle.std.specs.Prelude.{◌≡◌, ◌++◌, ◌||◌, true, IfOk, IfSome, map, slice_get};
+ghost use Rattle.std.specs.Prelude.{◌≡◌, ◌++◌, ◌||◌, IfOk, map, slice_get};
 ghost use Rattle.std.specs.List.{find, list_any};
 ghost use Rattle.std.specs.Option.{option_map};
 ghost use Rattle.std.specs.Str.{bytes_eq};
-ghost use Rattle.fault_notes.specs.Marks.{IsMeant, IsMeantBy, IsNote, IsPlain, first_before};
-ghost use Rattle.fault_notes.specs.Marks.{is_earlier, is_known, is_known_before, is_line_name};
-ghost use Rattle.fault_notes.specs.Marks.{is_register, is_reserved, is_text, is_unknown, known_of};
-ghost use Rattle.fault_notes.specs.Marks.{may_be_right, places_of_names, token_or, token_place};
-ghost use Rattle.fault_notes.specs.Marks.{tokens_place, unknown_place};
+ghost use Rattle.fault_notes.specs.Marks.{IsMeant, IsMeantBy, first_before, is_earlier, is_known};
+ghost use Rattle.fault_notes.specs.Marks.{is_known_before, is_register, is_reserved, is_text};
+ghost use Rattle.fault_notes.specs.Marks.{is_unknown, known_of, note_place, places_of_names};
+ghost use Rattle.fault_notes.specs.Marks.{token_or, tokens_place, unknown_place};
 ghost use Rattle.source_notes.specs.Lines.{name_view};
 ghost use Rattle.source_notes.specs.Operands.{operand_place, operand_of};
 
-use crate::form::{about, is_word, line_note, naming};
+use crate::form::{about, is_word, line_note};
 use crate::near::is_near;
 use crate::scan::text_note;
 use crate::values::{Outside, branch_miss, first_outside};
@@ -20,7 +19,6 @@ use formatting::push_count;
 use lexer::tokens;
 use line_parts::{KeptLine, Token};
 use model::{AsmFault, AsmFaultKind, LineFault, Mnemonic, Mode, Profile};
-use opcode_facts::{all_modes, operand_name};
 use optable::{encode_in, mnemonic_in};
 use source_faults::Found;
 use source_notes::{
@@ -49,8 +47,8 @@ fn about_or_operand(
     token: Option<&Token<'_>>,
     words: Vec<u8>,
 ) -> Note
-    ensures { IsPlain (token_or (operand_place line.now tokens.now)
-        (option_map (λ token. token.now) token.entry)) result }
+    ensures { note_place result ≡ token_or (operand_place line.now tokens.now)
+        (option_map (λ token. token.now) token.entry) }
 {
     match token {
         Some(token) => about(token, words),
@@ -164,74 +162,38 @@ fn unknown_token<'t, 'a>(
     None
 }
 
-/// Returns the first of some names with this text.
-fn named<'a>(names: &[Name<'a>], text: &[u8]) -> Option<Name<'a>> {
-    for name in names {
-        if name.text == text {
-            return Some(*name);
-        }
-    }
-    None
-}
-
-/// Returns the first of some names that is near a text.
-#[tactic(auto, using(crate::proofs::Marked::line_name_at))]
-fn near_name<'a>(names: &[Name<'a>], text: &[u8]) -> Option<Name<'a>>
-    ensures { IfSome result
-        (λ name. is_line_name (map name_view names.now) name.text.now ≡ true) }
-{
-    for name in names {
-        if is_near(name.text, text) {
-            return Some(*name);
-        }
-    }
-    None
-}
-
-/// Returns what is said of a name that is not defined, with the nearest name that is.
-#[tactic(auto, using(crate::proofs::Marked::plain_steps))]
-fn undefined_note(
-    alloc: Global,
-    context: &Context<'_, '_>,
-    token: &Token<'_>,
-) -> Result<Note, AllocError>
-    ensures { IfOk result (IsNote (token_place token.now)
-        (is_line_name (known_of context.now).names)) }
-{
-    let Some(near) = near_name(context.names, token.text) else {
-        return Ok(about(token, describe(alloc, token.text, " is not defined")?));
-    };
-    let before = describe(alloc, token.text, " is not defined; ")?;
-    let mut behind = phrase(alloc, " is, on line ")?;
-    push_count(&mut behind, near.line as u64)?;
-    naming(alloc, token, before, near.text, &behind)
-}
-
-/// Returns what is said of a name that is not known, with its line or with the nearest name that
-/// is.
-#[tactic(auto, using(crate::proofs::Marked::plain_steps))]
-fn unknown_name_note(
+/// Returns words about a name that is not known, with its line or with the nearest name that is.
+fn unknown_words(
     alloc: Global,
     context: &Context<'_, '_>,
     at_once: bool,
-    token: &Token<'_>,
-) -> Result<Note, AllocError>
-    ensures { IfOk result (IsNote (token_place token.now)
-        (is_line_name (known_of context.now).names)) }
-{
-    match named(context.names, token.text) {
-        Some(name) if at_once => {
+    token: Option<&Token<'_>>,
+) -> Result<Vec<u8>, AllocError> {
+    let Some(token) = token else {
+        return phrase(alloc, "a name has to be defined on an earlier line");
+    };
+    for name in context.names {
+        if name.text == token.text && at_once {
             let when = " has to be defined before it is used here; it is on line ";
             let mut words = describe(alloc, token.text, when)?;
             push_count(&mut words, name.line as u64)?;
-            Ok(about(token, words))
+            return Ok(words);
         }
-        _ => undefined_note(alloc, context, token),
     }
+    let mut words = describe(alloc, token.text, " is not defined")?;
+    for name in context.names {
+        if is_near(name.text, token.text) {
+            words.extend_from_slice(b"; ")?;
+            words.extend_from_slice(name.text)?;
+            words.extend_from_slice(b" is, on line ")?;
+            push_count(&mut words, name.line as u64)?;
+            return Ok(words);
+        }
+    }
+    Ok(words)
 }
 
 /// Returns what is said of a name that is not defined, or not defined before its line.
-#[tactic(auto, using(crate::proofs::Marked::plain_steps))]
 fn unknown_note(
     alloc: Global,
     context: &Context<'_, '_>,
@@ -240,17 +202,12 @@ fn unknown_note(
     line: &[u8],
     tokens: &[Token<'_>],
 ) -> Result<Note, AllocError>
-    ensures { IfOk result (IsNote
-        (unknown_place (known_of context.now) at_once number line.now tokens.now)
-        (is_line_name (known_of context.now).names)) }
+    ensures { IfOk result (λ note. note_place note
+        ≡ unknown_place (known_of context.now) at_once number line.now tokens.now) }
 {
-    match unknown_token(context, at_once, number, tokens, operand_of(tokens)) {
-        Some(token) => unknown_name_note(alloc, context, at_once, token),
-        None => {
-            let words = phrase(alloc, "a name has to be defined on an earlier line")?;
-            Ok(about_operand(line, tokens, words))
-        }
-    }
+    let token = unknown_token(context, at_once, number, tokens, operand_of(tokens));
+    let words = unknown_words(alloc, context, at_once, token)?;
+    Ok(about_or_operand(line, tokens, token, words))
 }
 
 /// Returns words about a name that an earlier line defines.
@@ -260,9 +217,12 @@ fn duplicate_words(
     token: &Token<'_>,
 ) -> Result<Vec<u8>, AllocError> {
     let mut words = describe(alloc, token.text, " is defined already")?;
-    if let Some(name) = named(context.names, token.text) {
-        words.extend_from_slice(b", on line ")?;
-        push_count(&mut words, name.line as u64)?;
+    for name in context.names {
+        if name.text == token.text {
+            words.extend_from_slice(b", on line ")?;
+            push_count(&mut words, name.line as u64)?;
+            return Ok(words);
+        }
     }
     Ok(words)
 }
@@ -273,7 +233,8 @@ fn duplicate_note(
     context: &Context<'_, '_>,
     tokens: &[Token<'_>],
 ) -> Result<Note, AllocError>
-    ensures { IfOk result (IsPlain (token_or (0, 1) (slice_get tokens.now 0))) }
+    ensures { IfOk result
+        (λ note. note_place note ≡ token_or (0, 1) (slice_get tokens.now 0)) }
 {
     match tokens.first() {
         Some(token) => Ok(about(token, duplicate_words(alloc, context, token)?)),
@@ -337,23 +298,41 @@ fn reserved_note(
     line: &[u8],
     tokens: &[Token<'_>],
 ) -> Result<Note, AllocError>
-    ensures { IfOk result (IsPlain (token_or (operand_place line.now tokens.now)
-        (find (is_reserved profile) (places_of_names tokens.now)))) }
+    ensures { IfOk result (λ note. note_place note ≡ token_or (operand_place line.now tokens.now)
+        (find (is_reserved profile) (places_of_names tokens.now))) }
 {
     let token = reserved_token(profile, tokens);
     let words = reserved_words(alloc, token)?;
     Ok(about_or_operand(line, tokens, token, words))
 }
 
+/// Each mode with its operand as it is written.
+const MODES: [(Mode, &[u8]); 14] = [
+    (Mode::Imp, b"no operand"),
+    (Mode::Acc, b"A"),
+    (Mode::Imm, b"#n"),
+    (Mode::Zp, b"zp"),
+    (Mode::ZpX, b"zp,X"),
+    (Mode::ZpY, b"zp,Y"),
+    (Mode::Abs, b"abs"),
+    (Mode::AbsX, b"abs,X"),
+    (Mode::AbsY, b"abs,Y"),
+    (Mode::IndX, b"(zp,X)"),
+    (Mode::IndY, b"(zp),Y"),
+    (Mode::Ind, b"(abs)"),
+    (Mode::IndZ, b"(zp)"),
+    (Mode::Rel, b"target"),
+];
+
 /// Appends the operands that a mnemonic takes, each as it is written.
 fn push_modes(words: &mut Vec<u8>, profile: Profile, mnemonic: Mnemonic) -> Result<(), AllocError> {
     let mut is_first = true;
-    for mode in all_modes() {
+    for (mode, text) in &MODES {
         if encode_in(profile, mnemonic, *mode).is_some() {
             if !is_first {
                 words.extend_from_slice(b"  ")?;
             }
-            words.extend_from_slice(operand_name(*mode).as_bytes())?;
+            words.extend_from_slice(text)?;
             is_first = false;
         }
     }
@@ -404,15 +383,18 @@ fn push_zero_page(
     let (Some(code), Some(name)) = (line.code, after_label(tokens).first()) else {
         return Ok(());
     };
-    match code.mode {
-        Mode::ZpX | Mode::ZpY | Mode::IndX | Mode::IndY | Mode::IndZ => {
-            words.extend_from_slice(b"; ")?;
-            words.extend_from_slice(name.text)?;
-            words.extend_from_slice(b" takes ")?;
-            words.extend_from_slice(operand_name(code.mode).as_bytes())
-        }
-        _ => Ok(()),
-    }
+    let text: &[u8] = match code.mode {
+        Mode::ZpX => b"zp,X",
+        Mode::ZpY => b"zp,Y",
+        Mode::IndX => b"(zp,X)",
+        Mode::IndY => b"(zp),Y",
+        Mode::IndZ => b"(zp)",
+        _ => return Ok(()),
+    };
+    words.extend_from_slice(b"; ")?;
+    words.extend_from_slice(name.text)?;
+    words.extend_from_slice(b" takes ")?;
+    words.extend_from_slice(text)
 }
 
 /// Returns words about a value outside its range.
@@ -541,7 +523,6 @@ fn other_words(
 }
 
 /// Returns what is said of a fault of a line that is made of tokens.
-#[tactic(auto, using(crate::proofs::Marked::plain_steps))]
 fn tokens_note(
     alloc: Global,
     context: &Context<'_, '_>,
@@ -550,9 +531,8 @@ fn tokens_note(
     line: &[u8],
     tokens: &[Token<'_>],
 ) -> Result<Note, AllocError>
-    ensures { IfOk result (IsNote
-        (tokens_place (known_of context.now) kind number line.now tokens.now)
-        (may_be_right (known_of context.now) kind)) }
+    ensures { IfOk result (λ note. note_place note
+        ≡ tokens_place (known_of context.now) kind number line.now tokens.now) }
 {
     match kind {
         AsmFaultKind::Syntax => line_note(alloc, context.profile, tokens),
@@ -575,7 +555,8 @@ fn read_note(
     number: u32,
     line: &[u8],
 ) -> Result<Note, AllocError>
-    ensures { IfOk result (IsMeantBy (known_of context.now) kind number line.now) }
+    ensures { IfOk result (λ note.
+        IsMeantBy (known_of context.now) kind number line.now (note_place note)) }
 {
     match tokens(alloc, line) {
         Ok(found) => tokens_note(alloc, context, kind, number, line, &found),
@@ -594,8 +575,7 @@ fn ascii_words(alloc: Global, bytes: &[u8]) -> Result<Vec<u8>, AllocError> {
     phrase(alloc, "a byte is neither printable ASCII nor a tab")
 }
 
-/// Returns what is said of a fault of a line, which bytes of the line are meant, and which word is
-/// right in their place if the words name one. Source: mos65.
+/// Returns what is said of a fault of a line, and which bytes of the line are meant. Source: mos65.
 ///
 /// Errors: `AllocError` if an allocation fails.
 pub fn note_of(
@@ -604,7 +584,8 @@ pub fn note_of(
     fault: AsmFault,
     line: &[u8],
 ) -> Result<Note, AllocError>
-    ensures { IfOk result (IsMeant (known_of context.now) fault.kind fault.line line.now) }
+    ensures { IfOk result (λ note.
+        IsMeant (known_of context.now) fault.kind fault.line line.now (note_place note)) }
 {
     match fault.kind {
         AsmFaultKind::LineTooLong => {

@@ -2,7 +2,7 @@
 
 ghost use Rattle.std.specs.Prelude.{◌≡◌, ◌+◌, IfOk, drop};
 ghost use Rattle.std.specs.List.{prefix_len};
-ghost use Rattle.fault_notes.specs.Marks.{IsPlain, stray_place};
+ghost use Rattle.fault_notes.specs.Marks.{note_place, stray_place};
 ghost use Rattle.lexer.specs.Stray.{first_stray};
 ghost use Rattle.model.specs.Token.{is_word_byte};
 
@@ -120,7 +120,7 @@ fn stray_width(bytes: &[u8]) -> usize
 
 /// Returns what is said of a line that is not made of tokens.
 pub fn text_note(alloc: Global, line: &[u8]) -> Result<Note, AllocError>
-    ensures { IfOk result (IsPlain (stray_place line.now (first_stray line.now))) }
+    ensures { IfOk result (λ note. note_place note ≡ stray_place line.now (first_stray line.now)) }
 {
     match first_stray(line) {
         Some(start) => {

@@ -11,7 +11,7 @@ use crate::converting::converted;
 use crate::fault::ConvertFault;
 use crate::wording::NO_BYTE;
 use crate::words::{ConvertWords, read_convert_words};
-use arguments::{Refusal, refused_words, tell_no_image, write_output};
+use arguments::{Refusal, WriteFault, is_one_file, refused_words, tell_no_image, write_file};
 use image_files::{ImageRefusal, image_bytes};
 use std::io::Write;
 use std::rt::Files;
@@ -26,7 +26,10 @@ fn write_out<H: Files + AllocGlobal>(
 ) -> Result<(), Refusal>
     ensures { IfErr result EndsWriting }
 {
-    write_output(rt, words.out, &[Some(words.input)], bytes)
+    if is_one_file(rt, words.input, words.out) {
+        return Err(Refusal::WriteFile(WriteFault::SameFile));
+    }
+    write_file(rt, words.out, bytes)
 }
 
 /// Converts a file. The error has the file that it is of.

@@ -23,7 +23,7 @@ use arguments::{FileForm, FileWords, LoadFault, Refusal, map_of, read_source, sh
 use assembler::{Assembly, assemble};
 use debugger::Session;
 use fault_notes::told_faults;
-use image_files::{ImageRefusal, free_base, image_of_file, refuse_image, said_of};
+use image_files::{free_base, image_of_file, refuse_image, said_of};
 use image_reader::Form;
 use memory_map::{Image, MapSpec};
 use model::{AsmFault, Profile};
@@ -154,12 +154,17 @@ fn start_source(
     ensures bytes { IfOk result (λ loaded. loaded.written ≡ bytes_in assembly.image) }
     ensures refused { IfErr result (λ fault. fault ≡ Refusal.OutOfMemory) }
 {
-    let (session, written) = started(alloc, map, assembly.image(), history)?;
-    Ok(Loaded {
-        session,
-        assembly: Some(assembly),
-        written,
-    })
+    match started(alloc, map, assembly.image(), history) {
+        Ok((session, written)) => Ok(Loaded {
+            session,
+            assembly: Some(assembly),
+            written,
+        }),
+        Err(refusal) => {
+            drop(assembly);
+            Err(refusal)
+        }
+    }
 }
 
 /// Returns a session that holds at most `history` earlier states, on the image of a source's file.
@@ -213,7 +218,10 @@ fn image_in<H: Files + AllocGlobal>(
     ensures found { IfOk result (IsOfFile said) }
     ensures refused { IfErr result (EndsImageFile said) }
 {
-    image_of_file(rt, path, said).map_err(ImageRefusal::unloaded)
+    match image_of_file(rt, path, said) {
+        Ok(image) => Ok(image),
+        Err(why) => Err(why.unloaded()),
+    }
 }
 
 /// Returns why an image is not loaded that has bytes at the port of a map.
@@ -271,7 +279,10 @@ fn load_image<H: Files + AllocGlobal>(
     ensures refused { IfErr result (EndsAsImage said map) }
 {
     let image = image_on(rt, path, said, &map, rom)?;
-    Ok(start_image(rt.alloc(), map, &image, history)?)
+    match start_image(rt.alloc(), map, &image, history) {
+        Ok(loaded) => Ok(loaded),
+        Err(refusal) => Err(LoadFault::Refused(refusal)),
+    }
 }
 
 /// Returns a session that holds at most `history` earlier states, on the image of a file that the

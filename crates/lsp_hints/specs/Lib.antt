@@ -4,4 +4,5 @@ pub mod Folds
 pub mod Hints
 pub mod Operations
 pub mod Painted
+pub mod RightWords
 pub mod Signatures

@@ -8,6 +8,7 @@ ghost use Rattle.serde_json.specs.Data.{Data};
 ghost use Rattle.serde_json.specs.View.{view};
 
 use crate::hints::is_between;
+use crate::right_words::right_word;
 use crate::values::text_of;
 use bus::MapSpec;
 use json_values::{Object, ValueList};
@@ -44,7 +45,7 @@ fn fix_of(
         .build()
 }
 
-/// Puts the change for a fault or a warning between two lines behind others, if its note has the
+/// Puts the change for a fault or a warning between two lines behind others, if its words name the
 /// right word.
 fn with_fix(
     alloc: Global,
@@ -60,15 +61,15 @@ fn with_fix(
     if !is_between(between, (one.line as u64).saturating_sub(1)) {
         return fixes;
     }
-    match &one.note.right {
+    match right_word(text.profile, &text.uses, &one.note.words) {
         Some(word) => fixes.with(fix_of(alloc, uri, text, one, word)),
         None => fixes,
     }
 }
 
 /// Returns the changes for the faults of a document on a map, or for its warnings, from one line to
-/// another, counted from 0: for each whose note has the right word, that word in place of the bytes
-/// that it means. The only error is that a request for memory was refused.
+/// another, counted from 0: for each of which `check` names the right word, that word in place of
+/// the bytes that it means. The only error is that a request for memory was refused.
 pub fn fixes_in(
     alloc: Global,
     map: &MapSpec,

@@ -40,7 +40,7 @@ pub record IsNoted (asked : Result SeenCommand SeenSlip) (line : List ℕ) (old 
 
 -- The session is shown on a page: it goes back and comes again.
 pub record IsShown (old new : Seat) : Type 0 where
-  pub shown : ShowsPage old.desk new.desk
+  pub shown : ShowsPage old.words.now.history old.desk new.desk
   pub view : new.view ≡ old.view
   pub notes : new.notes ≡ old.notes
   pub loaded : new.loaded ≡ old.loaded

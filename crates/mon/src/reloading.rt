@@ -32,6 +32,9 @@ use mon_session::Desk;
 use std::alloc::{AllocError, Global};
 use std::rt::Files;
 
+/// The most bytes of a line that says why a file is not loaded, but for the file's name.
+const LONGEST_LINE: usize = 256;
+
 /// Serves a line that was noted once more, and notes it if it has placed something.
 fn repeat_line(
     alloc: Global,
@@ -144,14 +147,38 @@ fn is_memory(fault: &LoadFault) -> bool
     matches!(fault, LoadFault::Refused(Refusal::OutOfMemory))
 }
 
+/// Says what is told of the faults of a source.
+fn say_faults(desk: &mut Desk, text: &[u8]) -> Result<(), AllocError>
+    ensures shows { ShowsOnly desk.old desk.new }
+    ensures said { OnOk result (desk.new.text.items ≡ desk.old.text.items ++ text.now) }
+{
+    desk.text.extend_from_slice(text)?;
+    Ok(())
+}
+
+/// Says in a line why a file is not loaded.
+fn say_why(desk: &mut Desk, fault: LoadFault, file: &str) -> Result<(), AllocError>
+    ensures shows { ShowsOnly desk.old desk.new }
+    ensures said { OnOk result (SaysFront (load_text fault file.now) desk.old desk.new) }
+{
+    let most = file.len().saturating_add(LONGEST_LINE);
+    desk.text.reserve(most)?;
+    let _ = fault.tell(file, &mut desk.text);
+    Ok(())
+}
+
 /// Says why a file is not loaded: all faults of a source, or a line.
 ///
 /// Errors: `AllocError` if an allocation fails.
+#[tactic(auto, unfolding(arguments::specs::FaultLines::load_text))]
 fn say_unloaded(desk: &mut Desk, fault: LoadFault, file: &str) -> Result<(), AllocError>
     ensures shows { ShowsOnly desk.old desk.new }
     ensures said { OnOk result (SaysFront (load_text fault file.now) desk.old desk.new) }
 {
-    fault.push(file, &mut desk.text)
+    match fault {
+        LoadFault::Faults { text, .. } => say_faults(desk, &text),
+        fault => say_why(desk, fault, file),
+    }
 }
 
 /// Keeps the session, and says why a file is not loaded, unless memory ran out.

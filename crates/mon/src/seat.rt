@@ -161,8 +161,8 @@ fn view_after(
     })
 }
 
-/// Does what a line asks for at a desk, notes it if it has placed something, and returns whether
-/// the session is to end.
+/// Does what a line asks for at a desk, notes it if it has placed something, keeps what it has
+/// handed in, and returns whether the session is to end.
 fn serve_noted(
     alloc: Global,
     seat: &mut Seat<'_>,
@@ -175,7 +175,9 @@ fn serve_noted(
 {
     seat.view = view_after(&read.asked, &seat.desk, seat.view);
     let pc = seat.desk.session.regs().pc;
+    let room = seat.desk.session.input_room();
     let is_over = serve(&mut seat.desk, alloc, read)?;
+    seat.loaded.keep_typed(&seat.desk, &read.asked, room)?;
     let placed = placed_in(&read.asked);
     note_line(alloc, &mut seat.notes, &seat.desk, placed, pc, line)?;
     Ok(is_over)

@@ -84,6 +84,6 @@ pub fn start<H: Files + AllocGlobal>(
     let desk = of_memory(Desk::new(rt.alloc(), session, places, words.history))?;
     Ok(Started {
         desk,
-        loaded: Known::new(written, assembly, names),
+        loaded: Known::new(rt.alloc(), written, assembly, names),
     })
 }

@@ -1,2 +1,4 @@
+pub mod Tried
+pub mod Interrupts
 pub mod Again
 pub mod Cells

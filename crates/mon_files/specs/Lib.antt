@@ -1,3 +1,4 @@
+pub mod First
 pub mod Held
 pub mod Pages
 pub mod Saved

@@ -1,13 +1,13 @@
 //! The page of what a session holds.
 
-ghost use Rattle.std.specs.Prelude.{◌≡◌, ◌++◌, ℕ, List, IfErr, IfOk, OnOk};
+ghost use Rattle.std.specs.Prelude.{◌≡◌, ◌<◌, ◌≤◌, ◌++◌, ℕ, List, IfErr, IfOk, IfSome, OnOk, length};
 ghost use Rattle.mon_dispatch.specs.Lines.{Says};
 ghost use Rattle.mon_files.specs.Held.{shown_again};
 ghost use Rattle.mon_files.specs.Pages.{IsPageOf, ShowsPage};
 ghost use Rattle.mon_session.specs.Course.{KeepsStops, ShowsOnly, course_of};
 
 use crate::held::record_held;
-use crate::wording::{BYTE, BYTES, EVENT, EVENTS, HERE, NONE_HELD};
+use crate::wording::{BYTE, BYTES, EVENT, EVENTS, HERE, NONE_HELD, UNKNOWN_FIRST};
 use crate::writing::{Outcome, of_memory, say_failure, say_of, say_own, write_new};
 use accesses::Written;
 use arguments::Refusal;
@@ -30,6 +30,8 @@ pub struct Program<'a> {
     pub source: Option<&'a Assembly>,
     /// The file of names, if there is one.
     pub names: Option<&'a Assembly>,
+    /// What was handed in as input up to the current state, and then again what was undone.
+    pub typed: &'a [u8],
 }
 
 /// Returns the facts of a session's program.
@@ -48,30 +50,36 @@ fn facts_in(alloc: Global, program: &Program<'_>) -> Result<Vec<u8>, AllocError>
     )
 }
 
-/// Returns the page of what a session holds: undoes all events that are held, and makes them again.
+/// Returns the page of what a session holds, or `None` if what asks for interrupts in the oldest
+/// state cannot be found out: undoes all events that are held, and makes them again.
 ///
 /// Errors: `AllocError` if an allocation fails; only some events may be made again then.
 pub fn page_of_held(
     alloc: Global,
     desk: &mut Desk,
     program: &Program<'_>,
-) -> Result<Vec<u8>, AllocError>
-    ensures course { OnOk result (course_of desk.new ≡ shown_again (course_of desk.old)) }
+) -> Result<Option<Vec<u8>>, AllocError>
+    requires { 0 < length desk.old.session.earlier }
+    ensures course { OnOk result (program.now.words.now.history ≤ desk.old.session.history
+        → course_of desk.new ≡ shown_again (course_of desk.old)) }
     // The page's data, read again, give the oldest state that the session holds, and then all
     // others up to the current one, one after another, forwards and back.
-    ensures page { IfOk result (λ text. IsPageOf desk.old.session desk.new.session text.items) }
+    ensures page { IfOk result (λ page. IfSome page (λ text. IsPageOf program.now.words.now.history
+        program.now.typed.now desk.old.session desk.new.session text.items)) }
     ensures stops { KeepsStops desk.old desk.new }
     ensures text { desk.new.text ≡ desk.old.text }
 {
     let facts = facts_in(alloc, program)?;
     let source = source_of(alloc, program.source)?;
-    let bytes = record_held(alloc, desk)?;
+    let held = record_held(alloc, desk, program.words.history, program.typed)?;
+    let Some(bytes) = held else {
+        return Ok(None);
+    };
     let texts = Texts {
         facts: facts.as_slice(),
         source: source.as_slice(),
     };
-    let text = page_of(alloc, &viewer(), &texts, bytes.as_slice(), HERE)?;
-    Ok(text)
+    Ok(Some(page_of(alloc, &viewer(), &texts, bytes.as_slice(), HERE)?))
 }
 
 /// Says how many events and bytes a page has that was written.
@@ -102,20 +110,23 @@ fn say_outcome(
     }
 }
 
-/// Writes a page to a file, and says what has become of it.
+/// Writes a page to a file, if there is one, and says what has become of it.
 fn write_page<H: Files + AllocGlobal>(
     rt: &H,
     desk: &mut Desk,
     words: &MonWords<'_>,
     file: &[u8],
-    page: &[u8],
+    page: &Option<Vec<u8>>,
     events: u32,
 ) -> Result<(), Refusal>
     ensures shows { ShowsOnly desk.old desk.new }
     ensures said { OnOk result ((said : List ℕ) × Says said desk.old desk.new) }
     ensures refused { IfErr result (λ fault. fault ≡ Refusal.OutOfMemory) }
 {
-    let outcome = write_new(rt, words, file, page)?;
+    let Some(page) = page else {
+        return of_memory(say_of(desk, file, UNKNOWN_FIRST));
+    };
+    let outcome = write_new(rt, words, file, page.as_slice())?;
     of_memory(say_outcome(desk, file, outcome, events, page.len()))
 }
 
@@ -132,7 +143,7 @@ pub fn show_page<H: Files + AllocGlobal>(
     program: &Program<'_>,
     file: &[u8],
 ) -> Result<(), Refusal>
-    ensures shown { OnOk result (ShowsPage desk.old desk.new) }
+    ensures shown { OnOk result (ShowsPage program.now.words.now.history desk.old desk.new) }
     ensures refused { IfErr result (λ fault. fault ≡ Refusal.OutOfMemory) }
 {
     let held = desk.session.held();
@@ -140,5 +151,5 @@ pub fn show_page<H: Files + AllocGlobal>(
         return of_memory(say_of(desk, file, NONE_HELD));
     }
     let page = of_memory(page_of_held(rt.alloc(), desk, program))?;
-    write_page(rt, desk, program.words, file, page.as_slice(), held)
+    write_page(rt, desk, program.words, file, &page, held)
 }

@@ -24,6 +24,7 @@ mod stretches;
 pub use back::back_over;
 pub use debugger::{Event, RunEnd, Session, SessionFault, Why};
 pub use ended::{EndWhy, Ended};
+pub use looked::is_entry;
 pub use mon_stops::Stops;
 pub use recall::{back_to_stop, make_again};
 pub use runs::{go, out, over, run, until};

@@ -20,7 +20,7 @@ use crate::wording::INTERRUPT;
 use formatting::{push_count, push_text};
 use model::EventFault;
 use mon_instructions::{push_listed, push_made_row, push_next, push_place, push_row, push_stores};
-use mon_runs::{Event, Session, Stops};
+use mon_runs::{Event, Session, Stops, is_entry};
 use mon_texts::{push_output_since, push_state};
 use source_map::Places;
 use std::alloc::{AllocError, Global};
@@ -199,16 +199,17 @@ impl Desk {
     }
 
     /// Replaces the text from the byte `length` on by the place that an interrupt leads to, if the
-    /// last step was its entry.
+    /// last step entered one. `stack` and `cycles` are the stack pointer and the cycle count before
+    /// it.
     ///
     /// Errors: `AllocError` if an allocation fails.
-    pub fn tell_entry(&mut self, length: usize, is_entry: bool) -> Result<(), AllocError>
+    pub fn tell_entry(&mut self, length: usize, stack: u8, cycles: u64) -> Result<(), AllocError>
         ensures shows { ShowsOnly self.old self.new }
         ensures text { OnOk result (self.new.text.items ≡ take length self.old.text.items
-            ++ row_or_entry is_entry self.old.session.current self.old.places.names
+            ++ row_or_entry stack cycles self.old.session.current self.old.places.names
             (drop length self.old.text.items)) }
     {
-        if is_entry {
+        if is_entry(&self.session, stack, cycles) {
             self.text.truncate(length);
             return push_entry(&mut self.text, &self.places, self.session.regs().pc);
         }

@@ -2,7 +2,6 @@
 use Rattle.std.specs.Prelude.{ℕ, ◌==◌, zero, suc, min, nat_eq, nat_lt, Bool, false, if◌then◌else◌, List, [], ◌++◌, length, slice_get, Option, Some, None, Result, Ok, Err, codes}
 use Rattle.std.specs.List.{list_any}
 use Rattle.model.specs.State.{State}
-use Rattle.model.specs.Step.{entry_due}
 use Rattle.model.specs.Session.{Session}
 use Rattle.model.specs.Back.{back_of}
 use Rattle.model.specs.declared.event.Event.{Event}
@@ -133,7 +132,7 @@ remade_row (Some event) row = words_or row (event_words event)
 abbrev pub one_remade_text : PlacesView → Course → List ℕ
 one_remade_text places course =
     let before = course.0.current in
-    remade_row (slice_get course.1.undone 0) (row_or_entry (entry_due before)
+    remade_row (slice_get course.1.undone 0) (row_or_entry before.regs.s before.cycles
     (remade_one course).0.current places.names
     (made_line before places before.regs.pc))
 

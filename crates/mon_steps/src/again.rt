@@ -97,17 +97,18 @@ pub fn redo(desk: &mut Desk, count: Option<u32>) -> Result<(), AllocError>
     redo_most(desk, most)
 }
 
-/// Says which event was made again. Its row stands in the text from the byte `length` on.
-/// `is_entry` says whether the event is an interrupt entry, if it is a step.
+/// Says which event was made again. Its row stands in the text from the byte `length` on. `stack`
+/// and `cycles` are the stack pointer and the cycle count before it.
 fn tell_remade(
     desk: &mut Desk,
     event: Option<Event>,
     length: usize,
-    is_entry: bool,
+    stack: u8,
+    cycles: u64,
 ) -> Result<(), AllocError>
     ensures shows { ShowsOnly desk.old desk.new }
     ensures text { OnOk result (desk.new.text.items ≡ take length desk.old.text.items
-        ++ remade_row event (row_or_entry is_entry desk.old.session.current
+        ++ remade_row event (row_or_entry stack cycles desk.old.session.current
         desk.old.places.names (drop length desk.old.text.items))) }
 {
     match event {
@@ -116,7 +117,7 @@ fn tell_remade(
                 desk.text.truncate(length);
                 desk.say(words)
             }
-            None => desk.tell_entry(length, is_entry),
+            None => desk.tell_entry(length, stack, cycles),
         },
         None => {
             desk.text.truncate(length);
@@ -135,11 +136,12 @@ fn redo_shown(desk: &mut Desk) -> Result<(), AllocError>
     ensures text { OnOk result (desk.new.text.items ≡ desk.old.text.items
         ++ one_remade_text desk.old.places (course_of desk.old)) }
 {
-    let is_entry = desk.session.entry_is_due();
+    let regs = desk.session.regs();
+    let cycles = desk.session.cycles();
     let length = desk.text.len();
     desk.show_next()?;
     let event = redo_one(desk);
-    tell_remade(desk, event, length, is_entry)
+    tell_remade(desk, event, length, regs.s, cycles)
 }
 
 /// Makes `count` undone events again, and shows each.

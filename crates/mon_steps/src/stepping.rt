@@ -48,16 +48,22 @@ fn tell_met(desk: &mut Desk, end: Ended) -> Result<bool, AllocError>
     Ok(false)
 }
 
-/// Says what a step did and met. Its row stands in the text from the byte `length` on. Returns
-/// whether the steps go on.
-fn tell_made(desk: &mut Desk, end: Ended, length: usize, is_entry: bool) -> Result<bool, AllocError>
+/// Says what a step did and met. Its row stands in the text from the byte `length` on. `stack` and
+/// `cycles` are the stack pointer and the cycle count before it. Returns whether the steps go on.
+fn tell_made(
+    desk: &mut Desk,
+    end: Ended,
+    length: usize,
+    stack: u8,
+    cycles: u64,
+) -> Result<bool, AllocError>
     ensures shows { ShowsOnly desk.old desk.new }
     ensures on { IfOk result (λ is_on. is_on ≡ is_limit end.why) }
     ensures text { OnOk result (desk.new.text.items ≡ take length desk.old.text.items
-        ++ made_text is_entry desk.old.session.current desk.old.places.names end
+        ++ made_text stack cycles desk.old.session.current desk.old.places.names end
         (drop length desk.old.text.items)) }
 {
-    desk.tell_entry(length, is_entry)?;
+    desk.tell_entry(length, stack, cycles)?;
     tell_met(desk, end)
 }
 
@@ -72,13 +78,19 @@ fn fault_in(why: EndWhy) -> Option<EventFault>
 }
 
 /// Says what a step did, or why it was rejected. Its row stands in the text from the byte `length`
-/// on. `is_entry` says whether the step is an interrupt entry, if it was made. Returns whether the
-/// steps go on.
-fn tell_step(desk: &mut Desk, end: Ended, length: usize, is_entry: bool) -> Result<bool, AllocError>
+/// on. `stack` and `cycles` are the stack pointer and the cycle count before it. Returns whether
+/// the steps go on.
+fn tell_step(
+    desk: &mut Desk,
+    end: Ended,
+    length: usize,
+    stack: u8,
+    cycles: u64,
+) -> Result<bool, AllocError>
     ensures shows { ShowsOnly desk.old desk.new }
     ensures on { IfOk result (λ is_on. is_on ≡ is_limit end.why) }
     ensures text { OnOk result (desk.new.text.items ≡ take length desk.old.text.items
-        ++ step_text is_entry desk.old.session.current desk.old.places.names end
+        ++ step_text stack cycles desk.old.session.current desk.old.places.names end
         (drop length desk.old.text.items)) }
 {
     match fault_in(end.why) {
@@ -87,7 +99,7 @@ fn tell_step(desk: &mut Desk, end: Ended, length: usize, is_entry: bool) -> Resu
             desk.reject(fault)?;
             Ok(false)
         }
-        None => tell_made(desk, end, length, is_entry),
+        None => tell_made(desk, end, length, stack, cycles),
     }
 }
 
@@ -123,10 +135,11 @@ fn show_step(desk: &mut Desk) -> Result<bool, AllocError>
     ensures text { OnOk result (desk.new.text.items ≡ desk.old.text.items
         ++ one_step_text (watches_of desk.old) desk.old.places (stand_of desk.old)) }
 {
-    let is_entry = desk.session.entry_is_due();
+    let before = desk.session.regs();
+    let cycles = desk.session.cycles();
     let length = desk.text.len();
     let end = step_with_row(desk)?;
-    tell_step(desk, end, length, is_entry)
+    tell_step(desk, end, length, before.s, cycles)
 }
 
 /// Makes `count` steps, or those up to a stop, and shows each.
@@ -227,14 +240,20 @@ pub fn steps(desk: &mut Desk, count: u32) -> Result<(), AllocError>
 
 /// Says that the first step of a JSR was the entry of an interrupt, in place of the row from
 /// `length` on, if it was the only one and was one.
-fn tell_call(desk: &mut Desk, did: u64, length: usize, is_entry: bool) -> Result<(), AllocError>
+fn tell_call(
+    desk: &mut Desk,
+    did: u64,
+    length: usize,
+    stack: u8,
+    cycles: u64,
+) -> Result<(), AllocError>
     ensures shows { ShowsOnly desk.old desk.new }
     ensures text { OnOk result (desk.new.text.items ≡ take length desk.old.text.items
-        ++ call_row did is_entry desk.old.session.current desk.old.places.names
+        ++ call_row did stack cycles desk.old.session.current desk.old.places.names
         (drop length desk.old.text.items)) }
 {
     if did == 1 {
-        return desk.tell_entry(length, is_entry);
+        return desk.tell_entry(length, stack, cycles);
     }
     Ok(())
 }
@@ -253,11 +272,12 @@ fn call_with_row(desk: &mut Desk) -> Result<Ended, AllocError>
     ensures text { OnOk result (desk.new.text.items ≡ desk.old.text.items
         ++ called_row (watches_of desk.old) desk.old.places (stand_of desk.old)) }
 {
-    let is_entry = desk.session.entry_is_due();
+    let before = desk.session.regs();
+    let cycles = desk.session.cycles();
     let length = desk.text.len();
     desk.show_next()?;
     let end = make_call(desk);
-    tell_call(desk, end.did, length, is_entry)?;
+    tell_call(desk, end.did, length, before.s, cycles)?;
     Ok(end)
 }
 

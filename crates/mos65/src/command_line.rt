@@ -29,8 +29,8 @@ const STATUSES: &str =
     "Exit status: 0 done, 1 bad source or tape (check: a fault, cmp: a difference, test: a failed row),
 2 bad words or map, 3 out of memory, 4 reading or writing failed,
 5 debug --strict: a reply told of a fault,
-10 run, trace, page: the limit of steps, 11 a fault of the program, 12 the console is full,
-13 run, trace, page: nothing stands where the program runs
+10 run, trace: the limit of steps, 11 a fault of the program, 12 the console is full,
+13 run, trace: nothing stands where the program runs
 
 mos65 help WORD shows the options of a word, and an example";
 

@@ -1,3 +1,2 @@
 pub mod Changed
-pub mod Forms
 pub mod Letters

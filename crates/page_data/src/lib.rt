@@ -10,7 +10,8 @@
 #![tactic(auto)]
 
 pub use ahead::{Ahead, look_ahead};
-pub use event::record_event;
+pub use event::{Interrupts, record_event};
+pub use run::record_steps;
 pub use start::push_start;
 pub use step::push_step;
 pub use stream::{SendFault, send_groups, send_rest};
@@ -19,6 +20,7 @@ pub use text::{push_base64, push_escaped};
 mod ahead;
 mod event;
 mod marks;
+mod run;
 mod start;
 mod step;
 mod stream;

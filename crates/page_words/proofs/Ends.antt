@@ -1,5 +1,5 @@
 -- Why there is no whole page, from why a file is not read or written.
-use Rattle.std.proofs.Common.{inl, inr}
+use Rattle.std.proofs.Common.{Result, Ok, Err, IfErr, inl, inr}
 use Rattle.arguments.specs.Asked.{FileAsked, map_of}
 use Rattle.arguments.specs.Files.{EndsReading, EndsWriting}
 use Rattle.arguments.specs.declared.refusal.Refusal.{Refusal}
@@ -34,7 +34,7 @@ pub names_end : (asked : FileAsked) (r : Refusal) → EndsNames asked r → Ends
 names_end asked r (inl bad) = map_ends (map_of asked) r bad
 names_end asked r (inr not) = source_ends (map_of asked) r not
 
-pub reading_ends : (r : Refusal) → EndsReading r → EndsFile r
+reading_ends : (r : Refusal) → EndsReading r → EndsFile r
 reading_ends OutOfMemory h = tt
 reading_ends (Read why) h = tt
 reading_ends Words h = absurd h
@@ -44,6 +44,10 @@ reading_ends (Tape fault) h = absurd h
 reading_ends (Session fault) h = absurd h
 reading_ends Write h = absurd h
 reading_ends (WriteFile why) h = absurd h
+
+pub unread_ends : {X : Type 0} (r : Result X Refusal) → IfErr r EndsReading → IfErr r EndsFile
+unread_ends (Ok x) h = tt
+unread_ends (Err r) h = reading_ends r h
 
 pub unwritten_ends : (r : Refusal) → EndsWriting r → EndsFile r
 unwritten_ends OutOfMemory h = tt

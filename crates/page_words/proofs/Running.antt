@@ -1,5 +1,5 @@
 -- What is known of a run that a page shows, and of a file that was loaded.
-use Rattle.std.proofs.Common.{◌≡◌, ◌∙◌, ℕ, Bool, List, Option, Result, Ok, Err, refl, sym, ap, subst, inl, inr}
+use Rattle.std.proofs.Common.{◌≡◌, ◌∙◌, ℕ, Bool, List, Option, refl, sym, ap, subst, inr}
 use Rattle.accesses.specs.Writing.{bytes_in}
 use Rattle.arguments.specs.Asked.{map_of}
 use Rattle.assembler.specs.Assembly.{AssemblyView}
@@ -7,15 +7,22 @@ use Rattle.console.specs.Playing.{Outcome, begun, played}
 use Rattle.console.specs.declared.ending.Ending.{Ending}
 use Rattle.console.specs.declared.ending.Played.{Played}
 use Rattle.loading.specs.Loads.{IsLoaded}
-use Rattle.loading.specs.Place.{names_of}
-use Rattle.loading.specs.Told.{Heard, Tells}
-use Rattle.model.specs.Event.{start}
+use Rattle.loading.specs.Told.{Heard}
+use Rattle.model.specs.Event.{start, reset_state}
 use Rattle.model.specs.Session.{Session, new_session}
+use Rattle.model.specs.State.{Map, loaded_bus}
 use Rattle.page_words.specs.Asked.{PageAsked}
-use Rattle.page_words.specs.Done.{AreNamed, IsDone, IsInput, IsRefused, IsShown, Ran, ShownIfFound, ShownIfNamed, place_in, start_in, start_of}
+use Rattle.page_words.specs.Done.{IsDone, IsInput, IsShown, Ran, ShownIfNamed, start_in, start_of}
+use Rattle.page_writer.specs.Data.{IsQuiet}
 use Rattle.running.specs.Runs.{Start, TellsEnding}
 use Rattle.running.specs.Statuses.{status_of_ending}
-use Rattle.running.specs.Told.{unplaced_line}
+
+starts_quiet : (map : Map) (image : List (Option ℕ)) → IsQuiet (start map image)
+unfolding start reset_state loaded_bus
+starts_quiet map image = record { irq = refl; nmi = refl; given = refl }
+
+pub quiet_at : (s : Session) (map : Map) (image : List (Option ℕ)) → s ≡ new_session 0 (start map image) → IsQuiet s.current
+quiet_at s map image is = subst (λ (t : Session). IsQuiet t.current) (sym is) (starts_quiet map image)
 
 -- What was told of an assembly and an address, said otherwise.
 pub told_at : (file : List ℕ) (x y : Option AssemblyView) (heard : Heard) (why : Ending) (steps pc at : ℕ) → x ≡ y → pc ≡ at → TellsEnding file x heard why steps pc → TellsEnding file y heard why steps at
@@ -34,7 +41,7 @@ shown a assembly until s t heard end status input is ran ended told =
     inr (input, is, (ended ∙ ap (λ (why : Ending). status_of_ending why 0) same.ending, subst S same.session (subst N same.steps (subst E same.ending told))))
 
 -- A file that was loaded.
-done_by : (a : PageAsked) (s : Session) (w : List Bool) (assembly : Option AssemblyView) (image : List (Option ℕ)) (heard : Heard) (status : ℕ) → IsLoaded a.file image assembly
+pub done_by : (a : PageAsked) (s : Session) (w : List Bool) (assembly : Option AssemblyView) (image : List (Option ℕ)) (heard : Heard) (status : ℕ) → IsLoaded a.file image assembly
     → s ≡ new_session 0 (start (map_of a.file) image) → w ≡ bytes_in image
     → ShownIfNamed a assembly (start_in a.is_free s w) heard status → IsDone a heard status
 done_by a s w assembly image heard status loaded begins bytes ran =
@@ -42,38 +49,3 @@ done_by a s w assembly image heard status loaded begins bytes ran =
     let at : start_in a.is_free s w ≡ start_of a image =
     ap (λ (t : Session). start_in a.is_free t w) begins ∙ ap (λ (v : List Bool). start_in a.is_free (new_session 0 (start (map_of a.file) image)) v) bytes in
     inr (image, assembly, loaded, subst T at ran)
-
--- A file that was loaded, and names that were not read.
-pub done_unnamed : (a : PageAsked) (s : Session) (w : List Bool) (assembly : Option AssemblyView) (image : List (Option ℕ)) (heard : Heard) (status : ℕ) → IsLoaded a.file image assembly
-    → s ≡ new_session 0 (start (map_of a.file) image) → w ≡ bytes_in image
-    → IsRefused heard status → IsDone a heard status
-done_unnamed a s w assembly image heard status loaded begins bytes refused = done_by a s w assembly image heard status loaded begins bytes (inl refused)
-
--- A file that was loaded, and names that were read.
-done_named : (a : PageAsked) (s : Session) (w : List Bool) (assembly names told : Option AssemblyView) (image : List (Option ℕ)) (place : Result (Option ℕ) ℕ) (heard : Heard) (status : ℕ) → IsLoaded a.file image assembly
-    → s ≡ new_session 0 (start (map_of a.file) image) → w ≡ bytes_in image
-    → AreNamed a.symbols a.file names → told ≡ names → place ≡ place_in (names_of assembly) (names_of told) a.until
-    → ShownIfFound a assembly place (start_in a.is_free s w) heard status → IsDone a heard status
-done_named a s w assembly names told image place heard status loaded begins bytes named same is shown =
-    let S : Start = start_in a.is_free s w in
-    let found = subst (λ r. ShownIfFound a assembly r S heard status) is shown in
-    done_by a s w assembly image heard status loaded begins bytes (inr (names, named, subst (λ x. ShownIfFound a assembly (place_in (names_of assembly) (names_of x) a.until) S heard status) same found))
-
--- A place that was not found.
-pub done_unplaced : (a : PageAsked) (s : Session) (w : List Bool) (assembly names told : Option AssemblyView) (image : List (Option ℕ)) (heard : Heard) (status : ℕ) → IsLoaded a.file image assembly
-    → s ≡ new_session 0 (start (map_of a.file) image) → w ≡ bytes_in image
-    → AreNamed a.symbols a.file names → told ≡ names → Err status ≡ place_in (names_of assembly) (names_of told) a.until
-    → Tells heard (unplaced_line a.until) → IsDone a heard status
-done_unplaced a s w assembly names told image heard status loaded begins bytes named same is line =
-    done_named a s w assembly names told image (Err status) heard status loaded begins bytes named same is (refl, line)
-
--- A place that was found, of which nothing was told.
-pub done_placed : {E : Type 0} (contents : E → Option (List ℕ)) (a : PageAsked) (s : Session) (w : List Bool) (assembly names told : Option AssemblyView) (image : List (Option ℕ)) (until : Option ℕ)
-    (first middle last : E) (status : ℕ) → IsLoaded a.file image assembly
-    → s ≡ new_session 0 (start (map_of a.file) image) → w ≡ bytes_in image
-    → AreNamed a.symbols a.file names → told ≡ names → Ok until ≡ place_in (names_of assembly) (names_of told) a.until → middle ≡ first
-    → IsShown a assembly until (start_in a.is_free s w) (record { held = contents middle; now = contents last }) status
-    → IsDone a (record { held = contents first; now = contents last }) status
-done_placed contents a s w assembly names told image until first middle last status loaded begins bytes named same is quiet shown =
-    done_named a s w assembly names told image (Ok until) (record { held = contents first; now = contents last }) status loaded begins bytes named same is
-    (subst (λ e. IsShown a assembly until (start_in a.is_free s w) (record { held = contents e; now = contents last }) status) quiet shown)

@@ -1,21 +1,27 @@
 //! What the word `page` does.
 
-ghost use Rattle.std.specs.Prelude.{◌≡◌, ◌⊎◌, ℕ, List, IfErr, IfOk, None, Some, false};
+ghost use Rattle.std.specs.Prelude.{◌≡◌, ◌⊎◌, ℕ, List, Option, IfErr, IfOk, None, Some, false};
 ghost use Rattle.std.specs.Prelude.{OnErr, OnOk, option_map};
 ghost use Rattle.accesses.specs.Writing.{or_everywhere};
 ghost use Rattle.arguments.specs.Words.{Fits, Refuses, texts};
 ghost use Rattle.loading.specs.Place.{names_of};
-ghost use Rattle.model.specs.State.{is_map};
+ghost use Rattle.model.specs.Event.{start};
+ghost use Rattle.model.specs.Session.{new_session};
+ghost use Rattle.model.specs.State.{Map, is_map};
 ghost use Rattle.model.specs.Writers.{AppendsFront};
 ghost use Rattle.page_words.specs.Asked.{PageAsked, asked, page_view};
 ghost use Rattle.page_words.specs.CommandLine.{page};
 ghost use Rattle.page_words.specs.Done.{AreNamed, EndsFile, IsDone, IsInput, IsShown, Ran};
-ghost use Rattle.page_words.specs.Done.{place_besides, place_in, start_in};
+ghost use Rattle.page_words.specs.Done.{ShownIfFound, ShownIfNamed, place_besides, place_in};
+ghost use Rattle.page_words.specs.Done.{start_in};
+ghost use Rattle.page_writer.specs.Data.{IsQuiet};
 ghost use Rattle.running.specs.Told.{unplaced_line};
 
 use crate::words::{PageWords, read_page_words};
 use accesses::Written;
-use arguments::{FileRefusal, NewFile, Refusal, create, read_most, refused_words};
+use arguments::{
+    FileRefusal, NewFile, Refusal, begin_file, check_outputs, read_most, refuse_file, refused_words,
+};
 use assembler::Assembly;
 use console::Played;
 use loading::{Loaded, load, load_names, place_of};
@@ -37,38 +43,31 @@ struct Said {
 }
 
 /// Returns the names of the file of names, if one is named.
-fn names_asked<'a, H: Files + AllocGlobal>(
+fn names_asked<H: Files + AllocGlobal>(
     rt: &H,
-    words: &PageWords<'a>,
-) -> Result<Option<Assembly>, FileRefusal<'a>>
+    words: &PageWords<'_>,
+) -> Result<Option<Assembly>, Refusal>
     ensures named { IfOk result (λ names. AreNamed (page_view words.now).symbols
         (page_view words.now).file names) }
-    ensures refused { IfErr result (λ why. EndsFile why.refusal) }
+    ensures refused { IfErr result EndsFile }
 {
-    let Some(file) = words.symbols else {
-        return Ok(None);
-    };
-    match load_names(rt, &words.file, file) {
-        Ok(names) => Ok(Some(names)),
-        Err(refusal) => Err(FileRefusal { file, refusal }),
+    match words.symbols {
+        None => Ok(None),
+        Some(path) => match load_names(rt, &words.file, path) {
+            Ok(names) => Ok(Some(names)),
+            Err(refusal) => Err(refusal),
+        },
     }
 }
 
 /// Returns the input: that of the file that is named, as much as a program can be given, or none.
-#[tactic(auto, using(crate::proofs::Ends::reading_ends))]
-fn input_asked<'a, H: Files + AllocGlobal>(
-    rt: &H,
-    words: &PageWords<'a>,
-) -> Result<Vec<u8>, FileRefusal<'a>>
+fn input_asked<H: Files + AllocGlobal>(rt: &H, words: &PageWords<'_>) -> Result<Vec<u8>, Refusal>
     ensures input { IfOk result (λ input. IsInput (page_view words.now).input input.items) }
-    ensures refused { IfErr result (λ why. EndsFile why.refusal) }
+    ensures refused { IfErr result EndsFile }
 {
-    let Some(file) = words.input else {
-        return Ok(Vec::new(rt.alloc()));
-    };
-    match read_most(rt, file, MOST_INPUT) {
-        Ok(input) => Ok(input),
-        Err(refusal) => Err(FileRefusal { file, refusal }),
+    match words.input {
+        None => Ok(Vec::new(rt.alloc())),
+        Some(path) => read_most(rt, path, MOST_INPUT),
     }
 }
 
@@ -104,7 +103,13 @@ fn begun_file<'a, H: Files + AllocGlobal>(
     ensures { IfErr result EndsFile }
 {
     let read = [Some(words.file.file), words.symbols, words.input];
-    Ok(create(rt, words.out, &read)?)
+    match check_outputs(rt, &read, &[Some(words.out)]) {
+        Ok(()) => match begin_file(rt, words.out) {
+            Ok(file) => Ok(file),
+            Err(refusal) => Err(refusal),
+        },
+        Err(why) => Err(why.refusal),
+    }
 }
 
 /// Returns the addresses that count as written when the run begins.
@@ -140,6 +145,7 @@ fn write_run<W: Write>(
     input: &[u8],
     file: &mut W,
 ) -> Result<Played, Refusal>
+    requires { IsQuiet loaded.old.session.current }
     ensures ran { IfOk result (λ end. Ran until words.now.steps
         (start_in words.now.is_free loaded.old.session loaded.old.written)
         input.now end loaded.new.session) }
@@ -187,20 +193,27 @@ fn make_page<H: Files + AllocGlobal>(
     until: Option<u16>,
     input: &[u8],
 ) -> Result<Played, Refusal>
+    requires { IsQuiet loaded.old.session.current }
     ensures ran { IfOk result (λ end. Ran until words.now.steps
         (start_in words.now.is_free loaded.old.session loaded.old.written)
         input.now end loaded.new.session) }
     ensures assembly { loaded.new.assembly ≡ loaded.old.assembly }
     ensures refused { IfErr result EndsFile }
 {
-    let said = said_of(rt.alloc(), words, loaded, names).map_err(|_| Refusal::OutOfMemory)?;
-    let mut file = begun_file(rt, words)?;
-    match write_run(rt.alloc(), words, loaded, &said, until, input, &mut file) {
-        Ok(played) => {
-            file.end(rt)?;
-            Ok(played)
+    let Ok(said) = said_of(rt.alloc(), words, loaded, names) else {
+        return Err(Refusal::OutOfMemory);
+    };
+    match begun_file(rt, words) {
+        Ok(mut file) => {
+            match write_run(rt.alloc(), words, loaded, &said, until, input, &mut file) {
+                Ok(played) => match file.end(rt) {
+                    Ok(()) => Ok(played),
+                    Err(refusal) => Err(refusal),
+                },
+                Err(refusal) => Err(unwritten(rt, refusal, file)),
+            }
         }
-        Err(refusal) => Err(unwritten(rt, refusal, file)),
+        Err(refusal) => Err(refusal),
     }
 }
 
@@ -212,6 +225,7 @@ fn show_run<'a, H: Files + AllocGlobal>(
     names: Option<&Assembly>,
     until: Option<u16>,
 ) -> Result<Played, FileRefusal<'a>>
+    requires { IsQuiet loaded.old.session.current }
     ensures ran { IfOk result (λ end. (input : List ℕ) × IsInput (page_view words.now).input input
         × Ran until words.now.steps
         (start_in words.now.is_free loaded.old.session loaded.old.written)
@@ -219,7 +233,13 @@ fn show_run<'a, H: Files + AllocGlobal>(
     ensures assembly { loaded.new.assembly ≡ loaded.old.assembly }
     ensures refused { IfErr result (λ why. EndsFile why.refusal) }
 {
-    let input = input_asked(rt, words)?;
+    let input = match input_asked(rt, words) {
+        Ok(input) => input,
+        Err(refusal) => {
+            let file = words.input.unwrap_or(words.out);
+            return Err(FileRefusal { file, refusal });
+        }
+    };
     match make_page(rt, words, loaded, names, until, input.as_slice()) {
         Ok(played) => Ok(played),
         Err(refusal) => Err(FileRefusal {
@@ -239,6 +259,7 @@ fn show_to<H: Files + AllocGlobal, E: Write>(
     until: Option<u16>,
     errors: &mut E,
 ) -> u8
+    requires { IsQuiet loaded.old.session.current }
     ensures { IsShown (page_view words.now) loaded.old.assembly until
         (start_in words.now.is_free loaded.old.session loaded.old.written) (record {
           held = E.contents errors.old;
@@ -290,8 +311,62 @@ fn place_in<E: Write>(
     }
 }
 
-/// Loads the file of the words and the names that they ask for, writes the page of its run up to
-/// the place of the words, and returns the exit status.
+/// Writes the page of what was loaded up to the place of the words, with the names of a file of
+/// names, and returns the exit status.
+fn show_named<H: Files + AllocGlobal, E: Write>(
+    rt: &H,
+    words: &PageWords<'_>,
+    loaded: &mut Loaded,
+    names: Option<&Assembly>,
+    errors: &mut E,
+) -> u8
+    requires { IsQuiet loaded.old.session.current }
+    ensures { ShownIfFound (page_view words.now) loaded.old.assembly
+        (place_in (names_of loaded.old.assembly)
+        (names_of (option_map (λ a. a.now) names.entry)) (page_view words.now).until)
+        (start_in words.now.is_free loaded.old.session loaded.old.written) (record {
+          held = E.contents errors.old;
+          now = E.contents errors.new;
+        }) result }
+{
+    match place_in(loaded, names, words.until, errors) {
+        Ok(until) => show_to(rt, words, loaded, names, until, errors),
+        Err(status) => status,
+    }
+}
+
+/// Reads the names that are asked for, writes the page of what was loaded, and returns the exit
+/// status.
+fn show_loaded<H: Files + AllocGlobal, E: Write>(
+    rt: &H,
+    words: &PageWords<'_>,
+    loaded: &mut Loaded,
+    errors: &mut E,
+) -> u8
+    requires { IsQuiet loaded.old.session.current }
+    ensures { ShownIfNamed (page_view words.now) loaded.old.assembly
+        (start_in words.now.is_free loaded.old.session loaded.old.written) (record {
+          held = E.contents errors.old;
+          now = E.contents errors.new;
+        }) result }
+{
+    match names_asked(rt, words) {
+        Ok(names) => show_named(rt, words, loaded, names.as_ref(), errors),
+        Err(refusal) => {
+            let file = words.symbols.unwrap_or(words.out);
+            refuse_file(refusal, file, errors)
+        }
+    }
+}
+
+/// For the proof: a session at a start asks for no interrupt, and no input was handed in.
+fn is_quiet(loaded: &Loaded)
+    ensures { (map : Map) (image : List (Option ℕ))
+        → loaded.now.session ≡ new_session 0 (start map image)
+        → IsQuiet loaded.now.session.current }
+{}
+
+/// Loads the file of the words and writes the page of its run, and returns the exit status.
 fn show_words<H: Files + AllocGlobal, E: Write>(rt: &H, words: &PageWords<'_>, errors: &mut E) -> u8
     ensures done { IsDone (page_view words.now) (record {
       held = E.contents errors.old;
@@ -299,19 +374,13 @@ fn show_words<H: Files + AllocGlobal, E: Write>(rt: &H, words: &PageWords<'_>, e
     }) result }
     ensures bad_map { is_map words.now.file.rom words.now.file.port ≡ false → result ≡ 2 }
 {
-    let mut loaded = match load(rt, &words.file) {
-        Ok(loaded) => loaded,
-        Err(fault) => return fault.tell(words.file.file, errors),
-    };
-    let names = match names_asked(rt, words) {
-        Ok(names) => names,
-        Err(why) => return why.tell(errors),
-    };
-    let until = match place_in(&loaded, names.as_ref(), words.until, errors) {
-        Ok(until) => until,
-        Err(status) => return status,
-    };
-    show_to(rt, words, &mut loaded, names.as_ref(), until, errors)
+    match load(rt, &words.file) {
+        Ok(mut loaded) => {
+            is_quiet(&loaded);
+            show_loaded(rt, words, &mut loaded, errors)
+        }
+        Err(fault) => fault.tell(words.file.file, errors),
+    }
 }
 
 /// Does what the words of `page` ask for, its own name left out, and returns the exit status.

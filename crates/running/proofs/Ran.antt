@@ -24,7 +24,6 @@ use Rattle.loading.specs.Told.{Heard, Tells}
 use Rattle.running.specs.Runs.{IsDone, RanIfFound, RanOrInterrupted, Start, Streams, TellsEnd, TellsInterrupted, start_of}
 use Rattle.running.specs.Places.{place_asked}
 use Rattle.running.specs.Statuses.{refusal_of, status_of_ending}
-use Rattle.running.specs.Told.{unplaced_line}
 
 abbrev PlayedOf : Option ℕ → ℕ → Start → Option (List ℕ) → Option (List ℕ) → Session → Played → Type 0
 PlayedOf until limit s given left now end = (input : List ℕ) × (rest : List ℕ) × AreBytesOf given input × AreBytesOf left rest
@@ -108,7 +107,7 @@ interrupted_to a assembly until s t streams interrupted heard status was silent 
     inr (was, (is, (broke.0, t, broke.1, broke.2, broke.3, broke.4, front, more, told)))
 
 -- A file that was loaded.
-ran_file : (a : RunAsked) (s : Session) (w : List Bool) (assembly : Option AssemblyView) (image : List (Option ℕ)) (streams : Streams) (interrupted : Bool) (heard : Heard) (status : ℕ) (Alone : Type 0) → IsLoaded a.file image assembly
+pub ran_file : (a : RunAsked) (s : Session) (w : List Bool) (assembly : Option AssemblyView) (image : List (Option ℕ)) (streams : Streams) (interrupted : Bool) (heard : Heard) (status : ℕ) (Alone : Type 0) → IsLoaded a.file image assembly
     → s ≡ new_session 0 (start (map_of a.file) image) → w ≡ bytes_in image
     → RanIfFound a assembly (place_asked (names_of assembly) a.until) (record { session = s; written = or_everywhere a.is_free w }) streams interrupted heard status Alone → IsDone a streams interrupted heard status Alone
 ran_file a s w assembly image streams interrupted heard status A loaded begins bytes ran =
@@ -117,26 +116,3 @@ ran_file a s w assembly image streams interrupted heard status A loaded begins b
     ap (λ (t : Session). record { session = t; written = or_everywhere a.is_free w }) begins
     ∙ ap (λ (v : List Bool). record { session = new_session 0 (start (map_of a.file) image); written = or_everywhere a.is_free v }) bytes in
     inr (image, assembly, loaded, subst T at ran)
-
--- A file that was loaded, and a place that was found, of which nothing was told.
-pub ran_found : {E : Type 0} (contents : E → Option (List ℕ)) (a : RunAsked) (s : Session) (w v : List Bool) (assembly told : Option AssemblyView) (image : List (Option ℕ)) (until : Option ℕ)
-    (streams : Streams) (interrupted : Bool) (first middle last : E) (status : ℕ) (Alone : Type 0) → IsLoaded a.file image assembly
-    → s ≡ new_session 0 (start (map_of a.file) image) → w ≡ bytes_in image
-    → Ok until ≡ place_asked (names_of assembly) a.until → middle ≡ first → told ≡ assembly → v ≡ or_everywhere a.is_free w
-    → RanOrInterrupted a told until (record { session = s; written = v }) streams interrupted (record { held = contents middle; now = contents last }) status
-    → IsDone a streams interrupted (record { held = contents first; now = contents last }) status Alone
-ran_found contents a s w v assembly told image until streams interrupted first middle last status A loaded begins bytes place quiet names counts ran =
-    let H : Heard = record { held = contents first; now = contents last } in
-    let T : Start = record { session = s; written = or_everywhere a.is_free w } in
-    let heard = subst (λ e. RanOrInterrupted a told until (record { session = s; written = v }) streams interrupted (record { held = contents e; now = contents last }) status) quiet ran in
-    let known = subst (λ x. RanOrInterrupted a x until (record { session = s; written = v }) streams interrupted H status) names heard in
-    let from = subst (λ x. RanOrInterrupted a assembly until (record { session = s; written = x }) streams interrupted H status) counts known in
-    ran_file a s w assembly image streams interrupted H status A loaded begins bytes (subst (λ r. RanIfFound a assembly r T streams interrupted H status A) place from)
-
--- A place that was not found.
-pub ran_unfound : (a : RunAsked) (s : Session) (w : List Bool) (assembly : Option AssemblyView) (image : List (Option ℕ)) (streams : Streams) (interrupted : Bool) (heard : Heard) (status : ℕ) (Alone : Type 0)
-    → IsLoaded a.file image assembly → s ≡ new_session 0 (start (map_of a.file) image) → w ≡ bytes_in image
-    → Err status ≡ place_asked (names_of assembly) a.until → Tells heard (unplaced_line a.until) → Alone → IsDone a streams interrupted heard status Alone
-ran_unfound a s w assembly image streams interrupted heard status A loaded begins bytes place told alone =
-    let T : Start = record { session = s; written = or_everywhere a.is_free w } in
-    ran_file a s w assembly image streams interrupted heard status A loaded begins bytes (subst (λ r. RanIfFound a assembly r T streams interrupted heard status A) place (refl, told, alone))

@@ -1,10 +1,13 @@
 //! What the word `run` does.
 
 ghost use Rattle.std.specs.Prelude.{◌≡◌, ◌⊎◌, [], None, Some, false, if◌then◌else◌, option_map};
+ghost use Rattle.accesses.specs.Writing.{or_everywhere};
 ghost use Rattle.arguments.specs.Words.{Fits, Refuses, texts};
 ghost use Rattle.arguments_play.specs.Run.{RunAsked, asked, run, run_view};
+ghost use Rattle.loading.specs.Place.{names_of};
 ghost use Rattle.model.specs.State.{input_waits, is_map};
-ghost use Rattle.running.specs.Runs.{IsDone, RanOrInterrupted, Start, TellsEnd};
+ghost use Rattle.running.specs.Places.{place_asked};
+ghost use Rattle.running.specs.Runs.{IsDone, RanIfFound, RanOrInterrupted, Start, TellsEnd};
 ghost use Rattle.running.specs.Runs.{TellsInterrupted, heard_of, streams_of};
 ghost use Rattle.running.specs.Statuses.{status_of_ending};
 
@@ -125,7 +128,53 @@ fn run_to<R: Read, W: Write, S: Read, E: Write>(
     }
 }
 
-/// Loads the file of the words, runs it up to their place, and returns the exit status.
+/// Runs what was loaded up to the place of the words, and returns the exit status.
+fn run_loaded<R: Read, W: Write, S: Read, E: Write>(
+    alloc: Global,
+    words: &RunWords<'_>,
+    loaded: Loaded,
+    input: &mut R,
+    output: &mut Interruptible<W, S>,
+    errors: &mut E,
+) -> u8
+    requires idle { input_waits loaded.session.current.bus ≡ false }
+    requires silent { loaded.session.current.bus.out ≡ [] }
+    ensures ran { RanIfFound (run_view words.now) loaded.assembly
+        (place_asked (names_of loaded.assembly) (run_view words.now).until)
+        (record {
+          session = loaded.session;
+          written = or_everywhere words.now.is_free loaded.written;
+        })
+        (streams_of (R.remaining input.old) (R.remaining input.new)
+        (W.contents output.old.inner) (W.contents output.new.inner)) output.new.interrupted
+        (heard_of (E.contents errors.old) (E.contents errors.new)) result
+        ((input.new ≡ input.old) × (output.new ≡ output.old)) }
+    ensures quiet { words.now.tells_cycles ≡ false → result ≡ 0 → errors.new ≡ errors.old }
+{
+    let until = match place_named(&loaded, words.until, errors) {
+        Ok(until) => until,
+        Err(status) => return status,
+    };
+    let Loaded {
+        mut session,
+        assembly,
+        written,
+    } = loaded;
+    let written = written.or_everywhere(words.is_free);
+    run_to(
+        alloc,
+        words,
+        assembly.as_ref(),
+        &mut session,
+        written,
+        until,
+        input,
+        output,
+        errors,
+    )
+}
+
+/// Loads the file of the words and runs it, and returns the exit status.
 fn run_words<H: Files + AllocGlobal, R: Read, W: Write, S: Read, E: Write>(
     rt: &H,
     words: &RunWords<'_>,
@@ -141,31 +190,10 @@ fn run_words<H: Files + AllocGlobal, R: Read, W: Write, S: Read, E: Write>(
     ensures bad_map { is_map words.now.file.rom words.now.file.port ≡ false → result ≡ 2 }
     ensures quiet { words.now.tells_cycles ≡ false → result ≡ 0 → errors.new ≡ errors.old }
 {
-    let loaded = match load(rt, &words.file) {
-        Ok(loaded) => loaded,
-        Err(fault) => return fault.tell(words.file.file, errors),
-    };
-    let until = match place_named(&loaded, words.until, errors) {
-        Ok(until) => until,
-        Err(status) => return status,
-    };
-    let Loaded {
-        mut session,
-        assembly,
-        written,
-    } = loaded;
-    let written = written.or_everywhere(words.is_free);
-    run_to(
-        rt.alloc(),
-        words,
-        assembly.as_ref(),
-        &mut session,
-        written,
-        until,
-        input,
-        output,
-        errors,
-    )
+    match load(rt, &words.file) {
+        Ok(loaded) => run_loaded(rt.alloc(), words, loaded, input, output, errors),
+        Err(fault) => fault.tell(words.file.file, errors),
+    }
 }
 
 /// Does what the words of `run` ask for, its own name left out, and returns the exit status.

@@ -15,7 +15,7 @@ ghost use Rattle.tape_words.specs.CommandLines.{mend};
 use crate::mending::{Mended, mend_text};
 use crate::parts::is_kept;
 use crate::reporting::report;
-use arguments::{FileRefusal, Refusal, refused_words, write_output};
+use arguments::{FileRefusal, Refusal, WriteFault, is_one_file, refused_words, write_file};
 use model::{TapeFault, TapeFaultKind};
 use std::alloc::{AllocError, Global};
 use std::io::Write;
@@ -108,7 +108,10 @@ fn write_out<H: Files + AllocGlobal>(
 ) -> Result<(), Refusal>
     ensures { IfErr result EndsWriting }
 {
-    write_output(rt, words.out, &[Some(words.tape)], text)
+    if is_one_file(rt, words.tape, words.out) {
+        return Err(Refusal::WriteFile(WriteFault::SameFile));
+    }
+    write_file(rt, words.out, text)
 }
 
 /// Writes OUT, and returns what is said of a tape that is mended. If OUT is the tape under another

@@ -2,7 +2,6 @@
 use Rattle.std.proofs.Common.{◌≡◌, ◌∙◌, ◌++◌, ℕ, zero, suc, ◌-◌, ◌+◌, ◌<◌, Bool, false, true, cond, List, [], ◌∷◌, Option, None, Some, Result, Ok, Err, OnErr, refl, sym, ap, append_assoc, append-nil, subst, inl, inr}
 use Rattle.std.specs.Prelude.{⊤, codes}
 use Rattle.std.proofs.KnownBytes.{Appends-nil, Consumes-trans}
-use Rattle.std.specs.Result.{IsErrAnd}
 use Rattle.std.specs.Io.KnownBytes.{Appends, Consumes}
 use Rattle.console.proofs.Growing.{Begins, begins_itself, begins_on, cut_grows, out_of, played_grows}
 use Rattle.console.proofs.Turning.{RunsOn, cut_run, whole_input}
@@ -52,10 +51,6 @@ writes_none (Err e) held = front_none held []
 pub writes_all : {A E : Type 0} (r : Result A E) (held now : Option (List ℕ)) (text : List ℕ) → Appends held now text → Writes held now text r
 writes_all (Ok a) held now text appends = appends
 writes_all (Err e) held now text appends = all_front held now text appends
-
-pub writes_front : {A E : Type 0} (r : Result A E) (P : E → Type 0) (held now : Option (List ℕ)) (text : List ℕ) → IsErrAnd r P → AppendsFront held now text → Writes held now text r
-writes_front (Ok a) P held now text is front = absurd is
-writes_front (Err e) P held now text is front = front
 
 -- ---- the text at the end begins with the text before
 

@@ -22,8 +22,10 @@ pub fn check_lines<H: Files + AllocGlobal>(rt: &H, words: &TraceWords<'_>) -> Re
     ensures apart { IfOk result (λ _. IsApart (trace_view words.now)) }
     ensures fault { IfErr result IsOfStreams }
 {
-    check_outputs(rt, &[Some(words.file.file), words.symbols], &[words.lcov])?;
-    Ok(())
+    match check_outputs(rt, &[Some(words.file.file), words.symbols], &[words.lcov]) {
+        Ok(()) => Ok(()),
+        Err(why) => Err(why.refusal),
+    }
 }
 
 /// Returns the record of a source; no byte where there is none.
@@ -56,9 +58,11 @@ pub fn write_lines<H: Files + AllocGlobal>(
     let (Some(path), Some(tally)) = (words.lcov, tally) else {
         return Ok(());
     };
-    let text = lines_text(rt.alloc(), words.file.file, assembly, tally).map_err(
-        |_| Refusal::OutOfMemory,
-    )?;
-    write_file(rt, path, &text)?;
-    Ok(())
+    let Ok(text) = lines_text(rt.alloc(), words.file.file, assembly, tally) else {
+        return Err(Refusal::OutOfMemory);
+    };
+    match write_file(rt, path, &text) {
+        Ok(()) => Ok(()),
+        Err(fault) => Err(fault),
+    }
 }

@@ -296,10 +296,10 @@ fn trace_on<R: Read, O: Write, E: Write>(
         tracer, session, player, span.to, span.limit, input, output, errors,
     );
     match run {
-        Ok(played) => {
-            tracer.finish(alloc, output)?;
-            Ok(played)
-        }
+        Ok(played) => match tracer.finish(alloc, output) {
+            Ok(()) => Ok(played),
+            Err(fault) => Err(fault),
+        },
         Err(fault) => {
             tracer.write_cut(output);
             Err(fault)
@@ -346,10 +346,13 @@ fn trace_between<R: Read, O: Write, E: Write>(
         × Writes (E.contents errors.old) (E.contents errors.new) text result }
 {
     let mut player = begin(session, written);
-    let reached = run_to_start(tracer, session, &mut player, span.from, input, errors)?;
+    let reached = match run_to_start(tracer, session, &mut player, span.from, input, errors) {
+        Ok(reached) => reached,
+        Err(fault) => return Err(fault),
+    };
     match reached.ending {
         Ending::Until => {
-            let played = trace_on(
+            match trace_on(
                 alloc,
                 tracer,
                 session,
@@ -358,11 +361,13 @@ fn trace_between<R: Read, O: Write, E: Write>(
                 input,
                 output,
                 errors,
-            )?;
-            Ok(Traced {
-                played,
-                has_begun: true,
-            })
+            ) {
+                Ok(played) => Ok(Traced {
+                    played,
+                    has_begun: true,
+                }),
+                Err(fault) => Err(fault),
+            }
         }
         ending => Ok(Traced {
             played: Played { steps: 0, ending },

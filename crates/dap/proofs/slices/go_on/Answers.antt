@@ -6,8 +6,8 @@ use Rattle.dap.specs.Sent.{AreBegun}
 use Rattle.dap_messages.specs.Messages.{Said}
 use Rattle.dap.proofs.slices.go_on.Goals as goal
 
-pub returns-in-Err-run_again-clause-begun : goal.returns-in-Err-run_again-clause-begun
-returns-in-Err-run_again-clause-begun g c =
+pub returns-in-Err-served_again-clause-begun : goal.returns-in-Err-served_again-clause-begun
+returns-in-Err-served_again-clause-begun g c =
     let sent = c.in-Ok.ensures.sent in
     let old = c.args.messages.now in
     let said = said_rest old.items c.deref.result.now (vec_len old) (omega (arith, old.ok.0)) (c.deref.ensures.value ∙ c.pop.ensures.rest) in

@@ -9,6 +9,6 @@ returns-clause-noted c =
       view = c.view_after-seat.ensures;
       notes = c.in_ok-note_line.ensures
           ∙ (λ i. notes_after c.serve.new.desk (c.placed_in-placed.ensures i) (c.regs-pc.ensures i).pc c.args.line.now first.notes.items);
-      loaded = refl;
+      loaded = c.keep_typed.ensures;
       words = refl;
     }

@@ -16,7 +16,7 @@ pub returns-in-None-clause-named : goal.returns-in-None-clause-named
 returns-in-None-clause-named g c = none_with c.args.words.now.symbols (file_view c.args.words.now.file) c.in-None.is
 
 pub returns-in-Ok-clause-named : goal.returns-in-Ok-clause-named
-returns-in-Ok-clause-named g c = named_with c.args.words.now.symbols c.in-Some.file (file_view c.args.words.now.file) c.in-Ok.names c.in-Some.is c.in-Ok.ensures.assembled
+returns-in-Ok-clause-named g c = named_with c.args.words.now.symbols c.in-Some.path (file_view c.args.words.now.file) c.in-Ok.names c.in-Some.is c.in-Ok.ensures.assembled
 
 pub returns-in-Err-clause-refused : goal.returns-in-Err-clause-refused
 returns-in-Err-clause-refused g c = names_end (file_view c.args.words.now.file) c.in-Err.refusal c.in-Err.ensures.refused

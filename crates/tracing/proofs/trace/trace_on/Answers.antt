@@ -1,25 +1,25 @@
 use Rattle.tracing.specs.Gathered.{gathered}
 use Rattle.tracing.specs.Texts.{noted_in}
 use Rattle.console.specs.Playing.{played}
-use Rattle.tracing.proofs.Cutting.{end_cut, err_always, trace_cut, writes_all}
+use Rattle.tracing.proofs.Cutting.{all_front, end_cut, trace_cut}
 use Rattle.tracing.proofs.Going.{got_text, noting}
 use Rattle.tracing.proofs.trace.trace_on.Goals as goal
 
-pub returns-in-Ok-clause-ok : goal.returns-in-Ok-clause-ok
-returns-in-Ok-clause-ok g c =
+pub returns-in-Ok-finish-clause-ok : goal.returns-in-Ok-finish-clause-ok
+returns-in-Ok-finish-clause-ok g c =
     let ok = c.in-Ok.ensures.ok in
     let tracer = c.run_noting-run.new.tracer in (
       noted_in tracer ok.0,
       ok.1,
-      got_text _ (g.O.Write.contents c.run_noting-run.new.output) _ _ tracer.sheet.text.items ok.0 (gathered tracer) c.requires.sheet ok.2 c.in_ok-finish.ensures.writes,
+      got_text _ (g.O.Write.contents c.run_noting-run.new.output) _ _ tracer.sheet.text.items ok.0 (gathered tracer) c.requires.sheet ok.2 c.in-Ok-finish.ensures.writes,
     )
 
-pub returns-in_err-finish-clause-err : goal.returns-in_err-finish-clause-err
-returns-in_err-finish-clause-err g c =
+pub returns-in-Err-finish-clause-err : goal.returns-in-Err-finish-clause-err
+returns-in-Err-finish-clause-err g c =
     let ok = c.in-Ok.ensures.ok in
     let tracer = c.run_noting-run.new.tracer in
-    err_always c.from_residual.result (end_cut (played c.args.span.to c.args.span.limit) (noting c.args.span.to c.args.span.limit (gathered c.args.tracer.now)) c.args.session.now c.args.player.now _ _ c.run_noting-run.new.session c.run_noting-run.new.player
-    _ (g.O.Write.contents c.run_noting-run.new.output) _ _ tracer.sheet.text.items ok.0 (gathered tracer) c.in-Ok.played c.requires.sheet ok.2 c.in_err-finish.ensures.writes ok.1)
+    end_cut (played c.args.span.to c.args.span.limit) (noting c.args.span.to c.args.span.limit (gathered c.args.tracer.now)) c.args.session.now c.args.player.now _ _ c.run_noting-run.new.session c.run_noting-run.new.player
+    _ (g.O.Write.contents c.run_noting-run.new.output) _ _ tracer.sheet.text.items ok.0 (gathered tracer) c.in-Ok.played c.requires.sheet ok.2 c.in-Err-finish.ensures.writes ok.1
 
 pub returns-in-Err-clause-err : goal.returns-in-Err-clause-err
 returns-in-Err-clause-err g c =
@@ -29,6 +29,6 @@ returns-in-Err-clause-err g c =
     _ (g.O.Write.contents c.run_noting-run.new.output) _ _ tracer.sheet.text.items cut.0 c.requires.sheet cut.2 c.write_cut.ensures cut.1
 
 -- The run has written all that was put out, whatever comes of the rows.
-pub returns-in_err-finish-clause-output : goal.returns-in_err-finish-clause-output
-returns-in_err-finish-clause-output g c =
-    let out = c.in-Ok.ensures.output in (out.0, out.1, writes_all c.from_residual.result _ _ out.0 out.2)
+pub returns-in-Err-finish-clause-output : goal.returns-in-Err-finish-clause-output
+returns-in-Err-finish-clause-output g c =
+    let out = c.in-Ok.ensures.output in (out.0, out.1, all_front _ _ out.0 out.2)
