@@ -2,7 +2,8 @@
 
 ghost use Rattle.std.specs.Prelude.{◌≡◌, []};
 
-use serde_json::Value;
+use crate::halt::Reason;
+use crate::request::{DataBreakpoint, InstructionBreakpoint, SourceBreakpoint};
 use std::alloc::Global;
 
 /// The breakpoints that a client has listed.
@@ -12,10 +13,10 @@ pub struct Listed {
     pub lines: Vec<u16>,
     /// The addresses of those at addresses.
     pub addresses: Vec<u16>,
-    /// The last requests for both, and for bytes that are watched.
-    pub line_request: Option<Value>,
-    pub address_request: Option<Value>,
-    pub data_request: Option<Value>,
+    /// What the last request for each kind has listed, if there was one.
+    pub last_lines: Option<Vec<SourceBreakpoint>>,
+    pub last_addresses: Option<Vec<InstructionBreakpoint>>,
+    pub last_bytes: Option<Vec<DataBreakpoint>>,
 }
 
 impl Listed {
@@ -27,9 +28,9 @@ impl Listed {
         Listed {
             lines: Vec::new(alloc),
             addresses: Vec::new(alloc),
-            line_request: None,
-            address_request: None,
-            data_request: None,
+            last_lines: None,
+            last_addresses: None,
+            last_bytes: None,
         }
     }
 }
@@ -39,5 +40,6 @@ impl Listed {
 #[derive(Drop)]
 pub struct Told {
     pub count: u32,
+    pub reason: Reason,
     pub words: String,
 }
