@@ -1,9 +1,8 @@
 -- What a request does to an adapter, and what is said. Source: Debug Adapter Protocol 1.65; in which
 -- order requests come, mos65.
-use Rattle.std.specs.Prelude.{ℕ, ◌≡◌, ◌⊎◌, ◌&&◌, ⊤, Bool, true, false, is_none, List, [], ◌∷◌, codes, Option, Some, None}
+use Rattle.std.specs.Prelude.{ℕ, ◌≡◌, ◌⊎◌, ⊤, Bool, true, false, is_none, List, [], ◌∷◌, codes, Option, Some, None}
 use Rattle.dap_messages.specs.Bodies.{capabilities, nothing}
 use Rattle.dap_messages.specs.Messages.{Said, done, event, refused}
-use Rattle.dap_messages.specs.Seen.{SeenLaunch, launch_view}
 use Rattle.dap_messages.specs.declared.request.Request.{Request}
 use Rattle.dap_messages.specs.declared.request.Request.TheVariants as to
 use Rattle.dap_messages.specs.declared.request.SessionRequest.{SessionRequest}
@@ -15,40 +14,46 @@ use Rattle.dap_session.specs.declared.fault.Fault.{Fault}
 use Rattle.dap_session.specs.declared.fault.Fault.TheVariants as fault
 use Rattle.dap_session.specs.declared.seat.Seat.{Seat}
 use Rattle.dap.specs.declared.adapter.Adapter.{Adapter}
+use Rattle.dap_messages.specs.Counting.{counting_of}
 use Rattle.dap_messages.specs.declared.counting.Counting.{Counting}
 use Rattle.mon_session.specs.Course.{ShowsOnly}
+use Rattle.serde_json.specs.Data.{Data}
 
 -- ---- a client that has said how it counts: a launch comes once, and before what needs a session
 
-abbrev pub ObeysLaunched : SessionRequest → Counting → Option Seat → Option Seat → List Said
+abbrev pub ObeysLaunched : SessionRequest → Data → Counting → Option Seat → Option Seat → List Said
     → Type 0
-ObeysLaunched asked counting (Some old) (Some new) said = AreAnswers asked counting old new said
-ObeysLaunched asked counting old new said = ⊥
+ObeysLaunched asked request counting (Some old) (Some new) said
+    = AreAnswers asked request counting old new said
+ObeysLaunched asked request counting old new said = ⊥
 
 -- After a launch breakpoints may be set.
 abbrev pub launched : List Said
 launched = done nothing ∷ event (codes "initialized") nothing ∷ []
 
-abbrev pub Begins : SeenLaunch → Seat → List Said → Type 0
-Begins launch new said = IsLaunched launch new × (said ≡ launched)
+abbrev pub Begins : Data → Seat → List Said → Type 0
+Begins request new said = IsLaunched request new × (said ≡ launched)
 
-abbrev pub Launches : SeenLaunch → Option Seat → Option Seat → List Said → Type 0
-Launches launch None (Some new) said = Begins launch new said
-Launches launch old new said = ⊥
+abbrev pub Launches : Data → Option Seat → Option Seat → List Said → Type 0
+Launches request None (Some new) said = Begins request new said
+Launches request old new said = ⊥
 
-abbrev pub ObeysBegun : Request → Counting → Option Seat → Option Seat → List Said → Type 0
-ObeysBegun (to.Launch launch) counting old new said = Launches (launch_view launch) old new said
-ObeysBegun to.Disconnect counting old new said = (new ≡ old) × (said ≡ all_done)
-ObeysBegun (to.InSession asked) counting old new said
-    = ObeysLaunched asked counting old new said
-ObeysBegun asked counting old new said = ⊥
+abbrev pub ObeysBegun : Request → Data → Counting → Option Seat → Option Seat → List Said → Type 0
+ObeysBegun to.Launch request counting old new said = Launches request old new said
+ObeysBegun to.Disconnect request counting old new said = (new ≡ old) × (said ≡ all_done)
+ObeysBegun (to.InSession asked) request counting old new said
+    = ObeysLaunched asked request counting old new said
+ObeysBegun asked request counting old new said = ⊥
 
 -- ---- a client that has not
 
-abbrev pub ObeysFirst : Request → Option Counting → List Said → Type 0
-ObeysFirst (to.Initialize counting) new said
-    = (new ≡ Some counting) × (said ≡ done capabilities ∷ [])
-ObeysFirst asked new said = ⊥
+abbrev pub Initializes : Data → Option Counting → List Said → Type 0
+Initializes request new said
+    = (new ≡ Some (counting_of request)) × (said ≡ done capabilities ∷ [])
+
+abbrev pub ObeysFirst : Request → Data → Option Counting → List Said → Type 0
+ObeysFirst to.Initialize request new said = Initializes request new said
+ObeysFirst asked request new said = ⊥
 
 -- ---- what a refused request changes: nothing of a session
 
@@ -68,22 +73,20 @@ RestsIfRefused f old new
 
 -- ---- an adapter
 
-abbrev pub ObeysBy : Option Counting → Request → Adapter → Adapter → List Said → Type 0
-ObeysBy None asked old new said
-    = ObeysFirst asked new.counting said × (new.seat ≡ old.seat)
-ObeysBy (Some counting) asked old new said
-    = ObeysBegun asked counting old.seat new.seat said × (new.counting ≡ old.counting)
+abbrev pub ObeysBy : Option Counting → Request → Data → Adapter → Adapter → List Said → Type 0
+ObeysBy None asked request old new said
+    = ObeysFirst asked request new.counting said × (new.seat ≡ old.seat)
+ObeysBy (Some counting) asked request old new said
+    = ObeysBegun asked request counting old.seat new.seat said
+    × (new.counting ≡ old.counting)
 
-abbrev pub ObeysAdapter : Request → Adapter → Adapter → List Said → Type 0
-ObeysAdapter asked old new said = ObeysBy old.counting asked old new said
+abbrev pub ObeysAdapter : Request → Data → Adapter → Adapter → List Said → Type 0
+ObeysAdapter asked request old new said = ObeysBy old.counting asked request old new said
 
 -- A launch that leaves no session ends, which is said behind its refusal.
-abbrev pub is_launch : Request → Bool
-is_launch (to.Launch launch) = true
-is_launch asked = false
-
 abbrev pub ends : Request → Option Seat → Bool
-ends asked seat = is_launch asked && is_none seat
+ends to.Launch seat = is_none seat
+ends asked seat = false
 
 abbrev pub end_said : Bool → List Said
 end_said true = over ∷ []
@@ -95,25 +98,25 @@ IsRefused is_end said = (words : List ℕ) × (said ≡ refused words ∷ end_sa
 -- ---- when a request is refused
 
 -- No program was launched, or the session refuses it.
-abbrev pub MayRefuseIn : SessionRequest → Option Seat → Type 0
-MayRefuseIn asked (Some seat) = MayRefuse asked seat.desk
-MayRefuseIn asked None = ⊤
+abbrev pub MayRefuseIn : SessionRequest → Data → Option Seat → Type 0
+MayRefuseIn asked request (Some seat) = MayRefuse asked request seat.desk
+MayRefuseIn asked request None = ⊤
 
 -- A launch that comes again, or that names no program that can be loaded; `initialize` that comes
 -- again, and what is no request.
-abbrev pub MayRefuseBegun : Request → Option Seat → Type 0
-MayRefuseBegun to.Disconnect seat = ⊥
-MayRefuseBegun (to.InSession asked) seat = MayRefuseIn asked seat
-MayRefuseBegun asked seat = ⊤
+abbrev pub MayRefuseBegun : Request → Data → Option Seat → Type 0
+MayRefuseBegun to.Disconnect request seat = ⊥
+MayRefuseBegun (to.InSession asked) request seat = MayRefuseIn asked request seat
+MayRefuseBegun asked request seat = ⊤
 
 -- `initialize` comes first.
 abbrev pub MayRefuseFirst : Request → Type 0
-MayRefuseFirst (to.Initialize counting) = ⊥
+MayRefuseFirst to.Initialize = ⊥
 MayRefuseFirst asked = ⊤
 
-abbrev pub MayRefuseBy : Option Counting → Request → Option Seat → Type 0
-MayRefuseBy None asked seat = MayRefuseFirst asked
-MayRefuseBy (Some counting) asked seat = MayRefuseBegun asked seat
+abbrev pub MayRefuseBy : Option Counting → Request → Data → Option Seat → Type 0
+MayRefuseBy None asked request seat = MayRefuseFirst asked
+MayRefuseBy (Some counting) asked request seat = MayRefuseBegun asked request seat
 
 -- ---- what is said of a request
 
@@ -125,7 +128,7 @@ Stays old new = ⊥
 
 -- What is asked for is done, and this is said; or it is refused, which it may be then, and nothing
 -- is changed.
-abbrev pub Serves : Request → Adapter → Adapter → List Said → Type 0
-Serves asked old new said = ObeysAdapter asked old new said
-    ⊎ (MayRefuseBy old.counting asked old.seat × IsRefused (ends asked new.seat) said
+abbrev pub Serves : Request → Data → Adapter → Adapter → List Said → Type 0
+Serves asked request old new said = ObeysAdapter asked request old new said
+    ⊎ (MayRefuseBy old.counting asked request old.seat × IsRefused (ends asked new.seat) said
     × (new.counting ≡ old.counting) × Stays old.seat new.seat)

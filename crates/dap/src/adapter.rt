@@ -1,21 +1,22 @@
 //! What is done with a request: which comes when, and what it does to an adapter.
 
-ghost use Rattle.std.specs.Prelude.{◌≡◌, ◌∷◌, ◌&&◌, [], IfErr, IfOk, OnErr, Some, is_none};
-ghost use Rattle.std.specs.Prelude.{map as each, string_bytes};
+ghost use Rattle.std.specs.Prelude.{◌≡◌, ◌∷◌, [], IfErr, IfOk, OnErr, Some, map as each};
+ghost use Rattle.std.specs.Prelude.{string_bytes};
 ghost use Rattle.dap_session.specs.declared.seat.Seat.{Seat};
 ghost use Rattle.dap_messages.specs.Messages.{refused, said_of};
-ghost use Rattle.dap_messages.specs.Seen.{launch_view};
+ghost use Rattle.dap_messages.specs.Requests.{request_of};
 ghost use Rattle.dap.specs.Adapter.{Begins, CountsIfRefused, IsRefused, Launches, ObeysAdapter};
 ghost use Rattle.dap.specs.Adapter.{MayRefuseBegun, MayRefuseBy, MayRefuseFirst, ObeysBegun};
-ghost use Rattle.dap.specs.Adapter.{ObeysFirst, RestsIfRefused, Serves, StaysIfRefused, is_launch};
-ghost use Rattle.dap.specs.Adapter.{launched};
+ghost use Rattle.dap.specs.Adapter.{ObeysFirst, RestsIfRefused, Serves, StaysIfRefused, ends, launched};
 ghost use Rattle.dap_session.specs.Refusals.{IfRefused};
+ghost use Rattle.serde_json.specs.View.{view};
 
-use dap_messages::{Counting, Launch, Message, Request, capabilities, nothing};
+use dap_messages::{Counting, Message, Request, capabilities, nothing, request_of};
 use dap_session::{
     Fault, Seat, all_done, answer, answered, begin_session, or_memory, put_seat, refused,
     with_event, with_terminated,
 };
+use serde_json::Value;
 use std::alloc::{AllocError, Global};
 use std::rt::Files;
 
@@ -37,14 +38,14 @@ fn launched(alloc: Global) -> Result<Vec<Message>, AllocError>
 fn begin_first<H: Files + AllocGlobal>(
     rt: &H,
     seat: &mut Option<Seat>,
-    launch: &Launch,
+    request: &Value,
 ) -> Result<Vec<Message>, Fault>
     ensures done { IfOk result (λ ms. (begun : Seat) × (seat.new ≡ Some begun)
-        × Begins (launch_view launch.now) begun (each said_of ms.items)) }
+        × Begins (view request.now) begun (each said_of ms.items)) }
     ensures refused { OnErr result (seat.new ≡ seat.old) }
 {
     let messages = launched(rt.alloc())?;
-    let begun = begin_session(rt, launch)?;
+    let begun = begin_session(rt, request)?;
     put_seat(seat, begun);
     Ok(messages)
 }
@@ -54,16 +55,16 @@ fn begin_first<H: Files + AllocGlobal>(
 fn launch<H: Files + AllocGlobal>(
     rt: &H,
     seat: &mut Option<Seat>,
-    launch: &Launch,
+    request: &Value,
 ) -> Result<Vec<Message>, Fault>
     ensures done { IfOk result
-        (λ ms. Launches (launch_view launch.now) seat.old seat.new (each said_of ms.items)) }
+        (λ ms. Launches (view request.now) seat.old seat.new (each said_of ms.items)) }
     ensures refused { IfErr result (λ f. StaysIfRefused f seat.old seat.new) }
 {
     if seat.is_some() {
         return Err(refused(rt.alloc(), "launch comes once"));
     }
-    begin_first(rt, seat, launch)
+    begin_first(rt, seat, request)
 }
 
 /// Serves a request of a client that has said how it counts.
@@ -72,25 +73,24 @@ fn serve_begun<H: Files + AllocGlobal>(
     rt: &H,
     seat: &mut Option<Seat>,
     counting: Counting,
-    asked: Request<'_>,
+    request: &Value,
+    asked: Request,
 ) -> Result<Vec<Message>, Fault>
-    ensures done { IfOk result
-        (λ ms. ObeysBegun asked.entry counting seat.old seat.new (each said_of ms.items)) }
+    ensures done { IfOk result (λ ms. ObeysBegun asked (view request.now) counting seat.old
+        seat.new (each said_of ms.items)) }
     ensures refused { IfErr result (λ f. StaysIfRefused f seat.old seat.new) }
-    ensures why { IfErr result (λ f. IfRefused f (MayRefuseBegun asked.entry seat.old)) }
+    ensures why { IfErr result
+        (λ f. IfRefused f (MayRefuseBegun asked (view request.now) seat.old)) }
 {
     match asked {
-        Request::Initialize(_) | Request::NoRequest => {
+        Request::Initialize | Request::NoRequest => {
             Err(refused(rt.alloc(), "this cannot be served here"))
         }
-        Request::Launch(asked) => launch(rt, seat, &asked),
+        Request::Launch => launch(rt, seat, request),
         Request::Disconnect => or_memory(all_done(rt.alloc())),
         Request::InSession(asked) => match seat {
-            Some(seat) => answer(rt, seat, counting, asked),
-            None => {
-                drop(asked);
-                Err(refused(rt.alloc(), "no program was launched"))
-            }
+            Some(seat) => answer(rt, seat, counting, request, asked),
+            None => Err(refused(rt.alloc(), "no program was launched")),
         },
     }
 }
@@ -101,22 +101,20 @@ fn serve_begun<H: Files + AllocGlobal>(
 fn serve_first(
     alloc: Global,
     counting: &mut Option<Counting>,
-    asked: Request<'_>,
+    request: &Value,
+    asked: Request,
 ) -> Result<Vec<Message>, Fault>
     ensures done { IfOk result
-        (λ ms. ObeysFirst asked.entry counting.new (each said_of ms.items)) }
+        (λ ms. ObeysFirst asked (view request.now) counting.new (each said_of ms.items)) }
     ensures refused { IfErr result (λ f. CountsIfRefused f counting.old counting.new) }
-    ensures why { IfErr result (λ f. IfRefused f (MayRefuseFirst asked.entry)) }
+    ensures why { IfErr result (λ f. IfRefused f (MayRefuseFirst asked)) }
 {
     match asked {
-        Request::Initialize(said) => {
-            *counting = Some(said);
+        Request::Initialize => {
+            *counting = Some(Counting::of(request));
             or_memory(answered(alloc, capabilities(alloc)))
         }
-        other => {
-            drop(other);
-            Err(refused(alloc, "initialize comes first"))
-        }
+        _ => Err(refused(alloc, "initialize comes first")),
     }
 }
 
@@ -125,17 +123,18 @@ fn serve_first(
 fn serve_asked<H: Files + AllocGlobal>(
     rt: &H,
     adapter: &mut Adapter,
-    asked: Request<'_>,
+    request: &Value,
+    asked: Request,
 ) -> Result<Vec<Message>, Fault>
-    ensures done { IfOk result
-        (λ ms. ObeysAdapter asked.entry adapter.old adapter.new (each said_of ms.items)) }
+    ensures done { IfOk result (λ ms. ObeysAdapter asked (view request.now) adapter.old
+        adapter.new (each said_of ms.items)) }
     ensures refused { IfErr result (λ f. RestsIfRefused f adapter.old adapter.new) }
     ensures why { IfErr result (λ f. IfRefused f
-        (MayRefuseBy adapter.old.counting asked.entry adapter.old.seat)) }
+        (MayRefuseBy adapter.old.counting asked (view request.now) adapter.old.seat)) }
 {
     match adapter.counting {
-        Some(counting) => serve_begun(rt, &mut adapter.seat, counting, asked),
-        None => serve_first(rt.alloc(), &mut adapter.counting, asked),
+        Some(counting) => serve_begun(rt, &mut adapter.seat, counting, request, asked),
+        None => serve_first(rt.alloc(), &mut adapter.counting, request, asked),
     }
 }
 
@@ -148,18 +147,11 @@ fn refusal(alloc: Global, words: String) -> Result<Vec<Message>, AllocError>
     Ok(messages)
 }
 
-/// Returns whether a request is a launch.
-fn is_launch(asked: &Request<'_>) -> bool
-    ensures { result ≡ is_launch asked.now }
-{
-    matches!(asked, Request::Launch(_))
-}
-
 /// Returns whether the session ends where a request is refused: at a launch that leaves none.
-fn ends(launches: bool, seat: &Option<Seat>) -> bool
-    ensures { result ≡ (launches && is_none seat.now) }
+fn ends(asked: Request, seat: &Option<Seat>) -> bool
+    ensures { result ≡ ends asked seat.now }
 {
-    launches && seat.is_none()
+    matches!(asked, Request::Launch) && seat.is_none()
 }
 
 /// Returns the refusal of a request, and that the session has ended, if it has.
@@ -177,18 +169,15 @@ fn ended_by(alloc: Global, words: String, is_end: bool) -> Result<Vec<Message>, 
 pub fn serve<H: Files + AllocGlobal>(
     rt: &H,
     adapter: &mut Adapter,
-    asked: Request<'_>,
+    request: &Value,
 ) -> Result<Vec<Message>, AllocError>
-    ensures { IfOk result
-        (λ ms. Serves asked.entry adapter.old adapter.new (each said_of ms.items)) }
+    ensures { IfOk result (λ ms. Serves (request_of (view request.now)) (view request.now)
+        adapter.old adapter.new (each said_of ms.items)) }
 {
-    let launches = is_launch(&asked);
-    match serve_asked(rt, adapter, asked) {
+    let asked = request_of(request);
+    match serve_asked(rt, adapter, request, asked) {
         Ok(messages) => Ok(messages),
-        Err(Fault::Refused(words)) => {
-            let is_end = ends(launches, &adapter.seat);
-            ended_by(rt.alloc(), words, is_end)
-        }
+        Err(Fault::Refused(words)) => { ended_by(rt.alloc(), words, ends(asked, &adapter.seat)) }
         Err(Fault::OutOfMemory) => Err(AllocError),
     }
 }

@@ -7,7 +7,6 @@ ghost use Rattle.arguments.specs.Words.{AsksForHelp, Fits, Refuses, texts};
 ghost use Rattle.dap.specs.Attended.{Attends, CutsOff, Turns, cut_status};
 ghost use Rattle.dap.specs.CommandLine.{dap_app, seen_in};
 ghost use Rattle.dap.specs.Served.{Answers, IsNotJson, ServesBody, ServesMessage};
-ghost use Rattle.dap.specs.Served.{asks_end, asks_run};
 ghost use Rattle.dap.specs.Slices.{IsRun, IsRunCut};
 ghost use Rattle.dap_messages.specs.Messages.{said_of};
 ghost use Rattle.message_stream.specs.Sessions.{BeginsTurn, IsCutShort, IsEndedBy};
@@ -20,7 +19,6 @@ use crate::slices::run_on;
 use crate::words::read_words;
 use arguments::{Refusal, put_all, refuse, refused_words};
 use dap_messages::{Message, Request, request_of};
-use dap_session::lets_run;
 use json_values::value_of;
 use message_stream::{Incoming, StreamFault};
 use serde_json::Value;
@@ -31,20 +29,18 @@ use std::rt::Files;
 /// What is said of a body that is no JSON.
 pub const NOT_JSON: &str = "this is no JSON";
 
-/// A message that was served: its value, what is answered, whether it lets the machine run, and
-/// whether it asks for the end.
+/// A message that was served: its value, what is answered, and whether it asks for the end.
 #[derive(Drop)]
 struct Served {
     request: Value,
     messages: Vec<Message>,
-    is_run: bool,
     is_end: bool,
 }
 
 /// Returns the refusal of a body that is no JSON.
 fn refusal(alloc: Global) -> Result<Served, AllocError>
     ensures { IfOk result
-        (λ s. IsNotJson (view s.request) (each said_of s.messages.items) s.is_run s.is_end) }
+        (λ s. IsNotJson (view s.request) (each said_of s.messages.items) s.is_end) }
 {
     let words = String::from_str(alloc, NOT_JSON)?;
     let mut messages = Vec::new(alloc);
@@ -52,26 +48,8 @@ fn refusal(alloc: Global) -> Result<Served, AllocError>
     Ok(Served {
         request: Value::Null,
         messages,
-        is_run: false,
         is_end: false,
     })
-}
-
-/// Returns whether a request lets the machine run.
-fn asks_run(asked: &Request<'_>) -> bool
-    ensures { result ≡ asks_run asked.now }
-{
-    match asked {
-        Request::InSession(asked) => lets_run(asked),
-        _ => false,
-    }
-}
-
-/// Returns whether a request asks for the end.
-fn asks_end(asked: &Request<'_>) -> bool
-    ensures { result ≡ asks_end asked.now }
-{
-    matches!(asked, Request::Disconnect)
 }
 
 /// Returns what is answered to a message. The only error is that a request for memory was refused.
@@ -81,16 +59,13 @@ fn obeyed<H: Files + AllocGlobal>(
     request: Value,
 ) -> Result<Served, AllocError>
     ensures { IfOk result (λ s. ServesMessage (view request) adapter.old adapter.new
-        (view s.request) (each said_of s.messages.items) s.is_run s.is_end) }
+        (view s.request) (each said_of s.messages.items) s.is_end) }
 {
-    let asked = request_of(rt.alloc(), &request)?;
-    let is_run = asks_run(&asked);
-    let is_end = asks_end(&asked);
-    let messages = serve(rt, adapter, asked)?;
+    let messages = serve(rt, adapter, &request)?;
+    let is_end = matches!(request_of(&request), Request::Disconnect);
     Ok(Served {
         request,
         messages,
-        is_run,
         is_end,
     })
 }
@@ -103,7 +78,7 @@ fn serve_body<H: Files + AllocGlobal>(
     body: &[u8],
 ) -> Result<Served, AllocError>
     ensures { IfOk result (λ s. ServesBody body.now adapter.old adapter.new (view s.request)
-        (each said_of s.messages.items) s.is_run s.is_end) }
+        (each said_of s.messages.items) s.is_end) }
 {
     match value_of(rt.alloc(), body)? {
         Some(request) => obeyed(rt, adapter, request),
@@ -126,11 +101,11 @@ fn send_served<H: Files + AllocGlobal, O: Write>(
     output: &mut O,
 ) -> Result<(u64, bool), StreamFault>
     ensures sent { IfOk result (λ p. (p.1 ≡ served.is_end) × (written : List ℕ)
-        × IsRun (option_map (λ s. s.now) seen.entry) served.is_run (view served.request)
+        × IsRun (option_map (λ s. s.now) seen.entry) (view served.request)
         (each said_of served.messages.items) adapter.old sent adapter.new p.0 written
         × Appends (O.contents output.old) (O.contents output.new) written) }
     ensures cut { OnErr result ((written : List ℕ)
-        × IsRunCut (option_map (λ s. s.now) seen.entry) served.is_run (view served.request)
+        × IsRunCut (option_map (λ s. s.now) seen.entry) (view served.request)
         (each said_of served.messages.items) adapter.old sent written
         × Appends (O.contents output.old) (O.contents output.new) written) }
     ensures fault { IfErr result IsUnwritten }
@@ -138,7 +113,6 @@ fn send_served<H: Files + AllocGlobal, O: Write>(
     let Served {
         request,
         messages,
-        is_run,
         is_end,
     } = served;
     let mut waiting = messages;
@@ -147,7 +121,6 @@ fn send_served<H: Files + AllocGlobal, O: Write>(
         seen,
         incoming,
         adapter,
-        is_run,
         &request,
         &mut waiting,
         sent,

@@ -4,17 +4,19 @@ ghost use Rattle.std.specs.Prelude.{◌≡◌, [], ℕ, false, IfErr, IfOk, List
 ghost use Rattle.std.specs.Prelude.{map as each, option_map, true};
 ghost use Rattle.std.specs.Io.KnownBytes.{Appends};
 ghost use Rattle.dap.specs.Sent.{AreBegun};
-ghost use Rattle.dap.specs.Slices.{GoesOn, IsRunCut, MayRunOn, RunsOn, but_last};
-ghost use Rattle.dap.specs.Slices.{continuing, is_open};
+ghost use Rattle.dap.specs.Slices.{GoesOn, IsRunCut, MayRunOn, RunsOn, but_last, is_open};
+ghost use Rattle.dap.specs.Slices.{says_no_stop};
 ghost use Rattle.dap_messages.specs.Messages.{Said, said_of};
+ghost use Rattle.dap_messages.specs.Requests.{request_of};
 ghost use Rattle.dap.specs.Adapter.{Serves};
 ghost use Rattle.message_stream.specs.Taken.{IsUnwritten};
 ghost use Rattle.serde_json.specs.View.{view};
 
 use crate::adapter::{Adapter, serve};
 use crate::sending::send;
-use dap_messages::{Message, Move, Request, SessionRequest};
-use dap_session::{Seat, goes_on};
+use dap_messages::{Message, Move, Request, SessionRequest, request_of};
+use dap_session::NO_STOP;
+use json_values::text_at;
 use message_stream::{Incoming, StreamFault};
 use serde_json::Value;
 use std::alloc::AllocError;
@@ -22,15 +24,36 @@ use std::fs;
 use std::io::Write;
 use std::rt::Files;
 
-/// Returns whether a run goes on: a request has let the machine run, and nothing has stopped it so
-/// far.
-fn is_open(is_run: bool, seat: &Option<Seat>) -> bool
-    ensures { result ≡ is_open is_run seat.now }
+/// Returns whether a message says that all steps of a run were made, and nothing stopped it.
+fn says_no_stop(message: &Message) -> bool
+    ensures { result ≡ says_no_stop (said_of message.now) }
 {
-    match seat {
-        Some(seat) => goes_on(is_run, seat),
-        None => false,
+    match message {
+        Message::Event(_, body) => match text_at(body, "/description") {
+            Some(words) => words == NO_STOP,
+            None => false,
+        },
+        Message::Done(_) | Message::Refused(_) => false,
     }
+}
+
+/// Returns whether a request lets the machine run, as `continue` and `configurationDone` do, and
+/// nothing has stopped it, by what is said.
+#[tactic(auto, using(crate::proofs::Runs::any_more, crate::proofs::Runs::any_end))]
+fn is_open(request: &Value, messages: &[Message]) -> bool
+    ensures { result ≡ is_open (view request.now) (each said_of messages.now) }
+{
+    match request_of(request) {
+        Request::InSession(SessionRequest::Moves(Move::Go)) => {}
+        Request::InSession(SessionRequest::ConfigurationDone) => {}
+        _ => return false,
+    }
+    for message in messages {
+        if says_no_stop(message) {
+            return true;
+        }
+    }
+    false
 }
 
 /// Returns whether bytes of the client wait, or may wait: some are held, the file that they are
@@ -49,16 +72,17 @@ fn waits<H: Files>(rt: &H, seen: Option<&str>, incoming: &Incoming) -> bool
     }
 }
 
-/// Lets the machine run as `continue` does, and returns what is said but for the answer.
-fn run_again<H: Files + AllocGlobal>(
+/// Serves a request, and returns what is said but for the answer.
+fn served_again<H: Files + AllocGlobal>(
     rt: &H,
     adapter: &mut Adapter,
+    request: &Value,
 ) -> Result<Vec<Message>, AllocError>
-    ensures { IfOk result (λ ms. (all : List Said) × Serves continuing adapter.old adapter.new all
+    ensures { IfOk result (λ ms. (all : List Said)
+        × Serves (request_of (view request.now)) (view request.now) adapter.old adapter.new all
         × (each said_of ms.items ≡ drop 1 all)) }
 {
-    let asked = Request::InSession(SessionRequest::Moves(Move::Go));
-    let mut messages = serve(rt, adapter, asked)?;
+    let mut messages = serve(rt, adapter, request)?;
     if !messages.is_empty() {
         drop(messages.remove(0));
     }
@@ -73,15 +97,14 @@ fn run_again<H: Files + AllocGlobal>(
 fn go_on<H: Files + AllocGlobal, O: Write>(
     rt: &H,
     adapter: &mut Adapter,
-    is_run: bool,
     request: &Value,
     messages: &mut Vec<Message>,
     sent: u64,
     output: &mut O,
 ) -> Result<u64, StreamFault>
-    requires { is_open is_run adapter.old.seat ≡ true }
+    requires { is_open (view request.now) (each said_of messages.old.items) ≡ true }
     ensures went { IfOk result (λ total. (written : List ℕ)
-        × GoesOn is_run (view request.now) (each said_of messages.old.items) adapter.old sent
+        × GoesOn (view request.now) (each said_of messages.old.items) adapter.old sent
         (each said_of messages.new.items) adapter.new total written
         × Appends (O.contents output.old) (O.contents output.new) written) }
     ensures begun { OnErr result ((written : List ℕ)
@@ -91,7 +114,7 @@ fn go_on<H: Files + AllocGlobal, O: Write>(
 {
     drop(messages.pop());
     match send(rt.alloc(), sent, request, messages, output) {
-        Ok(total) => match run_again(rt, adapter) {
+        Ok(total) => match served_again(rt, adapter, request) {
             Ok(more) => {
                 *messages = more;
                 Ok(total)
@@ -102,9 +125,8 @@ fn go_on<H: Files + AllocGlobal, O: Write>(
     }
 }
 
-/// Lets a run go on as long as nothing stops it and nothing waits. `is_run` is whether the request
-/// has let the machine run. `messages` are what is to be said of it, before and after. Returns how
-/// many messages are sent then.
+/// Lets a run go on as long as nothing stops it and nothing waits. `messages` are what is to be
+/// said of it, before and after. Returns how many messages are sent then.
 ///
 /// Errors: those of `go_on`.
 pub fn run_on<H: Files + AllocGlobal, O: Write>(
@@ -112,7 +134,6 @@ pub fn run_on<H: Files + AllocGlobal, O: Write>(
     seen: Option<&str>,
     incoming: &Incoming,
     adapter: &mut Adapter,
-    is_run: bool,
     request: &Value,
     messages: &mut Vec<Message>,
     sent: u64,
@@ -120,24 +141,24 @@ pub fn run_on<H: Files + AllocGlobal, O: Write>(
 ) -> Result<u64, StreamFault>
     ensures ran { IfOk result (λ total. (again : ℕ)
         × MayRunOn (option_map (λ s. s.now) seen.entry) again × (written : List ℕ)
-        × RunsOn again is_run (view request.now) (each said_of messages.old.items) adapter.old sent
+        × RunsOn again (view request.now) (each said_of messages.old.items) adapter.old sent
         (each said_of messages.new.items) adapter.new total written
         × Appends (O.contents output.old) (O.contents output.new) written) }
     ensures cut { OnErr result ((written : List ℕ)
-        × IsRunCut (option_map (λ s. s.now) seen.entry) is_run (view request.now)
+        × IsRunCut (option_map (λ s. s.now) seen.entry) (view request.now)
         (each said_of messages.old.items) adapter.old sent written
         × Appends (O.contents output.old) (O.contents output.new) written) }
     ensures fault { IfErr result IsUnwritten }
 {
     let mut total = sent;
     for _ in 0..u64::MAX {
-        if !is_open(is_run, &adapter.seat) {
+        if !is_open(request, messages) {
             return Ok(total);
         }
         if waits(rt, seen, incoming) {
             return Ok(total);
         }
-        match go_on(rt, adapter, is_run, request, messages, total, output) {
+        match go_on(rt, adapter, request, messages, total, output) {
             Ok(more) => total = more,
             Err(fault) => return Err(fault),
         }

@@ -13,6 +13,7 @@ use Rattle.mon_session.specs.Course.{Course, course_of}
 use Rattle.mon_session.specs.declared.desk.Desk.{Desk}
 use Rattle.mon_steps.specs.BackLines.{undone, undone_by_watches, undone_over}
 pub use Rattle.mon_steps.specs.RunLines.{KeepsWatches, Stand, stand_of}
+pub use Rattle.mon_steps.specs.declared.wording.TheConstants.{NO_STOP}
 use Rattle.mon_steps.specs.RunLines.{called, ran, ran_by, returned, start_of, watches_of}
 
 -- A JSR as one step, or one step.

@@ -12,4 +12,5 @@ mod moves;
 
 pub use breaks::replace;
 pub use halts::is_break;
+pub use mon_steps::wording::NO_STOP;
 pub use moves::make_move;

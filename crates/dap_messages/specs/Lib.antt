@@ -3,8 +3,6 @@ pub mod Bodies
 pub mod Counting
 pub mod Halts
 pub mod Messages
-pub mod Names
 pub mod References
 pub mod Requests
-pub mod Seen
 pub mod Texts

@@ -1,6 +1,6 @@
 -- Messages to the client. Source: Debug Adapter Protocol 1.65, "Base protocol".
 use Rattle.std.specs.Prelude.{ℕ, ◌+◌, ◌==◌, true, false, if◌then◌else◌, List, [], ◌∷◌, codes, string_bytes}
-use Rattle.dap_messages.specs.Names.{command_of, number_of}
+use Rattle.dap_messages.specs.Requests.{command_of, number_of}
 use Rattle.dap_messages.specs.declared.message.Message.{Message}
 use Rattle.dap_messages.specs.declared.message.Message.TheVariants.{Done, Refused, Event}
 use Rattle.json_values.specs.Values.{count, flag, object_of, word}

@@ -1,181 +1,112 @@
--- What a message asks for, with its arguments. Source: Debug Adapter Protocol 1.65; what stands for
--- an argument that is missing, mos65.
-use Rattle.std.specs.Prelude.{ℕ, min, nat_le, Bool, false, true, bytes_eq, if◌then◌else◌, List, [], ◌∷◌, codes, map, Option, Some, None, option_and_then, unwrap_or}
-use Rattle.dap_messages.specs.Counting.{counting_of}
-use Rattle.dap_messages.specs.Names.{name_of}
-use Rattle.dap_messages.specs.References.{offset_at, place_at}
-use Rattle.dap_messages.specs.Seen.{SeenBreakpoints, SeenChange, SeenCondition, SeenInstruction, SeenLaunch, SeenQuery, SeenRequest, SeenSessionRequest, SeenSource}
-use Rattle.dap_messages.specs.Seen as seen
-use Rattle.dap_messages.specs.declared.names.ChangeName.{ChangeName}
-use Rattle.dap_messages.specs.declared.names.ChangeName.TheVariants as change
-use Rattle.dap_messages.specs.declared.names.ListName.{ListName}
-use Rattle.dap_messages.specs.declared.names.ListName.TheVariants as list
-use Rattle.dap_messages.specs.declared.names.QueryName.{QueryName}
-use Rattle.dap_messages.specs.declared.names.QueryName.TheVariants as query
-use Rattle.dap_messages.specs.declared.names.RequestName.{RequestName}
-use Rattle.dap_messages.specs.declared.names.RequestName.TheVariants as to
-use Rattle.dap_messages.specs.declared.names.SessionName.{SessionName}
-use Rattle.dap_messages.specs.declared.names.SessionName.TheVariants as session
-use Rattle.dap_messages.specs.declared.request.Access.{Access}
-use Rattle.dap_messages.specs.declared.request.Access.TheVariants as access
-use Rattle.dap_messages.specs.declared.request.DataBreakpoint.{DataBreakpoint}
-use Rattle.json_values.specs.Fields.{flag_at, number_at, text_at}
-use Rattle.serde_json.specs.Data.{Data, Items, item, no_items}
-use Rattle.serde_json.specs.Find.{as_array, pointer}
+-- What a message asks for. Source: Debug Adapter Protocol 1.65.
+use Rattle.std.specs.Prelude.{ℕ, Bool, true, false, bytes_eq, if◌then◌else◌, List, [], ◌∷◌, codes, Option, Some, None, unwrap_or}
+use Rattle.std.specs.Borrow.{Bor}
+use Rattle.serde_json.specs.Data.{Data}
+use Rattle.json_values.specs.Fields.{number_at, text_at}
+use Rattle.dap_messages.specs.declared.request.Breakpoints.{Breakpoints}
+use Rattle.dap_messages.specs.declared.request.Breakpoints.TheVariants as breakpoints
+use Rattle.dap_messages.specs.declared.request.Change.{Change}
+use Rattle.dap_messages.specs.declared.request.Change.TheVariants as change
+use Rattle.dap_messages.specs.declared.request.Move.{Move}
+use Rattle.dap_messages.specs.declared.request.Move.TheVariants as move
+use Rattle.dap_messages.specs.declared.request.Query.{Query}
+use Rattle.dap_messages.specs.declared.request.Query.TheVariants as query
+use Rattle.dap_messages.specs.declared.request.Request.{Request}
+use Rattle.dap_messages.specs.declared.request.Request.TheVariants as to
+use Rattle.dap_messages.specs.declared.request.SessionRequest.{SessionRequest}
+use Rattle.dap_messages.specs.declared.request.SessionRequest.TheVariants as session
 
--- ---- arguments
+-- ---- names, each with what it asks for
 
--- A text that is missing is empty, a flag that is missing is not set.
-abbrev pub text_in : List ℕ → Data → List ℕ
-text_in path message = unwrap_or (text_at path message) []
+abbrev pub Row : Type 0
+Row = List ℕ × Request
 
-abbrev pub is_set : List ℕ → Data → Bool
-is_set path message = unwrap_or (flag_at path message) false
+-- The same without where the name lies in memory.
+abbrev pub row_view : Bor (List ℕ) × Request → Row
+row_view row = (row.0.now, row.1)
 
--- A count is 65,536 at most, and 0 if it is missing.
-abbrev pub count_in : List ℕ → Data → ℕ
-count_in path message = min 65536 (unwrap_or (number_at path message) 0)
+abbrev pub in_session : List ℕ → SessionRequest → Row
+in_session name asked = (name, to.InSession asked)
 
--- The number of a target is an address.
-abbrev pub address_of : ℕ → Option ℕ
-address_of number = if nat_le number 65535 then Some number else None
+abbrev pub moves : List ℕ → Move → Row
+moves name way = in_session name (session.Moves way)
 
-abbrev pub target_in : Data → Option ℕ
-target_in request
-    = option_and_then address_of (number_at (codes "/arguments/targetId") request)
+abbrev pub sets : List ℕ → Breakpoints → Row
+sets name kind = in_session name (session.Sets kind)
 
-abbrev pub scope_in : Data → Option ℕ
-scope_in request = number_at (codes "/arguments/variablesReference") request
+abbrev pub changes : List ℕ → Change → Row
+changes name kind = in_session name (session.Changes kind)
 
-abbrev pub memory_in : Data → Option ℕ
-memory_in request
-    = place_at (codes "/arguments/memoryReference") (codes "/arguments/offset") request
+abbrev pub shows : List ℕ → Query → Row
+shows name kind = in_session name (session.Shows kind)
 
-abbrev pub path_in : Data → List ℕ
-path_in request = text_in (codes "/arguments/source/path") request
+-- All but moves by instructions.
+unfoldable pub requests : List Row
+requests = (codes "initialize", to.Initialize) ∷ (codes "launch", to.Launch)
+    ∷ (codes "disconnect", to.Disconnect)
+    ∷ moves (codes "next") move.Over ∷ moves (codes "stepIn") move.Step
+    ∷ moves (codes "stepOut") move.Out ∷ moves (codes "stepBack") move.BackOver
+    ∷ moves (codes "continue") move.Go ∷ moves (codes "reverseContinue") move.BackToStop
+    ∷ sets (codes "setBreakpoints") breakpoints.Source
+    ∷ sets (codes "setInstructionBreakpoints") breakpoints.Instruction
+    ∷ sets (codes "setDataBreakpoints") breakpoints.Data
+    ∷ changes (codes "evaluate") change.Evaluate ∷ changes (codes "setVariable") change.SetVariable
+    ∷ changes (codes "goto") change.Goto ∷ changes (codes "writeMemory") change.WriteMemory
+    ∷ shows (codes "threads") query.Threads ∷ shows (codes "stackTrace") query.StackTrace
+    ∷ shows (codes "scopes") query.Scopes ∷ shows (codes "variables") query.Variables
+    ∷ shows (codes "readMemory") query.ReadMemory ∷ shows (codes "disassemble") query.Disassemble
+    ∷ shows (codes "gotoTargets") query.GotoTargets
+    ∷ shows (codes "dataBreakpointInfo") query.DataBreakpointInfo
+    ∷ shows (codes "completions") query.Completions
+    ∷ shows (codes "exceptionInfo") query.ExceptionInfo
+    ∷ shows (codes "setExceptionBreakpoints") query.SetExceptionBreakpoints
+    ∷ shows (codes "pause") query.Pause
+    ∷ in_session (codes "configurationDone") session.ConfigurationDone
+    ∷ in_session (codes "restart") session.Restart
+    ∷ in_session (codes "terminate") session.Terminate ∷ []
 
--- ---- breakpoints
+unfoldable pub moves_by_instructions : List Row
+moves_by_instructions = moves (codes "next") move.Step ∷ moves (codes "stepBack") move.Back ∷ []
 
-abbrev pub list_in : Items → List Data
-list_in no_items = []
-list_in (item d ds) = d ∷ list_in ds
+-- What the first of these asks for that has a name, or else what is given.
+abbrev pub find : Request → List ℕ → List Row → Request
+find none name [] = none
+find none name (row ∷ rows) = if bytes_eq name row.0 then row.1 else find none name rows
 
--- The breakpoints that a request lists: none if it has no list.
-abbrev pub items_in : Data → Items
-items_in request = unwrap_or
-    (option_and_then as_array (pointer (codes "/arguments/breakpoints") request)) no_items
+-- ---- a message
 
-abbrev pub listed_in : Data → List Data
-listed_in request = list_in (items_in request)
+-- Whether a text is there, and is this.
+abbrev pub is_text : List ℕ → Option (List ℕ) → Bool
+is_text text None = false
+is_text text (Some found) = bytes_eq found text
 
-abbrev pub condition_of : Data → SeenCondition
-condition_of listed = record {
-  tests = text_in (codes "/condition") listed;
-  hits = text_in (codes "/hitCondition") listed;
-}
+abbrev pub by_instructions : Data → Bool
+by_instructions message = is_text (codes "instruction")
+    (text_at (codes "/arguments/granularity") message)
 
-abbrev pub source_of : Data → SeenSource
-source_of listed = record {
-  line = number_at (codes "/line") listed;
-  condition = condition_of listed;
-}
+-- Nothing that is known is another request.
+abbrev pub request_known : List ℕ → Request
+request_known name = find (to.InSession session.Other) name requests
 
-abbrev pub instruction_of : Data → SeenInstruction
-instruction_of listed = record {
-  address = place_at (codes "/instructionReference") (codes "/offset") listed;
-  condition = condition_of listed;
-}
+abbrev pub request_named : Bool → List ℕ → Request
+request_named true name = find (request_known name) name moves_by_instructions
+request_named false name = request_known name
 
--- A byte is watched for changes if another access is named, or none.
-abbrev pub access_named : List ℕ → Access
-access_named name = if bytes_eq name (codes "read") then access.Read
-    else if bytes_eq name (codes "readWrite") then access.ReadWrite else access.Write
+abbrev pub request_by : Data → Option (List ℕ) → Request
+request_by message None = to.NoRequest
+request_by message (Some name) = request_named (by_instructions message) name
 
-abbrev pub data_of : Data → DataBreakpoint
-data_of listed = record {
-  address = place_at (codes "/dataId") (codes "/offset") listed;
-  access = access_named (text_in (codes "/accessType") listed);
-}
+abbrev pub is_request : Data → Bool
+is_request message = is_text (codes "request") (text_at (codes "/type") message)
 
-abbrev pub breakpoints_by : Data → ListName → SeenBreakpoints
-breakpoints_by request list.Source
-    = seen.at_lines (path_in request) (map source_of (listed_in request))
-breakpoints_by request list.Instruction
-    = seen.at_addresses (map instruction_of (listed_in request))
-breakpoints_by request list.Data = seen.of_bytes (map data_of (listed_in request))
+-- The command decides.
+abbrev pub request_of : Data → Request
+request_of message = if is_request message
+    then request_by message (text_at (codes "/command") message) else to.NoRequest
 
--- ---- changes
+-- The command's name, and the number of the message: empty and 0 if they are missing.
+abbrev pub command_of : Data → List ℕ
+command_of message = unwrap_or (text_at (codes "/command") message) []
 
--- A request that names no context is one of the console.
-abbrev pub is_console : Data → Bool
-is_console request = bytes_eq
-    (unwrap_or (text_at (codes "/arguments/context") request) (codes "repl")) (codes "repl")
-
-abbrev pub change_by : Data → ChangeName → SeenChange
-change_by request change.Evaluate
-    = seen.evaluate (text_in (codes "/arguments/expression") request) (is_console request)
-change_by request change.SetVariable = seen.set_variable (scope_in request)
-    (text_in (codes "/arguments/name") request) (text_in (codes "/arguments/value") request)
-change_by request change.Goto = seen.goto (target_in request)
-change_by request change.WriteMemory
-    = seen.write_memory (memory_in request) (text_in (codes "/arguments/data") request)
-
--- ---- questions
-
-abbrev pub query_by : Data → QueryName → SeenQuery
-query_by request query.Threads = seen.threads
-query_by request query.StackTrace
-    = seen.stack_trace (unwrap_or (number_at (codes "/arguments/startFrame") request) 0)
-query_by request query.Scopes = seen.scopes
-query_by request query.Variables = seen.variables (scope_in request)
-query_by request query.ReadMemory
-    = seen.read_memory (memory_in request) (count_in (codes "/arguments/count") request)
-query_by request query.Disassemble = seen.disassemble (memory_in request)
-    (offset_at (codes "/arguments/instructionOffset") request)
-    (count_in (codes "/arguments/instructionCount") request)
-query_by request query.GotoTargets
-    = seen.goto_targets (path_in request) (number_at (codes "/arguments/line") request)
-query_by request query.DataBreakpointInfo
-    = seen.data_breakpoint_info (scope_in request) (text_in (codes "/arguments/name") request)
-query_by request query.Completions = seen.completions (text_in (codes "/arguments/text") request)
-    (number_at (codes "/arguments/column") request)
-query_by request query.ExceptionInfo = seen.exception_info
-query_by request query.SetExceptionBreakpoints = seen.set_exception_breakpoints
-query_by request query.Pause = seen.pause
-
--- ---- requests
-
-abbrev pub asked_by : Data → SessionName → SeenSessionRequest
-asked_by request (session.Moves way) = seen.moves way
-asked_by request (session.Sets name) = seen.sets (breakpoints_by request name)
-asked_by request (session.Changes name) = seen.changes (change_by request name)
-asked_by request (session.Shows name) = seen.shows (query_by request name)
-asked_by request session.ConfigurationDone = seen.configuration_done
-asked_by request session.Restart = seen.restart
-asked_by request session.Terminate = seen.terminate
-asked_by request session.Other = seen.other
-
-abbrev pub launch_of : Data → SeenLaunch
-launch_of request = record {
-  program = text_at (codes "/arguments/program") request;
-  tape = is_set (codes "/arguments/tape") request;
-  bin = text_at (codes "/arguments/bin") request;
-  prg = is_set (codes "/arguments/prg") request;
-  port = text_at (codes "/arguments/port") request;
-  rom = text_at (codes "/arguments/rom") request;
-  profile = text_at (codes "/arguments/profile") request;
-  symbols = text_at (codes "/arguments/symbols") request;
-  history = number_at (codes "/arguments/history") request;
-  steps = number_at (codes "/arguments/steps") request;
-  stop_on_entry = unwrap_or (flag_at (codes "/arguments/stopOnEntry") request) true;
-}
-
-abbrev pub request_by : Data → RequestName → SeenRequest
-request_by message to.Initialize = seen.initialize (counting_of message)
-request_by message to.Launch = seen.launch (launch_of message)
-request_by message to.Disconnect = seen.disconnect
-request_by message (to.InSession name) = seen.in_session (asked_by message name)
-request_by message to.NoRequest = seen.no_request
-
-abbrev pub request_of : Data → SeenRequest
-request_of message = request_by message (name_of message)
+abbrev pub number_of : Data → ℕ
+number_of message = unwrap_or (number_at (codes "/seq") message) 0

@@ -1,10 +1,10 @@
 //! How a client counts lines and columns.
 
 ghost use Rattle.std.specs.Prelude.{◌≡◌};
-ghost use Rattle.dap_messages.specs.Counting.{counting_of, first_column, own_line, shown_line};
+ghost use Rattle.dap_messages.specs.Counting.{counting_of, first_column, line_at, shown_line};
 ghost use Rattle.serde_json.specs.View.{view};
 
-use json_values::flag_or;
+use json_values::{flag_or, number_at};
 use serde_json::Value;
 
 /// How a client counts lines and columns.
@@ -45,12 +45,12 @@ impl Counting {
         if self.columns_start_at_1 { 1 } else { 0 }
     }
 
-    /// Returns the line of a number that the client names, counted from 1: 1,000,000 if it names
-    /// none, or one from there on, where no source has one.
-    pub fn own_line(self, line: Option<u64>) -> u32
-        ensures { result ≡ own_line self line }
+    /// Returns the line that a message names, counted from 1: 1,000,000 if it names none, or one
+    /// from there on, where no source has one.
+    pub fn line_at(self, message: &Value) -> u32
+        ensures { result ≡ line_at self (view message.now) }
     {
-        match line {
+        match number_at(message, "/line") {
             Some(line) if line < 999_999 && self.lines_start_at_1 => line as u32,
             Some(line) if line < 999_999 => line as u32 + 1,
             _ => 1_000_000,

@@ -22,10 +22,8 @@ pub enum Reason {
     Exception,
     /// Another instruction was made the next.
     Goto,
-    /// There is nothing to do.
+    /// Nothing has stopped the run so far, or there is nothing to do.
     Pause,
-    /// Nothing has stopped the run so far.
-    NoStop,
 }
 
 impl Reason {
@@ -41,7 +39,7 @@ impl Reason {
             Reason::DataBreakpoint => "data breakpoint",
             Reason::Exception => "exception",
             Reason::Goto => "goto",
-            Reason::Pause | Reason::NoStop => "pause",
+            Reason::Pause => "pause",
         }
     }
 }

@@ -2,8 +2,7 @@
 
 ghost use Rattle.std.specs.Prelude.{◌≡◌, []};
 
-use crate::halt::Reason;
-use crate::request::{DataBreakpoint, InstructionBreakpoint, SourceBreakpoint};
+use serde_json::Value;
 use std::alloc::Global;
 
 /// The breakpoints that a client has listed.
@@ -13,10 +12,10 @@ pub struct Listed {
     pub lines: Vec<u16>,
     /// The addresses of those at addresses.
     pub addresses: Vec<u16>,
-    /// What the last request for each kind has listed, if there was one.
-    pub last_lines: Option<Vec<SourceBreakpoint>>,
-    pub last_addresses: Option<Vec<InstructionBreakpoint>>,
-    pub last_bytes: Option<Vec<DataBreakpoint>>,
+    /// The last requests for both, and for bytes that are watched.
+    pub line_request: Option<Value>,
+    pub address_request: Option<Value>,
+    pub data_request: Option<Value>,
 }
 
 impl Listed {
@@ -28,9 +27,9 @@ impl Listed {
         Listed {
             lines: Vec::new(alloc),
             addresses: Vec::new(alloc),
-            last_lines: None,
-            last_addresses: None,
-            last_bytes: None,
+            line_request: None,
+            address_request: None,
+            data_request: None,
         }
     }
 }
@@ -40,6 +39,5 @@ impl Listed {
 #[derive(Drop)]
 pub struct Told {
     pub count: u32,
-    pub reason: Reason,
     pub words: String,
 }

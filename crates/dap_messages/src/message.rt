@@ -5,7 +5,7 @@ ghost use Rattle.dap_messages.specs.Messages.{data_of, next_number, response_mem
 ghost use Rattle.json_values.specs.Objects.{IsObject};
 ghost use Rattle.serde_json.specs.View.{view};
 
-use crate::names::{command_of, number_of};
+use crate::requests::{command_of, number_of};
 use json_values::Object;
 use serde_json::Value;
 use std::alloc::{AllocError, Global};

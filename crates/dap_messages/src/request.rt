@@ -1,10 +1,4 @@
-//! What a message asks for, with its arguments.
-
-ghost use Rattle.std.specs.Prelude.{◌≡◌, IfOk};
-ghost use Rattle.dap_messages.specs.Seen.{launch_view, text_view};
-
-use crate::counting::Counting;
-use std::alloc::{AllocError, Global};
+//! Requests.
 
 /// A move of the machine.
 #[derive(Clone, Copy)]
@@ -25,121 +19,51 @@ pub enum Move {
     BackToStop,
 }
 
-/// The condition and the hit count of a breakpoint, as its client writes them: empty if it has
-/// none.
-#[derive(Drop)]
-pub struct Condition {
-    pub tests: String,
-    pub hits: String,
-}
-
-/// A breakpoint that a client wants at a line.
-#[derive(Drop)]
-pub struct SourceBreakpoint {
-    /// The number of the line, as the client counts lines, if it names one.
-    pub line: Option<u64>,
-    pub condition: Condition,
-}
-
-/// A breakpoint that a client wants at an address.
-#[derive(Drop)]
-pub struct InstructionBreakpoint {
-    /// The address, if it names one.
-    pub address: Option<u16>,
-    pub condition: Condition,
-}
-
-/// The accesses for which a client wants a byte watched.
-#[derive(Clone, Copy)]
-pub enum Access {
-    Read,
-    /// Those that change the byte. They are meant where none is named.
-    Write,
-    ReadWrite,
-}
-
-/// A byte that a client wants watched.
-#[derive(Clone, Copy)]
-pub struct DataBreakpoint {
-    /// Its address, if it names one.
-    pub address: Option<u16>,
-    pub access: Access,
-}
-
 /// Breakpoints that a request lists, in place of those there were.
-#[derive(Drop)]
-pub enum Breakpoints<'a> {
-    /// Those of a source, with its path: `setBreakpoints`.
-    Source {
-        path: &'a str,
-        listed: Vec<SourceBreakpoint>,
-    },
+#[derive(Clone, Copy)]
+pub enum Breakpoints {
+    /// Those of a source: `setBreakpoints`.
+    Source,
     /// Those at addresses: `setInstructionBreakpoints`.
-    Instruction(Vec<InstructionBreakpoint>),
+    Instruction,
     /// The bytes that are watched: `setDataBreakpoints`.
-    Data(Vec<DataBreakpoint>),
+    Data,
 }
 
 /// A change that can be undone.
 #[derive(Clone, Copy)]
-pub enum Change<'a> {
-    /// What a line of the console does. A text elsewhere is only looked at.
-    Evaluate {
-        text: &'a str,
-        is_console: bool,
-    },
-    /// Another value of a variable of a scope.
-    SetVariable {
-        scope: Option<u64>,
-        name: &'a str,
-        value: &'a str,
-    },
-    /// The instruction at an address as the next, if the request names one.
-    Goto(Option<u16>),
-    /// Other bytes of memory, in Base64, from an address on, if the request names one.
-    WriteMemory {
-        address: Option<u16>,
-        data: &'a str,
-    },
+pub enum Change {
+    /// What a line of the console does. A name is only looked at.
+    Evaluate,
+    /// Another value of a variable.
+    SetVariable,
+    /// Another instruction as the next.
+    Goto,
+    /// Other bytes of memory.
+    WriteMemory,
 }
 
 /// A question about a session, which changes nothing of it.
 #[derive(Clone, Copy)]
-pub enum Query<'a> {
+pub enum Query {
     /// The threads of the program.
     Threads,
-    /// The frames of its stack, from one on: 0 is the first.
-    StackTrace(u64),
+    /// The frames of its stack.
+    StackTrace,
     /// What a frame has variables of.
     Scopes,
-    /// Variables of a scope with their values.
-    Variables(Option<u64>),
-    /// Bytes of memory from an address on, at most 65,536.
-    ReadMemory {
-        address: Option<u16>,
-        count: u32,
-    },
-    /// Instructions, each in a row, at most 65,536. The first is some rows from an address.
-    Disassemble {
-        address: Option<u16>,
-        offset: i64,
-        count: u32,
-    },
-    /// The addresses at which a line of a source can be gone to.
-    GotoTargets {
-        path: &'a str,
-        line: Option<u64>,
-    },
-    /// Whether what a name of a scope stands for can be watched.
-    DataBreakpointInfo {
-        scope: Option<u64>,
-        name: &'a str,
-    },
-    /// What can stand in a line of the console for what is typed before a column.
-    Completions {
-        text: &'a str,
-        column: Option<u64>,
-    },
+    /// Variables with their values.
+    Variables,
+    /// Bytes of memory.
+    ReadMemory,
+    /// Instructions, each in a row.
+    Disassemble,
+    /// The addresses at which a line can be gone to.
+    GotoTargets,
+    /// Whether what a name stands for can be watched.
+    DataBreakpointInfo,
+    /// What can stand in a line of the console for what is typed.
+    Completions,
     /// What a step was refused for.
     ExceptionInfo,
     /// The breakpoints at faults, of which there are none.
@@ -149,16 +73,16 @@ pub enum Query<'a> {
 }
 
 /// What a message asks of a session.
-#[derive(Drop)]
-pub enum SessionRequest<'a> {
+#[derive(Clone, Copy)]
+pub enum SessionRequest {
     /// A move of the machine.
     Moves(Move),
     /// Other breakpoints.
-    Sets(Breakpoints<'a>),
+    Sets(Breakpoints),
     /// A change of the machine.
-    Changes(Change<'a>),
+    Changes(Change),
     /// What is shown.
-    Shows(Query<'a>),
+    Shows(Query),
     /// The end of what is set before the program runs.
     ConfigurationDone,
     /// Begins the session again from its file.
@@ -169,80 +93,17 @@ pub enum SessionRequest<'a> {
     Other,
 }
 
-/// A program that a client launches, with options: those that it does not give are missing.
-#[derive(Drop)]
-pub struct Launch {
-    /// The path of the file.
-    pub program: Option<String>,
-    pub tape: bool,
-    pub bin: Option<String>,
-    pub prg: bool,
-    pub port: Option<String>,
-    pub rom: Option<String>,
-    pub profile: Option<String>,
-    /// The path of a file of names.
-    pub symbols: Option<String>,
-    /// How many events can be undone.
-    pub history: Option<u64>,
-    /// How many steps a run makes at most.
-    pub steps: Option<u64>,
-    /// Whether the machine is to stand before the first instruction.
-    pub stop_on_entry: bool,
-}
-
-/// Returns a copy of a text, if there is one.
-fn copy_of(alloc: Global, text: &Option<String>) -> Result<Option<String>, AllocError>
-    ensures { IfOk result (λ copy. text_view copy ≡ text_view text.now) }
-{
-    match text {
-        Some(text) => {
-            let copy = String::from_str(alloc, text.as_str())?;
-            Ok(Some(copy))
-        }
-        None => Ok(None),
-    }
-}
-
-impl Launch {
-    /// Returns a copy.
-    ///
-    /// Errors: `AllocError` if an allocation fails.
-    pub fn copied(&self, alloc: Global) -> Result<Launch, AllocError>
-        ensures { IfOk result (λ copy. launch_view copy ≡ launch_view self.now) }
-    {
-        let program = copy_of(alloc, &self.program)?;
-        let bin = copy_of(alloc, &self.bin)?;
-        let port = copy_of(alloc, &self.port)?;
-        let rom = copy_of(alloc, &self.rom)?;
-        let profile = copy_of(alloc, &self.profile)?;
-        let symbols = copy_of(alloc, &self.symbols)?;
-        Ok(Launch {
-            program,
-            tape: self.tape,
-            bin,
-            prg: self.prg,
-            port,
-            rom,
-            profile,
-            symbols,
-            history: self.history,
-            steps: self.steps,
-            stop_on_entry: self.stop_on_entry,
-        })
-    }
-}
-
 /// What a message asks for.
-#[derive(Drop)]
-pub enum Request<'a> {
-    /// What the adapter can do, said to a client that counts so.
-    Initialize(Counting),
+#[derive(Clone, Copy)]
+pub enum Request {
+    /// What the adapter can do.
+    Initialize,
     /// A session on a program.
-    Launch(Launch),
+    Launch,
     /// The end of the session.
     Disconnect,
     /// A request that needs a session.
-    InSession(SessionRequest<'a>),
+    InSession(SessionRequest),
     /// No request.
     NoRequest,
 }

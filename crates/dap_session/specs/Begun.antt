@@ -2,12 +2,13 @@
 use Rattle.std.specs.Prelude.{ℕ, ◌≡◌, List, [], ◌++◌, Option, Some, None}
 use Rattle.arguments.specs.Asked.{FileAsked, map_of}
 use Rattle.assembler.specs.Assembly.{AssemblyView, IsAssembled}
-use Rattle.dap_messages.specs.Seen.{SeenLaunch, launch_view}
-use Rattle.dap_session.specs.Options.{file_at, history_of}
+use Rattle.dap_session.specs.Options.{file_at, history_of, symbols_at}
 use Rattle.dap_session.specs.declared.seat.Seat.{Seat}
 use Rattle.loading.specs.Loads.{IsLoaded}
 use Rattle.model.specs.Event.{start}
 use Rattle.model.specs.Session.{Session, new_session}
+use Rattle.serde_json.specs.Data.{Data}
+use Rattle.serde_json.specs.View.{view}
 use Rattle.source_map.specs.Lines.{PlacesView, places_of}
 use Rattle.source_map.specs.Names.{names_in}
 
@@ -32,9 +33,9 @@ AddsNames (Some path) file old new = (names : AssemblyView) × IsAssembled (map_
 
 -- A seat with this launch and this session, at which no event was made, no stop is set, and nothing
 -- was told.
-pub record IsSeated (asked : SeenLaunch) (begun : Session) (read : Option AssemblyView)
+pub record IsSeated (asked : Data) (begun : Session) (read : Option AssemblyView)
     (known : PlacesView) (seat : Seat) : Type 0 where
-  pub launch : launch_view seat.launch ≡ asked
+  pub launch : view seat.launch ≡ asked
   pub session : seat.desk.session ≡ begun
   pub assembly : seat.assembly ≡ read
   pub places : seat.desk.places ≡ known
@@ -50,14 +51,14 @@ pub record IsSeated (asked : SeenLaunch) (begun : Session) (read : Option Assemb
 
 -- A seat at the start of an image that a file can have, with the names and lines of its source and
 -- the names of the file of names that the launch names.
-abbrev pub IsBegun : FileAsked → SeenLaunch → Seat → Type 0
-IsBegun file launch seat = (image : List (Option ℕ)) × (assembly : Option AssemblyView)
+abbrev pub IsBegun : FileAsked → Data → Seat → Type 0
+IsBegun file request seat = (image : List (Option ℕ)) × (assembly : Option AssemblyView)
     × IsLoaded file image assembly × (known : PlacesView)
-    × AddsNames launch.symbols file (places_in file.file assembly) known
-    × IsSeated launch (new_session (history_of launch) (start (map_of file) image)) assembly known
+    × AddsNames (symbols_at request) file (places_in file.file assembly) known
+    × IsSeated request (new_session (history_of request) (start (map_of file) image)) assembly known
     seat
 
 -- A seat at the start of the program that a launch names.
-unfoldable pub IsLaunched : SeenLaunch → Seat → Type 0
-IsLaunched launch seat
-    = (file : FileAsked) × (file_at launch ≡ Some file) × IsBegun file launch seat
+unfoldable pub IsLaunched : Data → Seat → Type 0
+IsLaunched request seat
+    = (file : FileAsked) × (file_at request ≡ Some file) × IsBegun file request seat

@@ -1,13 +1,15 @@
 -- What a request does to a session that changes it by events, which can be undone. Source: Debug
 -- Adapter Protocol 1.65, "SetVariable Request", "Goto Request", "WriteMemory Request"; mos65.
-use Rattle.std.specs.Prelude.{ℕ, suc, ◌+◌, ◌≡◌, ◌==◌, ◌&&◌, ◌||◌, nat_lt, Bool, if◌then◌else◌, List, [], ◌∷◌, ◌++◌, codes, length, slice_index, Option, Some, None, option_and_then, unwrap_or, Result, Ok, Err, false}
+use Rattle.std.specs.Prelude.{ℕ, suc, ◌+◌, ◌≡◌, ◌==◌, ◌&&◌, ◌||◌, nat_le, nat_lt, Bool, if◌then◌else◌, List, [], ◌∷◌, ◌++◌, codes, length, slice_index, Option, Some, None, option_and_then, unwrap_or, Result, Ok, Err, false}
 use Rattle.std.specs.Option.{option_map_or}
 use Rattle.std.specs.Str.{bytes_eq}
 use Rattle.base64.specs.Engines.{standard}
 use Rattle.base64.specs.GeneralPurpose.{decode_of}
+use Rattle.dap_views.specs.Watches.{items_at}
 use Rattle.dap_messages.specs.Answers.{value_set_body, written_body}
-use Rattle.json_values.specs.Fields.{text_at}
+use Rattle.json_values.specs.Fields.{number_at, text_at}
 use Rattle.dap_messages.specs.Messages.{Said, done}
+use Rattle.dap_messages.specs.References.{place_at}
 use Rattle.dap_views.specs.Scopes.{variables_shown}
 use Rattle.dap_session.specs.Told.{unmoved_said}
 use Rattle.mon_session.specs.Course.{KeepsStops, course_of, happened}
@@ -21,8 +23,7 @@ use Rattle.mon_settings.specs.FlagLines.{flag_setting}
 use Rattle.model.specs.declared.event.Event.{Event}
 use Rattle.model.specs.declared.event.Event.TheVariants.{Patch, Set}
 use Rattle.model.specs.declared.event.Setting.TheVariants.{Pc}
-use Rattle.serde_json.specs.Data.{Data, Items, no_items}
-use Rattle.serde_json.specs.Find.{as_array, pointer}
+use Rattle.serde_json.specs.Data.{Data}
 use Rattle.serde_json.specs.View.{items_of}
 
 -- ---- a variable
@@ -32,8 +33,13 @@ abbrev pub word_for : Option ℕ → List ℕ
 word_for None = codes "put"
 word_for (Some scope) = if scope == 1 || scope == 2 then codes "set" else codes "put"
 
-abbrev pub setting_line : Option ℕ → List ℕ → List ℕ → List ℕ
-setting_line scope name value = word_for scope ++ codes " " ++ name ++ codes " " ++ value
+abbrev pub argument : List ℕ → Data → List ℕ
+argument path request = unwrap_or (text_at path request) []
+
+abbrev pub setting_line : Data → List ℕ
+setting_line request = word_for (number_at (codes "/arguments/variablesReference") request)
+    ++ codes " " ++ argument (codes "/arguments/name") request
+    ++ codes " " ++ argument (codes "/arguments/value") request
 
 -- One byte of memory is put. More are no value of a variable.
 abbrev pub byte_put : ℕ → List ℕ → Option Event
@@ -57,8 +63,8 @@ change_on desk line = if nat_lt 255 (length line) then None
     else change_read desk.session.current
     (line_of desk.places.names desk.session.current.regs.pc line)
 
-abbrev pub change_asked : Option ℕ → List ℕ → List ℕ → Desk → Option Event
-change_asked scope name value desk = change_on desk (setting_line scope name value)
+abbrev pub change_asked : Data → Desk → Option Event
+change_asked request desk = change_on desk (setting_line request)
 
 -- An event was made, which can be undone.
 abbrev pub HasMade : Event → Desk → Desk → Type 0
@@ -79,31 +85,42 @@ abbrev pub value_of : List ℕ → List Data → Option (List ℕ)
 value_of name [] = None
 value_of name (v ∷ vs) = if is_named name v then text_at (codes "/value") v else value_of name vs
 
--- The value that is shown of a variable, or else the one that is asked for.
-abbrev pub value_shown : List ℕ → List ℕ → List Data → List ℕ
-value_shown name asked listed = unwrap_or (value_of name listed) asked
+-- The value that is shown of the variable that a request sets, or else the one that it asks for.
+abbrev pub value_shown : Data → List Data → List ℕ
+value_shown request listed = unwrap_or
+    (value_of (unwrap_or (text_at (codes "/arguments/name") request) []) listed)
+    (unwrap_or (text_at (codes "/arguments/value") request) [])
 
-abbrev pub items_at : List ℕ → Data → Items
-items_at path message = unwrap_or (option_and_then as_array (pointer path message)) no_items
-
--- It is that of a scope, and all that is shown may have changed.
-abbrev pub TellsValue : Option ℕ → List ℕ → List ℕ → Desk → List Said → Type 0
-TellsValue scope name asked desk said = (listed : List Data)
+-- It is that of the scope that the request names, and all that is shown may have changed.
+abbrev pub TellsValue : Data → Desk → List Said → Type 0
+TellsValue request desk said = (listed : List Data)
     × (items_of listed
-    ≡ items_at (codes "/variables") (variables_shown desk.session desk.places.names scope))
-    × (said ≡ done (value_set_body (value_shown name asked listed)) ∷ unmoved_said ∷ [])
+    ≡ items_at (codes "/variables") (variables_shown desk.session desk.places.names request))
+    × (said ≡ done (value_set_body (value_shown request listed)) ∷ unmoved_said ∷ [])
 
 -- ---- another instruction
+
+-- The number of a target is an address.
+abbrev pub address_of : ℕ → Option ℕ
+address_of number = if nat_le number 65535 then Some number else None
+
+abbrev pub target_at : Data → Option ℕ
+target_at request = option_and_then address_of
+    (number_at (codes "/arguments/targetId") request)
 
 -- The program counter is set.
 abbrev pub HasGone : ℕ → Desk → Desk → Type 0
 HasGone address old new
     = (course_of new ≡ happened (Set (Pc address)) (course_of old)) × KeepsStops old new
 
-abbrev pub Goes : Option ℕ → Desk → Desk → Type 0
-Goes target old new = (address : ℕ) × (target ≡ Some address) × HasGone address old new
+abbrev pub Goes : Data → Desk → Desk → Type 0
+Goes request old new
+    = (address : ℕ) × (target_at request ≡ Some address) × HasGone address old new
 
 -- ---- bytes
+
+abbrev pub data_of : Data → List ℕ
+data_of request = unwrap_or (text_at (codes "/arguments/data") request) []
 
 -- Whether memory has a byte at an address.
 abbrev pub is_there : List ℕ → ℕ → ℕ → Bool
@@ -119,13 +136,15 @@ count_there memory address (byte ∷ bytes) = if is_there memory address byte
 abbrev pub written_said : ℕ → List Said
 written_said n = done (written_body n) ∷ unmoved_said ∷ []
 
--- The bytes of a text are put into memory from the address on, up to the first that is rejected.
--- Those that are there then are said to be written.
-abbrev pub HasWritten : ℕ → List ℕ → Desk → Desk → List Said → Type 0
-HasWritten address text old new said = (bytes : List ℕ) × (decode_of standard text ≡ Ok bytes)
+-- The bytes are put into memory from the address on, up to the first that is rejected. Those that
+-- are there then are said to be written.
+abbrev pub HasWritten : ℕ → Data → Desk → Desk → List Said → Type 0
+HasWritten address request old new said = (bytes : List ℕ)
+    × (decode_of standard (data_of request) ≡ Ok bytes)
     × (course_of new ≡ bytes_put address bytes (course_of old)) × KeepsStops old new
     × (said ≡ written_said (count_there new.session.current.bus.memory address bytes))
 
-abbrev pub Writes : Option ℕ → List ℕ → Desk → Desk → List Said → Type 0
-Writes place text old new said
-    = (address : ℕ) × (place ≡ Some address) × HasWritten address text old new said
+abbrev pub Writes : Data → Desk → Desk → List Said → Type 0
+Writes request old new said = (address : ℕ)
+    × (place_at (codes "/arguments/memoryReference") (codes "/arguments/offset") request
+    ≡ Some address) × HasWritten address request old new said

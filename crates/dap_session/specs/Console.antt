@@ -1,8 +1,10 @@
 -- Lines of the console. Source: Debug Adapter Protocol 1.65, "Evaluate Request"; mos65.
-use Rattle.std.specs.Prelude.{ℕ, ◌≡◌, ⊤, Bool, true, false, List, [], ◌∷◌, codes, string_bytes, Some}
+use Rattle.std.specs.Prelude.{ℕ, ◌≡◌, ⊤, Bool, true, false, List, [], ◌∷◌, codes, string_bytes, Some, unwrap_or}
+use Rattle.std.specs.Str.{bytes_eq}
 use Rattle.std.specs.Str.Lossy.{utf8_lossy}
 use Rattle.dap_messages.specs.Answers.{evaluated_body}
 use Rattle.dap_messages.specs.Bodies.{nothing}
+use Rattle.json_values.specs.Fields.{text_at}
 use Rattle.dap_messages.specs.Messages.{Said, done, event}
 use Rattle.dap_session.specs.declared.fault.Fault.{Fault}
 use Rattle.dap_session.specs.declared.fault.Fault.TheVariants as fault
@@ -35,12 +37,22 @@ Looks desk text said = (v : Data)
 
 -- ---- which of them is asked for
 
+-- A request that names no context is one of the console.
+abbrev pub is_console : Data → Bool
+is_console request = bytes_eq
+    (unwrap_or (text_at (codes "/arguments/context") request) (codes "repl")) (codes "repl")
+
+-- The text that a request asks of: empty if there is none.
+abbrev pub expression_of : Data → List ℕ
+expression_of request = unwrap_or (text_at (codes "/arguments/expression") request) []
+
 -- A line of the console is served, and what it says is answered; or what is looked at is answered,
 -- and nothing is changed.
-abbrev pub Evaluates : Bool → List ℕ → Desk → Desk → List Said → Type 0
-Evaluates true text old new said = (is_over : Bool) × (words : List ℕ)
-    × ServesConsole text is_over old new words × IsDone (evaluated_body words) said
-Evaluates false text old new said = (new ≡ old) × Looks old text said
+abbrev pub Evaluates : Bool → Data → Desk → Desk → List Said → Type 0
+Evaluates true request old new said = (is_over : Bool) × (text : List ℕ)
+    × ServesConsole (expression_of request) is_over old new text
+    × IsDone (evaluated_body text) said
+Evaluates false request old new said = (new ≡ old) × Looks old (expression_of request) said
 
 -- ---- what a refused request changes: nothing of the session
 

@@ -1,6 +1,7 @@
 -- What a client is told of a halt. Source: Debug Adapter Protocol 1.65, "Stopped Event"; mos65.
 use Rattle.std.specs.Prelude.{ℕ, ◌≡◌, ◌==◌, ◌&&◌, not, Bool, if◌then◌else◌, List, ◌∷◌, ◌++◌, length, Option, None}
 use Rattle.std.specs.List.{list_any}
+pub use Rattle.dap_desk.specs.Moves.{NO_STOP}
 use Rattle.dap_messages.specs.Bodies.{nothing}
 use Rattle.dap_messages.specs.Messages.{Said, done}
 use Rattle.dap_session.specs.declared.seat.Seat.{Seat}
@@ -44,12 +45,6 @@ abbrev pub IsToldHalt : Seat → Halt → Seat → List Said → List Said → T
 IsToldHalt old halt new before after
     = (after ≡ before ++ told_of old.desk old.told.count (halt_at old.listed old.desk halt))
     × (new.told.count ≡ length old.desk.session.current.bus.out)
-    × (new.told.reason ≡ (halt_at old.listed old.desk halt).reason)
-
--- The reason that is told of a session is noted.
-abbrev pub NotesReason : Reason → Seat → Seat → Type 0
-NotesReason reason old new = new.told.reason ≡ reason_at old.listed.lines.items
-    old.listed.addresses.items new.desk.session.current.regs.pc reason
 
 -- A request is answered, and behind it is told that the machine stands, for this reason, in these
 -- words, and where a step is refused, why.

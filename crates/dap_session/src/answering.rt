@@ -1,17 +1,17 @@
 //! What is done with a request of a session.
 
-ghost use Rattle.std.specs.Prelude.{◌≡◌, IfErr, IfOk, Ok, OnOk, map as each};
+ghost use Rattle.std.specs.Prelude.{◌≡◌, IfErr, IfOk, Ok, OnOk, map as each, option_map};
 ghost use Rattle.dap_messages.specs.Messages.{said_of};
-ghost use Rattle.dap_session.specs.Answered.{AreAnswers, Begins, HasChangedBy, IsShown, KeepsMade};
-ghost use Rattle.dap_session.specs.Answered.{ListsAddresses, ListsBytes, ListsLines, Moves};
+ghost use Rattle.dap_session.specs.Answered.{AreAnswers, Begins, IsShown, KeepsMade, Moves};
+ghost use Rattle.dap_session.specs.Answered.{Restarts};
 ghost use Rattle.dap_session.specs.Answered.{SetsAgain, SetsAllAgain, SetsListed, begun_fault};
-ghost use Rattle.dap_session.specs.Answered.{begun_reason, begun_stand, begun_words, goes_on};
-ghost use Rattle.dap_session.specs.Answered.{Restarts, lets_run};
+ghost use Rattle.dap_session.specs.Answered.{begun_reason, begun_stand, begun_words};
 ghost use Rattle.dap_session.specs.Console.{ShowsIfRefused};
-ghost use Rattle.dap_session.specs.Refusals.{IfRefused, MayRefuse, MayRefuseChange};
+ghost use Rattle.dap_session.specs.Refusals.{IfRefused, MayRefuse};
 ghost use Rattle.dap_session.specs.Stands.{KeepsProgram};
 ghost use Rattle.dap_desk.specs.Moves.{KeepsWatches, stand_of};
 ghost use Rattle.serde_json.specs.View.{view};
+ghost use Rattle.dap_messages.specs.declared.counting.Counting.{Counting};
 ghost use Rattle.serde_json.specs.declared.value.Value.{Value};
 
 use crate::changing::{go_to, write_memory};
@@ -25,14 +25,14 @@ use crate::telling::answered;
 use crate::wording::NOT_BEGUN;
 use dap_desk::make_move;
 use dap_messages::{
-    Breakpoints, Change, Counting, DataBreakpoint, Halt, InstructionBreakpoint, Listed, Message,
-    Move, Query, Reason, SessionRequest, SourceBreakpoint, breakpoints_body, continued, exception,
-    nothing, scopes, stand_by, threads,
+    Breakpoints, Change, Counting, Halt, Listed, Message, Move, Query, Reason, SessionRequest,
+    breakpoints_body, continued, exception, nothing, scopes, stand_by, threads,
 };
 use dap_views::{
     data_shown, disassembled, frames_shown, goto_targets, memory_shown, set_addresses, set_data,
     set_lines, set_source, variables_shown,
 };
+use json_values::flag_or;
 use serde_json::Value;
 use std::alloc::{AllocError, Global};
 use std::mem;
@@ -57,7 +57,7 @@ fn first_halt(seat: &mut Seat) -> Halt
     ensures words { result.words.now ≡ begun_words seat.old }
     ensures fault { result.fault ≡ begun_fault seat.old }
 {
-    if seat.launch.stop_on_entry {
+    if flag_or(&seat.launch, "/arguments/stopOnEntry", true) {
         return stand_by(Reason::Entry, NOT_BEGUN);
     }
     make_move(&mut seat.desk, steps_of(&seat.launch), Move::Go)
@@ -72,26 +72,27 @@ fn configured(alloc: Global, seat: &mut Seat) -> Result<Vec<Message>, AllocError
     with_halt_at(alloc, all_done(alloc), seat, halt)
 }
 
-/// Sets the breakpoints that a client wants, and returns what is told of them.
+/// Sets the breakpoints of a kind that a request lists, and returns what is told of them.
 fn set_listed<H: Files + AllocGlobal>(
     rt: &H,
     seat: &mut Seat,
     counting: Counting,
-    listed: Breakpoints<'_>,
+    request: &Value,
+    kind: Breakpoints,
 ) -> Result<Value, AllocError>
     ensures { IfOk result
-        (λ v. SetsListed listed.entry counting seat.old seat.new (view v)) }
+        (λ v. SetsListed kind (view request.now) counting seat.old seat.new (view v)) }
 {
     let alloc = rt.alloc();
-    match listed {
-        Breakpoints::Source { path, listed } => {
+    match kind {
+        Breakpoints::Source => {
             let source = source_of(&seat.launch, &seat.assembly, counting);
-            set_source(rt, &mut seat.desk, &mut seat.listed, &source, path, listed)
+            set_source(rt, &mut seat.desk, &mut seat.listed, &source, request)
         }
-        Breakpoints::Instruction(listed) => {
-            set_addresses(alloc, &mut seat.desk, &mut seat.listed, counting, listed)
+        Breakpoints::Instruction => {
+            set_addresses(alloc, &mut seat.desk, &mut seat.listed, counting, request)
         }
-        Breakpoints::Data(listed) => set_data(alloc, &mut seat.desk, &mut seat.listed, listed),
+        Breakpoints::Data => set_data(alloc, &mut seat.desk, &mut seat.listed, request),
     }
 }
 
@@ -108,78 +109,70 @@ fn let_go(told: Result<Value, AllocError>) -> Result<(), AllocError>
     }
 }
 
-/// Sets the breakpoints of the source that were listed last in an earlier session, if some were.
+/// Sets the breakpoints of the source that a request of an earlier session lists, if there is one.
 fn lines_again(
     alloc: Global,
     seat: &mut Seat,
     counting: Counting,
-    listed: Option<Vec<SourceBreakpoint>>,
+    request: &Option<Value>,
 ) -> Result<(), AllocError>
-    ensures set { OnOk result (SetsAgain (ListsLines counting) listed seat.old seat.new) }
+    ensures set { OnOk result (SetsAgain Breakpoints.Source (option_map view request.now) counting
+        seat.old seat.new) }
     ensures kept { KeepsMade seat.old.desk seat.new.desk }
     ensures launch { seat.new.launch ≡ seat.old.launch }
 {
-    let Some(listed) = listed else {
+    let Some(request) = request else {
         return Ok(());
     };
     let source = source_of(&seat.launch, &seat.assembly, counting);
-    let_go(set_lines(alloc, &mut seat.desk, &mut seat.listed, &source, listed))
+    let_go(set_lines(alloc, &mut seat.desk, &mut seat.listed, &source, request))
 }
 
-/// Sets the breakpoints at addresses that were listed last in an earlier session, if some were.
+/// Sets the breakpoints at addresses that a request of an earlier session lists, if there is one.
 fn addresses_again(
     alloc: Global,
     seat: &mut Seat,
     counting: Counting,
-    listed: Option<Vec<InstructionBreakpoint>>,
+    request: &Option<Value>,
 ) -> Result<(), AllocError>
-    ensures set { OnOk result (SetsAgain (ListsAddresses counting) listed seat.old seat.new) }
+    ensures set { OnOk result (SetsAgain Breakpoints.Instruction (option_map view request.now)
+        counting seat.old seat.new) }
     ensures kept { KeepsMade seat.old.desk seat.new.desk }
     ensures launch { seat.new.launch ≡ seat.old.launch }
 {
-    let Some(listed) = listed else {
+    let Some(request) = request else {
         return Ok(());
     };
-    let_go(set_addresses(alloc, &mut seat.desk, &mut seat.listed, counting, listed))
+    let_go(set_addresses(alloc, &mut seat.desk, &mut seat.listed, counting, request))
 }
 
-/// Sets the watches that were listed last in an earlier session, if some were.
-fn bytes_again(
-    alloc: Global,
-    seat: &mut Seat,
-    listed: Option<Vec<DataBreakpoint>>,
-) -> Result<(), AllocError>
-    ensures set { OnOk result (SetsAgain ListsBytes listed seat.old seat.new) }
+/// Sets the watches that a request of an earlier session lists, if there is one.
+fn data_again(alloc: Global, seat: &mut Seat, request: &Option<Value>) -> Result<(), AllocError>
+    ensures set { (counting : Counting) → OnOk result
+        (SetsAgain Breakpoints.Data (option_map view request.now) counting seat.old seat.new) }
     ensures kept { KeepsMade seat.old.desk seat.new.desk }
     ensures launch { seat.new.launch ≡ seat.old.launch }
 {
-    let Some(listed) = listed else {
+    let Some(request) = request else {
         return Ok(());
     };
-    let_go(set_data(alloc, &mut seat.desk, &mut seat.listed, listed))
+    let_go(set_data(alloc, &mut seat.desk, &mut seat.listed, request))
 }
 
-/// Sets the breakpoints and the watches of a session in one that has begun again.
+/// Lists the breakpoints and the watches of a session for one that has begun again.
 fn set_all_again(
     alloc: Global,
     seat: &mut Seat,
     counting: Counting,
-    old: Listed,
+    old: &Listed,
 ) -> Result<(), AllocError>
-    ensures set { OnOk result (SetsAllAgain old counting seat.old seat.new) }
+    ensures set { OnOk result (SetsAllAgain old.now counting seat.old seat.new) }
     ensures kept { OnOk result (KeepsMade seat.old.desk seat.new.desk) }
     ensures launch { seat.new.launch ≡ seat.old.launch }
 {
-    let Listed {
-        lines: _,
-        addresses: _,
-        last_lines,
-        last_addresses,
-        last_bytes,
-    } = old;
-    lines_again(alloc, seat, counting, last_lines)?;
-    addresses_again(alloc, seat, counting, last_addresses)?;
-    bytes_again(alloc, seat, last_bytes)
+    lines_again(alloc, seat, counting, &old.line_request)?;
+    addresses_again(alloc, seat, counting, &old.address_request)?;
+    data_again(alloc, seat, &old.data_request)
 }
 
 /// Begins the session again by its launch, with the breakpoints that it has.
@@ -195,14 +188,8 @@ fn restart<H: Files + AllocGlobal>(
 {
     let mut old = begin_session(rt, &seat.launch)?;
     mem::swap(seat, &mut old);
-    let Seat {
-        launch: _,
-        desk: _,
-        assembly: _,
-        listed,
-        told: _,
-    } = old;
-    let set = set_all_again(rt.alloc(), seat, counting, listed);
+    let set = set_all_again(rt.alloc(), seat, counting, &old.listed);
+    drop(old);
     match set {
         Ok(()) => or_memory(configured(rt.alloc(), seat)),
         Err(_) => Err(Fault::OutOfMemory),
@@ -214,53 +201,26 @@ fn shown<H: Files + AllocGlobal>(
     rt: &H,
     seat: &Seat,
     counting: Counting,
-    query: Query<'_>,
+    request: &Value,
+    query: Query,
 ) -> Result<Value, AllocError>
-    ensures { IfOk result (λ v. IsShown query.entry counting seat.now (view v)) }
+    ensures { IfOk result (λ v. IsShown query (view request.now) counting seat.now (view v)) }
 {
     let alloc = rt.alloc();
     let source = source_of(&seat.launch, &seat.assembly, counting);
-    let desk = &seat.desk;
     match query {
         Query::Threads => threads(alloc),
-        Query::StackTrace(first) => frames_shown(alloc, desk, &source, first),
+        Query::StackTrace => frames_shown(alloc, &seat.desk, &source, request),
         Query::Scopes => scopes(alloc),
-        Query::Variables(scope) => variables_shown(alloc, desk, scope),
-        Query::ReadMemory { address, count } => memory_shown(alloc, desk, address, count),
-        Query::Disassemble {
-            address,
-            offset,
-            count,
-        } => disassembled(alloc, desk, &source, address, offset, count),
-        Query::GotoTargets { path, line } => goto_targets(rt, &source, path, line),
-        Query::DataBreakpointInfo { scope, name } => data_shown(alloc, desk, scope, name),
-        Query::Completions { text, column } => completions(alloc, desk, counting, text, column),
+        Query::Variables => variables_shown(alloc, &seat.desk, request),
+        Query::ReadMemory => memory_shown(alloc, &seat.desk, request),
+        Query::Disassemble => disassembled(alloc, &seat.desk, &source, request),
+        Query::GotoTargets => goto_targets(rt, &source, request),
+        Query::DataBreakpointInfo => data_shown(alloc, &seat.desk, request),
+        Query::Completions => completions(alloc, &seat.desk, counting, request),
         Query::ExceptionInfo => exception(alloc, seat.told.words.as_str()),
         Query::SetExceptionBreakpoints => breakpoints_body(alloc, Vec::new(alloc)),
         Query::Pause => nothing(alloc),
-    }
-}
-
-/// Makes a change, and returns the messages to the client.
-///
-/// Errors: as those of `answer`.
-fn changed(alloc: Global, seat: &mut Seat, change: Change<'_>) -> Result<Vec<Message>, Fault>
-    ensures done { IfOk result
-        (λ ms. HasChangedBy change.entry seat.old seat.new (each said_of ms.items)) }
-    ensures refused { IfErr result (λ f. ShowsIfRefused f seat.old.desk seat.new.desk) }
-    ensures why { IfErr result
-        (λ f. IfRefused f (MayRefuseChange change.entry seat.old.desk)) }
-{
-    match change {
-        Change::Evaluate { text, is_console } => evaluate(alloc, seat, text, is_console),
-        Change::SetVariable { scope, name, value } => {
-            set_variable(alloc, &mut seat.desk, scope, name, value)
-        }
-        Change::Goto(target) => go_to(alloc, seat, target),
-        Change::WriteMemory {
-            address,
-            data: text,
-        } => write_memory(alloc, seat, address, text),
     }
 }
 
@@ -273,23 +233,30 @@ pub fn answer<H: Files + AllocGlobal>(
     rt: &H,
     seat: &mut Seat,
     counting: Counting,
-    asked: SessionRequest<'_>,
+    request: &Value,
+    asked: SessionRequest,
 ) -> Result<Vec<Message>, Fault>
-    ensures done { IfOk result
-        (λ ms. AreAnswers asked.entry counting seat.old seat.new (each said_of ms.items)) }
+    ensures done { IfOk result (λ ms. AreAnswers asked (view request.now) counting seat.old
+        seat.new (each said_of ms.items)) }
     ensures refused { IfErr result (λ f. ShowsIfRefused f seat.old.desk seat.new.desk) }
-    ensures why { IfErr result (λ f. IfRefused f (MayRefuse asked.entry seat.old.desk)) }
+    ensures why { IfErr result
+        (λ f. IfRefused f (MayRefuse asked (view request.now) seat.old.desk)) }
 {
     let alloc = rt.alloc();
     match asked {
         SessionRequest::Moves(way) => or_memory(make(alloc, seat, way)),
-        SessionRequest::Sets(listed) => {
-            let told = set_listed(rt, seat, counting, listed);
+        SessionRequest::Sets(kind) => {
+            let told = set_listed(rt, seat, counting, request, kind);
             or_memory(answered(alloc, told))
         }
-        SessionRequest::Changes(change) => changed(alloc, seat, change),
+        SessionRequest::Changes(Change::Evaluate) => evaluate(alloc, seat, request),
+        SessionRequest::Changes(Change::SetVariable) => {
+            set_variable(alloc, &mut seat.desk, request)
+        }
+        SessionRequest::Changes(Change::Goto) => go_to(alloc, seat, request),
+        SessionRequest::Changes(Change::WriteMemory) => write_memory(alloc, seat, request),
         SessionRequest::Shows(query) => {
-            let told = shown(rt, seat, counting, query);
+            let told = shown(rt, seat, counting, request, query);
             or_memory(answered(alloc, told))
         }
         SessionRequest::ConfigurationDone => or_memory(configured(alloc, seat)),
@@ -297,23 +264,4 @@ pub fn answer<H: Files + AllocGlobal>(
         SessionRequest::Terminate => or_memory(with_terminated(alloc, all_done(alloc))),
         SessionRequest::Other => Err(refused(alloc, "this request is not served")),
     }
-}
-
-/// Returns whether a request lets the machine run, as `continue` and `configurationDone` do.
-pub fn lets_run(asked: &SessionRequest<'_>) -> bool
-    ensures { result ≡ lets_run asked.now }
-{
-    match asked {
-        SessionRequest::Moves(way) => matches!(way, Move::Go),
-        SessionRequest::ConfigurationDone => true,
-        _ => false,
-    }
-}
-
-/// Returns whether a run goes on: a request has let the machine run, and nothing has stopped it so
-/// far.
-pub fn goes_on(is_run: bool, seat: &Seat) -> bool
-    ensures { result ≡ goes_on is_run seat.now }
-{
-    is_run && matches!(seat.told.reason, Reason::NoStop)
 }

@@ -4,11 +4,12 @@ ghost use Rattle.std.specs.Prelude.{◌≡◌, IfErr, IfOk, Ok, OnOk, false, is_
 ghost use Rattle.base64.specs.Engines.{standard};
 ghost use Rattle.base64.specs.GeneralPurpose.{decode_of};
 ghost use Rattle.dap_messages.specs.Messages.{said_of};
-ghost use Rattle.dap_session.specs.Changes.{Goes, Writes, count_there};
-ghost use Rattle.dap_session.specs.Changes.{is_there};
+ghost use Rattle.dap_session.specs.Changes.{Goes, Writes, count_there, data_of};
+ghost use Rattle.dap_session.specs.Changes.{is_there, target_at};
 ghost use Rattle.dap_session.specs.Console.{ShowsIfRefused};
 ghost use Rattle.dap_session.specs.Refusals.{IfRefused, IsNoTarget, IsNoWriting};
 ghost use Rattle.dap_session.specs.Stands.{TellsGone};
+ghost use Rattle.serde_json.specs.View.{view};
 
 use crate::console::happen;
 use crate::fault::{Fault, or_memory, refused};
@@ -18,24 +19,37 @@ use crate::telling::{answered, with_unmoved};
 use crate::wording::GONE_TO;
 use base64::DecodeAllocError;
 use base64::engine::general_purpose::STANDARD;
-use dap_messages::{Message, Reason, stand_by, written_body};
+use dap_messages::{Message, Reason, place_at, stand_by, written_body};
+use json_values::{number_at, text_or};
 use model::Setting;
 use mon_runs::{Event, Session};
 use mon_settings::put;
+use serde_json::Value;
 use std::alloc::Global;
 
-/// Makes the instruction at an address the next, and says that the machine stands there.
+/// Returns the address that a request goes to, if it names one.
+fn target_at(request: &Value) -> Option<u16>
+    ensures { result ≡ target_at (view request.now) }
+{
+    match number_at(request, "/arguments/targetId") {
+        Some(number) if number <= 65535 => Some(number as u16),
+        _ => None,
+    }
+}
+
+/// Makes the instruction at the address that a request names the next, and says that the machine
+/// stands there.
 ///
-/// Errors: `Refused` if no address is named, or the machine does not go there.
+/// Errors: `Refused` if the request names no address, or the machine does not go there.
 #[tactic(auto, using(crate::proofs::Stays::shows_same, crate::proofs::Stays::refused_so))]
-pub fn go_to(alloc: Global, seat: &mut Seat, target: Option<u16>) -> Result<Vec<Message>, Fault>
-    ensures done { OnOk result (Goes target seat.old.desk seat.new.desk) }
+pub fn go_to(alloc: Global, seat: &mut Seat, request: &Value) -> Result<Vec<Message>, Fault>
+    ensures done { OnOk result (Goes (view request.now) seat.old.desk seat.new.desk) }
     ensures told { IfOk result
         (λ ms. TellsGone seat.old seat.new.desk (each said_of ms.items)) }
     ensures refused { IfErr result (λ f. ShowsIfRefused f seat.old.desk seat.new.desk) }
-    ensures why { IfErr result (λ f. IfRefused f (IsNoTarget target seat.old.desk)) }
+    ensures why { IfErr result (λ f. IfRefused f (IsNoTarget (view request.now) seat.old.desk)) }
 {
-    let Some(address) = target else {
+    let Some(address) = target_at(request) else {
         return Err(refused(alloc, "this is no address to go to"));
     };
     match happen(alloc, &mut seat.desk, Event::Set(Setting::Pc(address))) {
@@ -47,14 +61,16 @@ pub fn go_to(alloc: Global, seat: &mut Seat, target: Option<u16>) -> Result<Vec<
     }
 }
 
-/// Returns the bytes of a text.
+/// Returns the bytes that a request writes.
 ///
 /// Errors: `Refused` if they are not written in Base64.
-fn bytes_in(alloc: Global, text: &str) -> Result<Vec<u8>, Fault>
-    ensures bytes { IfOk result (λ bytes. decode_of standard text.now ≡ Ok bytes.items) }
+fn bytes_in(alloc: Global, request: &Value) -> Result<Vec<u8>, Fault>
+    ensures bytes { IfOk result
+        (λ bytes. decode_of standard (data_of (view request.now)) ≡ Ok bytes.items) }
     ensures why { IfErr result
-        (λ f. IfRefused f (is_ok (decode_of standard text.now) ≡ false)) }
+        (λ f. IfRefused f (is_ok (decode_of standard (data_of (view request.now))) ≡ false)) }
 {
+    let text = text_or(request, "/arguments/data", "");
     match STANDARD.decode(alloc, text.as_bytes()) {
         Ok(bytes) => Ok(bytes),
         Err(DecodeAllocError::OutOfMemory) => Err(Fault::OutOfMemory),
@@ -84,26 +100,21 @@ fn count_there(session: &Session, address: u16, bytes: &[u8]) -> u64
     count
 }
 
-/// Writes the bytes of a text to memory, an event for each, up to the first that is rejected.
-/// Nothing is written if they go past FFFF.
+/// Writes bytes to memory, an event for each, up to the first that is rejected. Nothing is written
+/// if they go past FFFF.
 ///
-/// Errors: `Refused` if no address is named, or the bytes are not written in Base64.
+/// Errors: `Refused` if the request names no address, or the bytes are not written in Base64.
 #[tactic(auto, using(crate::proofs::Stays::shows_same, crate::proofs::Stays::refused_so))]
-pub fn write_memory(
-    alloc: Global,
-    seat: &mut Seat,
-    address: Option<u16>,
-    text: &str,
-) -> Result<Vec<Message>, Fault>
-    ensures done { IfOk result (λ ms. Writes address text.now seat.old.desk seat.new.desk
+pub fn write_memory(alloc: Global, seat: &mut Seat, request: &Value) -> Result<Vec<Message>, Fault>
+    ensures done { IfOk result (λ ms. Writes (view request.now) seat.old.desk seat.new.desk
         (each said_of ms.items)) }
     ensures refused { IfErr result (λ f. ShowsIfRefused f seat.old.desk seat.new.desk) }
-    ensures why { IfErr result (λ f. IfRefused f (IsNoWriting address text.now)) }
+    ensures why { IfErr result (λ f. IfRefused f (IsNoWriting (view request.now))) }
 {
-    let Some(address) = address else {
+    let Some(address) = place_at(request, "/arguments/memoryReference", "/arguments/offset") else {
         return Err(refused(alloc, "this is no address to write to"));
     };
-    let bytes = match bytes_in(alloc, text) {
+    let bytes = match bytes_in(alloc, request) {
         Ok(bytes) => bytes,
         Err(fault) => return Err(fault),
     };

@@ -13,19 +13,19 @@ ghost use Rattle.source_map.specs.Names.{named};
 
 use dap_messages::Counting;
 use dap_views::list_body;
-use json_values::{Object, ValueList};
+use json_values::{Object, ValueList, number_at, text_or};
 use mon_line_parts::{Topic, all_words, begins_with};
 use mon_session::Desk;
 use serde_json::Value;
 use source_map::Name;
 use std::alloc::{AllocError, Global};
 
-/// Returns the front of a text before a column: all of it if the column is behind it.
-fn front_of(counting: Counting, text: &str, column: Option<u64>) -> &[u8]
-    ensures { result.now ≡ front_of counting text.now column }
+/// Returns the text of a request before its column: all of it if the column is behind it.
+fn front_of(counting: Counting, request: &Value) -> &[u8]
+    ensures { result.now ≡ front_of counting (view request.now) }
 {
-    let text = text.as_bytes();
-    let column = column.unwrap_or(0);
+    let text = text_or(request, "/arguments/text", "").as_bytes();
+    let column = number_at(request, "/arguments/column").unwrap_or(0);
     let count = column.saturating_sub(counting.first_column());
     if count < text.len() as u64 {
         &text[..count as usize]
@@ -139,21 +139,20 @@ fn offered(alloc: Global, counting: Counting, names: &[Name], front: &[u8]) -> V
     }
 }
 
-/// Returns what can stand for the word that is typed before a column of a text: words of `mon` if
-/// it is the first of the line, otherwise names of the program.
+/// Returns what can stand for the word that is typed before the column of a request: words of `mon`
+/// if it is the first of the line, otherwise names of the program.
 ///
 /// Errors: `AllocError` if an allocation fails.
 pub fn completions(
     alloc: Global,
     desk: &Desk,
     counting: Counting,
-    text: &str,
-    column: Option<u64>,
+    request: &Value,
 ) -> Result<Value, AllocError>
     ensures { IfOk result (λ v. view v
-        ≡ completions counting desk.now.places.names text.now column) }
+        ≡ completions counting desk.now.places.names (view request.now)) }
 {
     let names = desk.places.names().all();
-    let list = offered(alloc, counting, names, front_of(counting, text, column));
+    let list = offered(alloc, counting, names, front_of(counting, request));
     list_body(alloc, "targets", list)
 }

@@ -2,13 +2,13 @@
 
 ghost use Rattle.std.specs.Prelude.{◌≡◌, ◌∷◌, ◌++◌, [], ℕ, Bool, IfErr, IfOk, List, OnOk, map as each};
 ghost use Rattle.std.specs.Prelude.{codes, option_map, string_bytes};
-ghost use Rattle.dap_session.specs.Changes.{items_at};
+ghost use Rattle.dap_views.specs.Watches.{items_at};
 ghost use Rattle.dap_messages.specs.Messages.{Said, done, said_of};
 ghost use Rattle.dap_messages.specs.Answers.{evaluated_body};
 ghost use Rattle.dap_session.specs.Changes.{HasChanged, TellsValue, change_asked, change_in};
 ghost use Rattle.dap_session.specs.Changes.{change_on, setting_line, value_of, word_for};
 ghost use Rattle.dap_session.specs.Console.{Evaluates, ServesConsole, ShowsIfRefused};
-ghost use Rattle.dap_session.specs.Console.{over};
+ghost use Rattle.dap_session.specs.Console.{is_console, over};
 ghost use Rattle.dap_session.specs.Refusals.{IfRefused, IsNoChange, IsNoLook, IsUnmade, Rejects};
 ghost use Rattle.dap_session.specs.Stands.{KeepsProgram, KeepsSession};
 ghost use Rattle.dap_session.specs.Told.{IsDone};
@@ -23,7 +23,7 @@ use crate::stands::with_halt_at;
 use crate::telling::{answered, with_event, with_unmoved};
 use dap_messages::{Message, Reason, evaluated, nothing, stand_by, value_set};
 use dap_views::{look_at, variables_shown};
-use json_values::text_at;
+use json_values::{number_at, text_at, text_or};
 use mon_dispatch::serve;
 use mon_lines::{Command, ReadLine, read_line};
 use mon_runs::Event;
@@ -115,18 +115,14 @@ fn console(alloc: Global, seat: &mut Seat, line: &str) -> Result<Vec<Message>, A
 ///
 /// Errors: `Refused` if something else is to be shown.
 #[tactic(auto, using(crate::proofs::Stays::shows_same, crate::proofs::Stays::refused_so))]
-pub fn evaluate(
-    alloc: Global,
-    seat: &mut Seat,
-    text: &str,
-    is_console: bool,
-) -> Result<Vec<Message>, Fault>
-    ensures done { IfOk result (λ ms. Evaluates is_console text.now seat.old.desk seat.new.desk
-        (each said_of ms.items)) }
+pub fn evaluate(alloc: Global, seat: &mut Seat, request: &Value) -> Result<Vec<Message>, Fault>
+    ensures done { IfOk result (λ ms. Evaluates (is_console (view request.now))
+        (view request.now) seat.old.desk seat.new.desk (each said_of ms.items)) }
     ensures refused { IfErr result (λ f. ShowsIfRefused f seat.old.desk seat.new.desk) }
-    ensures why { IfErr result (λ f. IfRefused f (IsNoLook text.now is_console seat.old.desk)) }
+    ensures why { IfErr result (λ f. IfRefused f (IsNoLook (view request.now) seat.old.desk)) }
 {
-    if is_console {
+    let text = text_or(request, "/arguments/expression", "");
+    if text_or(request, "/arguments/context", "repl") == "repl" {
         return or_memory(console(alloc, seat, text));
     }
     let looked = look_at(alloc, &seat.desk, text)?;
@@ -147,16 +143,12 @@ fn word_for(scope: Option<u64>) -> &'static str
 }
 
 /// Returns the line of `mon` that sets a variable of a scope.
-fn setting_line(
-    alloc: Global,
-    scope: Option<u64>,
-    name: &str,
-    value: &str,
-) -> Result<String, AllocError>
-    ensures { IfOk result
-        (λ line. string_bytes line ≡ setting_line scope name.now value.now) }
+fn setting_line(alloc: Global, request: &Value) -> Result<String, AllocError>
+    ensures { IfOk result (λ line. string_bytes line ≡ setting_line (view request.now)) }
 {
-    let word = word_for(scope);
+    let name = text_or(request, "/arguments/name", "");
+    let value = text_or(request, "/arguments/value", "");
+    let word = word_for(number_at(request, "/arguments/variablesReference"));
     format!(in alloc; "{word} {name} {value}")
 }
 
@@ -258,46 +250,34 @@ fn value_of<'a>(shown: &'a Value, name: &str) -> Option<&'a str>
     None
 }
 
-/// Says which value a variable of a scope has, or the value that was asked for if the scope does
-/// not show it, and that what the client shows may have changed.
-fn tell_value(
-    alloc: Global,
-    desk: &Desk,
-    scope: Option<u64>,
-    name: &str,
-    asked: &str,
-) -> Result<Vec<Message>, AllocError>
-    ensures { IfOk result
-        (λ ms. TellsValue scope name.now asked.now desk.now (each said_of ms.items)) }
+/// Says which value a variable has that a request has set, and that what the client shows may have
+/// changed.
+fn tell_value(alloc: Global, desk: &Desk, request: &Value) -> Result<Vec<Message>, AllocError>
+    ensures { IfOk result (λ ms. TellsValue (view request.now) desk.now (each said_of ms.items)) }
 {
-    let shown = variables_shown(alloc, desk, scope)?;
+    let name = text_or(request, "/arguments/name", "");
+    let asked = text_or(request, "/arguments/value", "");
+    let shown = variables_shown(alloc, desk, request)?;
     let body = value_set(alloc, value_of(&shown, name).unwrap_or(asked));
     drop(shown);
     with_unmoved(alloc, answered(alloc, body))
 }
 
-/// Sets a variable of a scope, and says which value it has then.
+/// Sets a variable, and says which value it has then.
 ///
 /// Errors: `Refused` if the value is none that it can have.
 #[tactic(auto, using(crate::proofs::Stays::shows_same, crate::proofs::Stays::refused_so))]
-pub fn set_variable(
-    alloc: Global,
-    desk: &mut Desk,
-    scope: Option<u64>,
-    name: &str,
-    value: &str,
-) -> Result<Vec<Message>, Fault>
+pub fn set_variable(alloc: Global, desk: &mut Desk, request: &Value) -> Result<Vec<Message>, Fault>
     ensures done { OnOk result
-        (HasChanged (change_asked scope name.now value.now desk.old) desk.old desk.new) }
+        (HasChanged (change_asked (view request.now) desk.old) desk.old desk.new) }
     ensures answer { IfOk result
-        (λ ms. TellsValue scope name.now value.now desk.new (each said_of ms.items)) }
+        (λ ms. TellsValue (view request.now) desk.new (each said_of ms.items)) }
     ensures refused { IfErr result (λ f. ShowsIfRefused f desk.old desk.new) }
-    ensures why { IfErr result
-        (λ f. IfRefused f (IsNoChange scope name.now value.now desk.old)) }
+    ensures why { IfErr result (λ f. IfRefused f (IsNoChange (view request.now) desk.old)) }
 {
-    let line = setting_line(alloc, scope, name, value)?;
+    let line = setting_line(alloc, request)?;
     match change(alloc, desk, line.as_bytes()) {
-        Ok(()) => or_memory(tell_value(alloc, desk, scope, name, value)),
+        Ok(()) => or_memory(tell_value(alloc, desk, request)),
         Err(fault) => Err(fault),
     }
 }

@@ -3,18 +3,20 @@
 ghost use Rattle.std.specs.Prelude.{◌≡◌, IfOk, OnOk, Some, option_map};
 ghost use Rattle.arguments.specs.Asked.{file_view};
 ghost use Rattle.dap_session.specs.Begun.{AddsNames, IsLaunched, IsSeated, places_in};
-ghost use Rattle.dap_session.specs.Options.{program_of};
-ghost use Rattle.dap_messages.specs.Seen.{launch_view, text_view};
+ghost use Rattle.dap_session.specs.Options.{program_of, symbols_at};
+ghost use Rattle.serde_json.specs.View.{view};
 ghost use Rattle.source_map.specs.Lines.{PlacesView};
 
 use crate::fault::{Fault, refused_by};
-use crate::launching::{file_words, history_of, text_of};
+use crate::launching::{file_words, history_of};
 use arguments::{FileWords, LoadFault, Refusal};
 use assembler::Assembly;
-use dap_messages::{Counting, Launch, Listed, Reason, Told};
+use dap_messages::{Counting, Listed, Told};
 use dap_views::Source;
+use json_values::{text_at, text_or};
 use loading::{Loaded, load_names, load_with_history};
 use mon_session::Desk;
+use serde_json::Value;
 use source_map::Places;
 use std::alloc::{AllocError, Global};
 use std::mem;
@@ -23,8 +25,8 @@ use std::rt::Files;
 /// A session on a program.
 #[derive(Drop)]
 pub struct Seat {
-    /// What launched it.
-    pub launch: Launch,
+    /// The message that launched it.
+    pub launch: Value,
     pub desk: Desk,
     /// The source with its lines, if the program is one.
     pub assembly: Option<Assembly>,
@@ -41,28 +43,18 @@ pub fn put_seat(seat: &mut Option<Seat>, begun: Seat)
     drop(mem::replace(seat, Some(begun)));
 }
 
-/// Returns the path of the program of a launch: empty if it names none.
-fn program_text(launch: &Launch) -> &str
-    ensures { result.now ≡ program_of (launch_view launch.now) }
-{
-    match &launch.program {
-        Some(path) => path.as_str(),
-        None => "",
-    }
-}
-
 /// Returns the source of a session, as its client counts lines.
 pub fn source_of<'a>(
-    launch: &'a Launch,
+    launch: &'a Value,
     assembly: &'a Option<Assembly>,
     counting: Counting,
 ) -> Source<'a>
-    ensures path { result.path.now ≡ program_of (launch_view launch.now) }
+    ensures path { result.path.now ≡ program_of (view launch.now) }
     ensures assembly { option_map (λ a. a.now) result.assembly ≡ assembly.now }
     ensures counting { result.counting ≡ counting }
 {
     Source {
-        path: program_text(launch),
+        path: text_or(launch, "/arguments/program", ""),
         assembly: assembly.as_ref(),
         counting,
     }
@@ -105,14 +97,14 @@ fn unloaded(alloc: Global, fault: LoadFault, file: &str) -> Fault {
 /// Adds the names of a file of names, if a launch names one.
 fn add_names<H: Files + AllocGlobal>(
     rt: &H,
-    launch: &Launch,
+    request: &Value,
     words: &FileWords<'_>,
     places: &mut Places,
 ) -> Result<(), Fault>
-    ensures { OnOk result (AddsNames (text_view launch.now.symbols) (file_view words.now)
+    ensures { OnOk result (AddsNames (symbols_at (view request.now)) (file_view words.now)
         places.old places.new) }
 {
-    let Some(path) = text_of(&launch.symbols) else {
+    let Some(path) = text_at(request, "/arguments/symbols") else {
         return Ok(());
     };
     match load_names(rt, words, path) {
@@ -128,15 +120,15 @@ fn add_names<H: Files + AllocGlobal>(
 /// Returns the places of a program, with the names of a file of names, if a launch names one.
 fn known_places<H: Files + AllocGlobal>(
     rt: &H,
-    launch: &Launch,
+    request: &Value,
     words: &FileWords<'_>,
     assembly: &Option<Assembly>,
 ) -> Result<Places, Fault>
-    ensures { IfOk result (AddsNames (text_view launch.now.symbols) (file_view words.now)
+    ensures { IfOk result (AddsNames (symbols_at (view request.now)) (file_view words.now)
         (places_in words.now.file.now assembly.now)) }
 {
     let mut places = places_of(rt.alloc(), words.file, assembly)?;
-    match add_names(rt, launch, words, &mut places) {
+    match add_names(rt, request, words, &mut places) {
         Ok(()) => Ok(places),
         Err(fault) => {
             drop(places);
@@ -146,17 +138,16 @@ fn known_places<H: Files + AllocGlobal>(
 }
 
 /// Returns the seat of a session at which no request but its launch was served.
-fn seat_on(alloc: Global, launch: &Launch, loaded: Loaded, places: Places) -> Result<Seat, Fault>
-    ensures { IfOk result
-        (IsSeated (launch_view launch.now) loaded.session loaded.assembly places) }
+fn seat_on(alloc: Global, request: &Value, loaded: Loaded, places: Places) -> Result<Seat, Fault>
+    ensures { IfOk result (IsSeated (view request.now) loaded.session loaded.assembly places) }
 {
     let Loaded {
         session,
         assembly,
         written: _,
     } = loaded;
-    match Desk::new(alloc, session, places, history_of(launch)) {
-        Ok(desk) => match launch.copied(alloc) {
+    match Desk::new(alloc, session, places, history_of(request)) {
+        Ok(desk) => match request.clone() {
             Ok(launch) => Ok(Seat {
                 launch,
                 desk,
@@ -164,7 +155,6 @@ fn seat_on(alloc: Global, launch: &Launch, loaded: Loaded, places: Places) -> Re
                 listed: Listed::new(alloc),
                 told: Told {
                     count: 0,
-                    reason: Reason::Entry,
                     words: String::new(alloc),
                 },
             }),
@@ -184,17 +174,17 @@ fn seat_on(alloc: Global, launch: &Launch, loaded: Loaded, places: Places) -> Re
 /// Begins a session on what was loaded.
 fn begin_on<H: Files + AllocGlobal>(
     rt: &H,
-    launch: &Launch,
+    request: &Value,
     words: &FileWords<'_>,
     loaded: Loaded,
 ) -> Result<Seat, Fault>
     ensures { IfOk result (λ seat. (known : PlacesView)
-        × AddsNames (text_view launch.now.symbols) (file_view words.now)
+        × AddsNames (symbols_at (view request.now)) (file_view words.now)
         (places_in words.now.file.now loaded.assembly) known
-        × IsSeated (launch_view launch.now) loaded.session loaded.assembly known seat) }
+        × IsSeated (view request.now) loaded.session loaded.assembly known seat) }
 {
-    match known_places(rt, launch, words, &loaded.assembly) {
-        Ok(places) => seat_on(rt.alloc(), launch, loaded, places),
+    match known_places(rt, request, words, &loaded.assembly) {
+        Ok(places) => seat_on(rt.alloc(), request, loaded, places),
         Err(fault) => {
             drop(loaded);
             Err(fault)
@@ -208,12 +198,12 @@ fn begin_on<H: Files + AllocGlobal>(
 /// Errors: `Refused` if the launch names no program, if an option has a value that it cannot have,
 /// or if a file is not loaded, with what `loading` says of it; `OutOfMemory` if an allocation
 /// fails.
-pub fn begin_session<H: Files + AllocGlobal>(rt: &H, launch: &Launch) -> Result<Seat, Fault>
-    ensures { IfOk result (IsLaunched (launch_view launch.now)) }
+pub fn begin_session<H: Files + AllocGlobal>(rt: &H, request: &Value) -> Result<Seat, Fault>
+    ensures { IfOk result (IsLaunched (view request.now)) }
 {
-    let words = file_words(rt.alloc(), launch)?;
-    match load_with_history(rt, &words, history_of(launch)) {
-        Ok(loaded) => begin_on(rt, launch, &words, loaded),
+    let words = file_words(rt.alloc(), request)?;
+    match load_with_history(rt, &words, history_of(request)) {
+        Ok(loaded) => begin_on(rt, request, &words, loaded),
         Err(fault) => Err(unloaded(rt.alloc(), fault, words.file)),
     }
 }

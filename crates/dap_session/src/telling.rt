@@ -129,7 +129,6 @@ fn with_stop(
         }
         Reason::Step | Reason::Breakpoint | Reason::InstructionBreakpoint => messages,
         Reason::DataBreakpoint | Reason::Exception | Reason::Goto | Reason::Pause => messages,
-        Reason::NoStop => messages,
     };
     let body = Object::new(alloc)
         .flag("allThreadsStopped", true)
@@ -155,7 +154,6 @@ pub fn with_halt(
         (λ ms. each said_of ms.items ≡ before ++ told_of desk.now told.old.count halt) }
     ensures count { OnOk result
         (told.new.count ≡ length desk.now.session.current.bus.out) }
-    ensures reason { OnOk result (told.new.reason ≡ halt.reason) }
     ensures words { OnOk result (string_bytes told.new.words
         ≡ halt_shown desk.now.places.names halt.words.now halt.fault) }
 {
@@ -163,7 +161,6 @@ pub fn with_halt(
     let console = with_console(alloc, messages, &desk.session, told.count);
     let all = with_stop(alloc, console, halt, words.as_str());
     told.count = desk.session.output_len();
-    told.reason = halt.reason;
     told.words = words;
     all
 }

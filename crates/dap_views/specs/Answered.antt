@@ -8,7 +8,6 @@ use Rattle.dap_views.specs.BreakValues.{breakpoint_set, breakpoint_unset, data_u
 use Rattle.dap_messages.specs.Answers.{breakpoints_body}
 use Rattle.dap_messages.specs.Counting.{shown_line}
 use Rattle.dap_messages.specs.declared.counting.Counting.{Counting}
-use Rattle.dap_messages.specs.declared.request.SourceBreakpoint.{SourceBreakpoint}
 use Rattle.model.specs.Session.{Session}
 use Rattle.serde_json.specs.Data.{Data}
 
@@ -27,10 +26,10 @@ answer_of session counting wanted = answer_by session (shown_line counting wante
     (string_bytes wanted.words) wanted.address
 
 -- One of another source is not set.
-abbrev pub answer_elsewhere : SourceBreakpoint → Data
+abbrev pub answer_elsewhere : Data → Data
 answer_elsewhere wanted = data_unwatched OTHER_SOURCE.now
 
 -- What is answered of a list.
-abbrev pub IsAnswer : {W : Type 0} → Session → Counting → (W → Found) → List W → Data → Type 0
+abbrev pub IsAnswer : Session → Counting → (Data → Found) → List Data → Data → Type 0
 IsAnswer session counting find listed v = (told : List Wanted) × AreTold find listed told
     × (v ≡ breakpoints_body (map (answer_of session counting) told))

@@ -1,15 +1,13 @@
 -- Where the breakpoints of a list can stand. Source: Debug Adapter Protocol 1.65, "SetBreakpoints
 -- Request", "SetInstructionBreakpoints Request"; that a line without bytes stands for the next that
 -- has some, and what a condition is, mos65.
-use Rattle.std.specs.Prelude.{ℕ, ◌≡◌, nat_lt, if◌then◌else◌, List, [], ◌∷◌, ◌++◌, length, map, Option, Some, None, option_map, unwrap_or, Result, Ok, Err}
+use Rattle.std.specs.Prelude.{ℕ, ◌≡◌, nat_lt, if◌then◌else◌, List, [], ◌∷◌, ◌++◌, codes, length, map, Option, Some, None, option_map, unwrap_or, Result, Ok, Err}
 use Rattle.std.specs.List.{flat_map}
 use Rattle.std.specs.Option.{option_to_list}
 use Rattle.assembler.specs.Assembly.{AssemblyView}
-use Rattle.dap_messages.specs.Counting.{own_line}
+use Rattle.dap_messages.specs.Counting as client
+use Rattle.dap_messages.specs.References.{place_at}
 use Rattle.dap_messages.specs.declared.counting.Counting.{Counting}
-use Rattle.dap_messages.specs.declared.request.Condition.{Condition}
-use Rattle.dap_messages.specs.declared.request.InstructionBreakpoint.{InstructionBreakpoint}
-use Rattle.dap_messages.specs.declared.request.SourceBreakpoint.{SourceBreakpoint}
 use Rattle.dap_views.specs.Targets.{row_in}
 use Rattle.dap_views.specs.Wanted.{break_line}
 use Rattle.dap_views.specs.declared.wanted.List.{List as WantedList}
@@ -19,6 +17,7 @@ use Rattle.mon_line_parts.specs.declared.topic.Topic.{Topic}
 use Rattle.mon_lines.specs.Lines.{SeenCommand, break_at, line_of}
 use Rattle.mon_lines.specs.declared.command.Test.{Test}
 use Rattle.mon_stops.specs.declared.breaks.Break.{Break}
+use Rattle.serde_json.specs.Data.{Data}
 use Rattle.source_map.specs.Lines.{PlacesView, line_at}
 use Rattle.source_map.specs.Names.{Named}
 
@@ -51,27 +50,28 @@ stop_on names pc line = if nat_lt 255 (length line) then None
 abbrev pub Found : Type 0
 Found = ℕ × Option Stop
 
-abbrev pub found_on : PlacesView → ℕ → Condition → ℕ → ℕ → Found
-found_on places pc condition line address
-    = (line, stop_on places.names pc (break_line condition address))
+abbrev pub found_on : PlacesView → ℕ → Data → ℕ → ℕ → Found
+found_on places pc wanted line address
+    = (line, stop_on places.names pc (break_line wanted address))
 
 -- At a line of the source, or at the next that has bytes.
-abbrev pub found_from : PlacesView → ℕ → Condition → ℕ → Option (ℕ × ℕ) → Found
-found_from places pc condition line (Some row) = found_on places pc condition row.0 row.1
-found_from places pc condition line None = (line, None)
+abbrev pub found_from : PlacesView → ℕ → Data → ℕ → Option (ℕ × ℕ) → Found
+found_from places pc wanted line (Some row) = found_on places pc wanted row.0 row.1
+found_from places pc wanted line None = (line, None)
 
-abbrev pub found_line : PlacesView → ℕ → Counting → Option AssemblyView → SourceBreakpoint → Found
-found_line places pc counting assembly wanted = found_from places pc wanted.condition
-    (own_line counting wanted.line) (row_in (own_line counting wanted.line) assembly)
+abbrev pub found_line : PlacesView → ℕ → Counting → Option AssemblyView → Data → Found
+found_line places pc counting assembly wanted = found_from places pc wanted
+    (client.line_at counting wanted) (row_in (client.line_at counting wanted) assembly)
 
 -- At an address.
-abbrev pub found_at : PlacesView → ℕ → Condition → Option ℕ → Found
-found_at places pc condition (Some address)
-    = found_on places pc condition (unwrap_or (line_at places.lines address) 0) address
-found_at places pc condition None = (0, None)
+abbrev pub found_at : PlacesView → ℕ → Data → Option ℕ → Found
+found_at places pc wanted (Some address)
+    = found_on places pc wanted (unwrap_or (line_at places.lines address) 0) address
+found_at places pc wanted None = (0, None)
 
-abbrev pub found_address : PlacesView → ℕ → InstructionBreakpoint → Found
-found_address places pc wanted = found_at places pc wanted.condition wanted.address
+abbrev pub found_address : PlacesView → ℕ → Data → Found
+found_address places pc wanted = found_at places pc wanted
+    (place_at (codes "/instructionReference") (codes "/offset") wanted)
 
 -- ---- a list
 
@@ -90,9 +90,9 @@ HasFound found old new
     ≡ map stop_view old.stops.items ++ option_to_list found.1)
 
 -- All that a client wants were looked for: which are told, and which are to be set.
-abbrev pub AreTold : {W : Type 0} → (W → Found) → List W → List Wanted → Type 0
+abbrev pub AreTold : (Data → Found) → List Data → List Wanted → Type 0
 AreTold find listed told = map told_view told ≡ map (λ wanted. told_of (find wanted)) listed
 
-abbrev pub AreStops : {W : Type 0} → (W → Found) → List W → List Break → Type 0
+abbrev pub AreStops : (Data → Found) → List Data → List Break → Type 0
 AreStops find listed stops
     = map stop_view stops ≡ flat_map (λ wanted. option_to_list (find wanted).1) listed

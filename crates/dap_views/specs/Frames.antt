@@ -1,7 +1,8 @@
 -- The frames of the stack. Source: Debug Adapter Protocol 1.65, "StackTrace Request"; that there is
 -- one frame, mos65.
-use Rattle.std.specs.Prelude.{ℕ, ◌≡◌, Bool, true, false, List, [], ◌∷◌, Option, Some, None}
+use Rattle.std.specs.Prelude.{ℕ, ◌≡◌, ◌==◌, Bool, true, false, List, [], ◌∷◌, codes, Option, Some, None, unwrap_or}
 use Rattle.std.specs.Str.Lossy.{utf8_lossy}
+use Rattle.json_values.specs.Fields.{number_at}
 use Rattle.dap_views.specs.Values.{frame_at_line, frame_without_line, frames_body}
 use Rattle.dap_messages.specs.Counting.{first_column, shown_line}
 use Rattle.dap_messages.specs.declared.counting.Counting.{Counting}
@@ -26,6 +27,10 @@ IsFrameOn path counting address words None v = v ≡ frame_without_line address 
 abbrev pub IsFrame : PlacesView → List ℕ → Counting → ℕ → Data → Type 0
 IsFrame places path counting address v = IsFrameOn path counting address
     (place_name places.names address) (line_at places.lines address) v
+
+-- Whether the first frame is asked for.
+abbrev pub wants_first : Data → Bool
+wants_first request = unwrap_or (number_at (codes "/arguments/startFrame") request) 0 == 0
 
 -- The frame at the program counter, if the first is asked for.
 abbrev pub AreFrames : Bool → PlacesView → List ℕ → Counting → ℕ → Data → Type 0

@@ -5,7 +5,9 @@ use Rattle.std.specs.List.{flat_map}
 use Rattle.std.specs.Str.Lossy.{utf8_lossy}
 use Rattle.dap_views.specs.Values.{instruction_at_line, instruction_row, instructions_body, no_instruction}
 use Rattle.dap_messages.specs.Counting.{shown_line}
+use Rattle.dap_messages.specs.References.{offset_at, place_at}
 use Rattle.dap_messages.specs.declared.counting.Counting.{Counting}
+use Rattle.dap_views.specs.Memory.{count_at}
 use Rattle.mon_instructions.specs.Instructions.{bytes_at, instruction_at, instruction_text}
 use Rattle.mon_instructions.specs.Listed.{listed_len}
 use Rattle.mon_session.specs.declared.desk.Desk.{Desk}
@@ -126,6 +128,9 @@ rows_at desk path counting offset count None = rows desk path counting 0 count 6
 rows_at desk path counting offset count (Some end)
     = rows_around desk path counting end (behind offset) (ahead offset) count
 
-abbrev pub disassembled : Desk → List ℕ → Counting → Option ℕ → ℤ → ℕ → Data
-disassembled desk path counting address offset count
-    = instructions_body (rows_at desk path counting offset count address)
+-- As many rows as are asked for, at most 65,536.
+abbrev pub disassembled : Desk → List ℕ → Counting → Data → Data
+disassembled desk path counting request = instructions_body (rows_at desk path counting
+    (offset_at (codes "/arguments/instructionOffset") request)
+    (count_at (codes "/arguments/instructionCount") request)
+    (place_at (codes "/arguments/memoryReference") (codes "/arguments/offset") request))

@@ -2,6 +2,7 @@
 -- scopes there are, mos65.
 use Rattle.std.specs.Prelude.{ℕ, zero, suc, ◌+◌, ◌-◌, ◌==◌, if◌then◌else◌, List, [], ◌∷◌, codes, length, map as each, slice_index, Option, Some, None}
 use Rattle.std.specs.Str.Lossy.{utf8_lossy}
+use Rattle.json_values.specs.Fields.{number_at}
 use Rattle.dap_messages.specs.Texts.{address_text}
 use Rattle.dap_views.specs.Variables.{byte_variable, flags_shown, number_variable, registers_shown, variables_body}
 use Rattle.model.specs.Session.{Session}
@@ -52,5 +53,6 @@ abbrev pub listed : Session → List Named → Option ℕ → List Data
 listed session names (Some number) = scope_shown session names number
 listed session names None = []
 
-abbrev pub variables_shown : Session → List Named → Option ℕ → Data
-variables_shown session names scope = variables_body (listed session names scope)
+abbrev pub variables_shown : Session → List Named → Data → Data
+variables_shown session names request = variables_body
+    (listed session names (number_at (codes "/arguments/variablesReference") request))

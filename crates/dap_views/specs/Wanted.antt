@@ -1,12 +1,13 @@
 -- Breakpoints that a client wants. Source: Debug Adapter Protocol 1.65, "SourceBreakpoint",
 -- "InstructionBreakpoint"; that a line without bytes stands for the next that has some, and what a
 -- condition is, mos65.
-use Rattle.std.specs.Prelude.{ℕ, ◌≡◌, ◌==◌, ◌&&◌, nat_le, nat_lt, Bool, if◌then◌else◌, List, [], ◌∷◌, ◌++◌, codes, length, map, string_bytes, Option, Some, None}
+use Rattle.std.specs.Prelude.{ℕ, ◌≡◌, ◌==◌, ◌&&◌, nat_le, nat_lt, Bool, if◌then◌else◌, List, [], ◌∷◌, ◌++◌, codes, length, map, Option, Some, None, unwrap_or}
 use Rattle.assembler.specs.Lines.{LineView}
 use Rattle.dap_views.specs.declared.wanted.List.{List as WantedList}
-use Rattle.dap_messages.specs.declared.request.Condition.{Condition}
+use Rattle.json_values.specs.Fields.{text_at}
 use Rattle.model.specs.Text.{hex_address}
 use Rattle.mon_stops.specs.declared.breaks.Break.{Break}
+use Rattle.serde_json.specs.Data.{Data}
 
 -- ---- lines
 
@@ -30,17 +31,20 @@ first_row line (row ∷ rows) = if has_bytes line row then Some (row.number, row
 abbrev pub option_text : List ℕ → List ℕ → List ℕ
 option_text words text = if length text == 0 then [] else words ++ text
 
-abbrev pub tests_text : Condition → List ℕ
-tests_text condition = option_text (codes " if ") (string_bytes condition.tests)
+-- A condition or a hit count that is missing is empty.
+abbrev pub condition_text : Data → List ℕ
+condition_text wanted
+    = option_text (codes " if ") (unwrap_or (text_at (codes "/condition") wanted) [])
 
-abbrev pub hits_text : Condition → List ℕ
-hits_text condition = option_text (codes " times ") (string_bytes condition.hits)
+abbrev pub hits_text : Data → List ℕ
+hits_text wanted
+    = option_text (codes " times ") (unwrap_or (text_at (codes "/hitCondition") wanted) [])
 
 -- The line of `mon` that sets a breakpoint: a condition stands behind `if`, a hit count behind
 -- `times`.
-abbrev pub break_line : Condition → ℕ → List ℕ
-break_line condition address = codes "break $" ++ hex_address address ++ tests_text condition
-    ++ hits_text condition
+abbrev pub break_line : Data → ℕ → List ℕ
+break_line wanted address = codes "break $" ++ hex_address address ++ condition_text wanted
+    ++ hits_text wanted
 
 -- ---- a list
 

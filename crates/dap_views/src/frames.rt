@@ -1,13 +1,13 @@
 //! The frames of the stack.
 
-ghost use Rattle.std.specs.Prelude.{◌≡◌, ◌==◌, ℕ, IfOk, List, string_bytes};
-ghost use Rattle.dap_views.specs.Frames.{AreFrames, IsFrame, IsFrameOn};
+ghost use Rattle.std.specs.Prelude.{◌≡◌, ℕ, IfOk, List, string_bytes};
+ghost use Rattle.dap_views.specs.Frames.{AreFrames, IsFrame, IsFrameOn, wants_first};
 ghost use Rattle.serde_json.specs.View.{view};
 
 use crate::source::Source;
 use crate::texts::as_text;
 use dap_messages::reference;
-use json_values::{Object, ValueList};
+use json_values::{Object, ValueList, number_at};
 use mon_instructions::push_place;
 use mon_session::Desk;
 use serde_json::Value;
@@ -71,20 +71,20 @@ fn frame(
     frame_on(alloc, file, address, words, places.line_at(address))
 }
 
-/// Returns the frames from one on, of which 0 is the first: that at the program counter is the only
+/// Returns the frames from one on that the request names: that at the program counter is the only
 /// one.
 pub fn frames_shown(
     alloc: Global,
     desk: &Desk,
     source: &Source<'_>,
-    first: u64,
+    request: &Value,
 ) -> Result<Value, AllocError>
-    ensures { IfOk result (λ v. AreFrames (first == 0) desk.now.places
+    ensures { IfOk result (λ v. AreFrames (wants_first (view request.now)) desk.now.places
         source.now.path.now source.now.counting desk.now.session.current.regs.pc (view v)) }
 {
     let mut list = ValueList::new(alloc);
-    let is_first = first == 0;
-    if is_first {
+    let wants_first = number_at(request, "/arguments/startFrame").unwrap_or(0) == 0;
+    if wants_first {
         let pc = desk.session.regs().pc;
         list = list.with(frame(alloc, &desk.places, source, pc));
     }

@@ -1,21 +1,22 @@
-//! Lists of breakpoints: each replaces the one before.
+//! Requests that list breakpoints: each replaces those of the one before.
 
-ghost use Rattle.std.specs.Prelude.{◌≡◌, [], IfOk, OnOk, Some, map as each, option_map};
+ghost use Rattle.std.specs.Prelude.{◌≡◌, [], IfOk, OnOk, Some, codes, map as each, option_map};
 ghost use Rattle.dap_views.specs.Answered.{answer_elsewhere, answer_of};
 ghost use Rattle.dap_views.specs.Breaks.{Finds, SetsAddresses, SetsLines, SetsSource};
 ghost use Rattle.dap_views.specs.Found.{HasFound, found_address, found_line};
 ghost use Rattle.dap_desk.specs.Breaks.{KeepsEvents, all_cleared, all_set, place_of};
 ghost use Rattle.dap_views.specs.Wanted.{Matches};
 ghost use Rattle.dap_messages.specs.Answers.{breakpoints_body};
-ghost use Rattle.serde_json.specs.View.{view};
+ghost use Rattle.dap_views.specs.Watches.{items_at};
+ghost use Rattle.serde_json.specs.View.{items_view, view};
 
 use crate::source::Source;
 use crate::values::{data_unwatched, list_body};
 use crate::wanted::{List, Wanted, push_at, push_unset, row_in};
 use arguments::is_one_file;
 use dap_desk::{is_break, replace};
-use dap_messages::{Counting, InstructionBreakpoint, Listed, SourceBreakpoint, reference};
-use json_values::{Object, ValueList};
+use dap_messages::{Counting, Listed, place_at, reference};
+use json_values::{Object, ValueList, text_or};
 use mon_runs::Session;
 use mon_session::Desk;
 use serde_json::Value;
@@ -31,22 +32,35 @@ pub const NO_ROOM: &str = "256 breakpoints are set";
 /// What is said of a breakpoint of another source.
 pub const OTHER_SOURCE: &str = "this is not the source of the session";
 
+/// Returns the breakpoints that a request lists.
+pub fn list_of(request: &Value) -> &[Value]
+    ensures { items_view result.now ≡ items_at (codes "/arguments/breakpoints") (view request.now) }
+{
+    let Some(listed) = request.pointer("/arguments/breakpoints") else {
+        return &[];
+    };
+    match listed.as_array() {
+        Some(list) => list.as_slice(),
+        None => &[],
+    }
+}
+
 /// Appends a breakpoint that a client wants at a line of the source.
 fn push_line(
     alloc: Global,
     list: &mut List,
     desk: &Desk,
     source: &Source<'_>,
-    wanted: &SourceBreakpoint,
+    wanted: &Value,
 ) -> Result<(), AllocError>
     ensures matches { OnOk result (Matches list.old → Matches list.new) }
     ensures found { OnOk result (HasFound (found_line desk.now.places
         desk.now.session.current.regs.pc source.now.counting
-        (option_map (λ a. a.now) source.now.assembly) wanted.now) list.old list.new) }
+        (option_map (λ a. a.now) source.now.assembly) (view wanted.now)) list.old list.new) }
 {
-    let line = source.counting.own_line(wanted.line);
+    let line = source.counting.line_at(wanted);
     match row_in(source, line) {
-        Some((line, address)) => push_at(alloc, list, desk, &wanted.condition, line, address),
+        Some((line, address)) => push_at(alloc, list, desk, wanted, line, address),
         None => push_unset(list, line, String::from_str(alloc, NO_BYTES)),
     }
 }
@@ -56,19 +70,27 @@ fn push_address(
     alloc: Global,
     list: &mut List,
     desk: &Desk,
-    wanted: &InstructionBreakpoint,
+    wanted: &Value,
 ) -> Result<(), AllocError>
     ensures matches { OnOk result (Matches list.old → Matches list.new) }
     ensures found { OnOk result (HasFound (found_address desk.now.places
-        desk.now.session.current.regs.pc wanted.now) list.old list.new) }
+        desk.now.session.current.regs.pc (view wanted.now)) list.old list.new) }
 {
-    match wanted.address {
+    match place_at(wanted, "/instructionReference", "/offset") {
         Some(address) => {
             let line = desk.places.line_at(address).unwrap_or(0);
-            push_at(alloc, list, desk, &wanted.condition, line, address)
+            push_at(alloc, list, desk, wanted, line, address)
         }
         None => push_unset(list, 0, String::from_str(alloc, "this is no address")),
     }
+}
+
+/// Holds a request in place of the one before.
+pub fn hold(held: &mut Option<Value>, request: &Value) -> Result<(), AllocError>
+    ensures { OnOk result (option_map view held.new ≡ Some (view request.now)) }
+{
+    *held = Some(request.clone()?);
+    Ok(())
 }
 
 /// Makes an empty list.
@@ -84,34 +106,43 @@ fn new_list(alloc: Global) -> List
     }
 }
 
-/// Looks for the breakpoints of lines that a client wants.
+/// Holds a request in place of the one before, and returns the breakpoints of lines that it lists.
 fn lines_wanted(
     alloc: Global,
     desk: &Desk,
     source: &Source<'_>,
-    all: &[SourceBreakpoint],
+    held: &mut Option<Value>,
+    request: &Value,
 ) -> Result<List, AllocError>
-    ensures { IfOk result (Finds (found_line desk.now.places
+    ensures found { IfOk result (Finds (found_line desk.now.places
         desk.now.session.current.regs.pc source.now.counting
-        (option_map (λ a. a.now) source.now.assembly)) all.now) }
+        (option_map (λ a. a.now) source.now.assembly)) (view request.now)) }
+    ensures held { OnOk result (option_map view held.new ≡ Some (view request.now)) }
 {
+    hold(held, request)?;
     let mut list = new_list(alloc);
+    let all = list_of(request);
     for wanted in all {
         push_line(alloc, &mut list, desk, source, wanted)?;
     }
     Ok(list)
 }
 
-/// Looks for the breakpoints at addresses that a client wants.
+/// Holds a request in place of the one before, and returns the breakpoints at addresses that it
+/// lists.
 fn addresses_wanted(
     alloc: Global,
     desk: &Desk,
-    all: &[InstructionBreakpoint],
+    held: &mut Option<Value>,
+    request: &Value,
 ) -> Result<List, AllocError>
-    ensures { IfOk result
-        (Finds (found_address desk.now.places desk.now.session.current.regs.pc) all.now) }
+    ensures found { IfOk result (Finds (found_address desk.now.places
+        desk.now.session.current.regs.pc) (view request.now)) }
+    ensures held { OnOk result (option_map view held.new ≡ Some (view request.now)) }
 {
+    hold(held, request)?;
     let mut list = new_list(alloc);
+    let all = list_of(request);
     for wanted in all {
         push_address(alloc, &mut list, desk, wanted)?;
     }
@@ -192,7 +223,7 @@ fn set_list(
     answers(alloc, &desk.session, counting, told.as_slice())
 }
 
-/// Sets the breakpoints of the source that a client wants, in place of those before, and returns
+/// Sets the breakpoints of the source that a request lists, in place of those before, and returns
 /// what is answered.
 ///
 /// Errors: `AllocError` if an allocation fails; the old ones are cleared then, and some of the new
@@ -202,23 +233,24 @@ pub fn set_lines(
     desk: &mut Desk,
     listed: &mut Listed,
     source: &Source<'_>,
-    wanted: Vec<SourceBreakpoint>,
+    request: &Value,
 ) -> Result<Value, AllocError>
     ensures sets { IfOk result (λ v. SetsLines source.now.counting
-        (option_map (λ a. a.now) source.now.assembly) wanted.items listed.old.lines.items
+        (option_map (λ a. a.now) source.now.assembly) (view request.now) listed.old.lines.items
         listed.new.lines.items desk.old desk.new (view v)) }
     ensures kept { KeepsEvents desk.old desk.new }
     ensures addresses { listed.new.addresses ≡ listed.old.addresses }
-    ensures held { OnOk result (listed.new.last_lines ≡ Some wanted) }
-    ensures others { (listed.new.last_addresses ≡ listed.old.last_addresses)
-        × (listed.new.last_bytes ≡ listed.old.last_bytes) }
+    ensures held { OnOk result
+        (option_map view listed.new.line_request ≡ Some (view request.now)) }
+    ensures others { (listed.new.address_request ≡ listed.old.address_request)
+        × (listed.new.data_request ≡ listed.old.data_request) }
 {
-    let list = lines_wanted(alloc, desk, source, wanted.as_slice())?;
-    listed.last_lines = Some(wanted);
+    let held = &mut listed.line_request;
+    let list = lines_wanted(alloc, desk, source, held, request)?;
     set_list(alloc, desk, &mut listed.lines, source.counting, list)
 }
 
-/// Sets the breakpoints at addresses that a client wants, in place of those before, and returns
+/// Sets the breakpoints at addresses that a request lists, in place of those before, and returns
 /// what is answered.
 ///
 /// Errors: `AllocError` if an allocation fails; the old ones are cleared then, and some of the new
@@ -228,24 +260,26 @@ pub fn set_addresses(
     desk: &mut Desk,
     listed: &mut Listed,
     counting: Counting,
-    wanted: Vec<InstructionBreakpoint>,
+    request: &Value,
 ) -> Result<Value, AllocError>
-    ensures sets { IfOk result (λ v. SetsAddresses counting wanted.items
+    ensures sets { IfOk result (λ v. SetsAddresses counting (view request.now)
         listed.old.addresses.items listed.new.addresses.items desk.old desk.new (view v)) }
     ensures kept { KeepsEvents desk.old desk.new }
     ensures lines { listed.new.lines ≡ listed.old.lines }
-    ensures held { OnOk result (listed.new.last_addresses ≡ Some wanted) }
-    ensures others { (listed.new.last_lines ≡ listed.old.last_lines)
-        × (listed.new.last_bytes ≡ listed.old.last_bytes) }
+    ensures held { OnOk result
+        (option_map view listed.new.address_request ≡ Some (view request.now)) }
+    ensures others { (listed.new.line_request ≡ listed.old.line_request)
+        × (listed.new.data_request ≡ listed.old.data_request) }
 {
-    let list = addresses_wanted(alloc, desk, wanted.as_slice())?;
-    listed.last_addresses = Some(wanted);
+    let held = &mut listed.address_request;
+    let list = addresses_wanted(alloc, desk, held, request)?;
     set_list(alloc, desk, &mut listed.addresses, counting, list)
 }
 
 /// Returns what is answered of breakpoints of another source than that of the session.
-fn none_set(alloc: Global, listed: &[SourceBreakpoint]) -> Result<Value, AllocError>
-    ensures { IfOk result (λ v. view v ≡ breakpoints_body (each answer_elsewhere listed.now)) }
+fn none_set(alloc: Global, listed: &[Value]) -> Result<Value, AllocError>
+    ensures { IfOk result
+        (λ v. view v ≡ breakpoints_body (each answer_elsewhere (each view listed.now))) }
 {
     let mut list = ValueList::new(alloc);
     for _ in listed {
@@ -254,8 +288,8 @@ fn none_set(alloc: Global, listed: &[SourceBreakpoint]) -> Result<Value, AllocEr
     list_body(alloc, "breakpoints", list)
 }
 
-/// Sets the breakpoints that a client wants in the source with a path, in place of those before, if
-/// the source is that of the session. Returns what is answered: of another source none is set.
+/// Sets the breakpoints that a request lists for a source, in place of those before, if the source
+/// is that of the session. Returns what is answered: of another source none is set.
 ///
 /// Errors: as those of `set_lines`.
 pub fn set_source<H: Files + AllocGlobal>(
@@ -263,18 +297,18 @@ pub fn set_source<H: Files + AllocGlobal>(
     desk: &mut Desk,
     listed: &mut Listed,
     source: &Source<'_>,
-    path: &str,
-    wanted: Vec<SourceBreakpoint>,
+    request: &Value,
 ) -> Result<Value, AllocError>
     ensures sets { IfOk result (λ v. SetsSource source.now.counting source.now.path.now
-        (option_map (λ a. a.now) source.now.assembly) path.now wanted listed.old listed.new
+        (option_map (λ a. a.now) source.now.assembly) (view request.now) listed.old listed.new
         desk.old desk.new (view v)) }
     ensures kept { KeepsEvents desk.old desk.new }
     ensures addresses { listed.new.addresses ≡ listed.old.addresses }
 {
     let alloc = rt.alloc();
+    let path = text_or(request, "/arguments/source/path", "");
     if is_one_file(rt, path, source.path) {
-        return set_lines(alloc, desk, listed, source, wanted);
+        return set_lines(alloc, desk, listed, source, request);
     }
-    none_set(alloc, wanted.as_slice())
+    none_set(alloc, list_of(request))
 }

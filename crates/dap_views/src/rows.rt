@@ -9,9 +9,10 @@ ghost use Rattle.json_values.specs.ValueLists.{HasValues};
 ghost use Rattle.serde_json.specs.Data.{Data};
 ghost use Rattle.serde_json.specs.View.{view};
 
+use crate::memory::count_at;
 use crate::source::Source;
 use crate::texts::as_text;
-use dap_messages::reference;
+use dap_messages::{offset_at, place_at, reference};
 use disasm::line_in;
 use formatting::{push_byte, push_text};
 use json_values::{Object, ValueList};
@@ -249,21 +250,22 @@ fn rows_around(
     with_rows(alloc, front, desk, source, until, left, first)
 }
 
-/// Returns so many rows of a disassembly, of which the first is some rows before an address or
-/// behind it: instructions, and data where a line of the source says so. Rows before the address
-/// end there. Rows where no memory is say so; all do if no address is named.
+/// Returns as many rows of a disassembly as a request asks for, at most 65,536: instructions, and
+/// data where a line of the source says so. Rows before the address that the request names end
+/// there. Rows where no memory is say so; all do if the request names no address.
 pub fn disassembled(
     alloc: Global,
     desk: &Desk,
     source: &Source<'_>,
-    address: Option<u16>,
-    offset: i64,
-    count: u32,
+    request: &Value,
 ) -> Result<Value, AllocError>
     ensures { IfOk result (λ v. view v ≡ disassembled desk.now source.now.path.now
-        source.now.counting address offset count) }
+        source.now.counting (view request.now)) }
 {
-    let rows = match address {
+    let until = place_at(request, "/arguments/memoryReference", "/arguments/offset");
+    let offset = offset_at(request, "/arguments/instructionOffset");
+    let count = count_at(request, "/arguments/instructionCount");
+    let rows = match until {
         Some(until) => rows_around(alloc, desk, source, until, offset, count),
         None => with_rows(alloc, ValueList::new(alloc), desk, source, 0, count, BEHIND),
     };

@@ -11,7 +11,7 @@ ghost use Rattle.source_map.specs.Names.{named};
 
 use crate::texts::byte_text;
 use dap_messages::address_text;
-use json_values::{Object, ValueList};
+use json_values::{Object, ValueList, number_at};
 use model::{Flags, Regs};
 use mon_runs::Session;
 use mon_session::Desk;
@@ -139,15 +139,16 @@ fn machine(alloc: Global, session: &Session) -> Result<Value, AllocError>
         .build()
 }
 
-/// Returns the variables of the scope of a number: 1 for the registers, 2 for the flags, 3 for the
-/// names of the program, 4 for the stack, 5 for the zero page, 6 for what is told of the machine.
-/// Another scope has none. The bytes of the stack are those from that above the stack pointer on.
-pub fn variables_shown(alloc: Global, desk: &Desk, scope: Option<u64>) -> Result<Value, AllocError>
+/// Returns the variables of the scope whose number a request names: 1 for the registers, 2 for the
+/// flags, 3 for the names of the program, 4 for the stack, 5 for the zero page, 6 for what is told
+/// of the machine. Another scope has none. The bytes of the stack are those from that above the
+/// stack pointer on.
+pub fn variables_shown(alloc: Global, desk: &Desk, request: &Value) -> Result<Value, AllocError>
     ensures { IfOk result (λ v. view v
-        ≡ variables_shown desk.now.session desk.now.places.names scope) }
+        ≡ variables_shown desk.now.session desk.now.places.names (view request.now)) }
 {
     let session = &desk.session;
-    let list = match scope {
+    let list = match number_at(request, "/arguments/variablesReference") {
         Some(1) => registers(alloc, session.regs()),
         Some(2) => flags(alloc, session.regs().flags),
         Some(3) => symbols(alloc, session, desk.places.names().all()),

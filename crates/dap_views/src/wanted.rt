@@ -5,17 +5,19 @@ ghost use Rattle.assembler.specs.Assembly.{source_lines};
 ghost use Rattle.assembler.specs.Lines.{line_view};
 ghost use Rattle.dap_views.specs.Found.{HasFound, found_on, stop_on, stop_view};
 ghost use Rattle.dap_views.specs.Targets.{row_in};
-ghost use Rattle.dap_views.specs.Wanted.{Matches, break_line, first_row};
-ghost use Rattle.dap_views.specs.Wanted.{hits_text, option_text, row_with, tests_text};
+ghost use Rattle.dap_views.specs.Wanted.{Matches, break_line, condition_text, first_row};
+ghost use Rattle.dap_views.specs.Wanted.{hits_text, option_text, row_with};
+ghost use Rattle.serde_json.specs.View.{view};
 
 use crate::source::Source;
 use assembler::SourceLine;
-use dap_messages::Condition;
 use formatting::{push_address, push_text};
+use json_values::text_or;
 use mon_lines::{Command, Slip, read_line};
 use mon_session::Desk;
 use mon_stops::Break;
 use mon_texts::push_slip;
+use serde_json::Value;
 use std::alloc::{AllocError, Global};
 
 /// What a client is told of a breakpoint that it wants.
@@ -83,23 +85,23 @@ fn push_option(text: &mut Vec<u8>, words: &str, option: &str) -> Result<(), Allo
     push_text(text, option)
 }
 
-/// Appends the tests and the hit count of a breakpoint, each if it has one.
-fn push_options(line: &mut Vec<u8>, condition: &Condition) -> Result<(), AllocError>
+/// Appends the condition and the hit count of a breakpoint, each if it has one.
+fn push_options(line: &mut Vec<u8>, wanted: &Value) -> Result<(), AllocError>
     ensures { OnOk result (line.new.items ≡ line.old.items
-        ++ (tests_text condition.now ++ hits_text condition.now)) }
+        ++ (condition_text (view wanted.now) ++ hits_text (view wanted.now))) }
 {
-    push_option(line, " if ", condition.tests.as_str())?;
-    push_option(line, " times ", condition.hits.as_str())
+    push_option(line, " if ", text_or(wanted, "/condition", ""))?;
+    push_option(line, " times ", text_or(wanted, "/hitCondition", ""))
 }
 
 /// Appends the line of `mon` that sets a breakpoint.
-fn push_break(line: &mut Vec<u8>, condition: &Condition, address: u16) -> Result<(), AllocError>
+fn push_break(line: &mut Vec<u8>, wanted: &Value, address: u16) -> Result<(), AllocError>
     ensures { OnOk result
-        (line.new.items ≡ line.old.items ++ break_line condition.now address) }
+        (line.new.items ≡ line.old.items ++ break_line (view wanted.now) address) }
 {
     push_text(line, "break $")?;
     push_address(line, address)?;
-    push_options(line, condition)
+    push_options(line, wanted)
 }
 
 /// Appends what is told of a breakpoint that cannot be set, if memory did not run out for words of
@@ -183,16 +185,16 @@ pub fn push_at(
     alloc: Global,
     list: &mut List,
     desk: &Desk,
-    condition: &Condition,
+    wanted: &Value,
     line: u32,
     address: u16,
 ) -> Result<(), AllocError>
     ensures matches { OnOk result (Matches list.old → Matches list.new) }
     ensures found { OnOk result (HasFound (found_on desk.now.places
-        desk.now.session.current.regs.pc condition.now line address) list.old list.new) }
+        desk.now.session.current.regs.pc (view wanted.now) line address) list.old list.new) }
 {
     let mut text = Vec::new(alloc);
-    push_break(&mut text, condition, address)?;
+    push_break(&mut text, wanted, address)?;
     match stop_on(alloc, desk, text.as_slice())? {
         Ok(stop) => push_stop(alloc, list, line, stop),
         Err(words) => push_unset(list, line, Ok(words)),

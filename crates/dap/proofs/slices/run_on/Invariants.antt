@@ -8,5 +8,5 @@ use Rattle.dap.proofs.slices.run_on.Given as goal
 -- the run has gone on so often, and so much was written
 abbrev pub invariant-loop : goal.invariant-loop
 invariant-loop g l = (again : ℕ) × MayRunOn (option_map (λ s. s.now) l.seen) again × (written : List ℕ)
-    × RunsOn again l.is_run (view l.request) (map said_of l.fn.messages.items) l.fn.adapter l.fn.sent (map said_of l.messages.items) l.adapter l.total written
+    × RunsOn again (view l.request) (map said_of l.fn.messages.items) l.fn.adapter l.fn.sent (map said_of l.messages.items) l.adapter l.total written
     × Appends (g.O.Write.contents l.fn.output) (g.O.Write.contents l.output) written

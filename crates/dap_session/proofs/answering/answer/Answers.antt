@@ -4,19 +4,20 @@ use Rattle.dap_messages.specs.Messages.{said_of}
 use Rattle.dap_session.proofs.Done.{answered_with, kept}
 use Rattle.dap_session.specs.Answered.{AreAnswers, IsShown, SetsListed}
 use Rattle.serde_json.specs.Data.{Data}
+use Rattle.serde_json.specs.View.{view}
 use Rattle.dap_session.proofs.answering.answer.Goals as goal
 
 pub returns-in-Sets-clause-done : goal.returns-in-Sets-clause-done
 unfolding AreAnswers
 returns-in-Sets-clause-done g c =
-    let sets = λ (v : Data). SetsListed c.in-Sets.listed c.args.counting c.args.seat.now c.set_listed-told.new.seat v in
+    let sets = λ (v : Data). SetsListed c.in-Sets.kind (view c.args.request.now) c.args.counting c.args.seat.now c.set_listed-told.new.seat v in
     rw c.in-Sets.is (kept c.answered.result c.or_memory-in-Sets.result _ c.or_memory-in-Sets.ensures.made
     (answered_with c.set_listed-told.result c.answered.result (λ ms. map said_of ms.items) sets c.set_listed-told.ensures c.answered.ensures))
 
 pub returns-in-Shows-clause-done : goal.returns-in-Shows-clause-done
 unfolding AreAnswers
 returns-in-Shows-clause-done g c =
-    let shows = λ (v : Data). IsShown c.in-Shows.query c.args.counting c.args.seat.now v in
+    let shows = λ (v : Data). IsShown c.in-Shows.query (view c.args.request.now) c.args.counting c.args.seat.now v in
     rw c.in-Shows.is (IfOk-weaker c.or_memory-in-Shows.result _ _ (λ ms said. (refl, said))
     (kept c.answered-in-Shows.result c.or_memory-in-Shows.result _ c.or_memory-in-Shows.ensures.made
     (answered_with c.shown-told.result c.answered-in-Shows.result (λ ms. map said_of ms.items) shows c.shown-told.ensures c.answered-in-Shows.ensures)))

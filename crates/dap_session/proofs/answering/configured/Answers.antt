@@ -5,7 +5,7 @@ use Rattle.dap_messages.specs.Bodies.{nothing}
 use Rattle.dap_messages.specs.Messages.{done, said_of}
 use Rattle.dap_messages.specs.declared.listed.Told.{Told}
 use Rattle.dap_messages.specs.declared.listed.Listed.{Listed}
-use Rattle.dap_session.specs.Stands.{halt_at, reason_at}
+use Rattle.dap_session.specs.Stands.{halt_at}
 use Rattle.dap_session.specs.Told.{told_of}
 use Rattle.mon_session.specs.declared.desk.Desk.{Desk}
 use Rattle.dap_session.proofs.answering.configured.Goals as goal
@@ -30,6 +30,5 @@ returns c =
             (subst (λ (t : Told). map said_of ms.items ≡ done nothing ∷ told_of c.with_halt_at.new.seat.desk t.count (halt_at c.first_halt-halt.new.seat.listed c.with_halt_at.new.seat.desk halt)) first.told
             (subst (λ (d : Desk). map said_of ms.items ≡ done nothing ∷ told_of d c.first_halt-halt.new.seat.told.count (halt_at c.first_halt-halt.new.seat.listed d halt)) (sym kept.0) told.0)),
       ),
-      told.2 ∙ (λ i. reason_at (first.program.2 i).lines.items (first.program.2 i).addresses.items ((sym kept.0) i).session.current.regs.pc (first.reason i)),
     ))
     (c.with_halt_at.ensures.told _ c.all_done.ensures)

@@ -1,6 +1,8 @@
 use Rattle.std.proofs.Common.{refl}
+use Rattle.serde_json.specs.View.{view}
 use Rattle.dap_session.proofs.Done.{set_so, with_held}
-use Rattle.dap_session.specs.Answered.{ListsLines}
+use Rattle.dap_session.specs.Answered.{SetsHeld}
+use Rattle.dap_messages.specs.declared.request.Breakpoints.TheVariants.{Source}
 use Rattle.dap_session.proofs.answering.lines_again.Goals as goal
 
 pub returns : goal.returns
@@ -10,7 +12,7 @@ returns c =
     let old = c.args.seat.now in
     let new = record old { desk = c.set_lines.new.desk; listed = c.set_lines.new.listed } in
     record {
-      set = rw c.in-Some.is (set_so c.let_go.result c.set_lines.result (ListsLines c.args.counting c.in-Some.listed old new)
+      set = rw c.in-Some.is (set_so c.let_go.result c.set_lines.result (SetsHeld Source (view c.in-Some.request) c.args.counting old new)
           (rw (← c.source_of-source.ensures.assembly, ← c.source_of-source.ensures.counting)
           (with_held c.set_lines.result _ _ (λ v h held. (h, kept, (held, set.others.0, set.others.1))) set.sets set.held)) c.let_go.ensures);
       kept = (kept.0, kept.3, kept.4);

@@ -1,7 +1,4 @@
-use Rattle.std.proofs.Common.{◌≡◌, ℤ, List, map, rules, subst, w64}
-use Rattle.std.proofs.lemmas.Int.{to_z-of_z}
-use mir.Val.{SFits}
-use Rattle.dap_views.specs.Rows.{disassembled}
+use Rattle.std.proofs.Common.{◌≡◌, List, map, subst}
 use Rattle.std.specs.Result.{IfOk}
 use Rattle.dap_messages.specs.Answers.{breakpoints_body}
 use Rattle.serde_json.specs.View.{view}
@@ -37,12 +34,7 @@ returns-in-StackTrace g c =
 pub returns-in-Disassemble : goal.returns-in-Disassemble
 returns-in-Disassemble g c =
     let source = c.source_of-source.ensures in
-    let from = c.source_of-source.result in
-    let asked = c.in-Disassemble in
-    let fits : SFits w64 asked.offset = search rules in
-    let same = to_z-of_z w64 asked.offset fits in
-    rw (c.in-Disassemble.is, ← source.path, ← source.counting)
-    (subst (λ (z : ℤ). IfOk c.disassembled.result (λ v. view v ≡ disassembled c.args.seat.now.desk from.path.now from.counting asked.address z asked.count)) same c.disassembled.ensures)
+    rw (c.in-Disassemble.is, ← source.path, ← source.counting) c.disassembled.ensures
 
 pub returns-in-GotoTargets : goal.returns-in-GotoTargets
 returns-in-GotoTargets g c =

@@ -9,6 +9,7 @@ use Rattle.dap_session.specs.Refusals.{IsNoTarget, Rejects}
 use Rattle.dap_session.specs.Stands.{halt_at}
 use Rattle.model.specs.declared.event.Event.TheVariants.{Set}
 use Rattle.model.specs.declared.event.Setting.TheVariants.{Pc}
+use Rattle.serde_json.specs.View.{view}
 use Rattle.dap_session.specs.Told.{told_of}
 use Rattle.mon_session.specs.declared.desk.Desk.{Desk}
 use Rattle.dap_session.proofs.changing.go_to.Goals as goal
@@ -17,7 +18,7 @@ pub returns-in-Ok-clause-done : goal.returns-in-Ok-clause-done
 returns-in-Ok-clause-done c = always c.or_memory.result _
     (λ ms. (
       c.in-Some.address,
-      c.in-Some.is,
+      sym c.in-Some.ensures,
       subst (λ (d : Desk). HasGone c.in-Some.address c.args.seat.now.desk d) (sym c.with_halt_at.ensures.kept.0) (c.in-Ok.ensures.course, c.in-Ok.ensures.stops),
     ))
 
@@ -38,4 +39,4 @@ returns-in-Ok-clause-told c =
 pub returns-in-Err-clause-why : goal.returns-in-Err-clause-why
 returns-in-Err-clause-why c =
     let desk = c.args.seat.now.desk in
-    refused_by_more c.in-Err.fault (Rejects (Set (Pc c.in-Some.address)) desk) (IsNoTarget c.args.target desk) (λ rejects. inr (c.in-Some.address, c.in-Some.is, rejects)) c.in-Err.ensures.why
+    refused_by_more c.in-Err.fault (Rejects (Set (Pc c.in-Some.address)) desk) (IsNoTarget (view c.args.request.now) desk) (λ rejects. inr (c.in-Some.address, sym c.in-Some.ensures, rejects)) c.in-Err.ensures.why

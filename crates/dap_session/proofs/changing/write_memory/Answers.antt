@@ -1,12 +1,13 @@
-use Rattle.std.proofs.Common.{◌≡◌, ◌∙◌, ℕ, List, ap, false, inr}
+use Rattle.std.proofs.Common.{◌≡◌, ◌∙◌, ℕ, List, ap, false, inr, sym}
 use Rattle.std.specs.Prelude.{is_ok}
 use Rattle.std.proofs.lemmas.Result.{IfOk-weaker}
 use Rattle.dap_session.proofs.Done.{kept}
 use Rattle.dap_session.proofs.Stays.{refused_by_more}
 use Rattle.base64.specs.Engines.{standard}
 use Rattle.base64.specs.GeneralPurpose.{decode_of}
-use Rattle.dap_session.specs.Changes.{count_there, written_said}
+use Rattle.dap_session.specs.Changes.{count_there, data_of, written_said}
 use Rattle.dap_session.specs.Refusals.{IsNoWriting}
+use Rattle.serde_json.specs.View.{view}
 use Rattle.mon_session.specs.Course.{course_of}
 use Rattle.mon_settings.specs.ByteLines.{bytes_put}
 use Rattle.dap_session.proofs.changing.write_memory.Goals as goal
@@ -17,7 +18,7 @@ returns-clause-done c =
     IfOk-weaker c.or_memory.result _ _
     (λ ms said. (
       c.in-Some.address,
-      c.in-Some.is,
+      sym c.in-Some.ensures,
       (
         c.in-Ok.bytes.items,
         c.in-Ok.ensures.bytes,
@@ -30,5 +31,5 @@ returns-clause-done c =
 
 pub returns-in-Err-clause-why : goal.returns-in-Err-clause-why
 returns-in-Err-clause-why c =
-    let text = c.args.text.now in
-    refused_by_more c.in-Err.fault (is_ok (decode_of standard text) ≡ false) (IsNoWriting c.args.address text) (λ why. inr why) c.in-Err.ensures.why
+    let request = view c.args.request.now in
+    refused_by_more c.in-Err.fault (is_ok (decode_of standard (data_of request)) ≡ false) (IsNoWriting request) (λ why. inr why) c.in-Err.ensures.why

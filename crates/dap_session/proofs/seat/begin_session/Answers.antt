@@ -4,13 +4,13 @@ use Rattle.arguments.specs.Asked.{file_view, map_of}
 use Rattle.dap_session.specs.Begun.{IsLaunched, IsSeated}
 use Rattle.model.specs.Event.{start}
 use Rattle.model.specs.Session.{Session, new_session}
-use Rattle.dap_messages.specs.Seen.{launch_view}
+use Rattle.serde_json.specs.View.{view}
 use Rattle.dap_session.proofs.seat.begin_session.Goals as goal
 
 pub returns-in-Ok : goal.returns-in-Ok
 unfolding IsLaunched
 returns-in-Ok g c =
-    let launch = launch_view c.args.launch.now in
+    let request = view c.args.request.now in
     let file = file_view c.in_ok-words.words in
     let assembly = c.in-Ok.loaded.assembly in
     let started = c.in-Ok.ensures.started in
@@ -19,5 +19,5 @@ returns-in-Ok g c =
     (λ seat h. (
       file,
       c.in_ok-words.ensures,
-      (started.0, assembly, started.1, h.0, h.1, subst (λ (s : Session). IsSeated launch s assembly h.0 seat) session h.2),
+      (started.0, assembly, started.1, h.0, h.1, subst (λ (s : Session). IsSeated request s assembly h.0 seat) session h.2),
     )) c.begin_on.ensures

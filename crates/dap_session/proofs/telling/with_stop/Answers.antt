@@ -5,7 +5,7 @@ use Rattle.dap_messages.specs.declared.halt.Reason.{Reason}
 use Rattle.dap_session.specs.Told.{remark_said}
 use Rattle.dap_views.specs.Values.{stopped_body}
 use Rattle.dap_session.proofs.telling.with_stop.Goals as goal
-use Rattle.dap_session.proofs.telling.with_stop.Goals.{in-Entry, in-Step, in-DataBreakpoint, in-NoStop}
+use Rattle.dap_session.proofs.telling.with_stop.Goals.{in-Entry, in-Step, in-DataBreakpoint}
 
 -- a fact at each of three reasons, and of four
 three : (P : Reason → Type 0) (reason a b d : Reason) → P a → P b → P d → (reason ≡ a) ⊎ ((reason ≡ b) ⊎ (reason ≡ d)) → P reason
@@ -28,6 +28,5 @@ returns c = λ before is.
       | in-Entry w ↦ rw w.remarked-is (rw w.in-Entry.is (w.with_output-remarked.ensures before _ is w.format.ensures.ok))
       | in-Step w ↦ rw w.remarked-is (three P _ _ _ _ same same same w.in-Step.is)
       | in-DataBreakpoint w ↦ rw w.remarked-is (four P _ _ _ _ _ same same same same w.in-DataBreakpoint.is)
-      | in-NoStop w ↦ rw w.remarked-is (rw w.in-NoStop.is same)
     ] in
     subst (λ (r : List ℕ). IfOk c.with_event.result (λ ms. map said_of ms.items ≡ behind ++ event (codes "stopped") (stopped_body r words) ∷ [])) c.word-2.ensures (c.with_event.ensures _ _ remarked body)

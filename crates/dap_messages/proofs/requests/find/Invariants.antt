@@ -1,6 +1,6 @@
 use Rattle.std.proofs.Common.{◌≡◌, drop, map}
-use Rattle.dap_messages.specs.Names.{find, row_view}
-use Rattle.dap_messages.proofs.names.find.Given as goal
+use Rattle.dap_messages.specs.Requests.{find, row_view}
+use Rattle.dap_messages.proofs.requests.find.Given as goal
 
 -- the rows that are left give what all give
 abbrev pub invariant-loop-known : goal.invariant-loop-known

@@ -1,7 +1,9 @@
 use Rattle.std.proofs.Common.{refl}
+use Rattle.serde_json.specs.View.{view}
 use Rattle.dap_session.proofs.Done.{set_so, with_both}
-use Rattle.dap_session.specs.Answered.{ListsBytes}
-use Rattle.dap_session.proofs.answering.bytes_again.Goals as goal
+use Rattle.dap_session.specs.Answered.{SetsHeld}
+use Rattle.dap_messages.specs.declared.request.Breakpoints.TheVariants.{Data}
+use Rattle.dap_session.proofs.answering.data_again.Goals as goal
 
 pub returns : goal.returns
 returns c =
@@ -10,7 +12,7 @@ returns c =
     let old = c.args.seat.now in
     let new = record old { desk = c.set_data.new.desk; listed = c.set_data.new.listed } in
     record {
-      set = rw c.in-Some.is (set_so c.let_go.result c.set_data.result (ListsBytes c.in-Some.listed old new)
+      set = λ counting. rw c.in-Some.is (set_so c.let_go.result c.set_data.result (SetsHeld Data (view c.in-Some.request) counting old new)
           (with_both c.set_data.result _ _ (λ v told sets held. (sets, kept, told, (held, set.others.0, set.others.1))) set.answer set.sets set.held) c.let_go.ensures);
       kept = (kept.0, kept.2, kept.3);
       launch = refl;
