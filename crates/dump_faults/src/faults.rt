@@ -8,9 +8,9 @@ use crate::lines::{address_exchanged, address_with, data_exchanged, data_with};
 /// The lines that carry bytes, or those that carry addresses.
 #[derive(Clone, Copy)]
 pub enum Bus {
-    /// D0 to D7.
+    /// The eight data lines.
     Data,
-    /// A0 to A15.
+    /// The sixteen address lines.
     Address,
 }
 

@@ -41,7 +41,7 @@ abbrev pub values_text : SideView → SideView → Bool → List Flip → List �
 values_text one other was flips = if list_all (is_from was) flips
     then sides_text one other was else []
 
--- Which line it is, if it is always the same: `: D3`.
+-- Which data line it is: its name behind a colon, and its values.
 unfoldable pub known_line_text : SideView → SideView → Flip → List Flip → List ℕ
 known_line_text one other flip flips = codes ": D" ++ decimal flip.line
     ++ values_text one other flip.was flips
@@ -70,7 +70,7 @@ changes_text one other changes = if length changes == 0 then [] else count_row o
 
 -- ---- faults that explain all of it
 
--- A line of a bus: `D3`, `A12`.
+-- A line's name on a data sheet: the letter of its bus, and its number.
 abbrev pub line_name : Bus → ℕ → List ℕ
 line_name Data line = codes "D" ++ decimal line
 line_name Address line = codes "A" ++ decimal line
@@ -79,7 +79,7 @@ abbrev pub value_name : Bool → List ℕ
 value_name true = AT_1.now
 value_name false = AT_0.now
 
--- What a fault does: `A12 at 0`, `D1 and D2 exchanged`.
+-- What a fault does: a line is at 0 or at 1, or two lines are exchanged.
 unfoldable pub stuck_text : Stuck → List ℕ
 stuck_text stuck = line_name stuck.bus stuck.line ++ value_name stuck.value
 
@@ -95,7 +95,7 @@ fault_text Inverted = INVERTED.now
 unfoldable pub explained_text : SideView → SideView → List ℕ
 explained_text one other = one.name ++ IS.now ++ other.name ++ WITH.now
 
--- The row: `ONE is OTHER with D3 at 0`.
+-- The row: which side it explains by the other, and the fault.
 unfoldable pub fault_row : SideView → SideView → Fault → List ℕ
 fault_row one other fault = explained_text one other ++ fault_text fault ++ codes "\n"
 

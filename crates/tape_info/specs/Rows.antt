@@ -90,7 +90,7 @@ region_row region = stretch_text REGION_ROW.now region.first region.last
 abbrev pub region_rows : List Region → List ℕ
 region_rows regions = flat_map region_row regions
 
--- The row of a data line that has one value in every byte: `line    D3 is 0 in every byte`.
+-- The row of a data line that has one value in every byte: its name, and the value.
 abbrev pub value_text : Bool → List ℕ
 value_text true = IS_1.now
 value_text false = IS_0.now
