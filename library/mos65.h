@@ -150,6 +150,10 @@ uint32_t mos65_version_number(void);
 
 /* ---- sources ---- */
 
+/* A source is read as `mos65 check` reads one: byte-order marks at its start are skipped, a CR alone ends a line,
+   and a comment may have letters of any language, for which the text that is assembled, its lines and its listing
+   have `?`. A fault has the line and the column of the source that is given. */
+
 /* Assembles n bytes of source. MISUSE where the assembly is open; then MISUSE or BAD_MAP for the
    configuration; then 300 + the fault's number, with its line in *fault. */
 int mos65_assemble(mos65_assembly_t *assembly, const mos65_config_t *config, const uint8_t *source, size_t n,
@@ -257,14 +261,11 @@ int mos65_unwatch(mos65_t *m, uint16_t address);
 /* ---- a run as the data of a page ---- */
 
 /* Puts the state of the machine, as the data of a page begin with it, into out, its first n bytes or all of it,
-   and its whole length into *length. irq is the level of the IRQ line, given all input that was handed in, and no
-   NMI is pending: the machine does not tell these. What is put there otherwise is another state's. */
-int mos65_record_start(const mos65_t *m, bool irq, const uint8_t *given, size_t given_n, uint8_t *out, size_t n,
-                       size_t *length);
+   and its whole length into *length. */
+int mos65_record_start(const mos65_t *m, uint8_t *out, size_t n, size_t *length);
 /* Runs as mos65_run does, and puts the records of its steps into out, their first n bytes or all of them, and
-   their whole length into *length: at most MOS65_RECORD bytes a step. No NMI is pending before the run; else
-   the records tell of other steps. Where memory is refused, the steps until then were made. The forms of both are
-   in crates/page_data/specs, Start.antt and Format.antt. */
+   their whole length into *length: at most MOS65_RECORD bytes a step. Where memory is refused, the steps until
+   then were made. The forms of both are in crates/page_data/specs, Start.antt and Format.antt. */
 int mos65_record_run(mos65_t *m, uint32_t limit, mos65_ending_t *ending, uint8_t *out, size_t n, size_t *length);
 
 /* ---- looking: nothing is changed ---- */

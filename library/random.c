@@ -92,7 +92,7 @@ static void look_at_one(mos65_t *m, mos65_assembly_t *a) {
     case 8: told(mos65_line(a, draw(12), &line, bytes, draw(260), &length)); break;
     case 9: told(mos65_line_count(a, &length)); break;
     case 10: told(mos65_faults(&config, (const uint8_t *)"a.a65", draw(6), bytes, fill(200), out, draw(sizeof out), &length)); break;
-    case 11: told(mos65_record_start(m, draw(2), bytes, n, out, draw(sizeof out), &length)); break;
+    case 11: told(mos65_record_start(m, out, draw(sizeof out), &length)); break;
     case 12: told(mos65_warnings(&config, (const uint8_t *)"a.a65", draw(6), bytes, fill(200), out, draw(sizeof out), &length)); break;
     case 13: told(mos65_tape(a, bytes, draw(300), &length)); break;
     default: told(mos65_listing(a, bytes, draw(300), &length));

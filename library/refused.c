@@ -41,7 +41,7 @@ static int told(int status) {
     return status;
 }
 
-static const char source[] = "*=$0200\nroutine: LDA #1\n STA $10\n RTS\n*=$FFFC\n.WORD routine\n";
+static const char source[] = "*=$0200\nroutine: LDA #1 ; \xC3\xA4\n STA $10\n RTS\n*=$FFFC\n.WORD routine\n";
 static const char tape[] = ";060200A9418D00F000026F\r\n;0000010001\r\n";
 
 static void session(mos65_t *m) {
@@ -61,7 +61,7 @@ static void session(mos65_t *m) {
     CHECK(mos65_step(m) == MOS65_OK && mos65_back(m, 1) == MOS65_OK);
     uint8_t out[2000];
     size_t n = 9;
-    bool was_told = told(mos65_record_start(m, false, (const uint8_t *)"x", 1, out, sizeof out, &n)) == MOS65_OK;
+    bool was_told = told(mos65_record_start(m, out, sizeof out, &n)) == MOS65_OK;
     CHECK(was_told ? n > 9 : n == 9);
     n = 9, end.did = 9;
     was_told = told(mos65_record_run(m, 3, &end, out, sizeof out, &n)) == MOS65_OK;

@@ -118,6 +118,34 @@ static void faults(void) {
     CHECK(mos65_faults(&config, name, 14, bytes, sizeof wrong - 1, out, sizeof out, &n) == MOS65_MISUSE && n == 9);
 }
 
+/* A source as an editor saves it: a byte-order mark, letters of UTF-8 in comments, and CR alone, CR LF and LF at the ends of lines. By
+ * hand: LDA #65 is A9 41, RTS is 60. */
+static void letters(void) {
+    static const char saved[] = "\xEF\xBB\xBF*=$0200 ; Z\xC3\xA4hler\r LDA #65 ; \xE2\x86\x92\r\n RTS\n";
+    static const char wrong[] = "; \xC3\xA4\n LDA #300 ; \xF0\x9F\x98\x80\n\xC3\x84 = 5\n";
+    static const char told[] = "a.a65:2:6: ByteRange 21: 300 is outside -128..255\n LDA #300 ; ??\n     ^~~~\na.a65:3:1: NotAscii 3: ";
+    mos65_config_t config = MOS65_CONFIG;
+    mos65_assembly_t a = MOS65_INIT;
+    mos65_t m = MOS65_INIT;
+    mos65_fault_t fault;
+    mos65_line_t line;
+    const uint8_t *name = (const uint8_t *)"a.a65", *bytes = (const uint8_t *)saved;
+    uint8_t out[400];
+    size_t n = 9;
+    CHECK(mos65_faults(&config, name, 5, bytes, sizeof saved - 1, out, sizeof out, &n) == MOS65_OK && n == 0);
+    CHECK(mos65_assemble(&a, &config, bytes, sizeof saved - 1, &fault) == MOS65_OK && fault.status == 0);
+    CHECK(mos65_line_count(&a, &n) == MOS65_OK && n == 3);
+    CHECK(mos65_line(&a, 0, &line, out, sizeof out, &n) == MOS65_OK && n == 16 && memcmp(out, "*=$0200 ; Z?hler", n) == 0);
+    CHECK(mos65_line(&a, 1, &line, out, sizeof out, &n) == MOS65_OK && n == 12 && memcmp(out, " LDA #65 ; ?", n) == 0);
+    CHECK(line.number == 2 && line.address == 0x0200 && line.count == 2 && line.is_instruction);
+    CHECK(mos65_open(&m, &config, &a) == MOS65_OK && mos65_read(&m, 0x0200, out, 4) == MOS65_OK);
+    CHECK(memcmp(out, "\xA9\x41\x60\x00", 4) == 0 && mos65_close(&m) == MOS65_OK && mos65_assembly_close(&a) == MOS65_OK);
+    bytes = (const uint8_t *)wrong;
+    CHECK(mos65_assemble(&a, &config, bytes, sizeof wrong - 1, &fault) == MOS65_SOURCE_NOT_ASCII && fault.line == 3);
+    CHECK(mos65_faults(&config, name, 5, bytes, sizeof wrong - 1, out, sizeof out, &n) == MOS65_OK && n < sizeof out);
+    CHECK(n > sizeof told && memcmp(out, told, sizeof told - 1) == 0);
+}
+
 /* A tape by the KIM-1 manual: a data record, and the end record with the count of the data records. */
 static void tape_of(void) {
     static const char two[] = "        *=$0200\n        .BYTE 1,2\n";
@@ -267,6 +295,19 @@ static void accesses(void) {
 
 static const uint8_t nothing[256];
 
+/* The record of an NMI that comes at $0200, and the state before it, where the IRQ line is 1. */
+static void record_of_nmi(mos65_t *m) {
+    /* 7 cycles, two reads and three stores: S, PC, the signals; $FFFA, $FFFB; PC and P at $01FD, $01FC, $01FB */
+    static const uint8_t entry[] = {0xE7, 0xC8, 0x07, 0x02, 0x50, 0xFA, 0xFF, 0xFB, 0xFF,
+        0xFD, 0x01, 0x02, 0xFC, 0x01, 0x00, 0xFB, 0x01, 0x24};
+    mos65_ending_t end;
+    uint8_t out[600];
+    size_t n;
+    CHECK(mos65_nmi(m) == MOS65_OK && mos65_record_start(m, out, sizeof out, &n) == MOS65_OK && out[527] == 24);
+    CHECK(mos65_record_run(m, 1, &end, out, sizeof out, &n) == MOS65_OK && end.did == 1);
+    CHECK(n == sizeof entry && memcmp(out, entry, n) == 0 && mos65_back(m, 2) == MOS65_OK);
+}
+
 /* A state and three steps as a page holds them, written by hand from crates/page_data/specs/{Start,Format}.antt. */
 static void records(void) {
     mos65_config_t config = MOS65_CONFIG;
@@ -284,15 +325,16 @@ static void records(void) {
     };
     uint8_t out[600] = {0};
     size_t n = 9;
-    CHECK(mos65_record_start(&m, false, nothing, 0, out, sizeof out, &n) == MOS65_CLOSED && n == 9);
+    CHECK(mos65_record_start(&m, out, sizeof out, &n) == MOS65_CLOSED && n == 9);
     CHECK(mos65_record_run(&m, 9, &end, out, sizeof out, &n) == MOS65_CLOSED && n == 9 && end.did == 7);
     CHECK(mos65_open_bytes(&m, &config, 0x0200, code, sizeof code) == MOS65_OK && mos65_set(&m, MOS65_PC, 0x0200) == MOS65_OK);
     CHECK(mos65_irq(&m, true) == MOS65_OK && mos65_input(&m, 'x') == MOS65_OK && mos65_break(&m, 0x0207) == MOS65_OK);
-    CHECK(mos65_record_start(&m, true, (const uint8_t *)"x", 1, out, sizeof out, &n) == MOS65_OK);
+    CHECK(mos65_record_start(&m, out, sizeof out, &n) == MOS65_OK);
     CHECK(n == 2 + 257 + 253 + sizeof rest && out[0] == 0 && out[1] == 0 && out[2] == 1);
     CHECK(memcmp(out + 3, code, sizeof code) == 0 && memcmp(out + 3 + sizeof code, nothing, 256 - sizeof code) == 0);
     CHECK(memcmp(out + 259, nothing, 253) == 0 && memcmp(out + 512, rest, sizeof rest) == 0);
-    CHECK(mos65_record_start(&m, true, nothing, 0, out, 0, &n) == MOS65_OK && out[2] == 1);
+    CHECK(mos65_record_start(&m, out, 0, &n) == MOS65_OK && out[2] == 1);
+    record_of_nmi(&m);
     CHECK(mos65_record_run(&m, 9, &end, out, sizeof out, &n) == MOS65_OK && n == sizeof steps && memcmp(out, steps, n) == 0);
     CHECK(end.why == MOS65_BREAK && end.address == 0x0207 && end.did == 3);
     memset(out, 9, sizeof out);
@@ -439,6 +481,7 @@ int main(void) {
     CHECK(mos65_open(&m, &config, &a) == MOS65_CLOSED);
     sources(&a, &config);
     faults();
+    letters();
     warnings();
     tape_of();
     CHECK(mos65_open(&m, &config, &a) == MOS65_OK && m.live && mos65_open(&m, &config, &a) == MOS65_MISUSE);

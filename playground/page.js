@@ -29,7 +29,7 @@ const LETTERS = [
 
 const OUTSIDE = new Set("zoflhp");                   // the letters with an effect outside the run
 
-const COMMANDS = new Set([...LETTERS.map(([key]) => key), ..." bBnNurvVwWaxyscCiI+-0gmt/?"]);
+const COMMANDS = new Set([...LETTERS.map(([key]) => key), ..." bBnNurvVwWaxyscCiIP+-0gmt/?"]);
 
 // Out of the editor, so that keys without Ctrl work.
 function leave() {

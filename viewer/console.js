@@ -40,7 +40,9 @@ function drawConsole() {
   box.scrollTop = Math.floor((top - height / 2) / lineHeight) * lineHeight;
 }
 
-// What was taken of the input last, and what waits.
+const SIGNALS = [[4, "input interrupts"], [8, "IRQ asked"], [16, "NMI pending"]];
+
+// What was taken of the input last, and what waits; and what asks for an interrupt.
 function drawInput() {
   const {run, cur} = now, taken = run.countBelow(run.takenAt, cur);
   const given = run.countBelow(run.givenAt, cur + 1);
@@ -48,7 +50,9 @@ function drawInput() {
   const text = (from, to) => escaped(run.given.slice(from, to).map(one).join(""));
   const mark = '<i style="border-left:.16rem solid var(--nowink)"></i>';
   const html = `input ${text(Math.max(0, taken - 12), taken)}${mark}<b>${text(taken, given)}</b>`;
-  put("in", run.given.length ? html : "");
+  const asked = SIGNALS.filter(([bit]) => run.lines[cur] & bit).map(([, words]) => words);
+  const signals = `<span class="I">${asked.join(", ")}</span> `;
+  put("in", (asked.length ? signals : "") + (run.given.length ? html : ""));
 }
 
 // A click in the console: the step that put the byte out.

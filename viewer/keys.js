@@ -56,6 +56,9 @@ const KEYS = [
   ["C", "the byte put out before", () => toNear(now.run.outAt, -1)],
   ["i", "next interrupt", () => toNear(now.run.entries, 1)],
   ["I", "the interrupt before", () => toNear(now.run.entries, -1)],
+  ["P", "back to the jump, the call or the branch before this moment", toJump],
+  [".", "next note", () => toNote(1)],
+  [",", "the note before", () => toNote(-1)],
   ["Backspace", "where you were before the last jump", goBack],
   ["+", "zoom the time picture in", () => zoom(.5)],
   ["-", "zoom out", () => zoom(2)],
@@ -76,6 +79,12 @@ function changeLight() {
   drawAnew();
 }
 
+// What made the page, where it says so.
+function madeBy() {
+  const name = document.querySelector("meta[name=generator]")?.getAttribute("content");
+  return name ? `<p>Made by ${name}: assembler, emulator and debugger for the 6502.</p>` : "";
+}
+
 function writeHelp() {
   const named = key => key == " " ? "Space" : key.replace("Arrow", "");
   const row = (keys, words) => {
@@ -84,11 +93,13 @@ function writeHelp() {
   };
   const moves = MOVES.map(([words, , , ...keys]) => row(keys, words.replace(/ \(.*/, "")));
   const others = [...ownKeys, ...KEYS].map(([key, words]) => row([key], words));
-  $("help").innerHTML = `<h2>Keys</h2><table>${[...moves, ...others].join("")}</table>` +
+  $("help").innerHTML = "<h2>Keys</h2><p><b>First</b> <kbd>Right</kbd> and <kbd>Left</kbd> step;" +
+    " <kbd>Home</kbd> and <kbd>End</kbd> go to the ends; <kbd>g</kbd> goes to a step.</p>" +
+    `<table>${[...moves, ...others].join("")}</table>` +
     "<p>Click a line: its next visit, with Shift the one before. Click a byte: who changed it;" +
-    " again: go there. Click a register or a flag: the step that set it. Click the console: the" +
-    " step that put the byte out. Drag in the picture of time; the wheel zooms. Arrows move in" +
-    " lines, bytes, the map and the console.</p>" +
+    " again: go there. Click a register or a flag: the step that set it; PC: the jump before." +
+    " Click the console: the step that put the byte out. Drag in the picture of time; the wheel" +
+    " zooms. Arrows move in lines, bytes, the map, the screen and the console.</p>" + madeBy() +
     '<form method="dialog"><button autofocus>Close</button></form>';
 }
 

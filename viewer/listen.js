@@ -33,7 +33,7 @@ function showTab(value) {
 function listenToLists() {
   $("rows").onclick = clickLine;
   $("rows").onkeydown = pressInLines;
-  $("regs").onkeydown = $("flags").onkeydown = pressAsClick;
+  $("regs").onkeydown = $("flags").onkeydown = $("pc").onkeydown = pressAsClick;
   // Shift would select text
   $("rows").onmousedown = event => event.shiftKey && event.preventDefault();
   $("visit").onclick = event => {
@@ -48,6 +48,7 @@ function listenToLists() {
     const name = event.target.closest(".reg")?.dataset.r;
     if (name) toSet(name);
   };
+  $("pc").onclick = toJump;
   $("flags").onclick = event => {
     const bit = event.target.closest("[data-bit]")?.dataset.bit;
     if (bit) toSet("P", +bit);
@@ -82,6 +83,11 @@ function listenToMemory() {
   $("map").onclick = clickMap;
   $("map").onkeydown = pressInMap;
   $("pixels").onclick = clickPixels;
+  $("pixels").onkeydown = pressInPixels;
+  $("note").onclick = event => {
+    const by = event.target.dataset.n;
+    if (by) toNote(+by);
+  };
 }
 
 function listenToTime() {

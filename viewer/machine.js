@@ -125,10 +125,11 @@ const flagsAt = k => [..."NV-BDIZC"].map((name, j) => !FLAGS[name] ? ""
   : now.run.P[k] & 128 >> j ? name : name.toLowerCase()).join("");
 
 function drawMachine() {
-  const pc = now.run.PC[now.cur];
+  const pc = now.run.PC[now.cur], place = placeOf(pc);
   put("regs", [..."AXYS"].map(registerTold).join(""));
   put("pc", `<small><span>PC</span><span>${lineText(pc)}</span></small><b>${hex(pc, 4)}</b>` +
-    `<small>${escaped(placeOf(pc))}</small>`);
+    `<small>${escaped(place)}</small>`);
+  $("pc").ariaLabel = `PC ${hex(pc, 4)} ${place == address4(pc) ? "" : place}`;
   put("flags", [..."NV-BDIZC"].map(flagTold).join(""));
   put("did", stepTold(now.cur - 1, "did"));
   put("next", stepTold(now.cur, "next"));

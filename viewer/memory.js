@@ -3,9 +3,9 @@
 // screen.
 const {sight, showPage, makePageButtons, bestPage, drawMemory, cellAt, pressInGrid} = (() => {
 
-// What is shown: a page of bytes, the map, or the screen; and that page.
-const sight = {kind: "page", page: 0};
-let cells = [], styles = [], buttonPages = "";
+// What is shown: a page of bytes, the map, or the screen; that page, and whether as text.
+const sight = {kind: "page", page: 0, isText: false};
+let cells = [], styles = [], shownBytes = [], buttonPages = "";
 
 function showPage(which) {
   sight.kind = typeof which == "number" ? "page" : which;
@@ -14,8 +14,21 @@ function showPage(which) {
   $("pixelbox").hidden = sight.kind != "screen";
   $("cell").hidden = sight.kind == "map";
   if (sight.kind == "page") makeGrid(which);
-  setPressed($("pages"), which);
+  pressButtons();
   draw();
+}
+
+function pressButtons() {
+  setPressed($("pages"), sight.kind == "page" ? sight.page : sight.kind);
+  $("pages").querySelector("[value=text]").setAttribute("aria-pressed", sight.isText);
+}
+
+// Bytes as letters where they are some, or as hex again.
+function turnText() {
+  sight.isText = !sight.isText;
+  if (sight.kind == "page") draw();
+  else showPage(sight.page);
+  pressButtons();
 }
 
 function makeGrid(which) {
@@ -29,6 +42,7 @@ function makeGrid(which) {
   $("grid").innerHTML = `<tr><th></th>${heads}</tr>${lines.join("")}`;
   cells = [...$("grid").querySelectorAll("td")];
   styles = [];
+  shownBytes = [];
   cells.forEach((cell, k) => cell.tabIndex = k ? -1 : 0);
 }
 
@@ -50,13 +64,14 @@ function makePageButtons() {
   for (const [text, value] of [...fixed, ...others, ["Map", "map"], ["Screen", "screen"]]) {
     addButton(box, text, value, showPage);
   }
+  addButton(box, "Text", "text", turnText).title = "Bytes as letters, or as hex";
   const field = document.createElement("input");
   Object.assign(field, {placeholder: "page", maxLength: 2, ariaLabel: "Page, two hex digits"});
   field.oninput = () => {
     if (/^[\da-f]{2}$/i.test(field.value)) showPage(parseInt(field.value, 16));
   };
   box.append(field);
-  setPressed(box, sight.kind == "page" ? sight.page : sight.kind);
+  pressButtons();
 }
 
 // The page of memory in which the run writes most bytes; zero page if none has more than it.
@@ -96,14 +111,19 @@ function drawGrid() {
     const at = sight.page * 256 + k, writes = run.uses.before(at + STORE, last);
     const sort = (writes || run.image[at] ? "" : "nv ") + (run.visits.before(at, cur) ? "x " : "") +
       (at >= pc && at < end ? "pc " : "") + (at == 256 + run.S[cur] ? "sp " : "") +
-      (used.get(at) || "") + (at == now.byte ? " pick" : ""), text = hex(memory[at]);
+      (used.get(at) || "") + (at == now.byte ? " pick" : ""), byte = hex(memory[at]);
+    const text = sight.isText ? letterOf(memory[at]) : byte;
+    const isSame = cell.firstChild?.data === text && shownBytes[k] === byte;
+    if (isSame && cell.className === sort) return drawFreshness(cell, k, writes);
     if (cell.firstChild?.data !== text) cell.textContent = text;
-    else if (cell.className === sort && cell.ariaLabel) return drawFreshness(cell, k, writes);
+    shownBytes[k] = byte;
     cell.className = sort;
-    cell.ariaLabel = cellTold(at, text, sort);
+    cell.ariaLabel = cellTold(at, byte, sort);
     drawFreshness(cell, k, writes);
   });
 }
+
+const letterOf = byte => isPrinted(byte) ? String.fromCharCode(byte) : "·";
 
 // What the marks of a cell say, for those who do not see it.
 const MARKS = {

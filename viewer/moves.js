@@ -1,7 +1,7 @@
 "use strict";
 // Moves through a run: each leads to a step, which is drawn.
 const {go, jump, goOn, goBack, toNear, afterOver, beforeOver, chosenLine, toVisit,
-  toUse, toSet} = (() => {
+  toUse, toSet, toJump} = (() => {
 
 function go(k, isJump) {
   const to = Math.max(0, Math.min(now.run.n, Math.round(k)));
@@ -76,9 +76,21 @@ function toSet(name, mask = 255) {
   jump(k + 1);
 }
 
-return {go, jump, goOn, goBack, toNear, afterOver, beforeOver, chosenLine, toVisit, toUse, toSet};
+// Back to the step that led elsewhere than to the next instruction, or, where that was the step
+// just done, to the one before.
+function toJump() {
+  const {PC, op, head} = now.run, {cur} = now;
+  const behind = k => PC[k] + (head[k] & NO_INSTRUCTION ? 0 : lengthOf(op[k])) & 65535;
+  const isJump = k => k >= 0 && PC[k + 1] != behind(k);
+  let k = cur - 1 - isJump(cur - 1);
+  while (k >= 0 && !isJump(k)) k--;
+  jump(k + 1);
+}
+
+return {go, jump, goOn, goBack, toNear, afterOver, beforeOver, chosenLine, toVisit, toUse, toSet,
+  toJump};
 })();
 if (typeof module !== "undefined") {
   module.exports = {go, jump, goOn, goBack, toNear, afterOver, beforeOver, chosenLine, toVisit,
-    toUse, toSet};
+    toUse, toSet, toJump};
 }

@@ -64,7 +64,7 @@ function showHint() {
 
 document.title = info.title;
 showHint();
-made = openViewer({info, run}, {drawn});
+made = openViewer({info, run, step: info.at}, {drawn});
 goTo(location.href);
 // not `location`: it may be older by now
 addEventListener("hashchange", event => goTo(event.newURL));

@@ -148,8 +148,10 @@ function drawProgram() {
     if (row.isLive) drawInstruction(row);
     const isNow = row.label >= 0 ? row.label == now.labelAt[pc] : row.at == pc;
     const isWas = row.at == was && !isNow, isChosen = row.at == now.line;
+    const isLast = isNow && !isBefore();
     setMarks(row, (row.visits ? "a" : "no") + (isNow ? " now" : "") + (isWas ? " was" : "") +
-      (isChosen ? " sel" : "") + (isNow && !isBefore() ? " end" : ""));
+      (isChosen ? " sel" : "") + (isLast ? " end" : ""));
+    if (isLast) row.element.cells[3].dataset.why = now.info.why ? ": " + now.info.why : "";
     nameRow(row);
     if (isNow) {
       reveal(row.element);

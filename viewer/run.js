@@ -7,6 +7,7 @@
 //   A X Y S P PC   the registers
 //   C              the cycles
 //   first          how many accesses came before
+//   lines          bit 2: input asks for an IRQ; bit 3: the IRQ line does; bit 4: an NMI is pending
 // or for each step:
 //   op took        the opcode at PC, and the cycles
 //   head           bits 0 and 1: it turned the IRQ line, the pending NMI; bit 2: it is an event by
@@ -17,12 +18,13 @@
 //   xor            old XOR new of the byte there
 // An access stands in the groups of `uses` at its address, a store 65,536 behind it, and a step
 // that ran an instruction in those of `visits`.
-const {Run, decodeRun, readFacts, STORE, BY_HAND, NO_INSTRUCTION} = (() => {
+const {Run, decodeRun, readFacts, countBelow, STORE, BY_HAND, NO_INSTRUCTION} = (() => {
 
 const STORE = 65536, BY_HAND = 4, NO_INSTRUCTION = 8, JSR = 0x20;
 const STATES = {
   A: Uint8Array, X: Uint8Array, Y: Uint8Array, S: Uint8Array, P: Uint8Array, PC: Uint16Array,
-  C: Float64Array, first: Uint32Array, op: Uint8Array, took: Uint8Array, head: Uint8Array,
+  C: Float64Array, first: Uint32Array, lines: Uint8Array,
+  op: Uint8Array, took: Uint8Array, head: Uint8Array,
 };
 const ACCESSES = {where: Uint16Array, xor: Uint8Array, step: Uint32Array};
 
@@ -156,7 +158,7 @@ class Run {
     for (const register of "AXYSP") this[register][0] = from.byte();
     this.PC[0] = from.word();
     this.C[0] = from.long();
-    from.byte();                              // the control byte, the IRQ line and the NMI
+    this.lines[0] = from.byte();
     // -1 is the step of what was taken, put out or handed in before
     this.takenAt = Array(from.long()).fill(-1);
     this.out = [...from.counted()];
@@ -187,6 +189,7 @@ class Run {
     const low = marks & 32 && from.byte(), high = marks & 64 && from.byte();
     PC[k + 1] = PC[k] ^ (low | high << 8);
     const signals = marks & 128 && from.byte();
+    this.lines[k + 1] = this.lines[k] ^ signals & 28;
     // a reset is told as an entry that stores nothing
     const isByHand = cycles == 0 || (signals & 64) != 0 && head < 64;
     this.begin(cycles, head & 240, isByHand, (signals & 64) != 0, signals >> 3 & 3);
@@ -210,6 +213,8 @@ class Run {
     }
     const cycles = Number(after.cycles - before.cycles);
     const counts = Math.min(3, stores.length) << 6, turned = (irq ? 1 : 0) | (nmi ? 2 : 0);
+    // a reset clears the control byte
+    this.lines[k + 1] = (this.lines[k] ^ turned << 3) & (isReset ? 24 : 28);
     this.begin(cycles, counts, !isEntry, isEntry || isReset, turned);
     for (const [address, was, is] of stores) this.addAccess(address, was ^ is, STORE);
     this.handIn(given);
@@ -340,7 +345,7 @@ function unescaped(text) {
 
 // What the lines of facts say, each a word and more, and the source, if there is one.
 function readFacts(lines, source) {
-  const info = {labels: [], names: [], lines: [], loaded: [], port: 65536};
+  const info = {labels: [], names: [], lines: [], loaded: [], notes: [], port: 65536};
   for (const line of lines) readFact(info, line);
   if (source) info.source = unescaped(source).replace(/\n$/, "").split("\n");
   return info;
@@ -352,12 +357,14 @@ function readFact(info, line) {
   else if (word == "name") info.names.push([unescaped(b), parseInt(a, 16)]);
   else if (word == "line") info.lines.push([a - 1, parseInt(b, 16), +c]);
   else if (word == "loaded") info.loaded.push([parseInt(a, 16), +b]);
-  else if (word == "port") info.port = parseInt(a, 16);
+  else if (word == "note") info.notes.push([+a, unescaped(line.slice(a.length + 6))]);
+  else if (word == "at") info.at = +a;
+  else if (word == "port" || word == "screen") info[word] = parseInt(a, 16);
   else if (word) info[word] = unescaped(line.slice(word.length + 1));
 }
 
-return {Run, decodeRun, readFacts, STORE, BY_HAND, NO_INSTRUCTION};
+return {Run, decodeRun, readFacts, countBelow, STORE, BY_HAND, NO_INSTRUCTION};
 })();
 if (typeof module !== "undefined") {
-  module.exports = {Run, decodeRun, readFacts, STORE, BY_HAND, NO_INSTRUCTION};
+  module.exports = {Run, decodeRun, readFacts, countBelow, STORE, BY_HAND, NO_INSTRUCTION};
 }

@@ -12,6 +12,9 @@ function rowTold(k, text) {
   return `<tr><td>${told.join("</td><td>")}</td></tr>`;
 }
 
+const noteRows = k => notesAt(k).map(text =>
+  `<tr><td>${k}</td><td colspan="${SHEET.length - 1}"><b>Note:</b> ${escaped(text)}</td></tr>`);
+
 // Writes the steps from the one that is shown on, or all if they are few.
 function writeSheet() {
   const {run, cur} = now, from = run.n <= MOST ? 0 : cur, to = Math.min(run.n, from + MOST);
@@ -21,8 +24,9 @@ function writeSheet() {
   for (let k = from; k < to; k++) {
     const text = instructionTold(k);
     turn(k, k + 1);
-    rows.push(rowTold(k, text));
+    rows.push(...noteRows(k), rowTold(k, text));
   }
+  rows.push(...noteRows(to));
   turn(to, cur);
   const heads = SHEET.map(head => `<th scope="col">${head}</th>`).join("");
   const caption = `Steps ${grouped(from)} to ${grouped(to)} of ${grouped(run.n)}`;

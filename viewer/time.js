@@ -96,6 +96,7 @@ function drawStill(at) {
   pen.fillText("calls", 6, at.slim / 2 + 2);
   drawTicks(pen, at, run.outAt, "ink");
   drawTicks(pen, at, run.entries, "irq");
+  drawTicks(pen, at, noteSteps().map(k => k - 1), "read");
 }
 
 function drawCallBars(pen, at) {

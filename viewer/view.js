@@ -27,7 +27,8 @@
 const {openViewer, draw, drawAnew, choose} = (() => {
 
 const NOTHING = {
-  title: "", labels: [], names: [], lines: [], loaded: [], port: 65536, ops: "....".repeat(256),
+  title: "", labels: [], names: [], lines: [], loaded: [], notes: [], port: 65536,
+  ops: "....".repeat(256),
 };
 
 let telling = 0;
@@ -39,6 +40,7 @@ function draw() {
   if (document.activeElement != $("step")) $("step").value = cur;
   $("cycles").textContent = `${grouped(run.C[cur])} cycles`;
   drawButtons();
+  drawNote();
   drawTime();
   drawProgram();
   drawMachine();
@@ -62,7 +64,8 @@ function drawButtons() {
 function tell() {
   const words = id => $(id).innerText.replace(/^(did|next)/, "").replace(/\s+/g, " ").trim();
   if (playing.frame) return;
-  $("say").textContent = `Step ${now.cur}. ${words("did")}. Next: ${words("next")}.`;
+  const noted = notesAt(now.cur).map(text => `Note: ${text}. `).join("");
+  $("say").textContent = `Step ${now.cur}. ${noted}${words("did")}. Next: ${words("next")}.`;
 }
 
 function drawAnew() {
@@ -77,6 +80,7 @@ function readRun() {
   if (now.labels.length != before || !isDrawn()) time.still = null;
   countLabels();
   readWritten();
+  readNotes();
   readOutputAgain();
   makePageButtons();
   $("steps").textContent = " of " + grouped(now.run.n);
@@ -122,9 +126,14 @@ function show(shown) {
   $("name").textContent = now.info.title;
   makeViewButtons();
   list();
-  if (!isSame) showPage(bestPage());
+  if (!isSame) showFirstPage();
   else draw();
   now.hooks.moved?.(now.cur);
+}
+
+function showFirstPage() {
+  showPage(bestPage());
+  if (now.info.screen !== undefined) showPage("screen");
 }
 
 function chooseAnew() {

@@ -22,7 +22,7 @@ from .faults import (
     TapeFault,
     with_faults,
 )
-from .values import Registers, RunEnd, Source, Why, made
+from .values import Registers, RunEnd, Source, Why, made, texts_of
 from .words import UNNAMED
 
 VERSION_NUMBER = 100
@@ -285,6 +285,7 @@ class Session:
 
     def _source_of(self, assembly: _Slot) -> Source:
         found, count, length, number = Source(), _N(), _N(), ctypes.c_int32()
+        found.texts = texts_of(self._text[2])
         name, text = (ctypes.create_string_buffer(it) for it in (_NAME, _TEXT))
         line = _Line()
         self._check(self._lib.symbol_count(assembly, count))
@@ -294,7 +295,6 @@ class Session:
         self._check(self._lib.line_count(assembly, count))
         for index in range(count.value):
             self._check(self._lib.line(assembly, index, line, text, _TEXT, length))
-            found.texts.append(text.raw[: length.value].decode("ascii"))
             if line.count:
                 found.lines.setdefault(line.address, line.number)
         return found

@@ -64,7 +64,8 @@ class Machine:
     """A 6502 that starts with the image of a source, of a tape or of bytes, and the history of its
     whole states.
 
-    source: a file; or what would be in it, as bytes
+    source: a file; or what would be in it, as bytes. A source may have letters of any language in
+        its comments, in UTF-8, and a byte-order mark at its start
     form: "source", "tape", "hex" for Intel HEX, "srec" for S-records, "prg", or "bin" for bytes
         alone. If it is not given the file's ending tells it, as .hex, .s19 and .prg; with no such
         ending it is a tape if it begins with a whole and right record of one, and else a source
@@ -196,17 +197,21 @@ class Machine:
         given = [f"--history={self.history}", *self._map_options()]
         given += [f"--rom={rom[0]:04X}-{rom[1]:04X}"] if rom else []
         given += {"tape": ["--tape"], "bin": [f"--bin={options['at'] or 0:04X}"]}.get(form, [])
+        told = Source()
         with tempfile.TemporaryDirectory() as folder:
-            path = os.path.join(folder, "image")
+            path = os.path.join(folder, words.UNNAMED)
             with open(path, "wb") as it:
                 it.write(source)
-            told = self._source_of(program, path) if form == "source" else Source()
+            if form == "source":
+                # `debug` takes no letters in comments, so it gets the tape.
+                told = self._source_of(program, folder)
+                path, given = os.path.join(folder, "tape"), [*given, "--tape"]
             self._way = pipe.Pipe(program, [path, *given], options["timeout"])
         return told
 
-    def _source_of(self, program: str, path: str) -> Source:
+    def _source_of(self, program: str, folder: str) -> Source:
         try:
-            return words.source_of(program, path, self._map_options())
+            return words.source_of(program, folder, self._map_options())
         except AssemblyFault as fault:
             raise with_faults(fault, self._checked(program)) from None
 

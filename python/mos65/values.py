@@ -3,6 +3,7 @@
 from __future__ import annotations
 
 import enum
+import re
 from dataclasses import dataclass, field
 from typing import Dict, List, Optional
 
@@ -25,6 +26,11 @@ class Source:
     symbols: Dict[str, int] = field(default_factory=dict)
     lines: Dict[int, int] = field(default_factory=dict)
     texts: List[str] = field(default_factory=list)
+
+
+def texts_of(source: bytes) -> List[str]:
+    """The texts of a source's lines, without the byte-order marks at its start."""
+    return re.split("\r\n|\r|\n", source.decode("utf-8", "replace").lstrip("\ufeff"))
 
 
 class Why(enum.Enum):

@@ -12,11 +12,13 @@ import tempfile
 from typing import Dict, List, Optional, Sequence, Tuple
 
 from .faults import AssemblyFault, EngineDied, Fault, ImageFault, MapFault, SessionFault, TapeFault
-from .values import Source
+from .values import Source, texts_of
 
 _IMAGE = re.compile(r"mos65: (?:.+: )?IMAGE line (\d+) column (\d+) (\w+) (\d+)(.*)")
 # What a source is called that has no file's name.
 UNNAMED = "source"
+# The first line of what is told of a fault in it.
+_FAULT = re.compile(r"(?m)^source:(\d+):\d+: (\w+) (\d+): ")
 
 
 def find_program(program: Optional[str]) -> str:
@@ -64,24 +66,29 @@ def _numbers(path: str) -> Dict[str, int]:
     return found
 
 
-def source_of(program: str, source: str, options: Sequence[str]) -> Source:
-    """The names and the lines of a source's file."""
-    with tempfile.TemporaryDirectory() as folder:
-        tape, names, places = (os.path.join(folder, it) for it in ("tape", "names", "places"))
-        asm = [program, "asm", source, tape]
-        status, _, errors = _run(*asm, "--symbols", names, "--map", places, *options)
-        if status:
-            # With no file beside the tape, `asm` tells the source's fault in one line.
-            alone, _, told = _run(*asm, *options)
-            raise refusal(told, alone) if alone else refusal(errors, status)
-        found = Source(_numbers(names))
-        with open(places, encoding="ascii") as it:
-            for row in it:
-                address, _, line = row.split("\t")
-                found.lines.setdefault(int(address, 16), int(line))
-    # Only these bytes end a line, and what stands behind `.END` may be no ASCII.
-    with open(source, encoding="latin-1", newline="") as it:
-        found.texts = [row[:-1] if row.endswith("\r") else row for row in it.read().split("\n")]
+def _first_fault(told: str) -> Optional[AssemblyFault]:
+    """The fault for which a source is refused, among all its faults as `asm` tells them: the first
+    one of its layout, or, if that has none, of its values."""
+    rows = [(int(it[3]) >= 20, int(it[1]), it) for it in _FAULT.finditer(told)]
+    if not rows:
+        return None
+    _, line, row = min(rows, key=lambda it: it[:2])
+    return AssemblyFault(row[2], int(row[3]), line=line)
+
+
+def source_of(program: str, folder: str, options: Sequence[str]) -> Source:
+    """The names and the lines of the file `source` in a folder, whose tape is written beside it."""
+    words = "asm source tape --utf8 --symbols names --map places".split()
+    status, _, errors = _run(program, *words, *options, folder=folder)
+    if status:
+        raise _first_fault(errors) or refusal(errors, status)
+    found = Source(_numbers(os.path.join(folder, "names")))
+    with open(os.path.join(folder, "places"), encoding="ascii") as it:
+        for row in it:
+            address, _, line = row.split("\t")
+            found.lines.setdefault(int(address, 16), int(line))
+    with open(os.path.join(folder, UNNAMED), "rb") as it:
+        found.texts = texts_of(it.read())
     return found
 
 

@@ -352,6 +352,25 @@ class Calls(Ways):
         self.assertEqual(m.lines, {0x0200: 3, 0x0201: 5})
         self.assertEqual([m.line(0x0200), m.line(0x0201)], [(3, "x1: NOP"), (5, ".BYTE 1,2")])
 
+    def test_a_source_as_an_editor_saves_it(self):
+        # A byte-order mark, letters in comments, and CR alone, CR LF and LF at the ends of lines.
+        source = "\ufeff*=$0200 ; Zähler\rx1: LDA #65 ; größer →\r\n RTS\n".encode()
+        m = self.machine(source)
+        self.assertEqual((m.symbols, m.lines), ({"x1": 0x0200}, {0x0200: 2, 0x0202: 3}))
+        self.assertEqual(m.line(0x0200), (2, "x1: LDA #65 ; größer →"))
+        self.assertEqual(m.read(0x0200, 4), bytes([0xA9, 65, 0x60, 0]))
+        self.assertEqual(m.call("x1").registers.a, 65)
+
+    def test_faults_beside_letters(self):
+        # A fault of the layout comes first, in whichever line. A letter before a comment is one.
+        late = " LDA #300 ; ö\na1 = b1 ; ä\n".encode()
+        fault = self.refused(mos65.AssemblyFault, "UnknownHere", 7, self.machine, late)
+        self.assertEqual(fault.line, 2)
+        self.assertIn("source:1:6: ByteRange 21: ", fault.faults)
+        late = " LDA #300 ; ö\nZÄHLER = 5\n".encode()
+        fault = self.refused(mos65.AssemblyFault, "NotAscii", 3, self.machine, late)
+        self.assertEqual(fault.line, 2)
+
     def test_registers_are_set_all_or_none(self):
         m = self.machine()
         self.refused(mos65.Refused, "Value", None, m.set, a=1, x=256)

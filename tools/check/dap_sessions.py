@@ -118,6 +118,11 @@ LINES = {
 }
 
 
+# Those that make and undo no event.
+LOOKS = {"history 3", "regs", "mem $0200", "where", "list", "nonsense", "watch X", "break PC",
+         "delete PC"}
+
+
 def differing(before, after):
     """The addresses at which two memories differ."""
     return [i << 12 | j << 8 | k for i in range(16) if before[i] is not after[i] for j in range(16)
@@ -142,8 +147,10 @@ class Session:
         self.steps = self.model.steps = 3000 if is_endless and steps is None else steps
         self.stops_on_entry = is_endless or dice.random() < 0.7
         self.path, self.where, self.reason = path, f"{self.name}, entry", "entry"
+        self.placed, self.last_id = {"lines": [], "addresses": []}, 0
         given = {"steps": self.steps} if self.steps else {}
-        self.adapter = tools.begun(path, history=900, stopOnEntry=self.stops_on_entry, **launch,
+        self.invalidates = dice.random() < 0.7
+        self.adapter = tools.begun(path, self.invalidates, history=900, stopOnEntry=self.stops_on_entry, **launch,
                                    **given, **more)
         self.mon = tools.Mon(self.words)
 
@@ -176,9 +183,17 @@ class Session:
         self.reason = reason
         self.want(body["reason"] == reason,
                   f"{self.where}: {body['reason']}, and the model has {reason}")
+        hits = [id_ for kind in ("lines", "addresses") for id_, address in self.placed[kind]
+                if reason.endswith("breakpoint") and reason[0] != "d" and address == self.model.now.pc]
+        self.want(body["hitBreakpointIds"] == hits, f"{self.where}: {body}, and the ids are {hits}")
         heard = [(it["category"], it["output"] if it["category"] == "stdout" else None)
                  for it in out]
         self.want(heard == said, f"{self.where}: {heard}, and the model has {said}")
+
+    def told_changed(self):
+        """That values may have changed is told to a client that has said that it takes that."""
+        if self.invalidates:
+            self.adapter.until("invalidated")
 
     def compare(self, before):
         """All that is shown, with `mon` and with the model; `before` is the state before the
@@ -189,19 +204,39 @@ class Session:
         for number in (1, 2, 6, scope):
             told, meant = adapter.variables(number), model.variables(number)
             want(told == meant, f"{where}: scope {number} has {told}, and the model {meant}")
+            if self.dice.random() < 0.1:
+                first, count = self.dice.randrange(300), self.dice.randrange(20)
+                page = adapter.variables(number, start=first, count=count)
+                want(list(page.items()) == list(meant.items())[first:first + count if count else None],
+                     f"{where}: {count} of scope {number} from {first} on are {page}")
             ours = {1: registers, 2: flags, 6: {"cycles": cycles}}.get(number, {})
             want(ours.items() <= told.items(), f"{where}: {told}, and mon has {ours}")
-        frame, pc = adapter.frame(), model.now.pc
-        want(frame["instructionPointerReference"] == f"0x{pc:04X}"
-             and frame["name"].startswith(f"{pc:04X}"),
-             f"{where}: {frame}")
-        line = self.program.line_at(pc)
-        want(frame["line"] == (line or 0) and ("source" in frame) == (line is not None),
-             f"{where}: {frame} at {line}")
+        self.frames()
         changed = differing(before.mem, model.now.mem)
         for first in self.dice.sample(changed, min(len(changed), 2)):
             self.memory(first, 1)
         self.memory(self.dice.randrange(65536), self.dice.randrange(300))
+
+    def frames(self):
+        """The frames of the stack, all or some of them, and the scopes of one."""
+        meant, dice = self.model.frames(), self.dice
+        first, levels = dice.choice([(0, 0), (0, 1), (1, 20), (dice.randrange(4), dice.randrange(3))])
+        told = self.adapter.ask("stackTrace", threadId=1, startFrame=first, levels=levels)
+        shown = meant[first:first + levels] if levels else meant[first:]
+        self.want(told["totalFrames"] == len(meant) and len(told["stackFrames"]) == len(shown),
+                  f"{self.where}: frames {told}, and in the model {meant}")
+        for it, (id_, at, is_interrupted) in zip(told["stackFrames"], shown):
+            line = self.program.line_at(at)
+            words = f"interrupted at {at:04X}" if is_interrupted else f"{at:04X}"
+            self.want(it["id"] == id_ and it["instructionPointerReference"] == f"0x{at:04X}"
+                      and it["name"].startswith(words) and it["line"] == (line or 0)
+                      and ("source" in it) == (line is not None),
+                      f"{self.where}: {it}, and in the model {(id_, at, line, is_interrupted)}")
+        id_ = dice.choice(meant)[0]
+        names = [it["name"] for it in self.adapter.ask("scopes", frameId=id_)["scopes"]]
+        own = ["Registers", "Flags"] if id_ == 1 else []
+        self.want(names == [*own, "Symbols", "Stack", "Zero page", "Machine"],
+                  f"{self.where}: scopes of {id_}: {names}")
 
     def memory(self, first, count):
         told = self.adapter.ask("readMemory", memoryReference=f"0x{first:04X}", count=count)
@@ -255,6 +290,14 @@ class Session:
             return {"condition": self.dice.choice(sorted(dap_model.CONDITIONS))}
         return {"hitCondition": str(self.dice.randrange(1, 4))} if kind < 0.6 else {}
 
+    def number(self, name, told, addresses):
+        """Each breakpoint of a list has a number that none had before."""
+        ids = [it["id"] for it in told]
+        self.want(all(a > b for a, b in zip(ids, [self.last_id, *ids])),
+                  f"{self.where}: the numbers {ids} after {self.last_id}")
+        self.last_id = max([self.last_id, *ids])
+        self.placed[name] = [(id_, it) for id_, it in zip(ids, addresses) if it is not None]
+
     def set_listed(self, name, wanted, addresses):
         """A list of breakpoints is set in the model and in `mon`; beside each the address told."""
         for address in getattr(self.model, name):
@@ -283,6 +326,7 @@ class Session:
                  row in zip(wanted, rows)]
         said = [(it["verified"], it["line"], it.get("instructionReference")) for it in told]
         self.want(said == meant, f"{self.where}: {wanted} set {said}, and not {meant}")
+        self.number("lines", told, [row and row[1] for row in rows])
         self.set_listed("lines", wanted, [row and row[1] for row in rows])
 
     def break_addresses(self):
@@ -291,6 +335,7 @@ class Session:
         wanted = [{"instructionReference": f"0x{it:04X}", **self.tests()} for it in found]
         told = self.adapter.ask("setInstructionBreakpoints", breakpoints=wanted)["breakpoints"]
         self.want([it["verified"] for it in told] == [True] * len(found), f"{self.where}: {told}")
+        self.number("addresses", told, found)
         self.set_listed("addresses", wanted, found)
 
     def watch(self):
@@ -320,12 +365,19 @@ class Session:
                                   0xFFFF])
         data = bytes(self.dice.randrange(256) for _ in range(self.dice.randrange(1, 4)))
         text = base64.b64encode(data).decode()
-        told = self.adapter.ask("writeMemory", memoryReference=f"0x{first:04X}", data=text)
-        self.adapter.until("invalidated")
-        there = self.model.put(first, data)
+        some = data[:65536 - first]
+        good = some == data and not any(self.model.spec.is_port(first + k) for k in range(len(data)))
+        partial = self.dice.random() < 0.5
+        told = self.adapter.ask("writeMemory", good=good or partial, data=text,
+                                memoryReference=f"0x{first:04X}", **{"allowPartial": True} if partial
+                                else {})
+        if not good and not partial:
+            return
+        self.told_changed()
+        there = self.model.put(first, some)
         self.want(told["bytesWritten"] == there,
                   f"{self.where}: {data.hex()} at {first:04X}: {told}, and {there}")
-        self.mon.line(f"put ${first:04X} " + " ".join(str(it) for it in data))
+        self.mon.line(f"put ${first:04X} " + " ".join(str(it) for it in some))
 
     def set_variable(self):
         dice, names = self.dice, [it for it in self.program.names if len(it) > 1]
@@ -346,7 +398,7 @@ class Session:
         told = self.adapter.ask("setVariable", good=good, variablesReference=scope, name=name,
                                 value=text)
         if good:
-            self.adapter.until("invalidated")
+            self.told_changed()
             shown = self.model.variables(scope).get(name)
             self.want(told["value"] == shown,
                       f"{self.where}: {name} is {told['value']}, and in the model {shown}")
@@ -393,15 +445,16 @@ class Session:
                 LINES[line](self.model)
         except dap_model.TooFar:
             return
-        said = self.adapter.ask("evaluate", expression=line, context="repl")["result"]
-        ours = self.mon.line(line)
+        good, ours = line != "nonsense", self.mon.line(line)
+        told = self.adapter.ask("evaluate", good=good, expression=line, context="repl")
+        said, ours = (told["result"], ours) if good else (told, ours.strip())
         self.want(said == ours, f"{self.where}: {line} says {said!r}, and mon {ours!r}")
         seen = [(s.a, s.x, s.y, s.s, s.pc, machine.p_of(s, False), s.cycles)
                 for s in (before, self.model.now)]
-        if seen[0] == seen[1]:
-            self.adapter.until("invalidated")
-        else:
+        if seen[0] != seen[1]:
             self.told("step")
+        elif line not in LOOKS:
+            self.told_changed()
 
     def move(self):
         self.make(self.dice.choice(sorted(WAYS)))

@@ -2,8 +2,17 @@
 behind them, that the keyboard alone reaches what a click does, that its address says what is shown,
 that it can be searched, and that lines and bytes have names."""
 
+import re
+
 # The contrast that WCAG 2 asks for at level AA.
 LEAST = 4.5
+# Texts of viewer/page.css by the ground that they stand on: a color, or so much of one on another.
+GROUNDS = {
+    "panel": ["ink", "dim", "faint", "write", "read", "code", "irq", "nowink"],
+    "bg": ["ink", "dim"], "now": ["ink"], "dim": ["panel"],
+    ("write", .5, "panel"): ["ink"], ("ink", .12, "panel"): ["ink"], ("ink", .09, "panel"): ["dim"],
+    ("dim", .44, "panel"): ["ink"], ("irq", .9, "panel"): ["panel"],
+}
 CONTRAST = """(() => {
   const pen = document.createElement('canvas').getContext('2d', {willReadFrequently: true});
   const known = {};
@@ -29,8 +38,85 @@ CONTRAST = """(() => {
   return [...new Set(weak)].slice(0, 5);
 })()""" % LEAST
 FOCUS = """(e => e.dataset.r || e.id || e.tagName)(document.activeElement)"""
-CLICKED = {"A", "X", "Y", "S", "SPAN", "TR", "TD", "step", "slider", "rows", "out", "find"}
+CLICKED = {"A", "X", "Y", "S", "pc", "SPAN", "TR", "TD", "step", "slider", "rows", "out", "find"}
 MOST_TABS = 99
+
+
+def light_of(color):
+    linear = [c / 12.92 if c <= .04045 else ((c + .055) / 1.055) ** 2.4 for c in color]
+    return sum(c * part for c, part in zip(linear, (.2126, .7152, .0722))) + .05
+
+
+def ratios(css):
+    """Each text on its ground in each light, with the contrast of both."""
+    found = re.findall(r"--(\w+):light-dark\((#\w+),(#\w+)\)", css)
+    for light in (0, 1):
+        colors = {}
+        for name, *both in found:
+            digits = both[light][1:] * (2 if len(both[light]) == 2 else 1)
+            if len(digits) == 3:
+                digits = "".join(2 * digit for digit in digits)
+            colors[name] = [int(digits[k:k + 2], 16) / 255 for k in (0, 2, 4)]
+        for ground, texts in GROUNDS.items():
+            if isinstance(ground, tuple):
+                top, part, below = ground
+                behind = [a * part + b * (1 - part) for a, b in zip(colors[top], colors[below])]
+            else:
+                behind = colors[ground]
+            for text in texts:
+                one, other = light_of(colors[text]), light_of(behind)
+                told = f"{text} on {ground}, {('light', 'dark')[light]}"
+                yield told, max(one, other) / min(one, other)
+
+
+def facts_of(facts, word):
+    """What the facts of a word say."""
+    lines = facts.decode().split("\n")
+    return [line.removeprefix(f"{word} ") for line in lines if line.startswith(f"{word} ")]
+
+
+def look_at_opening(browser, compare, name, run, facts):
+    """A page is opened at the step and the screen that its maker said. Returns the step; a page of
+    memory is shown then."""
+    at, screen = facts_of(facts, "at"), facts_of(facts, "screen")
+    wanted = min(int(at[0]), run.last) if at else 0
+    shown = browser.js("[viewer.step, viewer.sight]")
+    compare(f"{name} opened", shown, [wanted, "screen" if screen else "page"])
+    if screen:
+        look_at_screen(browser, compare, name, int(screen[0], 16))
+    made = browser.js("document.querySelector('#help').textContent")
+    compare(f"{name} says what made it", "Made by mos65" in made, True)
+    return wanted
+
+
+def look_at_screen(browser, compare, name, address):
+    """Arrows choose a place of the screen, round at its edges."""
+    browser.js("document.querySelector('#pixels').focus()")
+    for key, place in (("ArrowRight", 0), ("ArrowRight", 1), ("ArrowUp", 993), ("ArrowDown", 1)):
+        browser.key(key)
+        chosen = browser.js("viewer.chosen")
+        compare(f"{name} {key} in the screen", chosen, (address + place) & 65535)
+    browser.js("document.activeElement.blur(), viewer.choose(-1), viewer.showPage(0)")
+
+
+def look_at_notes(browser, compare, name, run, facts):
+    """`.` leads from note to note, and each is shown at its step."""
+    notes = {}
+    for fact in facts_of(facts, "note"):
+        step, text = fact.split(" ", 1)
+        notes.setdefault(min(int(step), run.last), []).append(text.strip())
+    browser.js("viewer.go(0)")
+    said = "document.querySelector('#note').textContent"
+    for step, texts in sorted(notes.items()):
+        if step:
+            browser.key(".")
+        said_all = all(text in browser.js(said) for text in texts)
+        compare(f"{name} note at {step}", [browser.js("viewer.step"), said_all], [step, True])
+    is_hidden = browser.js("document.querySelector('#note').hidden")
+    compare(f"{name} has notes", is_hidden, not notes)
+    if len(notes) > 1:
+        browser.key(",")
+        compare(f"{name} the note before", browser.js("viewer.step"), sorted(notes)[-2])
 
 
 def look_at_end(browser, compare, name, run, facts):
@@ -83,6 +169,12 @@ def look_at_names(browser, compare, name, run, at):
     compare(f"{name} name of {label}", is_named, line is not None)
     cell = browser.js("document.querySelectorAll('#grid td')[5].ariaLabel")
     compare(f"{name} name of {cell}", cell.startswith("0105, "), True)
+    text = "document.querySelector('#pages [value=text]').click()"
+    shown, memory = browser.js(f"{text}, [[...document.querySelectorAll('#grid td')]"
+                               ".map(e => e.textContent).join(''), [...viewer.memory]]")
+    letters = "".join(chr(b) if 31 < b < 127 else "·" for b in memory[256:512])
+    compare(f"{name} page 01 as text", shown, letters)
+    browser.js(text)
 
 
 def look_at_contrast(browser, compare, name, last):

@@ -50,7 +50,7 @@ function callsOf(run) {
 function held(run) {
   const {n, m, depth} = run, memory = Buffer.from(run.memory).toString("hex");
   const told = {n, m, depth, memory};
-  for (const name of ["A", "X", "Y", "S", "P", "PC", "C", "first"]) {
+  for (const name of ["A", "X", "Y", "S", "P", "PC", "C", "first", "lines"]) {
     told[name] = listed(run[name].subarray(0, n + 1));
   }
   for (const name of ["op", "took", "head"]) told[name] = listed(run[name].subarray(0, n));

@@ -36,8 +36,8 @@ class Held:
     """What a run of some changes has to hold, built up a state at a time."""
 
     def __init__(self, view, changes):
-        self.told = {name: [] for name in (*REGISTERS, "PC", "C", "first", "op", "took", "head",
-                                           "where", "xor", "step", "stores", "entries")}
+        self.told = {name: [] for name in (*REGISTERS, "PC", "C", "first", "lines", "op", "took",
+                                           "head", "where", "xor", "step", "stores", "entries")}
         self.told.update(visits={}, uses={}, cyclesAt={}, usesOf=[0] * 256)
         self.told["out"], self.told["given"] = list(view.out), list(view.given)
         self.told["takenAt"] = [-1] * view.taken
@@ -59,6 +59,7 @@ class Held:
         self.told["PC"].append(view.pc)
         self.told["C"].append(view.cycles)
         self.told["first"].append(len(self.told["where"]))
+        self.told["lines"].append(view.control << 2 | view.irq << 3 | view.nmi << 4)
 
     def add_step(self, view, step, change):
         told, pc, by_hand = self.told, view.pc, is_by_hand(change)

@@ -12,7 +12,9 @@ import testing
 from testing import PROGRAM, TOP, read, write
 
 # A source, its words, its input, and the port, the ROM and the profile of its map.
-HOSTILE = "hostile.a65"
+HOSTILE, NOTES = "hostile.a65", "lesson.notes"
+# The options of `page` that say nothing of the run, each with a value.
+SHOWN = ("--title", "--at", "--screen", "--notes")
 # What a page of a session says of its end.
 HELD = b"why here the page was written\n"
 MAP = (0xF000, None, "N")
@@ -33,8 +35,16 @@ RUNS = [
     ("changes.a65", ["--steps", "300"], b"", MAP),
     ("none.a65", [], b"", MAP),
     ("hunt.tape", ["--tape"], b"", MAP),
-    (HOSTILE, ["--title", "</script><b>&%41\n%"], b"", MAP),
+    (HOSTILE, ["--title", "</script><b>&%41\n%", "--notes", NOTES], b"", MAP),
+    ("noted.a65", ["--at", "7", "--screen", "0200", "--notes", NOTES], b"", MAP),
 ]
+# What each of these runs finds as its notes.
+NOTED = """0 The start of the run.
+  7\tThe first place is white. </script><b>&%41
+7 A second note there.
+
+12 The next one.\r
+9999999 Behind the end."""
 # Sources that are no examples: a ROM beside a port at another place, interrupts by the console,
 # subroutines of which two are left at once by TXS, calls without end, code that changes itself, and
 # a run of no step.
@@ -115,6 +125,14 @@ plain:  RTS""" + START,
     "deep.a65": "*=$0200\nstart: LDX #$FF\n TXS\nagain: JSR again" + START,
     "changes.a65": "*=$0200\nstart: INC code\n"
                    "code: LDA #0\n STA $F000\n JMP start" + START,
+    "noted.a65": """*=$0600
+start:  LDX #0
+draw:   TXA
+        STA $0200,X
+        INX
+        CPX #5
+        BNE draw
+stop:   JMP stop""" + START,
     "none.a65": "*=$0200\nstart: .BYTE 2" + START,
 }
 # Sessions of `mon` that end with a page: the file, the events that are held at most, and lines,
@@ -142,6 +160,8 @@ SESSIONS = [
     ("session.a65", 8, [("step 50", [50]), ("irq on", [(IRQ, True)]), ("step 9", [9]),
                         ("irq off", [(IRQ, False)])]),
     ("session.tape", 5, [("step 50", [50]), ("nmi", [(NMI,)]), ("back 3", [-3])]),
+    # a short history, whose oldest state has an NMI pending
+    ("session.a65", 2, [("step 30", [30]), ("nmi", [(NMI,)]), ("step 2", [2])]),
 ]
 
 
@@ -182,8 +202,12 @@ def modelled(name, words, spec, page):
         why = said_in(parts_of(page)["end"])
     else:
         gives, why = [b""] * (0 if name == "none.a65" else 50), b"why nothing\n"
-    title = words[words.index("--title") + 1] if "--title" in words else name
-    facts = page_model.facts_of(title.replace("\n", " "), spec, image, assembly)
+    said = dict(zip(words, words[1:]))
+    title = said.get("--title", name).replace("\n", " ")
+    screen = int(said["--screen"], 16) if "--screen" in said else None
+    notes = NOTED if "--notes" in said else ""
+    facts = page_model.facts_of(title, spec, image, assembly)
+    facts += page_model.opening_of(said.get("--at"), screen, notes)
     data = page_model.data_of(spec, image, gives)
     page = page_model.page_of(facts, page_model.source_of(assembly), data, why)
     return page, b"".join(gives)
@@ -215,6 +239,7 @@ def written(folder, name, words, typed):
     if not os.access(PROGRAM, os.X_OK):
         return None
     write(f"{folder}/typed", typed)
+    write(f"{folder}/{NOTES}", NOTED.encode())
     testing.run(["page", name, f"{name}.html", "--input", "typed", *words], cwd=folder)
     return read(f"{folder}/{name}.html")
 
@@ -272,9 +297,9 @@ def make_page(compare, folder, name, words, typed, row):
     if page:
         compare(f"{name} page", page == wanted, True)
         compare(f"{name} input", typed.startswith(given), True)
-        title = words.index("--title") if "--title" in words else len(words)
         steps = len(page_format.decode(base64.b64decode(parts_of(page)["run"]))[1])
-        options = words[:title] + words[title + 2:]
+        shown = [k for k, word in enumerate(words) if word in SHOWN]
+        options = [word for k, word in enumerate(words) if k not in shown and k - 1 not in shown]
         compare(f"{name} steps", steps, run_program([name, *options], typed))
     else:
         write(f"{name}.html", wanted)

@@ -6,8 +6,9 @@
 
 Random sessions (60 if no number is given) type a source, and press buttons and keys. After each the page
 has to show what tools/models/playground_model.py says, and at the end what the module answers when it is called
-directly. Then each of the checks below runs once. Where there is no Chromium, a line says so. The last
-line is 'N passed, M failed'.
+directly. Then each of the checks below runs once. Where there is no Chromium, a line says so, and where
+the page's module is of older crates, the texts of docs/MANUAL.md are left out. The last line is 'N
+passed, M failed'.
 
 With `--firefox` it is a Firefox, and checks that ask for what Chromium alone tells are left out."""
 
@@ -25,6 +26,7 @@ import testing
 from testing import TOP
 import browser as browsers
 import firefox
+import playground_page as pages
 from page_model import machine, store
 from playground_model import Model
 
@@ -391,6 +393,10 @@ def try_faults(page, tally, how):
     tally.compare("mode with faults", page.js("document.body.dataset.mode"), "edit")
     page.edit(source.split("\n")[0] + "\n NOP\n")
     tally.holds("no fault", page.wait("!document.querySelector('#faults li:not(.warn)')"))
+    page.edit(" LDA #300 ; Zähler\n")
+    page.wait("document.querySelectorAll('#faults button').length == 1")
+    page.edit(" LDA #30 ; Zähler → 😀\n")
+    tally.holds("letters", page.wait("!document.querySelector('#faults li:not(.warn)')"))
 
 
 def try_warnings(page, tally, how):
@@ -924,6 +930,8 @@ CHECKS = [try_sessions, try_faults, try_warnings, try_no_vector, try_page, try_t
 
 # They ask for what only tools/check/browser.py has: tabs, names for screen readers, lights, a phone.
 OF_CHROMIUM = [try_two_tabs, try_old_browser, try_names, try_contrast, try_phone]
+# They compare what the module says of a source with what docs/MANUAL.md shows of the program.
+OF_MANUAL = [try_faults, try_warnings]
 
 
 def errors_of(page, tally):
@@ -935,12 +943,17 @@ def errors_of(page, tally):
     tally.compare("requests", asked, [])
 
 
-def asked_for(how):
+def asked_for(how, tally):
     """The checks to make: those of `--only`, without that of `--but`."""
-    checks = [it for it in CHECKS if not how.firefox or it not in OF_CHROMIUM]
     only = how.only.split(",")
-    return [it for it in checks if any(name in it.__name__ for name in only)
-            and how.but not in it.__name__]
+    checks = [it for it in CHECKS if not (how.firefox and it in OF_CHROMIUM)
+              and any(name in it.__name__ for name in only) and how.but not in it.__name__]
+    of_manual = [it for it in checks if it in OF_MANUAL]
+    if how.page or not of_manual or pages.has_new_module():
+        return checks
+    tally.leave_out("what the page shows of the sources of docs/MANUAL.md",
+                    "its module is of older crates")
+    return [it for it in checks if it not in of_manual]
 
 
 def main():
@@ -951,7 +964,7 @@ def main():
         tally.leave_out("the playground's page", f"no {name} is here")
     else:
         page = (FirefoxPage if how.firefox else Page)(how.page or PAGE)
-        for check in asked_for(how):
+        for check in asked_for(how, tally):
             began, failed = time.monotonic(), tally.failed
             try:
                 check(page, tally, how)

@@ -10,6 +10,7 @@ import folders
 import page_format
 import page_model
 import table
+from cleaning import cleaned
 from folders import TOP
 
 MOST_SHOWN = 4096
@@ -31,6 +32,17 @@ def shown(data):
 
 def fault(name, status, line=0):
     return {"fault": name, "status": status, "line": line}
+
+
+def as_saved(rng, source):
+    """A source as an editor saves it: with a byte-order mark, letters in its comments, and other
+    ends of lines."""
+    found = rng.choice((b"", b"", b"\xEF\xBB\xBF"))
+    for line in source.split(b"\n")[:-1]:
+        if rng.random() < 0.3:
+            line += " ; ".encode() + rng.choice(("Zähler", "→ не", "😀;", "x")).encode()
+        found += line + rng.choice((b"\n", b"\n", b"\r\n", b"\r"))
+    return found
 
 
 class Model:
@@ -252,6 +264,8 @@ class Session:
         rows += ["*=$0010", f".BYTE {','.join(str(rng.randrange(48, 52)) for _ in range(16))}"]
         rows += ["*=$FFFA", ".WORD handler,main,handler"]
         source = "".join(f"{it}\n" for it in rows).encode()
+        if rng.random() < 0.3:
+            source = as_saved(rng, source)
         return hostile.changed(rng, source) if rng.random() < 0.3 else source
 
     def answer(self):
@@ -261,7 +275,7 @@ class Session:
         except self.other.machine.BadMap:
             return {"assembled": fault("BadMap", 501), "left": 0}
         try:
-            assembly = self.other.asm.assemble(self.source, spec)
+            assembly = self.other.asm.assemble(cleaned(self.source), spec)
         except self.other.asm.AsmFault as refused:
             name = self.other.asm.KINDS[refused.kind]
             return {"assembled": fault(name, 300 + refused.kind, refused.line), "left": 0}

@@ -156,14 +156,16 @@ class Tally:
 
     def take(self, what, ran):
         """Adds what another check has said, whose last line is 'N passed, M failed'."""
-        for line in re.findall(r"(?m)^left out: (.*)", ran.stdout):
+        left_out = re.findall(r"(?m)^left out: (.*)", ran.stdout)
+        for line in left_out:
             self.leave_out(line)
         last = LAST.search(ran.stdout)
         passed, failed = map(int, last.groups()) if last else (0, 0)
         self.add(passed, failed)
         if failed:
             print(ran.stdout, end="", flush=True)
-        if passed + failed == 0 or (ran.returncode == 0) != (failed == 0):
+        is_empty = not (passed or failed or left_out)
+        if not last or is_empty or (ran.returncode == 0) != (failed == 0):
             said = f"{ran.stdout}{ran.stderr}"
             self.note(False, f"{what} ended with status {ran.returncode}", said)
 

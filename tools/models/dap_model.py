@@ -78,12 +78,15 @@ class Program:
         self.spec = machine.MapSpec(*row)
         made = None if is_tape else asm.assemble(text, self.spec)
         self.image = tape.read_tape(text) if is_tape else made.image
-        self.lines, self.names = [], {}
+        self.lines, self.names, self.instructions = [], {}, set()
         self.count = text.count(b"\n") + 1
         if made:
-            rows = zip(made.layouts, made.data)
-            self.lines = [(n, it.address, len(data)) for n, (it, data) in enumerate(rows, 1)
-                          if data]
+            rows = [(n, it, len(data)) for n, (it, data) in enumerate(zip(made.layouts, made.data), 1)
+                    if data]
+            self.lines = [(n, it.address, count) for n, it, count in rows]
+            self.instructions = {it.address for n, it, _ in rows
+                                 if it.line.operation[0] == "mnemonic"
+                                 and self.line_at(it.address) == n}
             self.names = self.addresses_of(made)
         if symbols:
             self.names.update(self.addresses_of(asm.assemble(symbols, self.spec)))
@@ -330,6 +333,31 @@ class Model:
                 5: lambda: self.cells(0, 256),
                 6: lambda: {"cycles": str(s.cycles), "events held": str(self.held()),
                             "bytes put out": str(s.out_len)}}[scope]()
+
+    def frames(self):
+        """Where the program is, and what the stack tells of the calls and interrupts that led there:
+        two bytes are a return address if a JSR is two below it; three are P and an address, with
+        bit 5 of P set, if an instruction of the source begins there, or two below it a BRK."""
+        s, code = self.now, self.program.instructions
+        found, at = [(1, s.pc, False)], 0x101 + s.s
+        while at < 0x200:
+            jsr = (machine.word(s, at, at + 1) - 2) & 0xFFFF if at < 0x1FF else None
+            if jsr is not None and machine.peek(s, jsr) == JSR:
+                found.append((at, jsr, False))
+                at += 2
+                continue
+            count = 1
+            if at < 0x1FE:
+                bits, back = machine.peek(s, at) & 0x30, machine.word(s, at + 1, at + 2)
+                brk = (back - 2) & 0xFFFF
+                if bits == 0x20 and back in code:
+                    found.append((at, back, True))
+                    count = 3
+                elif bits == 0x30 and brk in code and machine.peek(s, brk) == BRK:
+                    found.append((at, brk, False))
+                    count = 3
+            at += count
+        return found
 
     def looked_at(self, text):
         """What a register, a name or an address shows."""

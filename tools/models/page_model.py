@@ -3,6 +3,7 @@ for byte, and a whole page. It is a second writer beside `page_writer`; tools/ch
 both."""
 
 import base64
+import re
 
 import asm
 import folders
@@ -172,6 +173,19 @@ def facts_of(title, spec, image, assembly):
         lines += [f"{'label' if name in labels else 'name'} {value:04X} {name.decode()}"
                   for name, value in assembly.names.items() if 0 <= value < 65536]
     return ("\n".join(lines) + "\n").encode()
+
+
+def opening_of(step, screen, notes):
+    """The facts of what a page shows when it is opened: a step and a screen, each None where there is
+    none, and the text of a file of notes."""
+    lines = [] if step is None else [f"at {step}"]
+    lines += [] if screen is None else [f"screen {screen:04X}"]
+    for line in notes.split("\n"):
+        line = line.removesuffix("\r")
+        if line.strip(" \t"):
+            number, text = re.fullmatch(r"[ \t]*(\d{1,7})[ \t]+(.+)", line).groups()
+            lines.append(f"note {int(number)} {text}")
+    return "".join(f"{line}\n" for line in lines).encode()
 
 
 def source_of(assembly):

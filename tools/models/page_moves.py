@@ -1,6 +1,8 @@
 """Random moves in a page, each with where it has to lead by the run that was decoded in Python."""
 
 JSR = 0x20
+# How many bytes an instruction has, by the letter of its mode in a page's facts.
+LENGTHS = {**dict.fromkeys("ab", 1), **dict.fromkeys("jklm", 3)}
 
 
 def is_by_hand(change):
@@ -22,7 +24,9 @@ class Run:
         self.pcs, self.stack = [view.pc], [view.regs[3]]
         # (what was put out before the page begins is there at its start)
         self.outs = [0] if view.out else []
-        self.calls, self.visits, self.writes = [], {}, {}
+        self.calls, self.visits, self.writes, self.jumps = [], {}, {}, []
+        lines = facts.decode().split("\n")
+        ops = next((it[4:] for it in lines if it.startswith("ops ")), "...." * 256)
         for step, change in enumerate(changes):
             if is_entry(change) or view.memory[view.pc] == JSR and not is_by_hand(change):
                 self.calls.append(step)
@@ -30,7 +34,11 @@ class Run:
                 self.visits.setdefault(view.pc, []).append(step)
             for address, _ in change["stores"]:
                 self.writes.setdefault(address, []).append(step + 1)
+            is_plain = not is_entry(change) and not is_by_hand(change)
+            length = LENGTHS.get(ops[view.memory[view.pc] * 4 + 3], 2) if is_plain else 0
+            behind = view.pc + length & 65535
             view.forth(change)
+            self.jumps += [step + 1] * (view.pc != behind)
             self.pcs.append(view.pc)
             self.stack.append(view.regs[3])
         for change in reversed(changes):
@@ -38,7 +46,7 @@ class Run:
         self.risen = [k for k in range(1, self.last + 1) if self.stack[k] > self.stack[k - 1]]
         self.outs += self.after(lambda change: change["out"] is not None)
         self.entries = self.after(is_entry)
-        words = [fact.split() for fact in facts.decode().split("\n") if fact.startswith("line ")]
+        words = [fact.split() for fact in lines if fact.startswith("line ")]
         self.lines = {int(address, 16): int(number) for _, number, address, _ in words}
 
     def after(self, happens):
@@ -119,6 +127,11 @@ def to_set(browser, rng, at, run):
     register = rng.randrange(4)
     browser.key("axys"[register])
     return run.set_before(at, register)
+
+
+def to_jump(browser, rng, at, run):
+    browser.key("P")
+    return max((k for k in run.jumps if k < at), default=0)
 
 
 def in_time(browser, rng, at, run):
@@ -218,11 +231,11 @@ def to_other_view(browser, rng, at, run):
     """Another list of the program, or another page of memory: the moment stays."""
     browser.js("(e => e[Math.floor(%f * e.length)].click())(document.querySelectorAll('%s'))"
                % (rng.random(), rng.choice(["#views button", "#pages button:not([value=map])"
-                                            ":not([value=screen])"])))
+                                            ":not([value=screen]):not([value=text])"])))
     return at
 
 
-MOVES = [by_steps, by_steps, by_typing, by_slider, by_address, to_an_end, to_set, in_time, on_line,
+MOVES = [by_steps, by_steps, by_typing, by_slider, by_address, to_an_end, to_set, to_jump, in_time, on_line,
          to_visit, over, back_over, to_write, to_output, to_interrupt, there_and_back, to_other_view]
 
 

@@ -1,5 +1,5 @@
--- What is about to happen in a state, and whether an interrupt came in its place. Source: mos65.
-use Rattle.std.specs.Prelude.{ℕ, ◌+◌, ◌/◌, ◌%◌, ◌^◌, Bool, true, false, not, ◌&&◌, ◌==◌, List, [], ◌∷◌, slice_index}
+-- What is about to happen in a state, and whether an interrupt comes in its place. Source: mos65.
+use Rattle.std.specs.Prelude.{ℕ, ◌+◌, ◌%◌, Bool, true, false, not, ◌&&◌, ◌||◌, nat_lt, List, [], ◌∷◌, length, slice_index}
 use Rattle.model.specs.State.{State}
 use Rattle.cpu_step.specs.Access.{row_here}
 use Rattle.cpu_step.specs.Stored.{below, stores_here}
@@ -10,21 +10,31 @@ abbrev pub moment_of : State → Moment
 moment_of state = record {
   regs = state.regs;
   cycles = state.cycles;
+  irq = state.irq;
+  nmi = state.nmi;
+  control = state.bus.control;
+  taken = state.bus.taken;
   row = row_here state;
   first = slice_index state.bus.memory state.regs.pc;
   second = slice_index state.bus.memory ((state.regs.pc + 1) % 65536);
   third = slice_index state.bus.memory ((state.regs.pc + 2) % 65536);
 }
 
--- Bit 4 of the status that was pushed last.
-abbrev pub pushed_break : State → Bool
-pushed_break after = ((slice_index after.bus.memory (256 + (after.regs.s + 1) % 256) / 16) % 2) == 1
+-- Whether a step from the moment is an interrupt entry, where so many bytes of input were handed in.
+abbrev pub enters_with : ℕ → Moment → Bool
+enters_with given moment = moment.nmi
+    || ((moment.irq || (moment.control && nat_lt moment.taken given)) && not moment.regs.flags.i)
 
--- An entry takes 7 cycles and pushes three bytes, with bit 4 of the status clear.
+-- A state with the input that was handed in up to another.
+abbrev pub with_input_of : State → State → State
+with_input_of after before
+    = record before { bus = record before.bus { given = after.bus.given } }
+
+-- Whether the step from the moment to a state was an interrupt entry. Input may have been handed in
+-- before the step. A step hands nothing in, so the state after it has the input that it was made
+-- with.
 abbrev pub entered : Moment → State → Bool
-entered moment after = (after.regs.s == (moment.regs.s + 253) % 256)
-    && (after.cycles == (moment.cycles + 7) % 2 ^ 64)
-    && not (is_break moment.row && pushed_break after)
+entered moment after = enters_with (length after.bus.given) moment
 
 -- Where an entry pushes the return address and the status, by the stack pointer before it.
 abbrev pub entry_stores : ℕ → List ℕ

@@ -1,20 +1,30 @@
 //! What is about to happen, and what has come of it.
 
-ghost use Rattle.std.specs.Prelude.{◌≡◌, ◌==◌, ◌+◌, ◌%◌, ◌^◌};
-ghost use Rattle.accesses.specs.Moments.{entered, entry_stores, is_break, moment_of, pushed_break};
-ghost use Rattle.accesses.specs.Moments.{stored_by};
+ghost use Rattle.std.specs.Prelude.{◌≡◌};
+ghost use Rattle.model.specs.State.{State};
+ghost use Rattle.model.specs.Step.{entry_due};
+ghost use Rattle.accesses.specs.Moments.{entered, enters_with, entry_stores, is_break, moment_of};
+ghost use Rattle.accesses.specs.Moments.{stored_by, with_input_of};
 
 use crate::row_here;
 use crate::touches::{Addresses, addresses, below};
 use debugger::Session;
 use model::{Mnemonic, Regs, Row};
 
-/// What is about to happen: the registers and the cycles before a step, the instruction at PC if
-/// its opcode is documented, and its three bytes of memory.
+/// What is about to happen: the registers and the cycles before a step, what asks for an interrupt,
+/// the instruction at PC if its opcode is documented, and its three bytes of memory.
 #[derive(Clone, Copy, Debug, PartialEq, Eq)]
 pub struct Moment {
     pub regs: Regs,
     pub cycles: u64,
+    /// The level of the IRQ line.
+    pub irq: bool,
+    /// Whether an NMI is pending.
+    pub nmi: bool,
+    /// The port's control byte.
+    pub control: bool,
+    /// How many bytes of input were taken.
+    pub taken: u32,
     pub row: Option<Row>,
     pub first: u8,
     pub second: u8,
@@ -29,6 +39,10 @@ pub fn moment_of(session: &Session) -> Moment
     Moment {
         regs,
         cycles: session.cycles(),
+        irq: session.irq(),
+        nmi: session.nmi_is_pending(),
+        control: session.bus().control(),
+        taken: session.bus().taken(),
         row: row_here(session),
         first: session.peek(regs.pc),
         second: session.peek(regs.pc.wrapping_add(1)),
@@ -46,15 +60,6 @@ pub fn is_break(row: Option<Row>) -> bool
     }
 }
 
-/// Returns bit 4 of the status that was pushed last.
-fn pushed_break(session: &Session) -> bool
-    ensures { result ≡ pushed_break session.now.current }
-{
-    let s = session.regs().s;
-    let status = session.peek(0x0100 + s.wrapping_add(1) as u16);
-    (status / 16) % 2 == 1
-}
-
 /// Returns the addresses where an interrupt entry pushes, by the stack pointer before it. Source:
 /// MCS6500 manual, chapter 9.
 pub fn entry_stores(s: u8) -> Addresses
@@ -64,32 +69,27 @@ pub fn entry_stores(s: u8) -> Addresses
 }
 
 impl Moment {
-    /// Returns whether the stack pointer is three bytes below that of the moment.
-    fn has_pushed(&self, s: u8) -> bool
-        ensures { result ≡ (s == (self.now.regs.s + 253) % 256) }
+    /// Returns whether the step that is made from here is an interrupt entry, where so many bytes
+    /// of input were handed in: an NMI is pending, or an IRQ is asked for and I is 0.
+    fn enters_with(&self, given: u32) -> bool
+        ensures { result ≡ enters_with given self.now }
     {
-        s == self.regs.s.wrapping_add(253)
-    }
-
-    /// Returns whether 7 cycles have passed since the moment.
-    fn has_taken(&self, cycles: u64) -> bool
-        ensures { result ≡ (cycles == (self.now.cycles + 7) % 2 ^ 64) }
-    {
-        cycles == self.cycles.wrapping_add(7)
+        let is_asked = self.irq || (self.control && self.taken < given);
+        self.nmi || (is_asked && !self.regs.flags.i)
     }
 
     /// Returns whether the step that was made from here was an interrupt entry in place of the
-    /// instruction.
+    /// instruction. The session is in the state after it.
     ///
-    /// An entry takes 7 cycles and pushes three bytes. No instruction but BRK does both, and BRK
-    /// pushes the status with bit 4 set, an entry with bit 4 clear. Source: MCS6500 manual, chapter
-    /// 9.
+    /// Input may have been handed in between the moment and the step, and may have asked for the
+    /// IRQ. A step hands nothing in, so the state after it has the input that it was made with.
     pub fn was_entered(&self, session: &Session) -> bool
-        ensures { result ≡ entered self.now session.now.current }
+        ensures value { result ≡ entered self.now session.now.current }
+        // An entry was due where the step was made: in the state of the moment, with this input.
+        ensures due { (before : State) → self.now ≡ moment_of before
+            → result ≡ entry_due (with_input_of session.now.current before) }
     {
-        self.has_pushed(session.regs().s)
-            && self.has_taken(session.cycles())
-            && !(is_break(self.row) && pushed_break(session))
+        self.enters_with(session.input_len())
     }
 
     /// Returns where the step that was made from here has stored: `stores`, which are those of its

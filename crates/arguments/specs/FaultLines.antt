@@ -7,13 +7,13 @@ use Rattle.arguments.specs.declared.fault.WordsFault.TheVariants.{Help, Usage, V
 use Rattle.arguments.specs.declared.fault.WordsFault.TheVariants as words_fault
 use Rattle.arguments.specs.declared.load_fault.LoadFault.{LoadFault}
 use Rattle.arguments.specs.declared.load_fault.LoadFault.TheVariants.{AtPort, Faults, LooksLikeHex, LooksLikeSRecords, LooksLikeTape, NoImage, Refused}
-use Rattle.arguments.specs.declared.refusal.ReadFault.TheVariants.{NoSuchFile, PermissionDenied as permission_denied}
+use Rattle.arguments.specs.declared.refusal.ReadFault.TheVariants.{NoName, NoSuchFile, PermissionDenied as permission_denied}
 use Rattle.arguments.specs.declared.refusal.Refusal.{Refusal}
 use Rattle.arguments.specs.declared.refusal.Refusal.TheVariants.{Words, Map, Source, Tape, Session, OutOfMemory, Read, Write, WriteFile}
 use Rattle.arguments.specs.declared.write_fault.WriteFault.{WriteFault}
 use Rattle.arguments.specs.declared.write_fault.WriteFault.TheVariants.{IsFolder, NoRoom, NoSuchFolder, SameFile}
 use Rattle.arguments.specs.declared.write_fault.WriteFault.TheVariants as write_fault
-use Rattle.arguments.specs.declared.wording.TheConstants.{AT_PORT, IS_FOLDER, IS_FREE, LIKE_HEX, LIKE_S_RECORDS, LIKE_TAPE, NONE_IS_FREE, NO_ROOM, NO_SUCH_FILE, NO_SUCH_FOLDER, PERMISSION_DENIED, SAME_FILE, SOURCE_LIKE_TAPE, TRY_PORT, USE_TAPE}
+use Rattle.arguments.specs.declared.wording.TheConstants.{AT_PORT, IS_FOLDER, IS_FREE, LIKE_HEX, LIKE_S_RECORDS, LIKE_TAPE, NONE_IS_FREE, NO_NAME, NO_ROOM, NO_SUCH_FILE, NO_SUCH_FOLDER, PERMISSION_DENIED, SAME_FILE, SOURCE_LIKE_TAPE, TRY_PORT, USE_TAPE}
 use Rattle.model.specs.FaultTexts.{bus_fault_text, session_fault_text, source_fault_text, tape_fault_text}
 use Rattle.model.specs.Listing.{address_text}
 use Rattle.model.specs.Text.{hex_address}
@@ -63,6 +63,7 @@ write_reason write_fault.Other = []
 unfoldable pub reason_part : Refusal → List ℕ
 reason_part (Read NoSuchFile) = NO_SUCH_FILE.now
 reason_part (Read permission_denied) = PERMISSION_DENIED.now
+reason_part (Read NoName) = NO_NAME.now
 reason_part (WriteFile fault) = write_reason fault
 reason_part refusal = []
 

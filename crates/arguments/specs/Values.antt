@@ -1,6 +1,7 @@
 -- What the words that stand for values mean. Source: mos65.
 use Rattle.arguments.specs.declared.file_options.FileForm.{FileForm}
 use Rattle.arguments.specs.declared.file_options.FileForm.TheVariants.{Source, Records, Raw, Prg}
+use Rattle.memory_map.specs.declared.port.TheConstants.{DEFAULT_PORT}
 use Rattle.model.specs.Digits.{decimal_number}
 use Rattle.model.specs.Commands.{address_of}
 use Rattle.model.specs.State.{no_port}
@@ -47,9 +48,9 @@ base_of (Some base) = base
 abbrev pub port_of : List ℕ → Option ℕ
 port_of word = if bytes_eq word (codes "none") then Some no_port else address_of word
 
--- the port that is asked for: $F000 where no word says it
+-- the port that is asked for: the usual one where no word says it
 abbrev pub port_asked : Option (List ℕ) → Option ℕ
-port_asked None = Some 61440
+port_asked None = Some DEFAULT_PORT
 port_asked (Some word) = port_of word
 
 -- raw bytes from an address on

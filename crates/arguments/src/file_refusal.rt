@@ -18,6 +18,15 @@ pub struct FileRefusal<'a> {
     pub refusal: Refusal,
 }
 
+impl<'a> From<FileRefusal<'a>> for Refusal {
+    ghost from_gives = { λ why refusal. refusal ≡ why.refusal };
+
+    /// Returns why there is no answer, without the file.
+    fn from(why: FileRefusal<'a>) -> Refusal {
+        why.refusal
+    }
+}
+
 impl FileRefusal<'_> {
     /// Writes the fault line with the name of the file, and returns the exit status, even if the
     /// line cannot be written.

@@ -6,8 +6,9 @@
 //! word ends without an answer. `refuse` writes its line as `asm`, `dis` and `debug` do, and
 //! `refuse_file` with the file's name.
 //!
-//! A word that writes files calls `check_outputs` before it opens one, and writes each with
-//! `write_file`, or bit by bit with `begin_file`: a write that fails leaves the file that is there.
+//! A word that writes one file writes it with `write_output`, or bit by bit with `create`, which
+//! take the files that are read. A word that writes several calls `check_outputs` before it opens
+//! one, and writes each with `write_file`. A write that fails leaves the file that is there.
 #![tactic(auto)]
 
 mod fault;
@@ -41,7 +42,7 @@ pub use matching::{is_given, let_go, matched};
 pub use new_file::{NewFile, begin_file};
 pub use options::{begin, file, file_list, flag, list, option, port, profile, rom, tape};
 pub use output::{NotWritten, put, write_text};
-pub use outputs::{check_outputs, check_source};
+pub use outputs::{check_outputs, check_source, create, write_output};
 pub use refusal::{ReadFault, Refusal};
 pub use refused::{finish, refuse, refuse_file, refused_words};
 pub use same_file::{is_one_file, is_one_output};

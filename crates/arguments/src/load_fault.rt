@@ -1,6 +1,6 @@
 //! Why a file is not loaded.
 
-ghost use Rattle.std.specs.Prelude.{◌≡◌};
+ghost use Rattle.std.specs.Prelude.{◌≡◌, ◌++◌, OnOk, Some};
 ghost use Rattle.arguments.specs.FaultLines.{like_line, load_text, no_image_line};
 ghost use Rattle.arguments.specs.FaultLines.{number_part, port_line, port_part};
 ghost use Rattle.arguments.specs.Statuses.{status_of_load};
@@ -15,6 +15,7 @@ use crate::wording::{
 };
 use formatting::{Text, address_text, push_bytes, push_decimal, push_hex_address};
 use model::AsmFault;
+use std::alloc::AllocError;
 use std::io::Write;
 
 /// Why a file is not loaded.
@@ -138,7 +139,45 @@ fn tell_text<E: Write>(text: &[u8], errors: &mut E)
     put_all(&[text], errors);
 }
 
+/// The most bytes of a line that says why a file is not loaded, but for the file's name.
+const LONGEST_LINE: usize = 256;
+
+/// Appends a text that tells of faults.
+///
+/// Errors: `AllocError` if an allocation fails.
+fn push_told(told: &mut Vec<u8>, text: &[u8]) -> Result<(), AllocError>
+    ensures { OnOk result (told.new.items ≡ told.old.items ++ text.now) }
+{
+    told.extend_from_slice(text)?;
+    Ok(())
+}
+
+/// Appends a line that says why a file is not loaded.
+///
+/// Errors: `AllocError` if an allocation fails.
+fn push_line(fault: LoadFault, file: &str, told: &mut Vec<u8>) -> Result<(), AllocError>
+    ensures { OnOk result (AppendsFront (Some told.old.items) (Some told.new.items)
+        (load_text fault file.now)) }
+{
+    told.reserve(file.len().saturating_add(LONGEST_LINE))?;
+    let _ = fault.tell(file, told);
+    Ok(())
+}
+
 impl LoadFault {
+    /// Appends why the file was not loaded: all faults of a source, or a line.
+    ///
+    /// Errors: `AllocError` if an allocation fails.
+    pub fn push(self, file: &str, told: &mut Vec<u8>) -> Result<(), AllocError>
+        ensures { OnOk result (AppendsFront (Some told.old.items) (Some told.new.items)
+            (load_text self file.now)) }
+    {
+        match self {
+            LoadFault::Faults { text, .. } => push_told(told, &text),
+            fault => push_line(fault, file, told),
+        }
+    }
+
     /// Writes why the file was not loaded, and returns the exit status, even if that cannot be
     /// written. It is 1 for a source with faults, for a file that is no image and for bytes at the
     /// port, 2 for an image that is given as a source.

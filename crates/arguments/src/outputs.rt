@@ -8,6 +8,8 @@ ghost use Rattle.arguments.specs.declared.write_fault.WriteFault.TheVariants.{Lo
 ghost use Rattle.papertape.specs.Hint.{BeginsTape};
 
 use crate::file_refusal::FileRefusal;
+use crate::files::write_file;
+use crate::new_file::{NewFile, begin_file};
 use crate::refusal::Refusal;
 use crate::same_file::is_one_output;
 use crate::write_fault::WriteFault;
@@ -99,6 +101,37 @@ pub fn check_outputs<'a, H: Files + AllocGlobal>(
         check_behind(rt, written[at], read, &written[..at])?;
     }
     Ok(())
+}
+
+/// Begins a file that is written bit by bit, unless it is one that is read.
+///
+/// Errors: `WriteFile` with `SameFile` if it is one of them, where nothing is opened; those of
+/// `begin_file`.
+pub fn create<'a, H: Files + AllocGlobal>(
+    rt: &H,
+    path: &'a str,
+    read: &[Option<&'a str>],
+) -> Result<NewFile<'a, H::File>, Refusal>
+    ensures { IfErr result EndsWriting }
+{
+    check_outputs(rt, read, &[Some(path)])?;
+    begin_file(rt, path)
+}
+
+/// Writes a text to a file of that name, as `write_file` does, unless it is a file that is read.
+///
+/// Errors: `WriteFile` with `SameFile` if it is one of them, where nothing is opened; those of
+/// `write_file`.
+pub fn write_output<H: Files + AllocGlobal>(
+    rt: &H,
+    path: &str,
+    read: &[Option<&str>],
+    text: &[u8],
+) -> Result<(), Refusal>
+    ensures { IfErr result EndsWriting }
+{
+    check_outputs(rt, read, &[Some(path)])?;
+    write_file(rt, path, text)
 }
 
 /// Returns whether a file of that name is there and keeps its bytes.

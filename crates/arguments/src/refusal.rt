@@ -11,13 +11,15 @@ use papertape::TapeReadFault;
 use std::io;
 use std::io::ErrorKind;
 
-/// Why a file or the standard input cannot be read.
+/// Why a file or the standard input cannot be read, or not as what it is given as.
 #[derive(Clone, Copy, Debug, PartialEq, Eq)]
 pub enum ReadFault {
     /// There is no file of that name.
     NoSuchFile,
     /// The user may not read the file.
     PermissionDenied,
+    /// It is read as a file of names, and no line of it is a name in a form that is known.
+    NoName,
     /// Another reason, or none that is known.
     Other,
 }

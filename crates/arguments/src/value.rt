@@ -19,7 +19,7 @@ use crate::wording::{
 use clap::ArgMatches;
 use commands::{address_of, digits};
 use formatting::decimal_value;
-use memory_map::Port;
+use memory_map::{DEFAULT_PORT, Port};
 use model::Profile;
 
 /// Returns the number of events to hold, of one to five decimal digits and at most 65,536.
@@ -92,7 +92,7 @@ pub fn port_asked(word: Option<&str>) -> Option<Port>
     ensures { result ≡ port_asked (option_map (λ w. w.now) word.entry) }
 {
     match word {
-        None => Some(Port::based(0xf000)),
+        None => Some(Port::based(DEFAULT_PORT)),
         Some(word) => port(word.as_bytes()),
     }
 }

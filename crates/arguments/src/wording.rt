@@ -5,6 +5,9 @@ pub const NO_SUCH_FILE: &str = " no such file";
 
 pub const PERMISSION_DENIED: &str = " permission denied";
 
+/// Why a file of names is none, after the word `READ`.
+pub const NO_NAME: &str = " no line is a name in a form that is known";
+
 /// Why a file is not written, after the word `WRITE`.
 pub const NO_ROOM: &str = " no room";
 

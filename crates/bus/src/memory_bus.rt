@@ -251,6 +251,20 @@ impl Bus {
         65536 - self.given.len() as u32
     }
 
+    /// Returns how many bytes of input were handed in, 0 to 65,536, taken ones included.
+    pub fn input_len(&self) -> u32
+        ensures { result ≡ length self.now.given }
+    {
+        self.given.len() as u32
+    }
+
+    /// Returns the byte of the input that was handed in at an index, counted from 0.
+    pub fn input_at(&self, index: u32) -> Option<u8>
+        ensures { result ≡ slice_get self.now.given index }
+    {
+        self.given.get(index as usize).copied()
+    }
+
     /// Returns the processor's profile.
     #[inline(always)]
     pub fn profile(&self) -> Profile

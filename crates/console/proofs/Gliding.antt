@@ -1,23 +1,19 @@
 -- A plain step at an address that was written is a turn: no line is asked for, nothing ends the run, and
 -- no address more is written. So many such steps are as many turns.
-use Rattle.std.proofs.Common.{◌≡◌, ◌∙◌, ℕ, zero, suc, ◌+◌, ◌-◌, ◌<◌, ◌≤◌, Bool, true, false, true≢false, cond, List, [], ◌∷◌, length, Option, Some, None, Result, Ok, Err, refl, sym, ap, subst, arith, inl, inr}
-use Rattle.std.specs.Prelude.{◌||◌, ◌&&◌, ◌==◌, nat_lt, not, slice_index, slice_set}
+use Rattle.std.proofs.Common.{◌≡◌, ◌∙◌, ℕ, zero, suc, ◌+◌, ◌-◌, ◌<◌, ◌≤◌, Bool, true, false, true≢false, cond, List, [], ◌∷◌, length, Option, Some, None, refl, sym, ap, subst, arith, inl, inr}
+use Rattle.std.specs.Prelude.{◌||◌, ◌&&◌, ◌==◌, not, slice_index, slice_set}
 use Rattle.std.specs.List.{All}
 use Rattle.std.proofs.Math.Nat.{sub-zero}
 use Rattle.std.proofs.lemmas.Bool.Decides.{eqb_tells, nat_tests}
 use Rattle.std.proofs.lemmas.List.Elements.{All-head, All-tail}
 use Rattle.std.proofs.lemmas.List.{length-set}
 use Rattle.model.specs.State.{Bus, Map, State, IsState, is_port, input_waits}
-use Rattle.model.specs.Step.{attempt, interrupt_entry, irq_asked, most_cycles, step}
+use Rattle.model.specs.Step.{step}
 use Rattle.model.specs.Session.{Session, with_state}
 use Rattle.model.specs.Run.{after_steps}
-use Rattle.model.specs.declared.event.EventFault.{EventFault}
-use Rattle.model.specs.declared.event.EventFault.TheVariants.{CyclesFull}
 use Rattle.cpu.specs.PlainRuns.{AllPlain, AllPlainButLast, IsPlainStep}
-use Rattle.cpu.specs.Quick.{entry_due}
 use Rattle.cpu_step.specs.PlainSteps.{IsFree, is_break, is_port_read, stays}
 use Rattle.law_sessions.proofs.Runs.{after_steps-zero}
-use Rattle.law_states.proofs.Numbers.{byte_small}
 use Rattle.law_states.proofs.Steps.{step_follows}
 use Rattle.debugger.proofs.PlainRuns.{after_one, session_at, session_next}
 use Rattle.debugger.proofs.Runs.{event_is_step}
@@ -27,7 +23,7 @@ use Rattle.accesses.specs.Looking.{is_input_address, looks}
 use Rattle.accesses.specs.Moments.{entered, moment_of, step_stores, stored_by}
 use Rattle.accesses.specs.Writing.{AreMarks, is_unmarked, is_written, with_bytes}
 use Rattle.accesses.proofs.Bytes.{not_forgotten, set_written, still_written}
-use Rattle.accesses.proofs.Entries.{no_entry}
+use Rattle.accesses.proofs.Entries.{entered_is}
 use Rattle.console.specs.Playing.{asks, ending_before, ending_here, fall_of, is_at, later, memo_after, played, stands, stepped, stray_of, turn_of, unless_ended, after_turn, Outcome, Play}
 use Rattle.console.specs.Stretches.{Bound, Glides, going, is_place}
 use Rattle.console.specs.Taking.{Waits}
@@ -125,44 +121,32 @@ memo_kept : (cells : List Bool) (from : Option ℕ) (s t : State) → stays s.re
 unfolding memo_after
 memo_kept cells from s t moves = λ i. record { rests = sym moves i; idle = same_either None (puts_byte (access_here s)) i; from = Some s.regs.pc }
 
-attempted_by : (full nmi irq : Bool) (x y t : State) (r : Result State EventFault) → (nmi || irq) ≡ false → cond full (Err CyclesFull) (cond nmi (Ok x) (cond irq (Ok y) r)) ≡ Ok t → r ≡ Ok t
-attempted_by true nmi irq x y t r none is = cc
-attempted_by false true irq x y t r none is = absurd (true≢false none)
-attempted_by false false true x y t r none is = absurd (true≢false none)
-attempted_by false false false x y t r none is = is
+not_entered : (marks : List ℕ) (s t : State) → IsPlainStep marks s t → entered (moment_of s) t ≡ false
+not_entered marks s t plain = entered_is s t (ap (λ (bus : Bus). bus.given) plain.rest) ∙ plain.entry
 
-attempted : (s t : State) → entry_due s ≡ false → step s ≡ Ok t → attempt (row_here s) s ≡ Ok t
-unfolding step
-attempted s t none is =
-    attempted_by (nat_lt most_cycles s.cycles) s.nmi (irq_asked s && not s.regs.flags.i) (interrupt_entry (record s { nmi = false }) 0xFFFA) (interrupt_entry s 0xFFFE) t (attempt (row_here s) s) none is
-
-not_entered : (marks : List ℕ) (s t : State) → IsState s → IsPlainStep marks s t → entered (moment_of s) t ≡ false
-not_entered marks s t state plain =
-    no_entry s t (byte_small s.bus.memory s.regs.pc state.bus.memory) state.regs.s state.cycles plain.plain.no_break (attempted s t plain.entry plain.made)
-
-written_kept : (marks : List ℕ) (cells : List Bool) (place : Option ℕ) (s t : State) → Bound marks cells place → IsState s → IsPlainStep marks s t → cells ≡ with_bytes cells (step_stores s t)
-written_kept marks cells place s t bound state plain =
-    sym (ap (λ b. with_bytes cells (stored_by b s.regs.s (stores_here s))) (not_entered marks s t state plain)
+written_kept : (marks : List ℕ) (cells : List Bool) (place : Option ℕ) (s t : State) → Bound marks cells place → IsPlainStep marks s t → cells ≡ with_bytes cells (step_stores s t)
+written_kept marks cells place s t bound plain =
+    sym (ap (λ b. with_bytes cells (stored_by b s.regs.s (stores_here s))) (not_entered marks s t plain)
     ∙ stores_kept marks cells place s.bus.map bound (stores_here s) plain.plain.stores)
 
-plain_turn : (marks : List ℕ) (cells : List Bool) (place from : Option ℕ) (s : Session) (t : State) → Bound marks cells place → IsState s.current → is_written cells s.current.regs.pc ≡ true → IsPlainStep marks s.current t
+plain_turn : (marks : List ℕ) (cells : List Bool) (place from : Option ℕ) (s : Session) (t : State) → Bound marks cells place → is_written cells s.current.regs.pc ≡ true → IsPlainStep marks s.current t
     → (input : List ℕ) → turn_of (play_at s (gliding cells from) input) ≡ turn_to None (with_state s t) (gliding cells (Some s.current.regs.pc)) input
-plain_turn marks cells place from s t bound state is plain input =
+plain_turn marks cells place from s t bound is plain input =
     let k = gliding cells from in
     turned s s k [] input false false false (sym (no_line cells from s.current plain.plain.read)) (λ rest may. refl) (λ over. absurd (true≢false (sym over))) (sym (input-none s)) refl
     ∙ ap (λ e. unless_ended e (play_at s k input) (stepped (play_at s k input) false false (step s.current))) (no_ending cells from s.current is plain.plain.no_break)
     ∙ made s (with_state s t) t k (gliding cells (Some s.current.regs.pc)) input false false (event_is_step s.current ∙ plain.made) refl (memo_kept cells from s.current t plain.plain.moves)
-    (written_kept marks cells place s.current t bound state plain)
+    (written_kept marks cells place s.current t bound plain)
 
-plain_glide : (marks : List ℕ) (cells : List Bool) (place from : Option ℕ) (s : Session) (t : State) → Bound marks cells place → IsState s.current → is_at place s.current ≡ false → is_written cells s.current.regs.pc ≡ true → IsPlainStep marks s.current t
+plain_glide : (marks : List ℕ) (cells : List Bool) (place from : Option ℕ) (s : Session) (t : State) → Bound marks cells place → is_at place s.current ≡ false → is_written cells s.current.regs.pc ≡ true → IsPlainStep marks s.current t
     → Glides place 1 s (gliding cells from) (with_state s t) (gliding cells (Some s.current.regs.pc))
-plain_glide marks cells place from s t bound state off is plain = λ limit input within.
+plain_glide marks cells place from s t bound off is plain = λ limit input within.
     let k = gliding cells from in
     let after = play_at (with_state s t) (gliding cells (Some s.current.regs.pc)) input in
     let one : limit ≡ suc (limit - 1) = omega arith in
     ap (λ b. cond b (record { steps = 0; ending = Until; play = play_at s k input }) (played place limit (play_at s k input))) off
     ∙ played_turn place limit (limit - 1) (play_at s k input) one
-    ∙ ap (λ turn. after_turn place turn (λ q. played place (limit - 1) q)) (plain_turn marks cells place from s t bound state is plain input)
+    ∙ ap (λ turn. after_turn place turn (λ q. played place (limit - 1) q)) (plain_turn marks cells place from s t bound is plain input)
     ∙ next_by (is_at place t) after (played place (limit - 1) after)
   where
     next_by : (b : Bool) (p : Play) (o : Outcome) → cond b (record { steps = 1; ending = Until; play = p }) (later 1 o) ≡ later 1 (cond b (record { steps = 0; ending = Until; play = p }) o)
@@ -207,7 +191,7 @@ last_glide : (marks : List ℕ) (cells : List Bool) (place from last : Option �
     → Glides place (suc n) s (gliding cells from) (after_steps (suc n) s) (gliding cells (Some m.regs.pc))
 last_glide marks cells place from last n s m t bound all h plain =
     let here = session_at marks marks n s m all in
-    let one = plain_glide marks cells place last (after_steps n s) t bound (subst IsState (sym here) h.state) (ap (is_at place) here ∙ h.off) (ap (λ (x : State). is_written cells x.regs.pc) here ∙ h.is)
+    let one = plain_glide marks cells place last (after_steps n s) t bound (ap (is_at place) here ∙ h.off) (ap (λ (x : State). is_written cells x.regs.pc) here ∙ h.is)
     (subst (λ (x : State). IsPlainStep marks x t) (sym here) plain) in
     let both = glides_on place n 1 s (after_steps n s) (with_state (after_steps n s) t) (gliding cells from) (gliding cells last) (gliding cells (Some (after_steps n s).current.regs.pc)) h.far one in
     let count : n + 1 ≡ suc n = omega arith in
@@ -296,19 +280,19 @@ steps_plainly marks n at' s u some one all end =
     }
 
 -- it is a turn, and no interrupt entry
-pub turns_plainly : (marks : List ℕ) (k : Known) (at' : ℕ) (over : Bool) (s u : Session) → k.memo.rests ≡ false → k.memo.idle ≡ None → AreMarks marks k.written → length k.written ≡ 65536 → IsState s.current → is_written k.written s.current.regs.pc ≡ true
+pub turns_plainly : (marks : List ℕ) (k : Known) (at' : ℕ) (over : Bool) (s u : Session) → k.memo.rests ≡ false → k.memo.idle ≡ None → AreMarks marks k.written → length k.written ≡ 65536 → is_written k.written s.current.regs.pc ≡ true
     → StepsPlainly marks at' s u → TurnsTo s k [] over None u (record { memo = record { rests = k.memo.rests; idle = k.memo.idle; from = Some at' }; written = k.written })
-turns_plainly marks k at' over s u rests idle are size state is h = λ rest may.
+turns_plainly marks k at' over s u rests idle are size is h = λ rest may.
     let bound = bound_off marks k.written None size are (λ address none. absurd cc) in
     let after : gliding k.written (Some s.current.regs.pc) ≡ record { memo = record { rests = k.memo.rests; idle = k.memo.idle; from = Some at' }; written = k.written }
     = λ i. record { memo = record { rests = sym rests i; idle = sym idle i; from = Some (sym h.from i) }; written = k.written } in
     ap (λ (l : Known). turn_of (play_at s l rest)) (is_gliding k rests idle)
-    ∙ plain_turn marks k.written None k.memo.from s u.current bound state is h.plain rest
+    ∙ plain_turn marks k.written None k.memo.from s u.current bound is h.plain rest
     ∙ ap (λ (l : Known). turn_to None (with_state s u.current) l rest) after
     ∙ ap (λ (v : Session). turn_to None v (record { memo = record { rests = k.memo.rests; idle = k.memo.idle; from = Some at' }; written = k.written }) rest) (sym h.after)
 
-pub no_entry_made : (marks : List ℕ) (at' : ℕ) (s u : Session) → IsState s.current → StepsPlainly marks at' s u → entered (moment_of s.current) u.current ≡ false
-no_entry_made marks at' s u state h = not_entered marks s.current u.current state h.plain
+pub no_entry_made : (marks : List ℕ) (at' : ℕ) (s u : Session) → StepsPlainly marks at' s u → entered (moment_of s.current) u.current ≡ false
+no_entry_made marks at' s u h = not_entered marks s.current u.current h.plain
 
 pub same_console : (marks : List ℕ) (at' : ℕ) (s u : Session) → StepsPlainly marks at' s u → SameConsole s.current u.current
 same_console marks at' s u h = same_then marks s.current s.current u.current (record { out = refl; taken = refl; given = refl }) h.plain

@@ -43,6 +43,3 @@ at_offset map address k is few = elim (eqb_tells address (map.port + k)) [
 
 pub waits_some : (bus : Bus) (n : ℕ) → bus.taken + n ≡ length bus.given → input_waits bus ≡ nat_lt 0 n
 waits_some bus n e = grind (arith, nat_tests)
-
-pub waits_none : (bus : Bus) → input_waits bus ≡ false → bus.taken ≤ length bus.given → bus.taken + 0 ≡ length bus.given
-waits_none bus e h = grind (arith, nat_tests)

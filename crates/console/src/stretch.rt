@@ -129,8 +129,6 @@ pub fn take_plain_turn(session: &mut Session, player: &mut Player) -> bool
     if !may_glide(session, player, None) {
         return false;
     }
-    // For the proof: that the program counter has 16 bits.
-    session.is_state();
     let ran = run_within(session, &player.written, 1);
     if ran.steps == 0 {
         return false;

@@ -341,16 +341,22 @@ fn supply<R: Read, W: Write>(
     }
 }
 
-/// Returns what a run knows before its first turn, in a session where no input waits and bytes
-/// stand at the addresses of `written` alone.
+/// Returns how many bytes of input wait.
+fn waiting_in(session: &Session) -> u32
+    ensures { Waits session.now.current result }
+{
+    // For the proof: that no more input was taken than handed in.
+    session.is_state();
+    session.input_len().saturating_sub(session.bus().taken())
+}
+
+/// Returns what a run knows before its first turn, in a session where bytes stand at the addresses
+/// of `written` alone.
 pub fn begin(session: &Session, written: Written) -> Player
-    requires { input_waits session.now.current.bus ≡ false }
     ensures waits { Waits session.now.current result.waiting }
     ensures known { known result ≡ first_known written }
     ensures over { result.is_over ≡ false }
 {
-    // For the proof: that no more input was taken than handed in.
-    session.is_state();
     Player {
         memo: Memo {
             rests: false,
@@ -358,7 +364,7 @@ pub fn begin(session: &Session, written: Written) -> Player
             from: None,
         },
         written,
-        waiting: 0,
+        waiting: waiting_in(session),
         is_over: false,
     }
 }

@@ -28,7 +28,7 @@ stopped_fault other = None
 abbrev pub reason_of : EndWhy → Reason
 reason_of end.Met = reason.Step
 reason_of (end.Stopped stop) = stopped_reason stop
-reason_of end.Many = reason.Pause
+reason_of end.Many = reason.NoStop
 reason_of (end.Read address) = reason.DataBreakpoint
 reason_of (end.Written address) = reason.DataBreakpoint
 reason_of (end.Changed change) = reason.DataBreakpoint
@@ -42,7 +42,7 @@ fault_of other = None
 
 -- A run that makes all its steps has not stopped.
 abbrev pub run_reason : EndWhy → Reason
-run_reason (end.Stopped why.Limit) = reason.Pause
+run_reason (end.Stopped why.Limit) = reason.NoStop
 run_reason other = reason_of other
 
 -- In words.

@@ -24,14 +24,14 @@ pub fn end_halt(why: EndWhy, to_stop: bool) -> Halt
         EndWhy::Stopped(Why::Watch(_)) => {
             stand_by(Reason::DataBreakpoint, "a watched byte has changed")
         }
-        EndWhy::Stopped(Why::Limit) if to_stop => stand_by(Reason::Pause, NO_STOP),
+        EndWhy::Stopped(Why::Limit) if to_stop => stand_by(Reason::NoStop, NO_STOP),
         EndWhy::Stopped(Why::Limit) => stand_by(Reason::Step, "step"),
         EndWhy::Stopped(Why::Refused(fault)) => Halt {
             reason: Reason::Exception,
             words: "a step is refused",
             fault: Some(fault),
         },
-        EndWhy::Many => stand_by(Reason::Pause, NO_STOP),
+        EndWhy::Many => stand_by(Reason::NoStop, NO_STOP),
         EndWhy::Read(_) => stand_by(Reason::DataBreakpoint, "a watched byte was read"),
         EndWhy::Written(_) => stand_by(Reason::DataBreakpoint, "a watched byte was written"),
         EndWhy::Changed(_) => stand_by(Reason::DataBreakpoint, "a watched register has changed"),

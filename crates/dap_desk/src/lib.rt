@@ -1,5 +1,5 @@
-//! What a debug adapter does at a desk: it moves the machine forwards and back, and sets and
-//! clears breakpoints.
+//! What a debug adapter does to a state of `mon`: it moves the machine forwards and back, and sets
+//! and clears breakpoints.
 //!
 //! `moves` makes a move, `halts` says why the machine stands then, `breaks` replaces breakpoints.
 //! What a move does stands in `specs/Moves.antt`, why the machine stands in `specs/Halts.antt`,
@@ -12,5 +12,4 @@ mod moves;
 
 pub use breaks::replace;
 pub use halts::is_break;
-pub use mon_steps::wording::NO_STOP;
 pub use moves::make_move;

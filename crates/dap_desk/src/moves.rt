@@ -7,49 +7,49 @@ ghost use Rattle.mon_steps.specs.RunLines.{KeepsWatches, stand_of};
 use crate::halts::{back_halt, end_halt};
 use dap_messages::{Halt, Move};
 use mon_runs::{back_over, back_to_stop, go, out, over, run};
-use mon_session::Desk;
+use mon_session::MonState;
 
 /// The opcode of JSR.
 const JSR: u8 = 0x20;
 
 /// Makes a move, a run of at most so many steps, and returns why the machine stands then.
-pub fn make_move(desk: &mut Desk, steps: Option<u32>, way: Move) -> Halt
-    ensures stand { stand_of desk.new ≡ moved steps way desk.old }
-    ensures watches { KeepsWatches desk.old desk.new }
-    ensures text { desk.new.text ≡ desk.old.text }
-    ensures reason { result.reason ≡ moved_reason steps way desk.old }
-    ensures words { result.words.now ≡ moved_words steps way desk.old }
-    ensures fault { result.fault ≡ moved_fault steps way desk.old }
+pub fn make_move(mon: &mut MonState, steps: Option<u32>, way: Move) -> Halt
+    ensures stand { stand_of mon.new ≡ moved steps way mon.old }
+    ensures watches { KeepsWatches mon.old mon.new }
+    ensures text { mon.new.text ≡ mon.old.text }
+    ensures reason { result.reason ≡ moved_reason steps way mon.old }
+    ensures words { result.words.now ≡ moved_words steps way mon.old }
+    ensures fault { result.fault ≡ moved_fault steps way mon.old }
 {
     let end = match way {
-        Move::Over if desk.session.peek(desk.session.regs().pc) == JSR => {
-            over(&mut desk.session, &mut desk.stops)
+        Move::Over if mon.session.peek(mon.session.regs().pc) == JSR => {
+            over(&mut mon.session, &mut mon.stops)
         }
-        Move::Over | Move::Step => run(&mut desk.session, &mut desk.stops, 1),
-        Move::Out => out(&mut desk.session, &mut desk.stops),
+        Move::Over | Move::Step => run(&mut mon.session, &mut mon.stops, 1),
+        Move::Out => out(&mut mon.session, &mut mon.stops),
         Move::Go => match steps {
-            Some(count) => run(&mut desk.session, &mut desk.stops, count),
-            None => go(&mut desk.session, &mut desk.stops),
+            Some(count) => run(&mut mon.session, &mut mon.stops, count),
+            None => go(&mut mon.session, &mut mon.stops),
         },
         Move::BackOver => {
-            let count = back_over(&mut desk.session);
-            desk.events.note_undone(count);
-            return back_halt(&desk.session, false);
+            let count = back_over(&mut mon.session);
+            mon.events.note_undone(count);
+            return back_halt(&mon.session, false);
         }
         Move::Back => {
-            if desk.session.back(1).is_ok() {
-                desk.events.note_undone(1);
+            if mon.session.back(1).is_ok() {
+                mon.events.note_undone(1);
             }
-            return back_halt(&desk.session, false);
+            return back_halt(&mon.session, false);
         }
         Move::BackToStop => {
-            if desk.stops.changes.len() <= 256 {
-                let count = back_to_stop(&mut desk.session, &desk.stops);
-                desk.events.note_undone(count);
+            if mon.stops.changes.len() <= 256 {
+                let count = back_to_stop(&mut mon.session, &mon.stops);
+                mon.events.note_undone(count);
             }
-            return back_halt(&desk.session, true);
+            return back_halt(&mon.session, true);
         }
     };
-    desk.events.note_steps(end.did);
+    mon.events.note_steps(end.did);
     end_halt(end.why, matches!(way, Move::Go))
 }

@@ -3,7 +3,7 @@
 -- "ExceptionInfo Request".
 use Rattle.std.specs.Prelude.{ℕ, List, [], ◌∷◌, codes}
 use Rattle.dap_messages.specs.Bodies.{list_body}
-use Rattle.json_values.specs.Values.{count, object_of, word}
+use Rattle.json_messages.specs.Values.{count, object_of, word}
 use Rattle.serde_json.specs.Data.{Data}
 
 -- ---- breakpoints

@@ -1,6 +1,6 @@
 -- The bodies of answers. Source: Debug Adapter Protocol 1.65.
-use Rattle.std.specs.Prelude.{ℕ, true, false, List, [], ◌∷◌, codes, map}
-use Rattle.json_values.specs.Values.{count, flag, list_of, object_of, word}
+use Rattle.std.specs.Prelude.{ℕ, Bool, true, false, if◌then◌else◌, List, [], ◌∷◌, codes, map}
+use Rattle.json_messages.specs.Values.{count, flag, list_of, object_of, word}
 use Rattle.serde_json.specs.Data.{Data, array, item, no_items}
 
 -- An object with one member, which is a list.
@@ -48,7 +48,15 @@ abbrev pub scope : List ℕ → ℕ → Data
 scope name n = object_of ((codes "expensive", flag false) ∷ (codes "name", word name)
     ∷ (codes "variablesReference", count n) ∷ [])
 
-unfoldable pub scopes : Data
-scopes = list_body (codes "scopes") (scope (codes "Registers") 1 ∷ scope (codes "Flags") 2
+unfoldable pub first_scopes : Data
+first_scopes = list_body (codes "scopes") (scope (codes "Registers") 1 ∷ scope (codes "Flags") 2
     ∷ scope (codes "Symbols") 3 ∷ scope (codes "Stack") 4 ∷ scope (codes "Zero page") 5
     ∷ scope (codes "Machine") 6 ∷ [])
+
+-- The registers of a frame that was left by a call or an interrupt are not known.
+unfoldable pub other_scopes : Data
+other_scopes = list_body (codes "scopes") (scope (codes "Symbols") 3 ∷ scope (codes "Stack") 4
+    ∷ scope (codes "Zero page") 5 ∷ scope (codes "Machine") 6 ∷ [])
+
+abbrev pub scopes : Bool → Data
+scopes is_first = if is_first then first_scopes else other_scopes

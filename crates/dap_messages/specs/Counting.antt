@@ -1,7 +1,8 @@
--- How a client counts lines and columns. Source: Debug Adapter Protocol 1.65, "Initialize Request":
--- `linesStartAt1` and `columnsStartAt1` are true where they are missing.
-use Rattle.std.specs.Prelude.{ℕ, ◌+◌, ◌-◌, nat_lt, Bool, true, if◌then◌else◌, List, codes, Option, Some, None, unwrap_or}
-use Rattle.json_values.specs.Fields.{flag_at, number_at}
+-- How a client counts lines and columns, and what it can be told. Source: Debug Adapter Protocol
+-- 1.65, "Initialize Request": `linesStartAt1` and `columnsStartAt1` are true where they are missing,
+-- `supportsInvalidatedEvent` is not.
+use Rattle.std.specs.Prelude.{ℕ, ◌+◌, ◌-◌, nat_lt, Bool, true, false, if◌then◌else◌, List, codes, Option, Some, None, unwrap_or}
+use Rattle.json_messages.specs.Fields.{flag_at}
 use Rattle.dap_messages.specs.declared.counting.Counting.{Counting}
 use Rattle.serde_json.specs.Data.{Data}
 
@@ -12,6 +13,8 @@ abbrev pub counting_of : Data → Counting
 counting_of request = record {
   lines_start_at_1 = flag_or_true (codes "/arguments/linesStartAt1") request;
   columns_start_at_1 = flag_or_true (codes "/arguments/columnsStartAt1") request;
+  can_invalidate = unwrap_or (flag_at (codes "/arguments/supportsInvalidatedEvent") request)
+      false;
 }
 
 -- The number of a line that is counted from 1.
@@ -26,11 +29,8 @@ first_column counting = if counting.columns_start_at_1 then 1 else 0
 abbrev pub no_line : ℕ
 no_line = 1000000
 
--- The line of a number, counted from 1.
+-- The line of a number that a client names, counted from 1.
 abbrev pub own_line : Counting → Option ℕ → ℕ
 own_line counting None = no_line
 own_line counting (Some line) = if nat_lt line 999999
     then (if counting.lines_start_at_1 then line else line + 1) else no_line
-
-abbrev pub line_at : Counting → Data → ℕ
-line_at counting message = own_line counting (number_at (codes "/line") message)

@@ -2,7 +2,10 @@ pub mod Answers
 pub mod Bodies
 pub mod Counting
 pub mod Halts
+pub mod Listed
 pub mod Messages
+pub mod Names
 pub mod References
 pub mod Requests
+pub mod Seen
 pub mod Texts

@@ -1,9 +1,10 @@
 -- Messages to the client. Source: Debug Adapter Protocol 1.65, "Base protocol".
 use Rattle.std.specs.Prelude.{ℕ, ◌+◌, ◌==◌, true, false, if◌then◌else◌, List, [], ◌∷◌, codes, string_bytes}
-use Rattle.dap_messages.specs.Requests.{command_of, number_of}
+use Rattle.dap_messages.specs.Bodies.{nothing}
+use Rattle.dap_messages.specs.Names.{command_of, number_of}
 use Rattle.dap_messages.specs.declared.message.Message.{Message}
 use Rattle.dap_messages.specs.declared.message.Message.TheVariants.{Done, Refused, Event}
-use Rattle.json_values.specs.Values.{count, flag, object_of, word}
+use Rattle.json_messages.specs.Values.{count, flag, object_of, word}
 use Rattle.serde_json.specs.Data.{Data, Members, no_members, put}
 use Rattle.serde_json.specs.View.{view}
 
@@ -37,9 +38,9 @@ response_members request = put (codes "type") (word (codes "response"))
     (put (codes "command") (word (command_of request)) no_members))
 
 abbrev pub refusal_data : ℕ → List ℕ → ℕ → List ℕ → Data
-refusal_data n command request words = object_of ((codes "command", word command)
-    ∷ (codes "message", word words) ∷ (codes "request_seq", count request)
-    ∷ (codes "seq", count n)
+refusal_data n command request words = object_of ((codes "body", nothing)
+    ∷ (codes "command", word command) ∷ (codes "message", word words)
+    ∷ (codes "request_seq", count request) ∷ (codes "seq", count n)
     ∷ (codes "success", flag false) ∷ (codes "type", word (codes "response")) ∷ [])
 
 abbrev pub event_data : ℕ → List ℕ → Data → Data

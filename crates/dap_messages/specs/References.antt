@@ -2,7 +2,7 @@
 -- "instructionReference": what the adapter gave, here `0x` and four hex digits; mos65.
 use Rattle.std.specs.Prelude.{ℕ, ℤ, pos, negsuc, ◌+ℤ◌, ◌==◌, nat_le, Bool, if◌then◌else◌, List, codes, drop, Option, Some, None, option_and_then, unwrap_or}
 use Rattle.std.specs.List.{starts_with}
-use Rattle.json_values.specs.Fields.{text_at}
+use Rattle.json_messages.specs.Fields.{text_at}
 use Rattle.model.specs.Commands as command
 use Rattle.serde_json.specs.Data.{Data}
 use Rattle.serde_json.specs.Find.{as_i64, as_number, pointer}

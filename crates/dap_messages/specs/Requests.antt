@@ -1,112 +1,225 @@
--- What a message asks for. Source: Debug Adapter Protocol 1.65.
-use Rattle.std.specs.Prelude.{ℕ, Bool, true, false, bytes_eq, if◌then◌else◌, List, [], ◌∷◌, codes, Option, Some, None, unwrap_or}
-use Rattle.std.specs.Borrow.{Bor}
-use Rattle.serde_json.specs.Data.{Data}
-use Rattle.json_values.specs.Fields.{number_at, text_at}
-use Rattle.dap_messages.specs.declared.request.Breakpoints.{Breakpoints}
-use Rattle.dap_messages.specs.declared.request.Breakpoints.TheVariants as breakpoints
-use Rattle.dap_messages.specs.declared.request.Change.{Change}
-use Rattle.dap_messages.specs.declared.request.Change.TheVariants as change
-use Rattle.dap_messages.specs.declared.request.Move.{Move}
-use Rattle.dap_messages.specs.declared.request.Move.TheVariants as move
-use Rattle.dap_messages.specs.declared.request.Query.{Query}
-use Rattle.dap_messages.specs.declared.request.Query.TheVariants as query
-use Rattle.dap_messages.specs.declared.request.Request.{Request}
-use Rattle.dap_messages.specs.declared.request.Request.TheVariants as to
-use Rattle.dap_messages.specs.declared.request.SessionRequest.{SessionRequest}
-use Rattle.dap_messages.specs.declared.request.SessionRequest.TheVariants as session
+-- What a message asks for, with its arguments. Source: Debug Adapter Protocol 1.65; what stands for
+-- an argument that is missing, mos65.
+use Rattle.std.specs.Prelude.{ℕ, ◌==◌, min, nat_le, Bool, false, true, bytes_eq, if◌then◌else◌, List, [], ◌∷◌, codes, map, Option, Some, None, option_and_then, unwrap_or}
+use Rattle.dap_messages.specs.Counting.{counting_of}
+use Rattle.dap_messages.specs.Names.{name_of}
+use Rattle.dap_messages.specs.References.{offset_at, place_at}
+use Rattle.dap_messages.specs.Seen.{SeenBreakpoints, SeenChange, SeenCondition, SeenInstruction, SeenLaunch, SeenQuery, SeenRequest, SeenSessionRequest, SeenSource}
+use Rattle.dap_messages.specs.Seen as seen
+use Rattle.dap_messages.specs.declared.names.ChangeName.{ChangeName}
+use Rattle.dap_messages.specs.declared.names.ChangeName.TheVariants as change
+use Rattle.dap_messages.specs.declared.names.ListName.{ListName}
+use Rattle.dap_messages.specs.declared.names.ListName.TheVariants as list
+use Rattle.dap_messages.specs.declared.names.QueryName.{QueryName}
+use Rattle.dap_messages.specs.declared.names.QueryName.TheVariants as query
+use Rattle.dap_messages.specs.declared.names.RequestName.{RequestName}
+use Rattle.dap_messages.specs.declared.names.RequestName.TheVariants as to
+use Rattle.dap_messages.specs.declared.names.SessionName.{SessionName}
+use Rattle.dap_messages.specs.declared.names.SessionName.TheVariants as session
+use Rattle.dap_messages.specs.declared.request.Access.{Access}
+use Rattle.dap_messages.specs.declared.request.Access.TheVariants as access
+use Rattle.dap_messages.specs.declared.request.DataBreakpoint.{DataBreakpoint}
+use Rattle.dap_messages.specs.declared.request.Page.{Page}
+use Rattle.dap_messages.specs.declared.request.Scope.{Scope}
+use Rattle.dap_messages.specs.declared.request.Scope.TheVariants as scope
+use Rattle.json_messages.specs.Fields.{flag_at, number_at, text_at}
+use Rattle.serde_json.specs.Data.{Data, Items, item, no_items}
+use Rattle.serde_json.specs.Find.{as_array, pointer}
 
--- ---- names, each with what it asks for
+-- ---- arguments
 
-abbrev pub Row : Type 0
-Row = List ℕ × Request
+-- A text that is missing is empty, a flag that is missing is not set.
+abbrev pub text_in : List ℕ → Data → List ℕ
+text_in path message = unwrap_or (text_at path message) []
 
--- The same without where the name lies in memory.
-abbrev pub row_view : Bor (List ℕ) × Request → Row
-row_view row = (row.0.now, row.1)
+abbrev pub is_set : List ℕ → Data → Bool
+is_set path message = unwrap_or (flag_at path message) false
 
-abbrev pub in_session : List ℕ → SessionRequest → Row
-in_session name asked = (name, to.InSession asked)
+-- A count is 65,536 at most, and 0 if it is missing.
+abbrev pub count_in : List ℕ → Data → ℕ
+count_in path message = min 65536 (unwrap_or (number_at path message) 0)
 
-abbrev pub moves : List ℕ → Move → Row
-moves name way = in_session name (session.Moves way)
+-- The number of a target is an address.
+abbrev pub address_of : ℕ → Option ℕ
+address_of number = if nat_le number 65535 then Some number else None
 
-abbrev pub sets : List ℕ → Breakpoints → Row
-sets name kind = in_session name (session.Sets kind)
+abbrev pub target_in : Data → Option ℕ
+target_in request
+    = option_and_then address_of (number_at (codes "/arguments/targetId") request)
 
-abbrev pub changes : List ℕ → Change → Row
-changes name kind = in_session name (session.Changes kind)
+-- A scope has a number, by which its variables are asked for.
+unfoldable pub scope_of : ℕ → Option Scope
+scope_of number = if number == 1 then Some scope.Registers
+    else if number == 2 then Some scope.Flags
+    else if number == 3 then Some scope.Symbols
+    else if number == 4 then Some scope.Stack
+    else if number == 5 then Some scope.ZeroPage
+    else if number == 6 then Some scope.Machine else None
 
-abbrev pub shows : List ℕ → Query → Row
-shows name kind = in_session name (session.Shows kind)
+abbrev pub scope_in : Data → Option Scope
+scope_in request
+    = option_and_then scope_of (number_at (codes "/arguments/variablesReference") request)
 
--- All but moves by instructions.
-unfoldable pub requests : List Row
-requests = (codes "initialize", to.Initialize) ∷ (codes "launch", to.Launch)
-    ∷ (codes "disconnect", to.Disconnect)
-    ∷ moves (codes "next") move.Over ∷ moves (codes "stepIn") move.Step
-    ∷ moves (codes "stepOut") move.Out ∷ moves (codes "stepBack") move.BackOver
-    ∷ moves (codes "continue") move.Go ∷ moves (codes "reverseContinue") move.BackToStop
-    ∷ sets (codes "setBreakpoints") breakpoints.Source
-    ∷ sets (codes "setInstructionBreakpoints") breakpoints.Instruction
-    ∷ sets (codes "setDataBreakpoints") breakpoints.Data
-    ∷ changes (codes "evaluate") change.Evaluate ∷ changes (codes "setVariable") change.SetVariable
-    ∷ changes (codes "goto") change.Goto ∷ changes (codes "writeMemory") change.WriteMemory
-    ∷ shows (codes "threads") query.Threads ∷ shows (codes "stackTrace") query.StackTrace
-    ∷ shows (codes "scopes") query.Scopes ∷ shows (codes "variables") query.Variables
-    ∷ shows (codes "readMemory") query.ReadMemory ∷ shows (codes "disassemble") query.Disassemble
-    ∷ shows (codes "gotoTargets") query.GotoTargets
-    ∷ shows (codes "dataBreakpointInfo") query.DataBreakpointInfo
-    ∷ shows (codes "completions") query.Completions
-    ∷ shows (codes "exceptionInfo") query.ExceptionInfo
-    ∷ shows (codes "setExceptionBreakpoints") query.SetExceptionBreakpoints
-    ∷ shows (codes "pause") query.Pause
-    ∷ in_session (codes "configurationDone") session.ConfigurationDone
-    ∷ in_session (codes "restart") session.Restart
-    ∷ in_session (codes "terminate") session.Terminate ∷ []
+-- Values of a list, by the paths of the number of the first and of how many: from the first on, and
+-- all, where these are missing.
+abbrev pub page_in : List ℕ → List ℕ → Data → Page
+page_in first count request = record {
+  first = unwrap_or (number_at first request) 0;
+  count = unwrap_or (number_at count request) 0;
+}
 
-unfoldable pub moves_by_instructions : List Row
-moves_by_instructions = moves (codes "next") move.Step ∷ moves (codes "stepBack") move.Back ∷ []
+abbrev pub memory_in : Data → Option ℕ
+memory_in request
+    = place_at (codes "/arguments/memoryReference") (codes "/arguments/offset") request
 
--- What the first of these asks for that has a name, or else what is given.
-abbrev pub find : Request → List ℕ → List Row → Request
-find none name [] = none
-find none name (row ∷ rows) = if bytes_eq name row.0 then row.1 else find none name rows
+abbrev pub path_in : Data → List ℕ
+path_in request = text_in (codes "/arguments/source/path") request
 
--- ---- a message
+-- ---- breakpoints
 
--- Whether a text is there, and is this.
-abbrev pub is_text : List ℕ → Option (List ℕ) → Bool
-is_text text None = false
-is_text text (Some found) = bytes_eq found text
+abbrev pub list_in : Items → List Data
+list_in no_items = []
+list_in (item d ds) = d ∷ list_in ds
 
-abbrev pub by_instructions : Data → Bool
-by_instructions message = is_text (codes "instruction")
-    (text_at (codes "/arguments/granularity") message)
+-- The breakpoints that a request lists: none if it has no list.
+abbrev pub items_in : Data → Items
+items_in request = unwrap_or
+    (option_and_then as_array (pointer (codes "/arguments/breakpoints") request)) no_items
 
--- Nothing that is known is another request.
-abbrev pub request_known : List ℕ → Request
-request_known name = find (to.InSession session.Other) name requests
+abbrev pub listed_in : Data → List Data
+listed_in request = list_in (items_in request)
 
-abbrev pub request_named : Bool → List ℕ → Request
-request_named true name = find (request_known name) name moves_by_instructions
-request_named false name = request_known name
+abbrev pub condition_of : Data → SeenCondition
+condition_of listed = record {
+  tests = text_in (codes "/condition") listed;
+  hits = text_in (codes "/hitCondition") listed;
+}
 
-abbrev pub request_by : Data → Option (List ℕ) → Request
-request_by message None = to.NoRequest
-request_by message (Some name) = request_named (by_instructions message) name
+abbrev pub source_of : Data → SeenSource
+source_of listed = record {
+  line = number_at (codes "/line") listed;
+  condition = condition_of listed;
+}
 
-abbrev pub is_request : Data → Bool
-is_request message = is_text (codes "request") (text_at (codes "/type") message)
+abbrev pub instruction_of : Data → SeenInstruction
+instruction_of listed = record {
+  address = place_at (codes "/instructionReference") (codes "/offset") listed;
+  condition = condition_of listed;
+}
 
--- The command decides.
-abbrev pub request_of : Data → Request
-request_of message = if is_request message
-    then request_by message (text_at (codes "/command") message) else to.NoRequest
+-- A byte is watched for changes if another access is named, or none.
+abbrev pub access_named : List ℕ → Access
+access_named name = if bytes_eq name (codes "read") then access.Read
+    else if bytes_eq name (codes "readWrite") then access.ReadWrite else access.Write
 
--- The command's name, and the number of the message: empty and 0 if they are missing.
-abbrev pub command_of : Data → List ℕ
-command_of message = unwrap_or (text_at (codes "/command") message) []
+abbrev pub data_of : Data → DataBreakpoint
+data_of listed = record {
+  address = place_at (codes "/dataId") (codes "/offset") listed;
+  access = access_named (text_in (codes "/accessType") listed);
+}
 
-abbrev pub number_of : Data → ℕ
-number_of message = unwrap_or (number_at (codes "/seq") message) 0
+abbrev pub breakpoints_by : Data → ListName → SeenBreakpoints
+breakpoints_by request list.Source
+    = seen.at_lines (path_in request) (map source_of (listed_in request))
+breakpoints_by request list.Instruction
+    = seen.at_addresses (map instruction_of (listed_in request))
+breakpoints_by request list.Data = seen.of_bytes (map data_of (listed_in request))
+
+-- ---- changes
+
+-- A request that names no context is one of the console.
+abbrev pub is_console : Data → Bool
+is_console request = bytes_eq
+    (unwrap_or (text_at (codes "/arguments/context") request) (codes "repl")) (codes "repl")
+
+abbrev pub change_by : Data → ChangeName → SeenChange
+change_by request change.Evaluate
+    = seen.evaluate (text_in (codes "/arguments/expression") request) (is_console request)
+change_by request change.SetVariable = seen.set_variable (scope_in request)
+    (text_in (codes "/arguments/name") request) (text_in (codes "/arguments/value") request)
+change_by request change.Goto = seen.goto (target_in request)
+change_by request change.WriteMemory = seen.write_memory (memory_in request)
+    (text_in (codes "/arguments/data") request) (is_set (codes "/arguments/allowPartial") request)
+
+-- ---- questions
+
+abbrev pub query_by : Data → QueryName → SeenQuery
+query_by request query.Threads = seen.threads
+query_by request query.StackTrace = seen.stack_trace
+    (page_in (codes "/arguments/startFrame") (codes "/arguments/levels") request)
+query_by request query.Scopes = seen.scopes (number_at (codes "/arguments/frameId") request)
+query_by request query.Variables = seen.variables (scope_in request)
+    (page_in (codes "/arguments/start") (codes "/arguments/count") request)
+query_by request query.ReadMemory
+    = seen.read_memory (memory_in request) (count_in (codes "/arguments/count") request)
+query_by request query.Disassemble = seen.disassemble (memory_in request)
+    (offset_at (codes "/arguments/instructionOffset") request)
+    (count_in (codes "/arguments/instructionCount") request)
+query_by request query.GotoTargets
+    = seen.goto_targets (path_in request) (number_at (codes "/arguments/line") request)
+query_by request query.DataBreakpointInfo
+    = seen.data_breakpoint_info (scope_in request) (text_in (codes "/arguments/name") request)
+query_by request query.Completions = seen.completions (text_in (codes "/arguments/text") request)
+    (number_at (codes "/arguments/column") request)
+query_by request query.ExceptionInfo = seen.exception_info
+query_by request query.SetExceptionBreakpoints = seen.set_exception_breakpoints
+query_by request query.Pause = seen.pause
+
+-- ---- requests
+
+-- Those of which the protocol wants a thread named.
+abbrev pub needs_thread : SessionName → Bool
+needs_thread (session.Moves way) = true
+needs_thread (session.Changes change.Goto) = true
+needs_thread (session.Shows query.StackTrace) = true
+needs_thread (session.Shows query.ExceptionInfo) = true
+needs_thread (session.Shows query.Pause) = true
+needs_thread _ = false
+
+-- There is one thread, of the number 1.
+abbrev pub is_thread : Option ℕ → Bool
+is_thread None = false
+is_thread (Some number) = number == 1
+
+abbrev pub is_of_thread : Data → Bool
+is_of_thread request = is_thread (number_at (codes "/arguments/threadId") request)
+
+abbrev pub asked_of : Data → SessionName → SeenSessionRequest
+asked_of request (session.Moves way) = seen.moves way
+asked_of request (session.Sets name) = seen.sets (breakpoints_by request name)
+asked_of request (session.Changes name) = seen.changes (change_by request name)
+asked_of request (session.Shows name) = seen.shows (query_by request name)
+asked_of request session.ConfigurationDone = seen.configuration_done
+asked_of request session.Restart = seen.restart
+asked_of request session.Terminate = seen.terminate
+asked_of request session.Other = seen.other
+
+abbrev pub asked_by : Data → SessionName → SeenSessionRequest
+asked_by request name = if needs_thread name
+    then (if is_of_thread request then asked_of request name else seen.no_thread)
+    else asked_of request name
+
+abbrev pub launch_of : Data → SeenLaunch
+launch_of request = record {
+  program = text_at (codes "/arguments/program") request;
+  tape = is_set (codes "/arguments/tape") request;
+  bin = text_at (codes "/arguments/bin") request;
+  prg = is_set (codes "/arguments/prg") request;
+  port = text_at (codes "/arguments/port") request;
+  rom = text_at (codes "/arguments/rom") request;
+  profile = text_at (codes "/arguments/profile") request;
+  symbols = text_at (codes "/arguments/symbols") request;
+  history = number_at (codes "/arguments/history") request;
+  steps = number_at (codes "/arguments/steps") request;
+  stop_on_entry = unwrap_or (flag_at (codes "/arguments/stopOnEntry") request) true;
+}
+
+abbrev pub request_by : Data → RequestName → SeenRequest
+request_by message to.Initialize = seen.initialize (counting_of message)
+request_by message to.Launch = seen.launch (launch_of message)
+request_by message to.Disconnect = seen.disconnect
+request_by message (to.InSession name) = seen.in_session (asked_by message name)
+request_by message to.NoRequest = seen.no_request
+
+abbrev pub request_of : Data → SeenRequest
+request_of message = request_by message (name_of message)

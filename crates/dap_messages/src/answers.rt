@@ -5,7 +5,7 @@ ghost use Rattle.serde_json.specs.View.{view};
 ghost use Rattle.dap_messages.specs.Answers.{evaluated_body, exception_body, value_set_body};
 ghost use Rattle.dap_messages.specs.Answers.{written_body};
 
-use json_values::Object;
+use json_messages::Object;
 use serde_json::Value;
 use std::alloc::{AllocError, Global};
 

@@ -3,10 +3,10 @@
 ghost use Rattle.std.specs.Prelude.{◌≡◌, IfOk, map as each};
 ghost use Rattle.serde_json.specs.View.{view};
 ghost use Rattle.dap_messages.specs.Answers.{breakpoints_body};
-ghost use Rattle.dap_messages.specs.Bodies.{capabilities, continued, nothing, scope};
-ghost use Rattle.dap_messages.specs.Bodies.{scopes, threads};
+ghost use Rattle.dap_messages.specs.Bodies.{capabilities, continued, first_scopes, nothing};
+ghost use Rattle.dap_messages.specs.Bodies.{other_scopes, scope, scopes, threads};
 
-use json_values::{Object, ValueList};
+use json_messages::{Object, ValueList};
 use serde_json::Value;
 use std::alloc::{AllocError, Global};
 
@@ -74,9 +74,10 @@ fn scope(alloc: Global, name: &str, number: u64) -> Result<Value, AllocError>
         .build()
 }
 
-/// Returns the scopes: registers, flags, symbols, the stack, the zero page and the machine.
-pub fn scopes(alloc: Global) -> Result<Value, AllocError>
-    ensures { IfOk result (λ v. view v ≡ scopes) }
+/// Returns the scopes of the first frame: registers, flags, symbols, the stack, the zero page and
+/// the machine.
+fn first_scopes(alloc: Global) -> Result<Value, AllocError>
+    ensures { IfOk result (λ v. view v ≡ first_scopes) }
 {
     let scopes = ValueList::new(alloc)
         .with(scope(alloc, "Registers", 1))
@@ -87,6 +88,30 @@ pub fn scopes(alloc: Global) -> Result<Value, AllocError>
         .with(scope(alloc, "Machine", 6))
         .build();
     Object::new(alloc).member("scopes", scopes).build()
+}
+
+/// Returns the scopes of another frame, of which registers and flags are not known any more.
+fn other_scopes(alloc: Global) -> Result<Value, AllocError>
+    ensures { IfOk result (λ v. view v ≡ other_scopes) }
+{
+    let scopes = ValueList::new(alloc)
+        .with(scope(alloc, "Symbols", 3))
+        .with(scope(alloc, "Stack", 4))
+        .with(scope(alloc, "Zero page", 5))
+        .with(scope(alloc, "Machine", 6))
+        .build();
+    Object::new(alloc).member("scopes", scopes).build()
+}
+
+/// Returns the scopes of the first frame, or of another one.
+pub fn scopes(alloc: Global, is_first: bool) -> Result<Value, AllocError>
+    ensures { IfOk result (λ v. view v ≡ scopes is_first) }
+{
+    if is_first {
+        first_scopes(alloc)
+    } else {
+        other_scopes(alloc)
+    }
 }
 
 /// Returns what is answered to a move.

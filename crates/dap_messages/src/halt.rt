@@ -22,8 +22,10 @@ pub enum Reason {
     Exception,
     /// Another instruction was made the next.
     Goto,
-    /// Nothing has stopped the run so far, or there is nothing to do.
+    /// There is nothing to do.
     Pause,
+    /// Nothing has stopped the run so far.
+    NoStop,
 }
 
 impl Reason {
@@ -39,7 +41,7 @@ impl Reason {
             Reason::DataBreakpoint => "data breakpoint",
             Reason::Exception => "exception",
             Reason::Goto => "goto",
-            Reason::Pause => "pause",
+            Reason::Pause | Reason::NoStop => "pause",
         }
     }
 }

@@ -1,12 +1,16 @@
 //! The messages of the Debug Adapter Protocol: what a client asks for, and what it is sent.
 //!
-//! `requests` reads what a message asks for by its command. `listed` is what a client has listed
-//! and was told, `halt` why the machine stands, `source` the source that it sees. `counting` is
-//! how a client counts lines, `references` how it names an address. `message` puts a body, a
-//! refusal or an event into a message with its number, `bodies` has the bodies that say the same
-//! whatever the session. `texts` has addresses and references as they are shown, `answers` the
-//! bodies of other answers. Which request each command is stands in `specs/Requests.antt`, what a
-//! client means in `specs/Counting.antt` and `specs/References.antt`, what the messages are in
+//! `reading` reads a message to a `request`, which has its arguments; `names` has which request a
+//! message is, by its command. `listed` is what a client has listed and was told, `halt` why the
+//! machine stands. `counting` is how a client counts lines, `references` how it names an address.
+//! `message` puts a body, a refusal or an event into a message with its number, `bodies` has the
+//! bodies that say the same whatever the session. `texts` has addresses and references as they are
+//! shown, `answers` the bodies of other answers.
+//!
+//! Which request each command is stands in `specs/Names.antt`, what a message asks for in
+//! `specs/Requests.antt`, with the requests of `specs/Seen.antt`. What a client means stands in
+//! `specs/Counting.antt` and `specs/References.antt`, which numbers breakpoints have in
+//! `specs/Listed.antt`, what the messages are in
 //! `specs/Messages.antt`, the bodies in `specs/Bodies.antt`, `specs/Texts.antt` and
 //! `specs/Answers.antt`.
 #![tactic(auto)]
@@ -17,18 +21,21 @@ mod counting;
 mod halt;
 mod listed;
 mod message;
+mod names;
+mod reading;
 mod references;
 mod request;
-mod requests;
 mod texts;
 
 pub use answers::{evaluated, exception, value_set, written_body};
 pub use bodies::{breakpoints_body, capabilities, continued, nothing, scopes, threads};
 pub use counting::Counting;
 pub use halt::{Halt, Reason, stand_by};
-pub use listed::{Listed, Told};
+pub use listed::{AddressList, LineList, Listed, Placed, Told, number_addresses, number_lines};
 pub use message::{Message, message_value, next_number};
-pub use references::{offset_at, place_at};
-pub use request::{Breakpoints, Change, Move, Query, Request, SessionRequest};
-pub use requests::{command_of, number_of, request_of};
+pub use reading::request_of;
+pub use request::{
+    Access, Breakpoints, Change, Condition, DataBreakpoint, InstructionBreakpoint, Launch, Move,
+    Page, Query, Request, Scope, SessionRequest, SourceBreakpoint,
+};
 pub use texts::{address_text, reference};

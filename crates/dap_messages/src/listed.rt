@@ -1,21 +1,48 @@
 //! What a client has listed, and what it was told.
 
-ghost use Rattle.std.specs.Prelude.{◌≡◌, []};
+ghost use Rattle.std.specs.Prelude.{◌≡◌, [], length};
+ghost use Rattle.dap_messages.specs.Listed.{addresses_of, lines_of, reserved, reserving};
 
-use serde_json::Value;
+use crate::halt::Reason;
+use crate::message::next_number;
+use crate::request::{DataBreakpoint, InstructionBreakpoint, SourceBreakpoint};
 use std::alloc::Global;
+
+/// A breakpoint that stands at an address, with its number.
+#[derive(Clone, Copy)]
+pub struct Placed {
+    pub id: u64,
+    pub address: u16,
+}
+
+/// Breakpoints at lines, as a client has listed them. The first has this number, and each other the
+/// number behind that of the one before.
+#[derive(Drop)]
+pub struct LineList {
+    pub first: u64,
+    pub list: Vec<SourceBreakpoint>,
+}
+
+/// Breakpoints at addresses, as a client has listed them, numbered so too.
+#[derive(Drop)]
+pub struct AddressList {
+    pub first: u64,
+    pub list: Vec<InstructionBreakpoint>,
+}
 
 /// The breakpoints that a client has listed.
 #[derive(Drop)]
 pub struct Listed {
-    /// The addresses of those of the source.
-    pub lines: Vec<u16>,
-    /// The addresses of those at addresses.
-    pub addresses: Vec<u16>,
-    /// The last requests for both, and for bytes that are watched.
-    pub line_request: Option<Value>,
-    pub address_request: Option<Value>,
-    pub data_request: Option<Value>,
+    /// Where those of the source stand that are set.
+    pub lines: Vec<Placed>,
+    /// Where those at addresses stand that are set.
+    pub addresses: Vec<Placed>,
+    /// What the last request for each kind has listed, if there was one.
+    pub last_lines: Option<LineList>,
+    pub last_addresses: Option<AddressList>,
+    pub last_bytes: Option<Vec<DataBreakpoint>>,
+    /// The number of the next breakpoint that is listed.
+    pub next: u64,
 }
 
 impl Listed {
@@ -27,17 +54,60 @@ impl Listed {
         Listed {
             lines: Vec::new(alloc),
             addresses: Vec::new(alloc),
-            line_request: None,
-            address_request: None,
-            data_request: None,
+            last_lines: None,
+            last_addresses: None,
+            last_bytes: None,
+            next: 1,
         }
     }
 }
 
-/// What a client was told: how many of the bytes that the program put out, and why the machine
-/// stands.
+/// Returns the number behind so many numbers, of which the first is given.
+fn behind(first: u64, count: usize) -> u64
+    ensures { result ≡ reserved first count }
+{
+    let mut next = first;
+    for _ in 0..count {
+        next = next_number(next);
+    }
+    next
+}
+
+/// Returns the number of the first of so many breakpoints that are listed. The next one that is
+/// listed has the number behind the last of them.
+fn reserve(listed: &mut Listed, count: usize) -> u64
+    ensures first { result ≡ listed.old.next }
+    ensures next { listed.new ≡ reserving count listed.old }
+{
+    let first = listed.next;
+    listed.next = behind(first, count);
+    first
+}
+
+/// Returns breakpoints at lines that a client lists, with their numbers.
+pub fn number_lines(listed: &mut Listed, list: Vec<SourceBreakpoint>) -> LineList
+    ensures list { result ≡ lines_of listed.old list }
+    ensures next { listed.new ≡ reserving (length list.items) listed.old }
+{
+    let first = reserve(listed, list.len());
+    LineList { first, list }
+}
+
+/// Returns breakpoints at addresses that a client lists, with their numbers.
+pub fn number_addresses(listed: &mut Listed, list: Vec<InstructionBreakpoint>) -> AddressList
+    ensures list { result ≡ addresses_of listed.old list }
+    ensures next { listed.new ≡ reserving (length list.items) listed.old }
+{
+    let first = reserve(listed, list.len());
+    AddressList { first, list }
+}
+
+/// What a client was told: how many of the bytes that the program put out, why the machine stands,
+/// and whether the program has ended.
 #[derive(Drop)]
 pub struct Told {
     pub count: u32,
+    pub reason: Reason,
     pub words: String,
+    pub is_over: bool,
 }

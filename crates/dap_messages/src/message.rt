@@ -2,11 +2,12 @@
 
 ghost use Rattle.std.specs.Prelude.{◌≡◌, IfOk};
 ghost use Rattle.dap_messages.specs.Messages.{data_of, next_number, response_members, said_of};
-ghost use Rattle.json_values.specs.Objects.{IsObject};
+ghost use Rattle.json_messages.specs.Objects.{IsObject};
 ghost use Rattle.serde_json.specs.View.{view};
 
-use crate::requests::{command_of, number_of};
-use json_values::Object;
+use crate::bodies::nothing;
+use crate::names::{command_of, number_of};
+use json_messages::Object;
 use serde_json::Value;
 use std::alloc::{AllocError, Global};
 
@@ -55,6 +56,7 @@ pub fn message_value(
             .flag("success", true)
             .build(),
         Message::Refused(words) => response(alloc, request)
+            .member("body", nothing(alloc))
             .word("message", words.as_str())
             .count("seq", number)
             .flag("success", false)

@@ -4,7 +4,7 @@ ghost use Rattle.std.specs.Prelude.{◌≡◌};
 ghost use Rattle.dap_messages.specs.References.{address_of, offset_at, place_at};
 ghost use Rattle.serde_json.specs.View.{view};
 
-use json_values::text_at;
+use json_messages::text_at;
 use serde_json::Value;
 
 /// Returns the address of a reference, if it is one.

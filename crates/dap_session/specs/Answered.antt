@@ -1,42 +1,48 @@
 -- What a request does to a session, and what is answered. Source: Debug Adapter Protocol 1.65; mos65.
-use Rattle.std.specs.Prelude.{ℕ, ◌≡◌, if◌then◌else◌, List, [], ◌∷◌, codes, option_map, string_bytes, Option, Some, None}
-use Rattle.dap_views.specs.Breaks.{SetsAddresses, SetsLines, SetsSource}
+use Rattle.std.specs.Prelude.{ℕ, ◌≡◌, ◌==◌, ◌&&◌, Bool, true, false, if◌then◌else◌, List, [], ◌∷◌, codes, length, string_bytes, Option, Some, None, Vec}
+use Rattle.std.specs.declared.alloc.Global.{Global}
+use Rattle.dap_views.specs.Breaks.{HoldsAddresses, HoldsLines, SetsAddresses, SetsLines, SetsSource}
 use Rattle.dap_session.specs.Completions.{completions}
 use Rattle.dap_views.specs.Targets.{AreTargets}
 use Rattle.dap_views.specs.Watches.{KeepsBreaks, SetsWatches, TellsWatches, data_shown}
 use Rattle.dap_messages.specs.Bodies.{continued, nothing, scopes, threads}
 use Rattle.dap_messages.specs.Messages.{Said, done, event}
 use Rattle.dap_messages.specs.declared.halt.Reason.{Reason}
-use Rattle.dap_messages.specs.declared.halt.Reason.TheVariants.{Entry}
+use Rattle.dap_messages.specs.declared.halt.Reason.TheVariants.{Entry, NoStop}
+use Rattle.dap_messages.specs.Listed.{addresses_of, lines_of, reserving}
+use Rattle.dap_messages.specs.declared.listed.AddressList.{AddressList}
+use Rattle.dap_messages.specs.declared.listed.LineList.{LineList}
 use Rattle.dap_messages.specs.declared.listed.Listed.{Listed}
 use Rattle.dap_messages.specs.declared.request.Breakpoints.{Breakpoints}
 use Rattle.dap_messages.specs.declared.request.Breakpoints.TheVariants as kind
+use Rattle.dap_messages.specs.declared.request.Change.{Change}
 use Rattle.dap_messages.specs.declared.request.Change.TheVariants as change
+use Rattle.dap_messages.specs.declared.request.DataBreakpoint.{DataBreakpoint}
 use Rattle.dap_messages.specs.declared.request.Move.{Move}
 use Rattle.dap_messages.specs.declared.request.Move.TheVariants as move
 use Rattle.dap_messages.specs.declared.request.Query.{Query}
 use Rattle.dap_messages.specs.declared.request.Query.TheVariants as query
 use Rattle.dap_messages.specs.declared.request.SessionRequest.{SessionRequest}
 use Rattle.dap_messages.specs.declared.request.SessionRequest.TheVariants as to
+use Rattle.dap_messages.specs.Seen.{launch_view}
 use Rattle.dap_session.specs.Begun.{IsLaunched}
 use Rattle.dap_session.specs.Changes.{Goes, HasChanged, TellsValue, Writes, change_asked}
-use Rattle.dap_session.specs.Console.{Evaluates, is_console}
+use Rattle.dap_session.specs.Console.{Evaluates}
 use Rattle.dap_desk.specs.Breaks.{KeepsEvents}
 use Rattle.dap_desk.specs.Moves.{KeepsWatches, Stand, moved, moved_fault, moved_reason, moved_words, stand_of}
-use Rattle.dap_session.specs.Options.{program_of, steps_of, stops_on_entry}
-use Rattle.dap_session.specs.Stands.{KeepsProgram, TellsGone, TellsStand}
-use Rattle.dap_session.specs.declared.seat.Seat.{Seat}
+use Rattle.dap_session.specs.Options.{program_of, steps_of}
+use Rattle.dap_session.specs.Stands.{KeepsProgram, NotesReason, TellsGone, TellsStand}
+use Rattle.dap_session.specs.declared.client.Client.{Client}
 use Rattle.dap_session.specs.declared.wording.TheConstants.{NOT_BEGUN}
 use Rattle.dap_messages.specs.Answers.{breakpoints_body, exception_body}
 use Rattle.dap_messages.specs.declared.counting.Counting.{Counting}
-use Rattle.dap_views.specs.Frames.{AreFrames, wants_first}
+use Rattle.dap_views.specs.Frames.{AreFrames}
 use Rattle.dap_views.specs.Memory.{memory_shown}
 use Rattle.dap_views.specs.Rows.{disassembled}
 use Rattle.dap_views.specs.Scopes.{variables_shown}
 use Rattle.model.specs.declared.event.EventFault.{EventFault}
-use Rattle.mon_session.specs.declared.desk.Desk.{Desk}
+use Rattle.mon_session.specs.declared.mon_state.MonState.{MonState}
 use Rattle.serde_json.specs.Data.{Data}
-use Rattle.serde_json.specs.View.{view}
 
 -- A request is done, and nothing more is said.
 abbrev pub all_done : List Said
@@ -45,153 +51,202 @@ all_done = done nothing ∷ []
 -- ---- where a session stands first
 
 -- The machine stands before the first instruction, or has run to a stop.
-abbrev pub begun_stand : Seat → Stand
-begun_stand seat = if stops_on_entry (view seat.launch) then stand_of seat.desk
-    else moved (steps_of (view seat.launch)) move.Go seat.desk
+abbrev pub begun_stand : Client → Stand
+begun_stand client = if client.launch.stop_on_entry then stand_of client.mon
+    else moved (steps_of (launch_view client.launch)) move.Go client.mon
 
-abbrev pub begun_reason : Seat → Reason
-begun_reason seat = if stops_on_entry (view seat.launch) then Entry
-    else moved_reason (steps_of (view seat.launch)) move.Go seat.desk
+abbrev pub begun_reason : Client → Reason
+begun_reason client = if client.launch.stop_on_entry then Entry
+    else moved_reason (steps_of (launch_view client.launch)) move.Go client.mon
 
-abbrev pub begun_words : Seat → List ℕ
-begun_words seat = if stops_on_entry (view seat.launch) then NOT_BEGUN.now
-    else moved_words (steps_of (view seat.launch)) move.Go seat.desk
+abbrev pub begun_words : Client → List ℕ
+begun_words client = if client.launch.stop_on_entry then NOT_BEGUN.now
+    else moved_words (steps_of (launch_view client.launch)) move.Go client.mon
 
-abbrev pub begun_fault : Seat → Option EventFault
-begun_fault seat = if stops_on_entry (view seat.launch) then None
-    else moved_fault (steps_of (view seat.launch)) move.Go seat.desk
+abbrev pub begun_fault : Client → Option EventFault
+begun_fault client = if client.launch.stop_on_entry then None
+    else moved_fault (steps_of (launch_view client.launch)) move.Go client.mon
 
 -- So it stands after a request, and that is told.
-abbrev pub Begins : Seat → Seat → List Said → Type 0
-Begins old new said = (stand_of new.desk ≡ begun_stand old) × KeepsWatches old.desk new.desk
+abbrev pub Begins : Client → Client → List Said → Type 0
+Begins old new said = (stand_of new.mon ≡ begun_stand old) × KeepsWatches old.mon new.mon
     × KeepsProgram old new
-    × TellsStand (begun_reason old) (begun_words old) (begun_fault old) old new.desk nothing said
+    × TellsStand (begun_reason old) (begun_words old) (begun_fault old) old new.mon nothing said
+    × NotesReason (begun_reason old) old new
 
 -- ---- what is shown
 
--- The value that is answered to a request that changes nothing.
-abbrev pub IsShown : Query → Data → Counting → Seat → Data → Type 0
-IsShown query.Threads request counting seat v = v ≡ threads
-IsShown query.StackTrace request counting seat v = AreFrames (wants_first request)
-    seat.desk.places (program_of (view seat.launch)) counting seat.desk.session.current.regs.pc v
-IsShown query.Scopes request counting seat v = v ≡ scopes
-IsShown query.Variables request counting seat v
-    = v ≡ variables_shown seat.desk.session seat.desk.places.names request
-IsShown query.ReadMemory request counting seat v
-    = v ≡ memory_shown seat.desk.session.current.bus.memory request
-IsShown query.Disassemble request counting seat v
-    = v ≡ disassembled seat.desk (program_of (view seat.launch)) counting request
-IsShown query.GotoTargets request counting seat v
-    = AreTargets counting (program_of (view seat.launch)) seat.assembly request v
-IsShown query.DataBreakpointInfo request counting seat v = v ≡ data_shown seat.desk request
-IsShown query.Completions request counting seat v
-    = v ≡ completions counting seat.desk.places.names request
-IsShown query.ExceptionInfo request counting seat v
-    = v ≡ exception_body (string_bytes seat.told.words)
-IsShown query.SetExceptionBreakpoints request counting seat v = v ≡ breakpoints_body []
-IsShown query.Pause request counting seat v = v ≡ nothing
+abbrev pub is_first_frame : Option ℕ → Bool
+is_first_frame (Some id) = id == 1
+is_first_frame None = false
 
-abbrev pub Shows : Query → Data → Counting → Seat → List Said → Type 0
-Shows query request counting seat said
-    = (v : Data) × IsShown query request counting seat v × (said ≡ done v ∷ [])
+-- The value that is answered to a question, which changes nothing.
+abbrev pub IsShown : Query → Counting → Client → Data → Type 0
+IsShown query.Threads counting client v = v ≡ threads
+IsShown (query.StackTrace page) counting client v = AreFrames client.mon.session.current
+    client.mon.places (program_of (launch_view client.launch)) counting page v
+IsShown (query.Scopes frame) counting client v = v ≡ scopes (is_first_frame frame)
+IsShown (query.Variables scope page) counting client v
+    = v ≡ variables_shown client.mon.session client.mon.places.names scope page
+IsShown (query.ReadMemory address count) counting client v
+    = v ≡ memory_shown client.mon.session.current.bus.memory address count
+IsShown (query.Disassemble address offset count) counting client v = v
+    ≡ disassembled client.mon (program_of (launch_view client.launch)) counting address offset count
+IsShown (query.GotoTargets path line) counting client v = AreTargets counting
+    (program_of (launch_view client.launch)) client.assembly path.now line v
+IsShown (query.DataBreakpointInfo scope name) counting client v
+    = v ≡ data_shown client.mon scope name.now
+IsShown (query.Completions text column) counting client v
+    = v ≡ completions counting client.mon.places.names text.now column
+IsShown query.ExceptionInfo counting client v = v ≡ exception_body (string_bytes client.told.words)
+IsShown query.SetExceptionBreakpoints counting client v = v ≡ breakpoints_body []
+IsShown query.Pause counting client v = v ≡ nothing
+
+abbrev pub Shows : Query → Counting → Client → List Said → Type 0
+Shows query counting client said
+    = (v : Data) × IsShown query counting client v × (said ≡ done v ∷ [])
 
 -- ---- breakpoints of a kind
 
--- The request is held as the last one for lines, for addresses or for watches.
-abbrev pub IsHeld : Breakpoints → Data → Listed → Listed → Type 0
-IsHeld kind.Source request old new = (option_map view new.line_request ≡ Some request)
-    × (new.address_request ≡ old.address_request) × (new.data_request ≡ old.data_request)
-IsHeld kind.Instruction request old new = (option_map view new.address_request ≡ Some request)
-    × (new.line_request ≡ old.line_request) × (new.data_request ≡ old.data_request)
-IsHeld kind.Data request old new = (option_map view new.data_request ≡ Some request)
-    × (new.line_request ≡ old.line_request) × (new.address_request ≡ old.address_request)
+-- A list is held as the last one for watches.
+abbrev pub HoldsBytes : Vec DataBreakpoint Global → Listed → Listed → Type 0
+HoldsBytes listed old new = (new.last_bytes ≡ Some listed)
+    × (new.last_lines ≡ old.last_lines) × (new.last_addresses ≡ old.last_addresses)
+    × (new.next ≡ old.next)
 
--- They are replaced by those of a list, and each of these is told of. Of watches is told whether
--- each byte is watched.
-abbrev pub SetsListed : Breakpoints → Data → Counting → Seat → Seat → Data → Type 0
-SetsListed kind.Source request counting old new v
-    = SetsSource counting (program_of (view old.launch)) old.assembly request old.listed new.listed
-    old.desk new.desk v × KeepsEvents old.desk new.desk
-SetsListed kind.Instruction request counting old new v = SetsAddresses counting request
-    old.listed.addresses.items new.listed.addresses.items old.desk new.desk v
-    × KeepsEvents old.desk new.desk × IsHeld kind.Instruction request old.listed new.listed
-SetsListed kind.Data request counting old new v = SetsWatches request old.desk new.desk
-    × KeepsBreaks old.desk new.desk × TellsWatches request new.desk.stops.watches.items v
-    × IsHeld kind.Data request old.listed new.listed
+-- Those of a kind are replaced by those of a list, and each of these is told of. Of watches is told
+-- whether each byte is watched.
+abbrev pub ListsLines : Counting → LineList → Client → Client → Data → Type 0
+ListsLines counting listed old new v = SetsLines counting old.assembly listed
+    old.listed.lines.items new.listed.lines.items old.mon new.mon v
+    × KeepsEvents old.mon new.mon × HoldsLines listed old.listed new.listed
 
-abbrev pub Sets : Breakpoints → Data → Counting → Seat → Seat → List Said → Type 0
-Sets kind request counting old new said
-    = (v : Data) × SetsListed kind request counting old new v × (said ≡ done v ∷ [])
+abbrev pub ListsAddresses : Counting → AddressList → Client → Client → Data → Type 0
+ListsAddresses counting listed old new v = SetsAddresses counting listed
+    old.listed.addresses.items new.listed.addresses.items old.mon new.mon v
+    × KeepsEvents old.mon new.mon × HoldsAddresses listed old.listed new.listed
+
+abbrev pub ListsBytes : Vec DataBreakpoint Global → Client → Client → Data → Type 0
+ListsBytes listed old new v = SetsWatches listed.items old.mon new.mon
+    × KeepsBreaks old.mon new.mon
+    × TellsWatches listed.items new.mon.stops.watches.items v
+    × HoldsBytes listed old.listed new.listed
+
+-- They get the next numbers. Those of a source are not set if it is another than that of the session.
+abbrev pub with_reserved : ℕ → Client → Client
+with_reserved count client = record client { listed = reserving count client.listed }
+
+abbrev pub SetsSourceOf : Counting → List ℕ → LineList → Client → Client → Data → Type 0
+SetsSourceOf counting path listed old new v = SetsSource counting
+    (program_of (launch_view old.launch)) old.assembly path listed old.listed new.listed
+    old.mon new.mon v × KeepsEvents old.mon new.mon
+
+abbrev pub SetsListed : Breakpoints → Counting → Client → Client → Data → Type 0
+SetsListed (kind.Source path listed) counting old new v = SetsSourceOf counting path.now
+    (lines_of old.listed listed) (with_reserved (length listed.items) old) new v
+SetsListed (kind.Instruction listed) counting old new v = ListsAddresses counting
+    (addresses_of old.listed listed) (with_reserved (length listed.items) old) new v
+SetsListed (kind.Data listed) counting old new v = ListsBytes listed old new v
+
+abbrev pub Sets : Breakpoints → Counting → Client → Client → List Said → Type 0
+Sets listed counting old new said
+    = (v : Data) × SetsListed listed counting old new v × (said ≡ done v ∷ [])
 
 -- ---- a session that begins again from its file
 
 -- Events, names, lines, and what is shown at each stop are what they were.
-abbrev pub KeepsMade : Desk → Desk → Type 0
+abbrev pub KeepsMade : MonState → MonState → Type 0
 KeepsMade old new = (new.events ≡ old.events) × (new.places ≡ old.places)
     × (new.displays ≡ old.displays)
 
--- The last list of a kind is set as it was asked for, if there was one. That of a source is one of
--- the source of the session.
-abbrev pub SetsHeld : Breakpoints → Data → Counting → Seat → Seat → Data → Type 0
-SetsHeld kind.Source request counting old new v = SetsLines counting old.assembly request
-    old.listed.lines.items new.listed.lines.items old.desk new.desk v
-    × KeepsEvents old.desk new.desk × IsHeld kind.Source request old.listed new.listed
-SetsHeld kind request counting old new v = SetsListed kind request counting old new v
+-- The last list of a kind is set as it was asked for, if there was one.
+abbrev pub SetsAgain : {L : Type 0} → (L → Client → Client → Data → Type 0) → Option L → Client → Client
+    → Type 0
+SetsAgain Lists None old new = new ≡ old
+SetsAgain Lists (Some listed) old new = (v : Data) × Lists listed old new v
 
-abbrev pub SetsAgain : Breakpoints → Option Data → Counting → Seat → Seat → Type 0
-SetsAgain kind None counting old new = new ≡ old
-SetsAgain kind (Some request) counting old new
-    = (v : Data) × SetsHeld kind request counting old new v
+-- So are the last lists of all kinds, with the numbers that they had.
+abbrev pub with_next : ℕ → Client → Client
+with_next n client = record client { listed = record client.listed { next = n } }
 
--- So are the last lists of all kinds.
-abbrev pub SetsAllAgain : Listed → Counting → Seat → Seat → Type 0
-SetsAllAgain held counting old new = (lines : Seat) × (addresses : Seat)
-    × SetsAgain kind.Source (option_map view held.line_request) counting old lines
-    × SetsAgain kind.Instruction (option_map view held.address_request) counting lines addresses
-    × SetsAgain kind.Data (option_map view held.data_request) counting addresses new
+abbrev pub SetsAllAgain : Listed → Counting → Client → Client → Type 0
+SetsAllAgain held counting old new = (lines : Client) × (addresses : Client)
+    × SetsAgain (ListsLines counting) held.last_lines (with_next held.next old) lines
+    × SetsAgain (ListsAddresses counting) held.last_addresses lines addresses
+    × SetsAgain ListsBytes held.last_bytes addresses new
 
 -- It begins by the launch of another, and has the breakpoints and the watches that the client has
 -- listed there last.
-abbrev pub BeginsAgain : Counting → Seat → Seat → Type 0
-BeginsAgain counting old new = (begun : Seat) × IsLaunched (view old.launch) begun
-    × SetsAllAgain old.listed counting begun new × KeepsMade begun.desk new.desk
+abbrev pub BeginsAgain : Counting → Client → Client → Type 0
+BeginsAgain counting old new = (begun : Client) × IsLaunched (launch_view old.launch) begun
+    × SetsAllAgain old.listed counting begun new × KeepsMade begun.mon new.mon
     × (new.launch ≡ begun.launch)
 
 -- The machine stands where a session stands first.
-abbrev pub Restarts : Counting → Seat → Seat → List Said → Type 0
+abbrev pub Restarts : Counting → Client → Client → List Said → Type 0
 Restarts counting old new said
-    = (begun : Seat) × BeginsAgain counting old begun × Begins begun new said
+    = (begun : Client) × BeginsAgain counting old begun × Begins begun new said
 
 -- ---- all requests of a session
 
 -- The program is said to have ended.
+abbrev pub ended : Client → Client
+ended client = record client { told = record client.told { is_over = true } }
+
 abbrev pub Terminates : List Said → Type 0
 Terminates said = said ≡ done nothing ∷ event (codes "terminated") nothing ∷ []
 
 -- A move is made, and it is told why the machine stands.
-abbrev pub Moves : Move → Seat → Seat → List Said → Type 0
+abbrev pub Moves : Move → Client → Client → List Said → Type 0
 Moves way old new said
-    = (stand_of new.desk ≡ moved (steps_of (view old.launch)) way old.desk)
-    × KeepsWatches old.desk new.desk × KeepsProgram old new
-    × TellsStand (moved_reason (steps_of (view old.launch)) way old.desk)
-    (moved_words (steps_of (view old.launch)) way old.desk)
-    (moved_fault (steps_of (view old.launch)) way old.desk) old new.desk continued said
+    = (stand_of new.mon ≡ moved (steps_of (launch_view old.launch)) way old.mon)
+    × KeepsWatches old.mon new.mon × KeepsProgram old new
+    × TellsStand (moved_reason (steps_of (launch_view old.launch)) way old.mon)
+    (moved_words (steps_of (launch_view old.launch)) way old.mon)
+    (moved_fault (steps_of (launch_view old.launch)) way old.mon) old new.mon continued said
+    × NotesReason (moved_reason (steps_of (launch_view old.launch)) way old.mon) old new
 
-unfoldable pub AreAnswers : SessionRequest → Data → Counting → Seat → Seat → List Said → Type 0
-AreAnswers (to.Moves way) request counting old new said = Moves way old new said
-AreAnswers to.ConfigurationDone request counting old new said = Begins old new said
-AreAnswers (to.Sets kind) request counting old new said = Sets kind request counting old new said
-AreAnswers (to.Changes change.Evaluate) request counting old new said
-    = Evaluates (is_console request) request old.desk new.desk said
-AreAnswers (to.Changes change.SetVariable) request counting old new said
-    = HasChanged (change_asked request old.desk) old.desk new.desk
-    × TellsValue request new.desk said
-AreAnswers (to.Changes change.Goto) request counting old new said
-    = Goes request old.desk new.desk × TellsGone old new.desk said
-AreAnswers (to.Changes change.WriteMemory) request counting old new said
-    = Writes request old.desk new.desk said
-AreAnswers (to.Shows query) request counting old new said
-    = (new ≡ old) × Shows query request counting old said
-AreAnswers to.Restart request counting old new said = Restarts counting old new said
-AreAnswers to.Terminate request counting old new said = (new ≡ old) × Terminates said
-AreAnswers to.Other request counting old new said = ⊥
+-- A change is made, which can be undone, and what it has done is told.
+abbrev pub HasChangedBy : Change → Counting → Client → Client → List Said → Type 0
+HasChangedBy (change.Evaluate text is_console) counting old new said
+    = Evaluates is_console text.now old new said
+HasChangedBy (change.SetVariable scope name value) counting old new said
+    = HasChanged (change_asked scope name.now value.now old.mon) old.mon new.mon
+    × TellsValue counting scope name.now old.mon new.mon said
+HasChangedBy (change.Goto target) counting old new said
+    = Goes target old.mon new.mon × TellsGone old new.mon said
+HasChangedBy (change.WriteMemory place text is_partial) counting old new said
+    = Writes counting place text.now is_partial old.mon new.mon said
+
+unfoldable pub AreAnswers : SessionRequest → Counting → Client → Client → List Said → Type 0
+AreAnswers (to.Moves way) counting old new said = Moves way old new said
+AreAnswers to.ConfigurationDone counting old new said = Begins old new said
+AreAnswers (to.Sets listed) counting old new said = Sets listed counting old new said
+AreAnswers (to.Changes change) counting old new said = HasChangedBy change counting old new said
+AreAnswers (to.Shows query) counting old new said = (new ≡ old) × Shows query counting old said
+AreAnswers to.Restart counting old new said = Restarts counting old new said
+AreAnswers to.Terminate counting old new said = (new ≡ ended old) × Terminates said
+AreAnswers to.NoThread counting old new said = ⊥
+AreAnswers to.Other counting old new said = ⊥
+
+-- So it is answered as long as the program is not said to have ended.
+abbrev pub AreOpenAnswers : SessionRequest → Counting → Client → Client → List Said → Type 0
+AreOpenAnswers asked counting old new said
+    = (old.told.is_over ≡ false) × AreAnswers asked counting old new said
+
+-- ---- a run that goes on
+
+-- A request that lets the machine run: `continue`, and `configurationDone`, after which the machine
+-- is told to stand before the first instruction where it is to stand there.
+abbrev pub lets_run : SessionRequest → Bool
+lets_run (to.Moves move.Go) = true
+lets_run to.ConfigurationDone = true
+lets_run asked = false
+
+abbrev pub is_no_stop : Reason → Bool
+is_no_stop NoStop = true
+is_no_stop other = false
+
+-- A run goes on if nothing has stopped it so far.
+abbrev pub goes_on : Bool → Client → Bool
+goes_on is_run client = is_run && is_no_stop client.told.reason

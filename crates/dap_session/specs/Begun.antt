@@ -1,16 +1,16 @@
 -- A session at which no request was served. Source: mos65.
-use Rattle.std.specs.Prelude.{ℕ, ◌≡◌, List, [], ◌++◌, Option, Some, None}
+use Rattle.std.specs.Prelude.{ℕ, ◌≡◌, false, List, [], ◌++◌, Option, Some, None}
 use Rattle.arguments.specs.Asked.{FileAsked, map_of}
 use Rattle.assembler.specs.Assembly.{AssemblyView, IsAssembled}
-use Rattle.dap_session.specs.Options.{file_at, history_of, symbols_at}
-use Rattle.dap_session.specs.declared.seat.Seat.{Seat}
-use Rattle.loading.specs.Loads.{IsLoaded}
+use Rattle.dap_messages.specs.Seen.{SeenLaunch, launch_view}
+use Rattle.dap_session.specs.Options.{file_at, history_of}
+use Rattle.dap_session.specs.declared.client.Client.{Client}
+use Rattle.loading.specs.Loads.{AreOfFile, IsLoaded}
+use Rattle.loading.specs.declared.loaded.ImageNames.{ImageNames}
 use Rattle.model.specs.Event.{start}
 use Rattle.model.specs.Session.{Session, new_session}
-use Rattle.serde_json.specs.Data.{Data}
-use Rattle.serde_json.specs.View.{view}
 use Rattle.source_map.specs.Lines.{PlacesView, places_of}
-use Rattle.source_map.specs.Names.{names_in}
+use Rattle.source_map.specs.Names.{names_in, other_names}
 
 -- ---- the places of a program
 
@@ -19,46 +19,50 @@ abbrev pub places_in : List ℕ → Option AssemblyView → PlacesView
 places_in file None = record { names = []; lines = []; texts = []; file = [] }
 places_in file (Some assembly) = places_of file assembly
 
--- With the names of another source.
-abbrev pub with_names : AssemblyView → PlacesView → PlacesView
-with_names names places = record places { names = places.names ++ names_in names }
+-- With the names of a file of names: those of its source, and those that cannot stand in one.
+abbrev pub with_names : ImageNames → PlacesView → PlacesView
+with_names names places = record places {
+  names = (places.names ++ names_in names.assembly) ++ other_names names.others;
+}
 
--- A file of names is assembled and its names are added, if one is named.
+-- A file of names is read and its names are added, if one is named.
 abbrev pub AddsNames : Option (List ℕ) → FileAsked → PlacesView → PlacesView → Type 0
 AddsNames None file old new = new ≡ old
-AddsNames (Some path) file old new = (names : AssemblyView) × IsAssembled (map_of file) names
-    × (new ≡ with_names names old)
+AddsNames (Some path) file old new = (names : ImageNames)
+    × IsAssembled (map_of file) names.assembly
+    × AreOfFile file.profile names.assembly names.others × (new ≡ with_names names old)
 
 -- ---- sessions
 
--- A seat with this launch and this session, at which no event was made, no stop is set, and nothing
--- was told.
-pub record IsSeated (asked : Data) (begun : Session) (read : Option AssemblyView)
-    (known : PlacesView) (seat : Seat) : Type 0 where
-  pub launch : view seat.launch ≡ asked
-  pub session : seat.desk.session ≡ begun
-  pub assembly : seat.assembly ≡ read
-  pub places : seat.desk.places ≡ known
-  pub events : seat.desk.events ≡ record { made = []; undone = []; room = history_of asked }
-  pub breaks : seat.desk.stops.breaks.items ≡ []
-  pub watches : seat.desk.stops.watches.items ≡ []
-  pub changes : seat.desk.stops.changes.items ≡ []
-  pub displays : seat.desk.displays.items ≡ []
-  pub text : seat.desk.text.items ≡ []
-  pub lines : seat.listed.lines.items ≡ []
-  pub addresses : seat.listed.addresses.items ≡ []
-  pub told : seat.told.count ≡ 0
+-- A client with this launch and this session, for which no event was made, no stop is set, and
+-- nothing was told.
+pub record IsNewClient (asked : SeenLaunch) (begun : Session) (read : Option AssemblyView)
+    (known : PlacesView) (client : Client) : Type 0 where
+  pub launch : launch_view client.launch ≡ asked
+  pub session : client.mon.session ≡ begun
+  pub assembly : client.assembly ≡ read
+  pub places : client.mon.places ≡ known
+  pub events : client.mon.events ≡ record { made = []; undone = []; room = history_of asked }
+  pub breaks : client.mon.stops.breaks.items ≡ []
+  pub watches : client.mon.stops.watches.items ≡ []
+  pub changes : client.mon.stops.changes.items ≡ []
+  pub displays : client.mon.displays.items ≡ []
+  pub text : client.mon.text.items ≡ []
+  pub lines : client.listed.lines.items ≡ []
+  pub addresses : client.listed.addresses.items ≡ []
+  pub told : client.told.count ≡ 0
+  pub lasts : client.told.is_over ≡ false
 
--- A seat at the start of an image that a file can have, with the names and lines of its source and
--- the names of the file of names that the launch names.
-abbrev pub IsBegun : FileAsked → Data → Seat → Type 0
-IsBegun file request seat = (image : List (Option ℕ)) × (assembly : Option AssemblyView)
+-- A client at the start of an image that a file can have, with the names and lines of its source
+-- and the names of the file of names that the launch names.
+abbrev pub IsBegun : FileAsked → SeenLaunch → Client → Type 0
+IsBegun file launch client = (image : List (Option ℕ)) × (assembly : Option AssemblyView)
     × IsLoaded file image assembly × (known : PlacesView)
-    × AddsNames (symbols_at request) file (places_in file.file assembly) known
-    × IsSeated request (new_session (history_of request) (start (map_of file) image)) assembly known
-    seat
+    × AddsNames launch.symbols file (places_in file.file assembly) known
+    × IsNewClient launch (new_session (history_of launch) (start (map_of file) image)) assembly
+    known client
 
--- A seat at the start of the program that a launch names.
-unfoldable pub IsLaunched : Data → Seat → Type 0
-IsLaunched request seat
-    = (file : FileAsked) × (file_at request ≡ Some file) × IsBegun file request seat
+-- A client at the start of the program that a launch names.
+unfoldable pub IsLaunched : SeenLaunch → Client → Type 0
+IsLaunched launch client
+    = (file : FileAsked) × (file_at launch ≡ Some file) × IsBegun file launch client

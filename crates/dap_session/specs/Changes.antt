@@ -1,126 +1,102 @@
 -- What a request does to a session that changes it by events, which can be undone. Source: Debug
 -- Adapter Protocol 1.65, "SetVariable Request", "Goto Request", "WriteMemory Request"; mos65.
-use Rattle.std.specs.Prelude.{ℕ, suc, ◌+◌, ◌≡◌, ◌==◌, ◌&&◌, ◌||◌, nat_le, nat_lt, Bool, if◌then◌else◌, List, [], ◌∷◌, ◌++◌, codes, length, slice_index, Option, Some, None, option_and_then, unwrap_or, Result, Ok, Err, false}
-use Rattle.std.specs.Option.{option_map_or}
-use Rattle.std.specs.Str.{bytes_eq}
+use Rattle.std.specs.Prelude.{ℕ, suc, ◌+◌, ◌-◌, ◌≡◌, ◌==◌, ◌&&◌, nat_le, nat_lt, not, Bool, true, false, if◌then◌else◌, List, [], ◌∷◌, length, slice_index, take, Option, Some, None, Result, Ok, Err}
 use Rattle.base64.specs.Engines.{standard}
 use Rattle.base64.specs.GeneralPurpose.{decode_of}
-use Rattle.dap_views.specs.Watches.{items_at}
 use Rattle.dap_messages.specs.Answers.{value_set_body, written_body}
-use Rattle.json_values.specs.Fields.{number_at, text_at}
 use Rattle.dap_messages.specs.Messages.{Said, done}
-use Rattle.dap_messages.specs.References.{place_at}
-use Rattle.dap_views.specs.Scopes.{variables_shown}
+use Rattle.dap_messages.specs.declared.counting.Counting.{Counting}
+use Rattle.dap_messages.specs.declared.request.Scope.{Scope}
+use Rattle.dap_views.specs.Named.{value_shown, variable_named}
+use Rattle.dap_views.specs.declared.named.Variable.{Variable}
+use Rattle.dap_views.specs.declared.named.Variable.TheVariants as variable
 use Rattle.dap_session.specs.Told.{unmoved_said}
 use Rattle.mon_session.specs.Course.{KeepsStops, course_of, happened}
-use Rattle.mon_session.specs.declared.desk.Desk.{Desk}
-use Rattle.model.specs.State.{State}
-use Rattle.mon_line_parts.specs.Reading.{SeenWhy}
-use Rattle.mon_line_parts.specs.declared.topic.Topic.{Topic}
-use Rattle.mon_lines.specs.Lines.{SeenCommand, line_of, put, set, set_flag}
+use Rattle.mon_session.specs.declared.mon_state.MonState.{MonState}
+use Rattle.model.specs.Event.{meets_port}
+use Rattle.model.specs.State.{Map, State}
+use Rattle.mon_line_parts.specs.Reading.{SeenFlaw}
+use Rattle.mon_lines.specs.Wholes.{bit_in, bytes_in, setting_in}
+use Rattle.opcode_facts.specs.declared.flag.Flag.{Flag}
 use Rattle.mon_settings.specs.ByteLines.{bytes_put}
 use Rattle.mon_settings.specs.FlagLines.{flag_setting}
 use Rattle.model.specs.declared.event.Event.{Event}
 use Rattle.model.specs.declared.event.Event.TheVariants.{Patch, Set}
+use Rattle.model.specs.declared.event.Setting.{Setting}
 use Rattle.model.specs.declared.event.Setting.TheVariants.{Pc}
-use Rattle.serde_json.specs.Data.{Data}
-use Rattle.serde_json.specs.View.{items_of}
 
 -- ---- a variable
 
--- The line of `mon` that sets a variable: `set` for a register or a flag, `put` for a byte.
-abbrev pub word_for : Option ℕ → List ℕ
-word_for None = codes "put"
-word_for (Some scope) = if scope == 1 || scope == 2 then codes "set" else codes "put"
+-- A register is set.
+abbrev pub register_change : Result Setting SeenFlaw → Option Event
+register_change (Ok setting) = Some (Set setting)
+register_change (Err why) = None
 
-abbrev pub argument : List ℕ → Data → List ℕ
-argument path request = unwrap_or (text_at path request) []
-
-abbrev pub setting_line : Data → List ℕ
-setting_line request = word_for (number_at (codes "/arguments/variablesReference") request)
-    ++ codes " " ++ argument (codes "/arguments/name") request
-    ++ codes " " ++ argument (codes "/arguments/value") request
+-- A flag is set by setting P.
+abbrev pub flag_change : State → Flag → Result Bool SeenFlaw → Option Event
+flag_change s flag (Ok value) = Some (Set (flag_setting flag value s))
+flag_change s flag (Err why) = None
 
 -- One byte of memory is put. More are no value of a variable.
 abbrev pub byte_put : ℕ → List ℕ → Option Event
 byte_put address bytes = if length bytes == 1
     then Some (Patch address (slice_index bytes 0 ∷ 0 ∷ 0 ∷ []) 1) else None
 
--- The event that sets a register, a flag or one byte. A flag is set by setting P.
-abbrev pub change_in : State → SeenCommand → Option Event
-change_in s (set setting) = Some (Set setting)
-change_in s (set_flag flag value) = Some (Set (flag_setting flag value s))
-change_in s (put address bytes) = byte_put address bytes
-change_in s command = None
+abbrev pub byte_change : ℕ → Result (List ℕ) SeenFlaw → Option Event
+byte_change address (Ok bytes) = byte_put address bytes
+byte_change address (Err why) = None
 
-abbrev pub change_read : State → Result SeenCommand (Option Topic × SeenWhy) → Option Event
-change_read s (Ok command) = change_in s command
-change_read s (Err slip) = None
+-- The event that gives a variable the value that a text has.
+abbrev pub change_to : MonState → List ℕ → Variable → Option Event
+change_to mon value (variable.Register register) = register_change
+    (setting_in mon.places.names mon.session.current.regs.pc register value)
+change_to mon value (variable.Flag flag) = flag_change mon.session.current flag
+    (bit_in mon.places.names value)
+change_to mon value (variable.Byte address) = byte_change address
+    (bytes_in mon.places.names value)
 
--- A line of more than 255 bytes sets nothing.
-abbrev pub change_on : Desk → List ℕ → Option Event
-change_on desk line = if nat_lt 255 (length line) then None
-    else change_read desk.session.current
-    (line_of desk.places.names desk.session.current.regs.pc line)
+abbrev pub change_by : MonState → List ℕ → Option Variable → Option Event
+change_by mon value (Some variable) = change_to mon value variable
+change_by mon value None = None
 
-abbrev pub change_asked : Data → Desk → Option Event
-change_asked request desk = change_on desk (setting_line request)
+-- The variable of a scope that has a name.
+abbrev pub variable_asked : Option Scope → List ℕ → MonState → Option Variable
+variable_asked scope name mon
+    = variable_named mon.places.names mon.session.current.regs.pc scope name
+
+abbrev pub change_asked : Option Scope → List ℕ → List ℕ → MonState → Option Event
+change_asked scope name value mon = change_by mon value (variable_asked scope name mon)
 
 -- An event was made, which can be undone.
-abbrev pub HasMade : Event → Desk → Desk → Type 0
+abbrev pub HasMade : Event → MonState → MonState → Type 0
 HasMade made old new = (course_of new ≡ happened made (course_of old)) × KeepsStops old new
 
 -- It was the one that is asked for.
-abbrev pub HasChanged : Option Event → Desk → Desk → Type 0
+abbrev pub HasChanged : Option Event → MonState → MonState → Type 0
 HasChanged asked old new = (made : Event) × (asked ≡ Some made) × HasMade made old new
 
 -- ---- the value that is answered
 
--- Whether a variable has a name.
-abbrev pub is_named : List ℕ → Data → Bool
-is_named name v = option_map_or (λ other. bytes_eq other name) (text_at (codes "/name") v) false
+-- It is the one that the variable has then, and all that is shown may have changed.
+abbrev pub value_said : Counting → MonState → Variable → List Said
+value_said counting mon variable
+    = done (value_set_body (value_shown mon.session.current variable)) ∷ unmoved_said counting
 
--- The value of the first of some variables that has a name.
-abbrev pub value_of : List ℕ → List Data → Option (List ℕ)
-value_of name [] = None
-value_of name (v ∷ vs) = if is_named name v then text_at (codes "/value") v else value_of name vs
-
--- The value that is shown of the variable that a request sets, or else the one that it asks for.
-abbrev pub value_shown : Data → List Data → List ℕ
-value_shown request listed = unwrap_or
-    (value_of (unwrap_or (text_at (codes "/arguments/name") request) []) listed)
-    (unwrap_or (text_at (codes "/arguments/value") request) [])
-
--- It is that of the scope that the request names, and all that is shown may have changed.
-abbrev pub TellsValue : Data → Desk → List Said → Type 0
-TellsValue request desk said = (listed : List Data)
-    × (items_of listed
-    ≡ items_at (codes "/variables") (variables_shown desk.session desk.places.names request))
-    × (said ≡ done (value_set_body (value_shown request listed)) ∷ unmoved_said ∷ [])
+abbrev pub TellsValue : Counting → Option Scope → List ℕ → MonState → MonState → List Said → Type 0
+TellsValue counting scope name old new said = (variable : Variable)
+    × (variable_asked scope name old ≡ Some variable) × (said ≡ value_said counting new variable)
 
 -- ---- another instruction
 
--- The number of a target is an address.
-abbrev pub address_of : ℕ → Option ℕ
-address_of number = if nat_le number 65535 then Some number else None
-
-abbrev pub target_at : Data → Option ℕ
-target_at request = option_and_then address_of
-    (number_at (codes "/arguments/targetId") request)
-
 -- The program counter is set.
-abbrev pub HasGone : ℕ → Desk → Desk → Type 0
+abbrev pub HasGone : ℕ → MonState → MonState → Type 0
 HasGone address old new
     = (course_of new ≡ happened (Set (Pc address)) (course_of old)) × KeepsStops old new
 
-abbrev pub Goes : Data → Desk → Desk → Type 0
-Goes request old new
-    = (address : ℕ) × (target_at request ≡ Some address) × HasGone address old new
+abbrev pub Goes : Option ℕ → MonState → MonState → Type 0
+Goes target old new = (address : ℕ) × (target ≡ Some address) × HasGone address old new
 
 -- ---- bytes
-
-abbrev pub data_of : Data → List ℕ
-data_of request = unwrap_or (text_at (codes "/arguments/data") request) []
 
 -- Whether memory has a byte at an address.
 abbrev pub is_there : List ℕ → ℕ → ℕ → Bool
@@ -133,18 +109,33 @@ count_there memory address (byte ∷ bytes) = if is_there memory address byte
     then suc (count_there memory (address + 1) bytes) else 0
 
 -- So many bytes were written, and all that is shown may have changed.
-abbrev pub written_said : ℕ → List Said
-written_said n = done (written_body n) ∷ unmoved_said ∷ []
+abbrev pub written_said : Counting → ℕ → List Said
+written_said counting n = done (written_body n) ∷ unmoved_said counting
 
--- The bytes are put into memory from the address on, up to the first that is rejected. Those that
--- are there then are said to be written.
-abbrev pub HasWritten : ℕ → Data → Desk → Desk → List Said → Type 0
-HasWritten address request old new said = (bytes : List ℕ)
-    × (decode_of standard (data_of request) ≡ Ok bytes)
-    × (course_of new ≡ bytes_put address bytes (course_of old)) × KeepsStops old new
-    × (said ≡ written_said (count_there new.session.current.bus.memory address bytes))
+-- Those that memory has room for from an address on.
+abbrev pub fitting : ℕ → List ℕ → List ℕ
+fitting address bytes = take (65536 - address) bytes
 
-abbrev pub Writes : Data → Desk → Desk → List Said → Type 0
-Writes request old new said = (address : ℕ)
-    × (place_at (codes "/arguments/memoryReference") (codes "/arguments/offset") request
-    ≡ Some address) × HasWritten address request old new said
+-- Whether all can be written: they fit, and none stands at the port.
+abbrev pub can_write : Map → ℕ → List ℕ → Bool
+can_write map address bytes
+    = nat_le (length bytes) (65536 - address) && not (meets_port map address bytes)
+
+-- A part may be written if that is allowed.
+abbrev pub may_write : Map → ℕ → List ℕ → Bool → Bool
+may_write map address bytes true = true
+may_write map address bytes false = can_write map address bytes
+
+-- The bytes of a text are put into memory from the address on, up to the first that is rejected.
+-- Those that are there then are said to be written.
+abbrev pub HasWritten : Counting → ℕ → List ℕ → Bool → MonState → MonState → List Said → Type 0
+HasWritten counting address text is_partial old new said = (bytes : List ℕ)
+    × (decode_of standard text ≡ Ok bytes)
+    × (may_write old.session.current.bus.map address bytes is_partial ≡ true)
+    × (course_of new ≡ bytes_put address (fitting address bytes) (course_of old))
+    × KeepsStops old new × (said ≡ written_said counting
+    (count_there new.session.current.bus.memory address (fitting address bytes)))
+
+abbrev pub Writes : Counting → Option ℕ → List ℕ → Bool → MonState → MonState → List Said → Type 0
+Writes counting place text is_partial old new said = (address : ℕ) × (place ≡ Some address)
+    × HasWritten counting address text is_partial old new said

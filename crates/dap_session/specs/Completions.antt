@@ -1,11 +1,10 @@
 -- What can stand in a line of the console for the word that is typed. Source: Debug Adapter
 -- Protocol 1.65, "Completions Request", "CompletionItem"; which words and names, mos65.
-use Rattle.std.specs.Prelude.{ℕ, ◌+◌, ◌-◌, nat_lt, Bool, if◌then◌else◌, List, [], ◌∷◌, codes, length, take, drop, Option, Some, None, unwrap_or}
+use Rattle.std.specs.Prelude.{ℕ, ◌+◌, ◌-◌, nat_lt, Bool, if◌then◌else◌, List, [], ◌∷◌, length, take, drop, Option, Some, None}
 use Rattle.std.specs.List.{flat_map, list_all}
 use Rattle.std.specs.Str.Lossy.{utf8_lossy}
 use Rattle.dap_views.specs.BreakValues.{completion, targets_body}
 use Rattle.dap_messages.specs.Counting.{first_column}
-use Rattle.json_values.specs.Fields.{number_at, text_at}
 use Rattle.dap_messages.specs.declared.counting.Counting.{Counting}
 use Rattle.model.specs.Token.{is_blank, is_word_byte}
 use Rattle.mon_line_parts.specs.Topics.{TopicWord, begins_with, words}
@@ -15,17 +14,13 @@ use Rattle.source_map.specs.Names.{Named}
 
 -- ---- the text before the column
 
-abbrev pub text_of : Data → List ℕ
-text_of request = unwrap_or (text_at (codes "/arguments/text") request) []
-
 -- How many bytes stand before a column: none if there is no column.
 abbrev pub bytes_before : Counting → Option ℕ → ℕ
 bytes_before counting (Some column) = column - first_column counting
 bytes_before counting None = 0
 
-abbrev pub front_of : Counting → Data → List ℕ
-front_of counting request = take
-    (bytes_before counting (number_at (codes "/arguments/column") request)) (text_of request)
+abbrev pub front_of : Counting → List ℕ → Option ℕ → List ℕ
+front_of counting text column = take (bytes_before counting column) text
 
 -- ---- the word that is typed: the letters, digits and `_` at the end
 
@@ -80,6 +75,6 @@ offered counting names front = if is_ascii front
     then begun_behind counting names (before_typed front) (typed_in front)
     else []
 
-abbrev pub completions : Counting → List Named → Data → Data
-completions counting names request
-    = targets_body (offered counting names (front_of counting request))
+abbrev pub completions : Counting → List Named → List ℕ → Option ℕ → Data
+completions counting names text column
+    = targets_body (offered counting names (front_of counting text column))

@@ -6,13 +6,14 @@ use Rattle.std.specs.Str.Lossy.{utf8_lossy}
 use Rattle.dap_views.specs.Values.{invalidated_body, output_body, stopped_body}
 use Rattle.dap_messages.specs.Messages.{Said, done, event}
 use Rattle.dap_messages.specs.Halts.{word_of}
+use Rattle.dap_messages.specs.declared.counting.Counting.{Counting}
 use Rattle.dap_messages.specs.declared.halt.Halt.{Halt}
 use Rattle.dap_messages.specs.declared.halt.Reason.{Reason}
 use Rattle.dap_messages.specs.declared.halt.Reason.TheVariants.{Entry}
 use Rattle.dap_session.specs.declared.wording.TheConstants.{LESS_BEFORE, LESS_BEHIND}
 use Rattle.model.specs.declared.event.EventFault.{EventFault}
 use Rattle.mon_session.specs.Faults.{fault_text}
-use Rattle.mon_session.specs.declared.desk.Desk.{Desk}
+use Rattle.mon_session.specs.declared.mon_state.MonState.{MonState}
 use Rattle.serde_json.specs.Data.{Data}
 use Rattle.source_map.specs.Names.{Named}
 
@@ -59,16 +60,19 @@ abbrev pub halt_shown : List Named → List ℕ → Option EventFault → List �
 halt_shown names words (Some fault) = fault_shown names fault
 halt_shown names words None = words
 
-abbrev pub stopped_said : Reason → List ℕ → Said
-stopped_said reason words = event (codes "stopped") (stopped_body (word_of reason) words)
+-- Some breakpoints, by their numbers, may have stopped it.
+abbrev pub stopped_said : Reason → List ℕ → List ℕ → Said
+stopped_said reason words hits
+    = event (codes "stopped") (stopped_body (word_of reason) words hits)
 
 -- All of it, in this order.
-abbrev pub told_of : Desk → ℕ → Halt → List Said
-told_of desk told halt = console_said told desk.session.current.bus.out
+abbrev pub told_of : MonState → ℕ → Halt → List ℕ → List Said
+told_of mon told halt hits = console_said told mon.session.current.bus.out
     ++ remark_said halt.reason halt.words.now
     ++ stopped_said halt.reason
-    (halt_shown desk.places.names halt.words.now halt.fault) ∷ []
+    (halt_shown mon.places.names halt.words.now halt.fault) hits ∷ []
 
--- All that is shown may have changed.
-abbrev pub unmoved_said : Said
-unmoved_said = event (codes "invalidated") invalidated_body
+-- All that is shown may have changed, which is said to a client that can be told so.
+abbrev pub unmoved_said : Counting → List Said
+unmoved_said counting = if counting.can_invalidate
+    then event (codes "invalidated") invalidated_body ∷ [] else []

@@ -1,98 +1,109 @@
 //! What is done with a request of a session.
 
-ghost use Rattle.std.specs.Prelude.{◌≡◌, IfErr, IfOk, Ok, OnOk, map as each, option_map};
+ghost use Rattle.std.specs.Prelude.{◌≡◌, IfErr, IfOk, Ok, OnOk, map as each, true};
 ghost use Rattle.dap_messages.specs.Messages.{said_of};
-ghost use Rattle.dap_session.specs.Answered.{AreAnswers, Begins, IsShown, KeepsMade, Moves};
-ghost use Rattle.dap_session.specs.Answered.{Restarts};
+ghost use Rattle.dap_session.specs.Answered.{AreAnswers, AreOpenAnswers, Begins, HasChangedBy};
+ghost use Rattle.dap_session.specs.Answered.{IsShown, KeepsMade};
+ghost use Rattle.dap_session.specs.Answered.{ListsAddresses, ListsBytes, ListsLines, Moves};
 ghost use Rattle.dap_session.specs.Answered.{SetsAgain, SetsAllAgain, SetsListed, begun_fault};
-ghost use Rattle.dap_session.specs.Answered.{begun_reason, begun_stand, begun_words};
+ghost use Rattle.dap_session.specs.Answered.{begun_reason, begun_stand, begun_words, goes_on};
+ghost use Rattle.dap_session.specs.Answered.{Restarts, Shows, is_first_frame, lets_run};
 ghost use Rattle.dap_session.specs.Console.{ShowsIfRefused};
-ghost use Rattle.dap_session.specs.Refusals.{IfRefused, MayRefuse};
+ghost use Rattle.dap_session.specs.Refusals.{IfRefused, MayRefuse, MayRefuseAt, MayRefuseChange};
+ghost use Rattle.dap_session.specs.Refusals.{cannot_show, is_known};
 ghost use Rattle.dap_session.specs.Stands.{KeepsProgram};
 ghost use Rattle.dap_desk.specs.Moves.{KeepsWatches, stand_of};
 ghost use Rattle.serde_json.specs.View.{view};
-ghost use Rattle.dap_messages.specs.declared.counting.Counting.{Counting};
 ghost use Rattle.serde_json.specs.declared.value.Value.{Value};
 
 use crate::changing::{go_to, write_memory};
+use crate::client::{Client, begin_session, source_of};
 use crate::completion::completions;
 use crate::console::{evaluate, set_variable, with_terminated};
 use crate::fault::{Fault, or_memory, refused};
 use crate::launching::steps_of;
-use crate::seat::{Seat, begin_session, source_of};
 use crate::stands::{all_done, with_halt_at};
 use crate::telling::answered;
 use crate::wording::NOT_BEGUN;
 use dap_desk::make_move;
 use dap_messages::{
-    Breakpoints, Change, Counting, Halt, Listed, Message, Move, Query, Reason, SessionRequest,
-    breakpoints_body, continued, exception, nothing, scopes, stand_by, threads,
+    AddressList, Breakpoints, Change, Counting, DataBreakpoint, Halt, LineList, Listed, Message,
+    Move, Query, Reason, SessionRequest, breakpoints_body, continued, exception, nothing,
+    number_addresses, number_lines, scopes, stand_by, threads,
 };
 use dap_views::{
-    data_shown, disassembled, frames_shown, goto_targets, memory_shown, set_addresses, set_data,
-    set_lines, set_source, variables_shown,
+    data_shown, disassembled, frames_shown, goto_targets, is_frame, memory_shown, set_addresses,
+    set_data, set_lines, set_source, variables_shown,
 };
-use json_values::flag_or;
+use mon_session::MonState;
 use serde_json::Value;
 use std::alloc::{AllocError, Global};
 use std::mem;
 use std::rt::Files;
 
 /// Makes a move, and tells why the machine stands then.
-fn make(alloc: Global, seat: &mut Seat, way: Move) -> Result<Vec<Message>, AllocError>
-    ensures { IfOk result (λ ms. Moves way seat.old seat.new (each said_of ms.items)) }
+fn make(alloc: Global, client: &mut Client, way: Move) -> Result<Vec<Message>, AllocError>
+    ensures { IfOk result (λ ms. Moves way client.old client.new (each said_of ms.items)) }
 {
-    let halt = make_move(&mut seat.desk, steps_of(&seat.launch), way);
-    with_halt_at(alloc, answered(alloc, continued(alloc)), seat, halt)
+    let halt = make_move(&mut client.mon, steps_of(&client.launch), way);
+    with_halt_at(alloc, answered(alloc, continued(alloc)), client, halt)
 }
 
 /// Runs to a stop, unless the machine is to stand before the first instruction, and returns why it
 /// stands.
-fn first_halt(seat: &mut Seat) -> Halt
-    ensures stand { stand_of seat.new.desk ≡ begun_stand seat.old }
-    ensures watches { KeepsWatches seat.old.desk seat.new.desk }
-    ensures program { KeepsProgram seat.old seat.new }
-    ensures told { seat.new.told ≡ seat.old.told }
-    ensures reason { result.reason ≡ begun_reason seat.old }
-    ensures words { result.words.now ≡ begun_words seat.old }
-    ensures fault { result.fault ≡ begun_fault seat.old }
+fn first_halt(client: &mut Client) -> Halt
+    ensures stand { stand_of client.new.mon ≡ begun_stand client.old }
+    ensures watches { KeepsWatches client.old.mon client.new.mon }
+    ensures program { KeepsProgram client.old client.new }
+    ensures told { client.new.told ≡ client.old.told }
+    ensures reason { result.reason ≡ begun_reason client.old }
+    ensures words { result.words.now ≡ begun_words client.old }
+    ensures fault { result.fault ≡ begun_fault client.old }
 {
-    if flag_or(&seat.launch, "/arguments/stopOnEntry", true) {
+    if client.launch.stop_on_entry {
         return stand_by(Reason::Entry, NOT_BEGUN);
     }
-    make_move(&mut seat.desk, steps_of(&seat.launch), Move::Go)
+    make_move(&mut client.mon, steps_of(&client.launch), Move::Go)
 }
 
 /// Runs to a stop, unless the machine is to stand before the first instruction, and tells why it
 /// stands.
-fn configured(alloc: Global, seat: &mut Seat) -> Result<Vec<Message>, AllocError>
-    ensures { IfOk result (λ ms. Begins seat.old seat.new (each said_of ms.items)) }
+fn configured(alloc: Global, client: &mut Client) -> Result<Vec<Message>, AllocError>
+    ensures { IfOk result (λ ms. Begins client.old client.new (each said_of ms.items)) }
 {
-    let halt = first_halt(seat);
-    with_halt_at(alloc, all_done(alloc), seat, halt)
+    let halt = first_halt(client);
+    with_halt_at(alloc, all_done(alloc), client, halt)
 }
 
-/// Sets the breakpoints of a kind that a request lists, and returns what is told of them.
+/// Sets the breakpoints that a client wants, and returns what is told of them.
 fn set_listed<H: Files + AllocGlobal>(
     rt: &H,
-    seat: &mut Seat,
+    client: &mut Client,
     counting: Counting,
-    request: &Value,
-    kind: Breakpoints,
+    listed: Breakpoints<'_>,
 ) -> Result<Value, AllocError>
     ensures { IfOk result
-        (λ v. SetsListed kind (view request.now) counting seat.old seat.new (view v)) }
+        (λ v. SetsListed listed.entry counting client.old client.new (view v)) }
 {
     let alloc = rt.alloc();
-    match kind {
-        Breakpoints::Source => {
-            let source = source_of(&seat.launch, &seat.assembly, counting);
-            set_source(rt, &mut seat.desk, &mut seat.listed, &source, request)
+    match listed {
+        Breakpoints::Source { path, listed } => {
+            let wanted = number_lines(&mut client.listed, listed);
+            let source = source_of(&client.launch, &client.assembly, counting);
+            set_source(
+                rt,
+                &mut client.mon,
+                &mut client.listed,
+                &source,
+                path,
+                wanted,
+            )
         }
-        Breakpoints::Instruction => {
-            set_addresses(alloc, &mut seat.desk, &mut seat.listed, counting, request)
+        Breakpoints::Instruction(listed) => {
+            let wanted = number_addresses(&mut client.listed, listed);
+            set_addresses(alloc, &mut client.mon, &mut client.listed, counting, wanted)
         }
-        Breakpoints::Data => set_data(alloc, &mut seat.desk, &mut seat.listed, request),
+        Breakpoints::Data(listed) => set_data(alloc, &mut client.mon, &mut client.listed, listed),
     }
 }
 
@@ -109,159 +120,340 @@ fn let_go(told: Result<Value, AllocError>) -> Result<(), AllocError>
     }
 }
 
-/// Sets the breakpoints of the source that a request of an earlier session lists, if there is one.
+/// Sets the breakpoints of the source that were listed last in an earlier session, if some were.
 fn lines_again(
     alloc: Global,
-    seat: &mut Seat,
+    client: &mut Client,
     counting: Counting,
-    request: &Option<Value>,
+    listed: Option<LineList>,
 ) -> Result<(), AllocError>
-    ensures set { OnOk result (SetsAgain Breakpoints.Source (option_map view request.now) counting
-        seat.old seat.new) }
-    ensures kept { KeepsMade seat.old.desk seat.new.desk }
-    ensures launch { seat.new.launch ≡ seat.old.launch }
+    ensures set { OnOk result (SetsAgain (ListsLines counting) listed client.old client.new) }
+    ensures kept { KeepsMade client.old.mon client.new.mon }
+    ensures launch { client.new.launch ≡ client.old.launch }
 {
-    let Some(request) = request else {
+    let Some(listed) = listed else {
         return Ok(());
     };
-    let source = source_of(&seat.launch, &seat.assembly, counting);
-    let_go(set_lines(alloc, &mut seat.desk, &mut seat.listed, &source, request))
+    let source = source_of(&client.launch, &client.assembly, counting);
+    let_go(set_lines(alloc, &mut client.mon, &mut client.listed, &source, listed))
 }
 
-/// Sets the breakpoints at addresses that a request of an earlier session lists, if there is one.
+/// Sets the breakpoints at addresses that were listed last in an earlier session, if some were.
 fn addresses_again(
     alloc: Global,
-    seat: &mut Seat,
+    client: &mut Client,
     counting: Counting,
-    request: &Option<Value>,
+    listed: Option<AddressList>,
 ) -> Result<(), AllocError>
-    ensures set { OnOk result (SetsAgain Breakpoints.Instruction (option_map view request.now)
-        counting seat.old seat.new) }
-    ensures kept { KeepsMade seat.old.desk seat.new.desk }
-    ensures launch { seat.new.launch ≡ seat.old.launch }
+    ensures set { OnOk result (SetsAgain (ListsAddresses counting) listed client.old client.new) }
+    ensures kept { KeepsMade client.old.mon client.new.mon }
+    ensures launch { client.new.launch ≡ client.old.launch }
 {
-    let Some(request) = request else {
+    let Some(listed) = listed else {
         return Ok(());
     };
-    let_go(set_addresses(alloc, &mut seat.desk, &mut seat.listed, counting, request))
+    let_go(set_addresses(alloc, &mut client.mon, &mut client.listed, counting, listed))
 }
 
-/// Sets the watches that a request of an earlier session lists, if there is one.
-fn data_again(alloc: Global, seat: &mut Seat, request: &Option<Value>) -> Result<(), AllocError>
-    ensures set { (counting : Counting) → OnOk result
-        (SetsAgain Breakpoints.Data (option_map view request.now) counting seat.old seat.new) }
-    ensures kept { KeepsMade seat.old.desk seat.new.desk }
-    ensures launch { seat.new.launch ≡ seat.old.launch }
+/// Sets the watches that were listed last in an earlier session, if some were.
+fn bytes_again(
+    alloc: Global,
+    client: &mut Client,
+    listed: Option<Vec<DataBreakpoint>>,
+) -> Result<(), AllocError>
+    ensures set { OnOk result (SetsAgain ListsBytes listed client.old client.new) }
+    ensures kept { KeepsMade client.old.mon client.new.mon }
+    ensures launch { client.new.launch ≡ client.old.launch }
 {
-    let Some(request) = request else {
+    let Some(listed) = listed else {
         return Ok(());
     };
-    let_go(set_data(alloc, &mut seat.desk, &mut seat.listed, request))
+    let_go(set_data(alloc, &mut client.mon, &mut client.listed, listed))
 }
 
-/// Lists the breakpoints and the watches of a session for one that has begun again.
+/// Sets the breakpoints and the watches of a session in one that has begun again, under the numbers
+/// that they had.
 fn set_all_again(
     alloc: Global,
-    seat: &mut Seat,
+    client: &mut Client,
     counting: Counting,
-    old: &Listed,
+    old: Listed,
 ) -> Result<(), AllocError>
-    ensures set { OnOk result (SetsAllAgain old.now counting seat.old seat.new) }
-    ensures kept { OnOk result (KeepsMade seat.old.desk seat.new.desk) }
-    ensures launch { seat.new.launch ≡ seat.old.launch }
+    ensures set { OnOk result (SetsAllAgain old counting client.old client.new) }
+    ensures kept { OnOk result (KeepsMade client.old.mon client.new.mon) }
+    ensures launch { client.new.launch ≡ client.old.launch }
 {
-    lines_again(alloc, seat, counting, &old.line_request)?;
-    addresses_again(alloc, seat, counting, &old.address_request)?;
-    data_again(alloc, seat, &old.data_request)
+    let Listed {
+        lines: _,
+        addresses: _,
+        last_lines,
+        last_addresses,
+        last_bytes,
+        next,
+    } = old;
+    client.listed.next = next;
+    lines_again(alloc, client, counting, last_lines)?;
+    addresses_again(alloc, client, counting, last_addresses)?;
+    bytes_again(alloc, client, last_bytes)
 }
 
 /// Begins the session again by its launch, with the breakpoints that it has.
 #[tactic(auto, using(crate::proofs::Stays::shows_same))]
 fn restart<H: Files + AllocGlobal>(
     rt: &H,
-    seat: &mut Seat,
+    client: &mut Client,
     counting: Counting,
 ) -> Result<Vec<Message>, Fault>
     ensures done { IfOk result
-        (λ ms. Restarts counting seat.old seat.new (each said_of ms.items)) }
-    ensures refused { IfErr result (λ f. ShowsIfRefused f seat.old.desk seat.new.desk) }
+        (λ ms. Restarts counting client.old client.new (each said_of ms.items)) }
+    ensures refused { IfErr result (λ f. ShowsIfRefused f client.old.mon client.new.mon) }
 {
-    let mut old = begin_session(rt, &seat.launch)?;
-    mem::swap(seat, &mut old);
-    let set = set_all_again(rt.alloc(), seat, counting, &old.listed);
-    drop(old);
+    let mut old = begin_session(rt, &client.launch)?;
+    mem::swap(client, &mut old);
+    let Client {
+        launch: _,
+        mon: _,
+        assembly: _,
+        listed,
+        told: _,
+    } = old;
+    let set = set_all_again(rt.alloc(), client, counting, listed);
     match set {
-        Ok(()) => or_memory(configured(rt.alloc(), seat)),
+        Ok(()) => or_memory(configured(rt.alloc(), client)),
         Err(_) => Err(Fault::OutOfMemory),
     }
 }
 
-/// Returns what is shown of a session.
+/// Returns whether a frame is the first.
+fn is_first_frame(id: Option<u64>) -> bool
+    ensures { result ≡ is_first_frame id }
+{
+    match id {
+        Some(id) => id == 1,
+        None => false,
+    }
+}
+
+/// Returns what is shown of a session, if the question names what there is.
 fn shown<H: Files + AllocGlobal>(
     rt: &H,
-    seat: &Seat,
+    client: &Client,
     counting: Counting,
-    request: &Value,
-    query: Query,
+    query: Query<'_>,
 ) -> Result<Value, AllocError>
-    ensures { IfOk result (λ v. IsShown query (view request.now) counting seat.now (view v)) }
+    ensures { IfOk result (λ v. IsShown query.entry counting client.now (view v)) }
 {
     let alloc = rt.alloc();
-    let source = source_of(&seat.launch, &seat.assembly, counting);
+    let source = source_of(&client.launch, &client.assembly, counting);
+    let mon = &client.mon;
     match query {
         Query::Threads => threads(alloc),
-        Query::StackTrace => frames_shown(alloc, &seat.desk, &source, request),
-        Query::Scopes => scopes(alloc),
-        Query::Variables => variables_shown(alloc, &seat.desk, request),
-        Query::ReadMemory => memory_shown(alloc, &seat.desk, request),
-        Query::Disassemble => disassembled(alloc, &seat.desk, &source, request),
-        Query::GotoTargets => goto_targets(rt, &source, request),
-        Query::DataBreakpointInfo => data_shown(alloc, &seat.desk, request),
-        Query::Completions => completions(alloc, &seat.desk, counting, request),
-        Query::ExceptionInfo => exception(alloc, seat.told.words.as_str()),
+        Query::StackTrace(page) => frames_shown(alloc, mon, &source, page),
+        Query::Scopes(frame) => scopes(alloc, is_first_frame(frame)),
+        Query::Variables { scope, page } => variables_shown(alloc, mon, scope, page),
+        Query::ReadMemory { address, count } => memory_shown(alloc, mon, address, count),
+        Query::Disassemble {
+            address,
+            offset,
+            count,
+        } => disassembled(alloc, mon, &source, address, offset, count),
+        Query::GotoTargets { path, line } => goto_targets(rt, &source, path, line),
+        Query::DataBreakpointInfo { scope, name } => data_shown(alloc, mon, scope, name),
+        Query::Completions { text, column } => completions(alloc, mon, counting, text, column),
+        Query::ExceptionInfo => exception(alloc, client.told.words.as_str()),
         Query::SetExceptionBreakpoints => breakpoints_body(alloc, Vec::new(alloc)),
         Query::Pause => nothing(alloc),
     }
 }
 
-/// Does what a request of a session asks for, and returns the messages to the client.
+/// Returns whether there is a frame of a number, if one is named.
+fn is_known(alloc: Global, mon: &MonState, id: Option<u64>) -> Result<bool, AllocError>
+    ensures { IfOk result (λ known. known ≡ is_known id mon.now) }
+{
+    match id {
+        Some(id) => is_frame(alloc, mon, id),
+        None => Ok(false),
+    }
+}
+
+/// The most rows of a disassembly that are shown at once.
+const MOST_ROWS: u32 = 16384;
+
+/// Returns whether a question names what there is not, wants too much, or is about a step that was
+/// not refused.
+fn cannot_show(alloc: Global, client: &Client, query: &Query<'_>) -> Result<bool, AllocError>
+    ensures { IfOk result (λ cannot. cannot ≡ cannot_show query.now client.now) }
+{
+    match query {
+        Query::Scopes(frame) => {
+            let known = is_known(alloc, &client.mon, *frame)?;
+            Ok(!known)
+        }
+        Query::Variables { scope: None, .. } => Ok(true),
+        Query::ReadMemory { address: None, .. } => Ok(true),
+        Query::Disassemble { address: None, .. } => Ok(true),
+        Query::Disassemble {
+            address: Some(_),
+            count,
+            ..
+        } => Ok(*count > MOST_ROWS),
+        Query::ExceptionInfo => Ok(!matches!(client.told.reason, Reason::Exception)),
+        Query::Variables { scope: Some(_), .. } => Ok(false),
+        Query::ReadMemory {
+            address: Some(_),
+            ..
+        } => Ok(false),
+        Query::Threads | Query::StackTrace(_) | Query::GotoTargets { .. } => Ok(false),
+        Query::DataBreakpointInfo { .. } | Query::Completions { .. } => Ok(false),
+        Query::SetExceptionBreakpoints | Query::Pause => Ok(false),
+    }
+}
+
+/// Returns words for a question that is refused.
+fn why_not(query: &Query<'_>) -> &'static str {
+    match query {
+        Query::Scopes(_) => "there is no frame of this frameId",
+        Query::Variables { .. } => "there are no variables of this variablesReference",
+        Query::Disassemble {
+            address: Some(_),
+            ..
+        } => "at most 16384 instructions are shown at once",
+        Query::ExceptionInfo => "no step was refused",
+        _ => "this memoryReference is no address",
+    }
+}
+
+/// Returns what is answered to a question.
+///
+/// Errors: `Refused` if it names a frame, a scope or an address that there is not, wants more than
+/// 16,384 rows, or is about a step that was not refused.
+#[tactic(auto, using(crate::proofs::Stays::refused_so))]
+fn shows<H: Files + AllocGlobal>(
+    rt: &H,
+    client: &Client,
+    counting: Counting,
+    query: Query<'_>,
+) -> Result<Vec<Message>, Fault>
+    ensures done { IfOk result
+        (λ ms. Shows query.entry counting client.now (each said_of ms.items)) }
+    ensures why { IfErr result
+        (λ f. IfRefused f (cannot_show query.entry client.now ≡ true)) }
+{
+    let alloc = rt.alloc();
+    if cannot_show(alloc, client, &query)? {
+        return Err(refused(alloc, why_not(&query)));
+    }
+    let told = shown(rt, client, counting, query);
+    or_memory(answered(alloc, told))
+}
+
+/// Makes a change, and returns the messages to the client.
+///
+/// Errors: as those of `answer`.
+fn changed(
+    alloc: Global,
+    client: &mut Client,
+    counting: Counting,
+    change: Change<'_>,
+) -> Result<Vec<Message>, Fault>
+    ensures done { IfOk result
+        (λ ms. HasChangedBy change.entry counting client.old client.new
+        (each said_of ms.items)) }
+    ensures refused { IfErr result (λ f. ShowsIfRefused f client.old.mon client.new.mon) }
+    ensures why { IfErr result
+        (λ f. IfRefused f (MayRefuseChange change.entry client.old.mon)) }
+{
+    match change {
+        Change::Evaluate { text, is_console } => {
+            evaluate(alloc, client, counting, text, is_console)
+        }
+        Change::SetVariable { scope, name, value } => {
+            set_variable(alloc, &mut client.mon, counting, scope, name, value)
+        }
+        Change::Goto(target) => go_to(alloc, client, target),
+        Change::WriteMemory {
+            address,
+            data: text,
+            is_partial,
+        } => write_memory(alloc, client, counting, address, text, is_partial),
+    }
+}
+
+/// Does what a request asks for of a session that has not ended, and returns the messages to the
+/// client.
 ///
 /// Errors: `Refused` if it cannot be done, as `specs/Refusals.antt` says. Nothing but the text said
 /// last is changed then.
 #[tactic(auto, using(crate::proofs::Stays::shows_same, crate::proofs::Stays::refused_so), unfolding(crate::specs::Answered::AreAnswers))]
-pub fn answer<H: Files + AllocGlobal>(
+fn answer_open<H: Files + AllocGlobal>(
     rt: &H,
-    seat: &mut Seat,
+    client: &mut Client,
     counting: Counting,
-    request: &Value,
-    asked: SessionRequest,
+    asked: SessionRequest<'_>,
 ) -> Result<Vec<Message>, Fault>
-    ensures done { IfOk result (λ ms. AreAnswers asked (view request.now) counting seat.old
-        seat.new (each said_of ms.items)) }
-    ensures refused { IfErr result (λ f. ShowsIfRefused f seat.old.desk seat.new.desk) }
-    ensures why { IfErr result
-        (λ f. IfRefused f (MayRefuse asked (view request.now) seat.old.desk)) }
+    ensures done { IfOk result
+        (λ ms. AreAnswers asked.entry counting client.old client.new (each said_of ms.items)) }
+    ensures refused { IfErr result (λ f. ShowsIfRefused f client.old.mon client.new.mon) }
+    ensures why { IfErr result (λ f. IfRefused f (MayRefuse asked.entry client.old)) }
 {
     let alloc = rt.alloc();
     match asked {
-        SessionRequest::Moves(way) => or_memory(make(alloc, seat, way)),
-        SessionRequest::Sets(kind) => {
-            let told = set_listed(rt, seat, counting, request, kind);
+        SessionRequest::Moves(way) => or_memory(make(alloc, client, way)),
+        SessionRequest::Sets(listed) => {
+            let told = set_listed(rt, client, counting, listed);
             or_memory(answered(alloc, told))
         }
-        SessionRequest::Changes(Change::Evaluate) => evaluate(alloc, seat, request),
-        SessionRequest::Changes(Change::SetVariable) => {
-            set_variable(alloc, &mut seat.desk, request)
+        SessionRequest::Changes(change) => changed(alloc, client, counting, change),
+        SessionRequest::Shows(query) => shows(rt, client, counting, query),
+        SessionRequest::ConfigurationDone => or_memory(configured(alloc, client)),
+        SessionRequest::Restart => restart(rt, client, counting),
+        SessionRequest::Terminate => {
+            client.told.is_over = true;
+            or_memory(with_terminated(alloc, all_done(alloc)))
         }
-        SessionRequest::Changes(Change::Goto) => go_to(alloc, seat, request),
-        SessionRequest::Changes(Change::WriteMemory) => write_memory(alloc, seat, request),
-        SessionRequest::Shows(query) => {
-            let told = shown(rt, seat, counting, request, query);
-            or_memory(answered(alloc, told))
-        }
-        SessionRequest::ConfigurationDone => or_memory(configured(alloc, seat)),
-        SessionRequest::Restart => restart(rt, seat, counting),
-        SessionRequest::Terminate => or_memory(with_terminated(alloc, all_done(alloc))),
+        SessionRequest::NoThread => Err(refused(alloc, "there is no thread of this threadId")),
         SessionRequest::Other => Err(refused(alloc, "this request is not served")),
     }
+}
+
+/// Does what a request of a session asks for, and returns the messages to the client.
+///
+/// Errors: `Refused` if it cannot be done, as `specs/Refusals.antt` says: any is refused once the
+/// program has ended. Nothing but the text said last is changed then.
+#[tactic(auto, using(crate::proofs::Stays::shows_same, crate::proofs::Stays::refused_so))]
+pub fn answer<H: Files + AllocGlobal>(
+    rt: &H,
+    client: &mut Client,
+    counting: Counting,
+    asked: SessionRequest<'_>,
+) -> Result<Vec<Message>, Fault>
+    ensures done { IfOk result (λ ms. AreOpenAnswers asked.entry counting client.old client.new
+        (each said_of ms.items)) }
+    ensures refused { IfErr result (λ f. ShowsIfRefused f client.old.mon client.new.mon) }
+    ensures why { IfErr result (λ f. IfRefused f (MayRefuseAt asked.entry client.old)) }
+{
+    if client.told.is_over {
+        drop(asked);
+        return Err(refused(rt.alloc(), "the program has ended"));
+    }
+    answer_open(rt, client, counting, asked)
+}
+
+/// Returns whether a request lets the machine run, as `continue` and `configurationDone` do.
+pub fn lets_run(asked: &SessionRequest<'_>) -> bool
+    ensures { result ≡ lets_run asked.now }
+{
+    match asked {
+        SessionRequest::Moves(way) => matches!(way, Move::Go),
+        SessionRequest::ConfigurationDone => true,
+        _ => false,
+    }
+}
+
+/// Returns whether a run goes on: a request has let the machine run, and nothing has stopped it so
+/// far.
+pub fn goes_on(is_run: bool, client: &Client) -> bool
+    ensures { result ≡ goes_on is_run client.now }
+{
+    is_run && matches!(client.told.reason, Reason::NoStop)
 }

@@ -4,73 +4,57 @@ ghost use Rattle.std.specs.Prelude.{◌≡◌, IfErr, IfOk, Ok, OnOk, false, is_
 ghost use Rattle.base64.specs.Engines.{standard};
 ghost use Rattle.base64.specs.GeneralPurpose.{decode_of};
 ghost use Rattle.dap_messages.specs.Messages.{said_of};
-ghost use Rattle.dap_session.specs.Changes.{Goes, Writes, count_there, data_of};
-ghost use Rattle.dap_session.specs.Changes.{is_there, target_at};
+ghost use Rattle.dap_session.specs.Changes.{Goes, Writes, can_write, count_there, fitting};
+ghost use Rattle.dap_session.specs.Changes.{is_there, may_write};
 ghost use Rattle.dap_session.specs.Console.{ShowsIfRefused};
 ghost use Rattle.dap_session.specs.Refusals.{IfRefused, IsNoTarget, IsNoWriting};
 ghost use Rattle.dap_session.specs.Stands.{TellsGone};
-ghost use Rattle.serde_json.specs.View.{view};
 
+use crate::client::Client;
 use crate::console::happen;
 use crate::fault::{Fault, or_memory, refused};
-use crate::seat::Seat;
 use crate::stands::{all_done, with_halt_at};
 use crate::telling::{answered, with_unmoved};
 use crate::wording::GONE_TO;
 use base64::DecodeAllocError;
 use base64::engine::general_purpose::STANDARD;
-use dap_messages::{Message, Reason, place_at, stand_by, written_body};
-use json_values::{number_at, text_or};
+use dap_messages::{Counting, Message, Reason, stand_by, written_body};
 use model::Setting;
 use mon_runs::{Event, Session};
 use mon_settings::put;
-use serde_json::Value;
 use std::alloc::Global;
 
-/// Returns the address that a request goes to, if it names one.
-fn target_at(request: &Value) -> Option<u16>
-    ensures { result ≡ target_at (view request.now) }
-{
-    match number_at(request, "/arguments/targetId") {
-        Some(number) if number <= 65535 => Some(number as u16),
-        _ => None,
-    }
-}
-
-/// Makes the instruction at the address that a request names the next, and says that the machine
-/// stands there.
+/// Makes the instruction at an address the next, and says that the machine stands there.
 ///
-/// Errors: `Refused` if the request names no address, or the machine does not go there.
+/// Errors: `Refused` if no address is named, or the machine does not go there.
 #[tactic(auto, using(crate::proofs::Stays::shows_same, crate::proofs::Stays::refused_so))]
-pub fn go_to(alloc: Global, seat: &mut Seat, request: &Value) -> Result<Vec<Message>, Fault>
-    ensures done { OnOk result (Goes (view request.now) seat.old.desk seat.new.desk) }
+pub fn go_to(alloc: Global, client: &mut Client, target: Option<u16>) -> Result<Vec<Message>, Fault>
+    ensures done { OnOk result (Goes target client.old.mon client.new.mon) }
     ensures told { IfOk result
-        (λ ms. TellsGone seat.old seat.new.desk (each said_of ms.items)) }
-    ensures refused { IfErr result (λ f. ShowsIfRefused f seat.old.desk seat.new.desk) }
-    ensures why { IfErr result (λ f. IfRefused f (IsNoTarget (view request.now) seat.old.desk)) }
+        (λ ms. TellsGone client.old client.new.mon (each said_of ms.items)) }
+    ensures refused { IfErr result (λ f. ShowsIfRefused f client.old.mon client.new.mon) }
+    ensures why { IfErr result (λ f. IfRefused f (IsNoTarget target client.old.mon)) }
 {
-    let Some(address) = target_at(request) else {
+    let Some(address) = target else {
         return Err(refused(alloc, "this is no address to go to"));
     };
-    match happen(alloc, &mut seat.desk, Event::Set(Setting::Pc(address))) {
+    match happen(alloc, &mut client.mon, Event::Set(Setting::Pc(address))) {
         Ok(()) => {
             let halt = stand_by(Reason::Goto, GONE_TO);
-            or_memory(with_halt_at(alloc, all_done(alloc), seat, halt))
+            or_memory(with_halt_at(alloc, all_done(alloc), client, halt))
         }
         Err(fault) => Err(fault),
     }
 }
 
-/// Returns the bytes that a request writes.
+/// Returns the bytes of a text.
 ///
 /// Errors: `Refused` if they are not written in Base64.
-fn bytes_in(alloc: Global, request: &Value) -> Result<Vec<u8>, Fault>
-    ensures bytes { IfOk result
-        (λ bytes. decode_of standard (data_of (view request.now)) ≡ Ok bytes.items) }
+fn bytes_in(alloc: Global, text: &str) -> Result<Vec<u8>, Fault>
+    ensures bytes { IfOk result (λ bytes. decode_of standard text.now ≡ Ok bytes.items) }
     ensures why { IfErr result
-        (λ f. IfRefused f (is_ok (decode_of standard (data_of (view request.now))) ≡ false)) }
+        (λ f. IfRefused f (is_ok (decode_of standard text.now) ≡ false)) }
 {
-    let text = text_or(request, "/arguments/data", "");
     match STANDARD.decode(alloc, text.as_bytes()) {
         Ok(bytes) => Ok(bytes),
         Err(DecodeAllocError::OutOfMemory) => Err(Fault::OutOfMemory),
@@ -100,28 +84,81 @@ fn count_there(session: &Session, address: u16, bytes: &[u8]) -> u64
     count
 }
 
-/// Writes bytes to memory, an event for each, up to the first that is rejected. Nothing is written
-/// if they go past FFFF.
-///
-/// Errors: `Refused` if the request names no address, or the bytes are not written in Base64.
-#[tactic(auto, using(crate::proofs::Stays::shows_same, crate::proofs::Stays::refused_so))]
-pub fn write_memory(alloc: Global, seat: &mut Seat, request: &Value) -> Result<Vec<Message>, Fault>
-    ensures done { IfOk result (λ ms. Writes (view request.now) seat.old.desk seat.new.desk
-        (each said_of ms.items)) }
-    ensures refused { IfErr result (λ f. ShowsIfRefused f seat.old.desk seat.new.desk) }
-    ensures why { IfErr result (λ f. IfRefused f (IsNoWriting (view request.now))) }
+/// Returns those of some bytes that memory has room for from an address on.
+fn fitting(address: u16, bytes: &[u8]) -> &[u8]
+    ensures { result.now ≡ fitting address bytes.now }
 {
-    let Some(address) = place_at(request, "/arguments/memoryReference", "/arguments/offset") else {
+    let room = 65536 - usize::from(address);
+    if bytes.len() > room {
+        return &bytes[..room];
+    }
+    bytes
+}
+
+/// Returns whether all of some bytes can be written from an address on: they fit, and none stands
+/// at the port.
+#[tactic(auto, using(crate::proofs::Writable::at_port, crate::proofs::Writable::not_here, crate::proofs::Writable::nowhere, crate::proofs::Writable::too_many))]
+fn can_write(session: &Session, address: u16, bytes: &[u8]) -> bool
+    ensures { result ≡ can_write session.now.current.bus.map address bytes.now }
+{
+    if bytes.len() > 65536 - usize::from(address) {
+        return false;
+    }
+    for index in 0..bytes.len() {
+        if session.is_port((usize::from(address) + index) as u16) {
+            return false;
+        }
+    }
+    true
+}
+
+/// Returns whether some bytes may be written: all can be, or a part is allowed.
+fn may_write(session: &Session, address: u16, bytes: &[u8], is_partial: bool) -> bool
+    ensures { result ≡ may_write session.now.current.bus.map address bytes.now is_partial }
+{
+    if is_partial {
+        return true;
+    }
+    can_write(session, address, bytes)
+}
+
+/// Writes the bytes of a text to memory, an event for each. If a part is allowed, those in front of
+/// the first that cannot be written are.
+///
+/// Errors: `Refused` if no address is named, the bytes are not written in Base64, or not all can be
+/// written and a part is not allowed.
+#[tactic(auto, using(crate::proofs::Stays::shows_same, crate::proofs::Stays::refused_so))]
+pub fn write_memory(
+    alloc: Global,
+    client: &mut Client,
+    counting: Counting,
+    address: Option<u16>,
+    text: &str,
+    is_partial: bool,
+) -> Result<Vec<Message>, Fault>
+    ensures done { IfOk result (λ ms. Writes counting address text.now is_partial
+        client.old.mon client.new.mon (each said_of ms.items)) }
+    ensures refused { IfErr result (λ f. ShowsIfRefused f client.old.mon client.new.mon) }
+    ensures why { IfErr result
+        (λ f. IfRefused f (IsNoWriting address text.now is_partial client.old.mon)) }
+{
+    let Some(address) = address else {
         return Err(refused(alloc, "this is no address to write to"));
     };
-    let bytes = match bytes_in(alloc, request) {
+    let bytes = match bytes_in(alloc, text) {
         Ok(bytes) => bytes,
         Err(fault) => return Err(fault),
     };
-    seat.desk.text.clear();
-    let done = put(&mut seat.desk, address, bytes.as_slice());
-    seat.desk.text.clear();
+    let all = bytes.as_slice();
+    if !may_write(&client.mon.session, address, all, is_partial) {
+        return Err(refused(alloc, "the port and what is past FFFF cannot be written"));
+    }
+    let some = fitting(address, all);
+    client.mon.text.clear();
+    let done = put(&mut client.mon, address, some);
+    client.mon.text.clear();
     done?;
-    let count = count_there(&seat.desk.session, address, bytes.as_slice());
-    or_memory(with_unmoved(alloc, answered(alloc, written_body(alloc, count))))
+    let count = count_there(&client.mon.session, address, some);
+    let answer = answered(alloc, written_body(alloc, count));
+    or_memory(with_unmoved(alloc, answer, counting))
 }

@@ -4,7 +4,7 @@ ghost use Rattle.std.specs.Prelude.{◌≡◌, ◌≤◌, ◌++◌, IfOk, List, 
 ghost use Rattle.std.specs.List.{flat_map, list_all};
 ghost use Rattle.dap_session.specs.Completions.{completions, front_of, if_begun};
 ghost use Rattle.dap_session.specs.Completions.{names_begun, offered, typed_bytes, word_begun};
-ghost use Rattle.json_values.specs.ValueLists.{HasValues};
+ghost use Rattle.json_messages.specs.ValueLists.{HasValues};
 ghost use Rattle.mon_line_parts.specs.Topics.{row_view};
 ghost use Rattle.model.specs.Token.{is_blank};
 ghost use Rattle.serde_json.specs.Data.{Data};
@@ -13,19 +13,19 @@ ghost use Rattle.source_map.specs.Names.{named};
 
 use dap_messages::Counting;
 use dap_views::list_body;
-use json_values::{Object, ValueList, number_at, text_or};
+use json_messages::{Object, ValueList};
 use mon_line_parts::{Topic, all_words, begins_with};
-use mon_session::Desk;
+use mon_session::MonState;
 use serde_json::Value;
 use source_map::Name;
 use std::alloc::{AllocError, Global};
 
-/// Returns the text of a request before its column: all of it if the column is behind it.
-fn front_of(counting: Counting, request: &Value) -> &[u8]
-    ensures { result.now ≡ front_of counting (view request.now) }
+/// Returns the front of a text before a column: all of it if the column is behind it.
+fn front_of(counting: Counting, text: &str, column: Option<u64>) -> &[u8]
+    ensures { result.now ≡ front_of counting text.now column }
 {
-    let text = text_or(request, "/arguments/text", "").as_bytes();
-    let column = number_at(request, "/arguments/column").unwrap_or(0);
+    let text = text.as_bytes();
+    let column = column.unwrap_or(0);
     let count = column.saturating_sub(counting.first_column());
     if count < text.len() as u64 {
         &text[..count as usize]
@@ -139,20 +139,21 @@ fn offered(alloc: Global, counting: Counting, names: &[Name], front: &[u8]) -> V
     }
 }
 
-/// Returns what can stand for the word that is typed before the column of a request: words of `mon`
-/// if it is the first of the line, otherwise names of the program.
+/// Returns what can stand for the word that is typed before a column of a text: words of `mon` if
+/// it is the first of the line, otherwise names of the program.
 ///
 /// Errors: `AllocError` if an allocation fails.
 pub fn completions(
     alloc: Global,
-    desk: &Desk,
+    mon: &MonState,
     counting: Counting,
-    request: &Value,
+    text: &str,
+    column: Option<u64>,
 ) -> Result<Value, AllocError>
     ensures { IfOk result (λ v. view v
-        ≡ completions counting desk.now.places.names (view request.now)) }
+        ≡ completions counting mon.now.places.names text.now column) }
 {
-    let names = desk.places.names().all();
-    let list = offered(alloc, counting, names, front_of(counting, request));
+    let names = mon.places.names().all();
+    let list = offered(alloc, counting, names, front_of(counting, text, column));
     list_body(alloc, "targets", list)
 }

@@ -1,70 +1,97 @@
 //! Lines of `mon`, and variables that are set.
 
-ghost use Rattle.std.specs.Prelude.{◌≡◌, ◌∷◌, ◌++◌, [], ℕ, Bool, IfErr, IfOk, List, OnOk, map as each};
-ghost use Rattle.std.specs.Prelude.{codes, option_map, string_bytes};
-ghost use Rattle.dap_views.specs.Watches.{items_at};
+ghost use Rattle.std.specs.Prelude.{◌≡◌, ◌∷◌, ◌++◌, [], ℕ, Bool, IfErr, IfOk, List, None, OnOk};
+ghost use Rattle.std.specs.Prelude.{Some, map as each, string_bytes, true};
 ghost use Rattle.dap_messages.specs.Messages.{Said, done, said_of};
 ghost use Rattle.dap_messages.specs.Answers.{evaluated_body};
-ghost use Rattle.dap_session.specs.Changes.{HasChanged, TellsValue, change_asked, change_in};
-ghost use Rattle.dap_session.specs.Changes.{change_on, setting_line, value_of, word_for};
-ghost use Rattle.dap_session.specs.Console.{Evaluates, ServesConsole, ShowsIfRefused};
-ghost use Rattle.dap_session.specs.Console.{is_console, over};
-ghost use Rattle.dap_session.specs.Refusals.{IfRefused, IsNoChange, IsNoLook, IsUnmade, Rejects};
+ghost use Rattle.dap_session.specs.Changes.{HasChanged, TellsValue, byte_put, change_asked};
+ghost use Rattle.dap_session.specs.Changes.{change_to, value_said};
+ghost use Rattle.dap_session.specs.Console.{Evaluates, EvaluatesAs, Looks, ServesRead};
+ghost use Rattle.dap_session.specs.Console.{ShowsIfRefused, is_line, over};
+ghost use Rattle.dap_views.specs.Looks.{look_at};
+ghost use Rattle.mon_lines.specs.Lines.{line_view};
+ghost use Rattle.dap_session.specs.Refusals.{IfRefused, IsNoChange, IsNoLook, Rejects};
 ghost use Rattle.dap_session.specs.Stands.{KeepsProgram, KeepsSession};
 ghost use Rattle.dap_session.specs.Told.{IsDone};
-ghost use Rattle.mon_lines.specs.Lines.{command_view};
 ghost use Rattle.mon_session.specs.Course.{KeepsStops, course_of, happened};
 ghost use Rattle.serde_json.specs.Data.{Data};
-ghost use Rattle.serde_json.specs.View.{items_of, view};
 
+use crate::client::Client;
 use crate::fault::{Fault, or_memory, refused, refused_by};
-use crate::seat::Seat;
 use crate::stands::with_halt_at;
 use crate::telling::{answered, with_event, with_unmoved};
-use dap_messages::{Message, Reason, evaluated, nothing, stand_by, value_set};
-use dap_views::{look_at, variables_shown};
-use json_values::{number_at, text_at, text_or};
+use dap_messages::{Counting, Message, Reason, Scope, evaluated, nothing, stand_by, value_set};
+use dap_views::{Variable, look_at, value_shown, variable_named};
+use model::Setting;
 use mon_dispatch::serve;
-use mon_lines::{Command, ReadLine, read_line};
+use mon_line_parts::{Flaw, Topic};
+use mon_lines::{Command, ReadLine, Slip, read_bit, read_bytes, read_setting};
 use mon_runs::Event;
-use mon_session::Desk;
-use mon_settings::set_flag;
+use mon_session::MonState;
 use mon_texts::push_slip;
-use serde_json::Value;
 use std::alloc::{AllocError, Global};
 
-/// Does what a line of `mon` asks for, and returns what it says, and whether it ends the session.
-fn serve_line(alloc: Global, desk: &mut Desk, line: &[u8]) -> Result<(String, bool), AllocError>
-    ensures { IfOk result
-        (λ p. ServesConsole line.now p.1 desk.old desk.new (string_bytes p.0)) }
+/// Returns whether a line may make or undo an event.
+fn may_change(asked: &Result<Command<'_>, Slip<'_>>) -> bool {
+    match asked {
+        Ok(Command::Nothing | Command::Step(_) | Command::Over | Command::Out) => true,
+        Ok(Command::Until(_) | Command::Go(_) | Command::Back(_) | Command::Rback) => true,
+        Ok(Command::Redo(_) | Command::Reset | Command::Set(_) | Command::SetFlag { .. }) => true,
+        Ok(Command::Put { .. } | Command::Asm { .. } | Command::Type(_)) => true,
+        Ok(Command::Irq(_) | Command::Nmi) => true,
+        _ => false,
+    }
+}
+
+/// What a line of `mon` has said and done.
+#[derive(Drop)]
+struct Served {
+    said: String,
+    /// Whether it ends the session.
+    is_over: bool,
+    /// Whether it may have changed something.
+    is_change: bool,
+}
+
+/// Does what a line of `mon` asks for, and returns what it says, and whether it ends the session or
+/// may have changed something.
+fn serve_line(alloc: Global, mon: &mut MonState, read: &ReadLine<'_>) -> Result<Served, AllocError>
+    ensures { IfOk result (λ s. ServesRead (line_view read.now) s.is_over mon.old mon.new
+        (string_bytes s.said)) }
 {
-    desk.text.clear();
-    let pc = desk.session.regs().pc;
-    let read = ReadLine::new(line, &desk.places, pc);
-    let is_over = serve(desk, alloc, &read)?;
-    let said = String::from_utf8_lossy(alloc, desk.text.as_slice())?;
-    desk.text.clear();
-    Ok((said, is_over))
+    mon.text.clear();
+    let is_over = serve(mon, alloc, read)?;
+    let said = String::from_utf8_lossy(alloc, mon.text.as_slice())?;
+    mon.text.clear();
+    Ok(Served {
+        said,
+        is_over,
+        is_change: may_change(&read.asked),
+    })
 }
 
 /// Returns messages and, behind them, that the machine stands, if a line has moved it, or that
-/// values may have changed.
+/// values may have changed, if they may.
 fn with_moved(
     alloc: Global,
     messages: Result<Vec<Message>, AllocError>,
-    seat: &mut Seat,
+    client: &mut Client,
+    counting: Counting,
     is_moved: bool,
+    is_change: bool,
 ) -> Result<Vec<Message>, AllocError>
     ensures answer { (body : Data) (rest : List Said)
         → IfOk messages (λ ms. each said_of ms.items ≡ done body ∷ rest)
         → IfOk result (λ ms. IsDone body (each said_of ms.items)) }
-    ensures kept { KeepsSession seat.old seat.new }
+    ensures kept { KeepsSession client.old client.new }
 {
     if is_moved {
         let halt = stand_by(Reason::Step, "a line of the console");
-        with_halt_at(alloc, messages, seat, halt)
+        with_halt_at(alloc, messages, client, halt)
+    } else if is_change {
+        with_unmoved(alloc, messages, counting)
     } else {
-        with_unmoved(alloc, messages)
+        messages
     }
 }
 
@@ -96,188 +123,232 @@ fn with_over(
 }
 
 /// Serves a line of the console.
-fn console(alloc: Global, seat: &mut Seat, line: &str) -> Result<Vec<Message>, AllocError>
+fn console(
+    alloc: Global,
+    client: &mut Client,
+    counting: Counting,
+    read: &ReadLine<'_>,
+) -> Result<Vec<Message>, AllocError>
     ensures served { IfOk result (λ ms. (over : Bool) × (said : List ℕ)
-        × ServesConsole line.now over seat.old.desk seat.new.desk said
-        × IsDone (evaluated_body said) (each said_of ms.items)) }
-    ensures kept { KeepsProgram seat.old seat.new }
+        × ServesRead (line_view read.now) over client.old.mon client.new.mon said
+        × IsDone (evaluated_body said) (each said_of ms.items)
+        × (client.new.told.is_over ≡ over)) }
+    ensures kept { KeepsProgram client.old client.new }
 {
-    let regs = seat.desk.session.regs();
-    let cycles = seat.desk.session.cycles();
-    let (said, is_over) = serve_line(alloc, &mut seat.desk, line.as_bytes())?;
-    let is_moved = seat.desk.session.regs() != regs || seat.desk.session.cycles() != cycles;
-    let answer = answered(alloc, evaluated(alloc, said.as_str()));
-    let told = with_moved(alloc, answer, seat, is_moved);
-    with_over(alloc, told, is_over)
+    let regs = client.mon.session.regs();
+    let cycles = client.mon.session.cycles();
+    let served = serve_line(alloc, &mut client.mon, read)?;
+    let is_moved = client.mon.session.regs() != regs || client.mon.session.cycles() != cycles;
+    let answer = answered(alloc, evaluated(alloc, served.said.as_str()));
+    let told = with_moved(alloc, answer, client, counting, is_moved, served.is_change);
+    client.told.is_over = served.is_over;
+    with_over(alloc, told, served.is_over)
 }
 
-/// Serves a line of the console, or shows a register or the byte at a place.
+/// Returns why a text shows nothing: what is wrong in it as a line, or that it names nothing.
+fn no_look(alloc: Global, slip: Option<Slip<'_>>) -> Fault {
+    match slip {
+        Some(slip) => refused_for(alloc, slip),
+        None => refused(alloc, "this is neither a register nor a place"),
+    }
+}
+
+/// Shows a register or the byte at a place. A text of the console has a slip, as a line.
+///
+/// Errors: `Refused` if something else is to be shown.
+#[tactic(auto, using(crate::proofs::Stays::refused_so))]
+fn look(
+    alloc: Global,
+    client: &Client,
+    text: &str,
+    slip: Option<Slip<'_>>,
+) -> Result<Vec<Message>, Fault>
+    ensures done { IfOk result (λ ms. Looks client.now.mon text.now (each said_of ms.items)) }
+    ensures why { IfErr result (λ f. IfRefused f (look_at client.now.mon.session.current
+        client.now.mon.places.names text.now ≡ None)) }
+{
+    let looked = look_at(alloc, &client.mon, text)?;
+    match looked {
+        Some(body) => or_memory(answered(alloc, Ok(body))),
+        None => Err(no_look(alloc, slip)),
+    }
+}
+
+/// Serves a text of the console as a line, or, if it can be read as none, shows the register or the
+/// byte at the place that it names.
+///
+/// Errors: `Refused` if it is no line and names neither.
+#[tactic(auto, using(crate::proofs::Stays::shows_same, crate::proofs::Stays::refused_so))]
+fn evaluate_line(
+    alloc: Global,
+    client: &mut Client,
+    counting: Counting,
+    text: &str,
+) -> Result<Vec<Message>, Fault>
+    ensures done { IfOk result (λ ms. EvaluatesAs (is_line client.old.mon text.now) text.now
+        client.old client.new (each said_of ms.items)) }
+    ensures refused { IfErr result (λ f. ShowsIfRefused f client.old.mon client.new.mon) }
+    ensures why { IfErr result (λ f. IfRefused f (IsNoLook text.now true client.old.mon)) }
+{
+    let pc = client.mon.session.regs().pc;
+    let read = ReadLine::new(text.as_bytes(), &client.mon.places, pc);
+    match &read.asked {
+        Ok(_) => or_memory(console(alloc, client, counting, &read)),
+        Err(slip) => look(alloc, client, text, Some(*slip)),
+    }
+}
+
+/// Serves a text of the console as a line, or shows a register or the byte at a place.
 ///
 /// Errors: `Refused` if something else is to be shown.
 #[tactic(auto, using(crate::proofs::Stays::shows_same, crate::proofs::Stays::refused_so))]
-pub fn evaluate(alloc: Global, seat: &mut Seat, request: &Value) -> Result<Vec<Message>, Fault>
-    ensures done { IfOk result (λ ms. Evaluates (is_console (view request.now))
-        (view request.now) seat.old.desk seat.new.desk (each said_of ms.items)) }
-    ensures refused { IfErr result (λ f. ShowsIfRefused f seat.old.desk seat.new.desk) }
-    ensures why { IfErr result (λ f. IfRefused f (IsNoLook (view request.now) seat.old.desk)) }
+pub fn evaluate(
+    alloc: Global,
+    client: &mut Client,
+    counting: Counting,
+    text: &str,
+    is_console: bool,
+) -> Result<Vec<Message>, Fault>
+    ensures done { IfOk result (λ ms. Evaluates is_console text.now client.old client.new
+        (each said_of ms.items)) }
+    ensures refused { IfErr result (λ f. ShowsIfRefused f client.old.mon client.new.mon) }
+    ensures why { IfErr result (λ f. IfRefused f (IsNoLook text.now is_console client.old.mon)) }
 {
-    let text = text_or(request, "/arguments/expression", "");
-    if text_or(request, "/arguments/context", "repl") == "repl" {
-        return or_memory(console(alloc, seat, text));
+    if is_console {
+        return evaluate_line(alloc, client, counting, text);
     }
-    let looked = look_at(alloc, &seat.desk, text)?;
-    match looked {
-        Some(body) => or_memory(answered(alloc, Ok(body))),
-        None => Err(refused(alloc, "this is neither a register nor a place")),
-    }
-}
-
-/// Returns the word of `mon` that sets a variable of a scope.
-fn word_for(scope: Option<u64>) -> &'static str
-    ensures { result.now ≡ word_for scope }
-{
-    match scope {
-        Some(1 | 2) => "set",
-        _ => "put",
-    }
-}
-
-/// Returns the line of `mon` that sets a variable of a scope.
-fn setting_line(alloc: Global, request: &Value) -> Result<String, AllocError>
-    ensures { IfOk result (λ line. string_bytes line ≡ setting_line (view request.now)) }
-{
-    let name = text_or(request, "/arguments/name", "");
-    let value = text_or(request, "/arguments/value", "");
-    let word = word_for(number_at(request, "/arguments/variablesReference"));
-    format!(in alloc; "{word} {name} {value}")
+    look(alloc, client, text, None)
 }
 
 /// Makes an event.
 ///
 /// Errors: `Refused` if the machine does not accept it.
 #[tactic(auto, using(crate::proofs::Stays::shows_same, crate::proofs::Stays::refused_so))]
-pub fn happen(alloc: Global, desk: &mut Desk, event: Event) -> Result<(), Fault>
-    ensures course { course_of desk.new ≡ happened event (course_of desk.old) }
-    ensures stops { KeepsStops desk.old desk.new }
-    ensures refused { IfErr result (λ f. ShowsIfRefused f desk.old desk.new) }
-    ensures why { IfErr result (λ f. IfRefused f (Rejects event desk.old)) }
+pub fn happen(alloc: Global, mon: &mut MonState, event: Event) -> Result<(), Fault>
+    ensures course { course_of mon.new ≡ happened event (course_of mon.old) }
+    ensures stops { KeepsStops mon.old mon.new }
+    ensures refused { IfErr result (λ f. ShowsIfRefused f mon.old mon.new) }
+    ensures why { IfErr result (λ f. IfRefused f (Rejects event mon.old)) }
 {
-    desk.text.clear();
-    if desk.happen(event)? {
+    mon.text.clear();
+    if mon.happen(event)? {
         return Ok(());
     }
-    let fault = refused_by(alloc, desk.text.as_slice());
-    desk.text.clear();
+    let fault = refused_by(alloc, mon.text.as_slice());
+    mon.text.clear();
     Err(fault)
 }
 
-/// Does what a line of `mon` asks for that sets a register, a flag or a byte.
+/// Returns that a request is refused for a slip in a text.
+fn refused_for(alloc: Global, slip: Slip<'_>) -> Fault {
+    let mut text = Vec::new(alloc);
+    match push_slip(&mut text, slip) {
+        Ok(()) => refused_by(alloc, text.as_slice()),
+        Err(_) => Fault::OutOfMemory,
+    }
+}
+
+/// Returns that a request is refused since the value of a variable cannot be read.
+fn unread(alloc: Global, variable: Variable, why: Flaw<'_>) -> Fault {
+    let topic = match variable {
+        Variable::Register(_) | Variable::Flag(_) => Some(Topic::Set),
+        Variable::Byte(_) => Some(Topic::Put),
+    };
+    refused_for(alloc, Slip { topic, flaw: why })
+}
+
+/// Returns the event that puts one byte at an address.
 ///
-/// Errors: `Refused` for any other line, and where the machine does not accept what it asks for.
-#[tactic(auto, using(crate::proofs::Stays::shows_same, crate::proofs::Stays::refused_so))]
-fn obey(alloc: Global, desk: &mut Desk, command: Command<'_>) -> Result<(), Fault>
-    ensures done { OnOk result
-        (HasChanged (change_in desk.old.session.current (command_view command.entry)) desk.old
-        desk.new) }
-    ensures refused { IfErr result (λ f. ShowsIfRefused f desk.old desk.new) }
-    ensures why { IfErr result (λ f. IfRefused f
-        (IsUnmade (change_in desk.old.session.current (command_view command.entry)) desk.old)) }
+/// Errors: `Refused` if there are more bytes, or none.
+#[tactic(auto, using(crate::proofs::Stays::refused_so))]
+fn byte_put(alloc: Global, address: u16, bytes: &[u8]) -> Result<Event, Fault>
+    ensures event { IfOk result (λ event. byte_put address bytes.now ≡ Some event) }
+    ensures why { IfErr result (λ f. IfRefused f (byte_put address bytes.now ≡ None)) }
 {
-    match command {
-        Command::Set(setting) => happen(alloc, desk, Event::Set(setting)),
-        Command::SetFlag { flag, value } => {
-            set_flag(desk, flag, value)?;
-            desk.text.clear();
-            Ok(())
-        }
-        Command::Put { address, bytes } => match bytes.as_slice() {
-            [byte] => {
-                let event = Event::Patch {
-                    address,
-                    bytes: [*byte, 0, 0],
-                    count: 1,
-                };
-                happen(alloc, desk, event)
-            }
-            _ => Err(refused(alloc, "a variable takes one value")),
-        },
+    match bytes {
+        [byte] => Ok(Event::Patch {
+            address,
+            bytes: [*byte, 0, 0],
+            count: 1,
+        }),
         _ => Err(refused(alloc, "a variable takes one value")),
     }
 }
 
-/// Does what a line of `mon` asks for that sets a register, a flag or a byte.
+/// Returns the event that gives a variable the value that a text has.
 ///
-/// Errors: `Refused` for any other line, and where the machine does not accept what it asks for.
-#[tactic(auto, using(crate::proofs::Stays::shows_same, crate::proofs::Stays::refused_so))]
-fn change(alloc: Global, desk: &mut Desk, line: &[u8]) -> Result<(), Fault>
-    ensures done { OnOk result (HasChanged (change_on desk.old line.now) desk.old desk.new) }
-    ensures refused { IfErr result (λ f. ShowsIfRefused f desk.old desk.new) }
-    ensures why { IfErr result
-        (λ f. IfRefused f (IsUnmade (change_on desk.old line.now) desk.old)) }
+/// Errors: `Refused` if it has none that the variable can have.
+#[tactic(auto, using(crate::proofs::Stays::refused_so))]
+fn change_to(alloc: Global, mon: &MonState, variable: Variable, text: &str) -> Result<Event, Fault>
+    ensures event { IfOk result (λ event. change_to mon.now text.now variable ≡ Some event) }
+    ensures why { IfErr result (λ f. IfRefused f (change_to mon.now text.now variable ≡ None)) }
 {
-    if line.len() > 255 {
-        return Err(refused(alloc, "the value is too long"));
-    }
-    match read_line(line, &desk.places, desk.session.regs().pc) {
-        Ok(command) => obey(alloc, desk, command),
-        Err(slip) => {
-            let mut text = Vec::new(alloc);
-            match push_slip(&mut text, slip) {
-                Ok(()) => Err(refused_by(alloc, text.as_slice())),
-                Err(_) => Err(Fault::OutOfMemory),
+    let text = text.as_bytes();
+    let places = &mon.places;
+    let regs = mon.session.regs();
+    match variable {
+        Variable::Register(register) => match read_setting(register, text, places, regs.pc) {
+            Ok(setting) => Ok(Event::Set(setting)),
+            Err(why) => Err(unread(alloc, variable, why)),
+        },
+        Variable::Flag(flag) => match read_bit(text, places) {
+            Ok(value) => {
+                let flags = flag.with(value, regs.flags);
+                Ok(Event::Set(Setting::P(flags.to_byte(false))))
             }
-        }
+            Err(why) => Err(unread(alloc, variable, why)),
+        },
+        Variable::Byte(address) => match read_bytes(text, places) {
+            Ok(bytes) => byte_put(alloc, address, bytes.as_slice()),
+            Err(why) => Err(unread(alloc, variable, why)),
+        },
     }
 }
 
-/// Returns the value of the first variable of some that are shown that has a name.
-fn value_of<'a>(shown: &'a Value, name: &str) -> Option<&'a str>
-    ensures { (listed : List Data)
-        × (items_of listed ≡ items_at (codes "/variables") (view shown.now))
-        × (option_map (λ s. s.now) result ≡ value_of name.now listed) }
+/// Says which value a variable has, and that what the client shows may have changed.
+fn tell_value(
+    alloc: Global,
+    mon: &MonState,
+    counting: Counting,
+    variable: Variable,
+) -> Result<Vec<Message>, AllocError>
+    ensures { IfOk result (λ ms. each said_of ms.items ≡ value_said counting mon.now variable) }
 {
-    let Some(list) = shown.pointer("/variables") else {
-        return None;
-    };
-    let Some(variables) = list.as_array() else {
-        return None;
-    };
-    for variable in variables.as_slice() {
-        if text_at(variable, "/name") == Some(name) {
-            return text_at(variable, "/value");
-        }
-    }
-    None
+    let value = value_shown(alloc, mon, variable)?;
+    let answer = answered(alloc, value_set(alloc, value.as_str()));
+    with_unmoved(alloc, answer, counting)
 }
 
-/// Says which value a variable has that a request has set, and that what the client shows may have
-/// changed.
-fn tell_value(alloc: Global, desk: &Desk, request: &Value) -> Result<Vec<Message>, AllocError>
-    ensures { IfOk result (λ ms. TellsValue (view request.now) desk.now (each said_of ms.items)) }
-{
-    let name = text_or(request, "/arguments/name", "");
-    let asked = text_or(request, "/arguments/value", "");
-    let shown = variables_shown(alloc, desk, request)?;
-    let body = value_set(alloc, value_of(&shown, name).unwrap_or(asked));
-    drop(shown);
-    with_unmoved(alloc, answered(alloc, body))
-}
-
-/// Sets a variable, and says which value it has then.
+/// Sets a variable of a scope, and says which value it has then.
 ///
-/// Errors: `Refused` if the value is none that it can have.
+/// Errors: `Refused` if there is no such variable, or the value is none that it can have.
 #[tactic(auto, using(crate::proofs::Stays::shows_same, crate::proofs::Stays::refused_so))]
-pub fn set_variable(alloc: Global, desk: &mut Desk, request: &Value) -> Result<Vec<Message>, Fault>
+pub fn set_variable(
+    alloc: Global,
+    mon: &mut MonState,
+    counting: Counting,
+    scope: Option<Scope>,
+    name: &str,
+    value: &str,
+) -> Result<Vec<Message>, Fault>
     ensures done { OnOk result
-        (HasChanged (change_asked (view request.now) desk.old) desk.old desk.new) }
+        (HasChanged (change_asked scope name.now value.now mon.old) mon.old mon.new) }
     ensures answer { IfOk result
-        (λ ms. TellsValue (view request.now) desk.new (each said_of ms.items)) }
-    ensures refused { IfErr result (λ f. ShowsIfRefused f desk.old desk.new) }
-    ensures why { IfErr result (λ f. IfRefused f (IsNoChange (view request.now) desk.old)) }
+        (λ ms. TellsValue counting scope name.now mon.old mon.new (each said_of ms.items)) }
+    ensures refused { IfErr result (λ f. ShowsIfRefused f mon.old mon.new) }
+    ensures why { IfErr result
+        (λ f. IfRefused f (IsNoChange scope name.now value.now mon.old)) }
 {
-    let line = setting_line(alloc, request)?;
-    match change(alloc, desk, line.as_bytes()) {
-        Ok(()) => or_memory(tell_value(alloc, desk, request)),
+    let variable = match variable_named(mon, scope, name) {
+        Ok(variable) => variable,
+        Err(slip) => return Err(refused_for(alloc, slip)),
+    };
+    let event = match change_to(alloc, mon, variable, value) {
+        Ok(event) => event,
+        Err(fault) => return Err(fault),
+    };
+    match happen(alloc, mon, event) {
+        Ok(()) => or_memory(tell_value(alloc, mon, counting, variable)),
         Err(fault) => Err(fault),
     }
 }

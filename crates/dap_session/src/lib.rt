@@ -1,7 +1,7 @@
 //! A session of the debug adapter, from its launch on: what each request does to it, and what is
 //! answered.
 //!
-//! `launching` reads what a launch asks for, `seat` begins a session by it and keeps its message,
+//! `launching` reads what a launch asks for, `client` begins a session by it,
 //! `fault` has why a request is not done. `stands` tells why the machine stands, `console` serves
 //! lines of `mon` and sets variables, `changing` makes another instruction the next and writes to
 //! memory, `completion` offers words for one that is typed, `telling` says what a client is told
@@ -15,19 +15,18 @@
 
 mod answering;
 mod changing;
+mod client;
 mod completion;
 mod console;
 mod fault;
 mod launching;
-mod seat;
 mod stands;
 mod telling;
 mod wording;
 
-pub use answering::answer;
+pub use answering::{answer, goes_on, lets_run};
+pub use client::{Client, begin_session, put_client};
 pub use console::with_terminated;
-pub use dap_desk::NO_STOP;
 pub use fault::{Fault, or_memory, refused};
-pub use seat::{Seat, begin_session, put_seat};
 pub use stands::all_done;
 pub use telling::{answered, with_event};

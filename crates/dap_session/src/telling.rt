@@ -5,15 +5,16 @@ ghost use Rattle.std.specs.Prelude.{List, drop, length, map as each, string_byte
 ghost use Rattle.dap_messages.specs.Messages.{Said, done, event, said_of};
 ghost use Rattle.dap_session.specs.Told.{characters, console_said, halt_shown, output_said};
 ghost use Rattle.dap_session.specs.Told.{remark_said, stopped_said, told_of, unmoved_said};
+ghost use Rattle.json_messages.specs.Values.{count, list_of};
 ghost use Rattle.serde_json.specs.Data.{Data};
 ghost use Rattle.serde_json.specs.View.{view};
 
 use crate::wording::{LESS_BEFORE, LESS_BEHIND};
-use dap_messages::{Halt, Message, Reason, Told};
+use dap_messages::{Counting, Halt, Message, Reason, Told};
 use dap_views::as_text;
-use json_values::{Object, ValueList};
+use json_messages::{Object, ValueList};
 use mon_runs::Session;
-use mon_session::{Desk, push_fault};
+use mon_session::{MonState, push_fault};
 use serde_json::Value;
 use source_map::Places;
 use std::alloc::{AllocError, Global};
@@ -109,18 +110,31 @@ fn halt_shown(alloc: Global, places: &Places, halt: Halt) -> Result<String, Allo
     }
 }
 
-/// Returns messages and, behind them, that the machine stands, in words of why. If it is before the
-/// first instruction or at its oldest state, a remark says so first.
+/// Returns a list of numbers.
+fn numbers(alloc: Global, all: &[u64]) -> Result<Value, AllocError>
+    ensures { IfOk result (λ v. view v ≡ list_of (each count all.now)) }
+{
+    let mut list = ValueList::new(alloc);
+    for number in all {
+        list = list.with(Ok(Value::from(*number)));
+    }
+    list.build()
+}
+
+/// Returns messages and, behind them, that the machine stands, in words of why, and which
+/// breakpoints have stopped it. If it is before the first instruction or at its oldest state, a
+/// remark says so first.
 fn with_stop(
     alloc: Global,
     messages: Result<Vec<Message>, AllocError>,
     halt: Halt,
     words: &str,
+    hits: &[u64],
 ) -> Result<Vec<Message>, AllocError>
     ensures { (before : List Said) → IfOk messages (λ ms. each said_of ms.items ≡ before)
         → IfOk result (λ ms. each said_of ms.items
         ≡ (before ++ remark_said halt.reason halt.words.now)
-        ++ stopped_said halt.reason words.now ∷ []) }
+        ++ stopped_said halt.reason words.now hits.now ∷ []) }
 {
     let remarked = match halt.reason {
         Reason::Entry => {
@@ -129,10 +143,12 @@ fn with_stop(
         }
         Reason::Step | Reason::Breakpoint | Reason::InstructionBreakpoint => messages,
         Reason::DataBreakpoint | Reason::Exception | Reason::Goto | Reason::Pause => messages,
+        Reason::NoStop => messages,
     };
     let body = Object::new(alloc)
         .flag("allThreadsStopped", true)
         .word("description", words)
+        .member("hitBreakpointIds", numbers(alloc, hits))
         .word("reason", halt.reason.word())
         .count("threadId", 1)
         .build();
@@ -144,35 +160,43 @@ fn with_stop(
 pub fn with_halt(
     alloc: Global,
     messages: Result<Vec<Message>, AllocError>,
-    desk: &Desk,
+    mon: &MonState,
     told: &mut Told,
     halt: Halt,
+    hits: &Vec<u64>,
 ) -> Result<Vec<Message>, AllocError>
     ensures messages { (before : List Said)
         → IfOk messages (λ ms. each said_of ms.items ≡ before)
-        → IfOk result
-        (λ ms. each said_of ms.items ≡ before ++ told_of desk.now told.old.count halt) }
+        → IfOk result (λ ms. each said_of ms.items
+        ≡ before ++ told_of mon.now told.old.count halt hits.now.items) }
     ensures count { OnOk result
-        (told.new.count ≡ length desk.now.session.current.bus.out) }
+        (told.new.count ≡ length mon.now.session.current.bus.out) }
+    ensures reason { OnOk result (told.new.reason ≡ halt.reason) }
     ensures words { OnOk result (string_bytes told.new.words
-        ≡ halt_shown desk.now.places.names halt.words.now halt.fault) }
+        ≡ halt_shown mon.now.places.names halt.words.now halt.fault) }
 {
-    let words = halt_shown(alloc, &desk.places, halt)?;
-    let console = with_console(alloc, messages, &desk.session, told.count);
-    let all = with_stop(alloc, console, halt, words.as_str());
-    told.count = desk.session.output_len();
+    let words = halt_shown(alloc, &mon.places, halt)?;
+    let console = with_console(alloc, messages, &mon.session, told.count);
+    let all = with_stop(alloc, console, halt, words.as_str(), hits.as_slice());
+    told.count = mon.session.output_len();
+    told.reason = halt.reason;
     told.words = words;
     all
 }
 
-/// Returns messages and, behind them, that what the client shows may have changed.
+/// Returns messages and, behind them, that what the client shows may have changed, if it can be
+/// told so.
 pub fn with_unmoved(
     alloc: Global,
     messages: Result<Vec<Message>, AllocError>,
+    counting: Counting,
 ) -> Result<Vec<Message>, AllocError>
     ensures { (before : List Said) → IfOk messages (λ ms. each said_of ms.items ≡ before)
-        → IfOk result (λ ms. each said_of ms.items ≡ before ++ unmoved_said ∷ []) }
+        → IfOk result (λ ms. each said_of ms.items ≡ before ++ unmoved_said counting) }
 {
+    if !counting.can_invalidate {
+        return messages;
+    }
     let areas = ValueList::new(alloc)
         .with(Value::try_from_str(alloc, "all"))
         .build();

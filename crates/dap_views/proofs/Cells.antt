@@ -1,8 +1,9 @@
 -- Bytes of memory one after another, as variables and as they are.
 use Rattle.std.proofs.Common.{◌≡◌, ◌∙◌, ℕ, zero, suc, ◌+◌, ◌-◌, ◌<◌, ◌≤◌, List, [], ◌∷◌, ◌++◌, length, get_or, sym, ap, arith, append_assoc, append-nil, subst}
+use Rattle.dap_messages.specs.declared.request.Page.{Page}
+use Rattle.dap_views.specs.Pages.{IsPage}
 use Rattle.dap_views.specs.Scopes.{cell, cells}
-use Rattle.json_values.specs.ValueLists.{HasValues}
-use Rattle.json_values.specs.declared.value_list.ValueList.{ValueList}
+use Rattle.dap_views.specs.declared.paged.Paged.{Paged}
 use Rattle.mon_texts.specs.Memory.{bytes_from}
 use Rattle.mon_texts.proofs.Bytes.{next_byte}
 use Rattle.serde_json.specs.Data.{Data}
@@ -20,14 +21,14 @@ pub cells_none : (memory : List ℕ) (from : ℕ) → [] ≡ cells memory from (
 unfolding cells
 cells_none memory from = let n : 0 ≡ from - from = omega arith in ap (cells memory from) n
 
-pub cells_more : (memory : List ℕ) (from address : ℕ) (list : ValueList) → from ≤ address
-    → HasValues (cells memory from (address - from) ++ cell memory address ∷ []) list → HasValues (cells memory from ((address + 1) - from)) list
-cells_more memory from address list behind has =
+pub cells_more : (memory : List ℕ) (from address : ℕ) (asked : Page) (made : Paged) → from ≤ address
+    → IsPage asked (cells memory from (address - from) ++ cell memory address ∷ []) made → IsPage asked (cells memory from ((address + 1) - from)) made
+cells_more memory from address asked made behind is =
     let n : (address + 1) - from ≡ suc (address - from) = omega arith in
     let at : from + (address - from) ≡ address = omega arith in
     let one : cells memory from ((address + 1) - from) ≡ cells memory from (address - from) ++ cell memory address ∷ []
     = ap (cells memory from) n ∙ cells_behind memory from (address - from) ∙ ap (λ (k : ℕ). cells memory from (address - from) ++ cell memory k ∷ []) at in
-    subst (λ (ds : List Data). HasValues ds list) (sym one) has
+    subst (λ (ds : List Data). IsPage asked ds made) (sym one) is
 
 pub bytes_more : (memory : List ℕ) (first offset count : ℕ) (found new : List ℕ) (whole : List ℕ) → first + offset < length memory → offset < count
     → new ≡ found ++ get_or memory (first + offset) 0 ∷ [] → found ++ bytes_from memory (first + offset) (count - offset) ≡ whole

@@ -1,11 +1,14 @@
 mod Cells
+mod Entries
 mod Finding
 mod Following
-mod Framed
 mod Joined
 mod Listing
 mod Lossy
 mod Matching
+mod Numbered
+pub mod Paging
 mod Shown
 mod Symbols
 mod Watching
+mod WhereFrames

@@ -1,16 +1,15 @@
 -- Watches set and cleared one after another.
-use Rattle.std.proofs.Common.{◌≡◌, ◌∙◌, ℕ, ◌+◌, ◌<◌, ◌≤◌, List, [], ◌∷◌, ◌++◌, length, get_or, drop, map, refl, sym, ap, add-one, arith, drop-cons}
+use Rattle.std.proofs.Common.{◌≡◌, ◌∙◌, ℕ, ◌+◌, ◌<◌, ◌≤◌, List, [], ◌∷◌, ◌++◌, length, get_or, drop, refl, sym, ap, add-one, arith, drop-cons}
 use Rattle.std.proofs.lemmas.Grind.{common_steps}
 use Rattle.std.proofs.lemmas.List.{drop_all}
 use Rattle.std.specs.Prelude.{Err, IfErr, Ok, OnOk, Result}
+use Rattle.dap_messages.specs.declared.request.DataBreakpoint.{DataBreakpoint}
 use Rattle.dap_views.specs.Watches.{Watched, all_unset, unset, watches_in, watches_of, with_all, with_one}
 use Rattle.model.specs.Breakpoints.{watch_cleared}
 use Rattle.model.specs.Session.{Session}
 use Rattle.model.specs.declared.session_fault.SessionFault.{SessionFault}
 use Rattle.mon_settings.specs.StopLines.{or_same}
-use Rattle.mon_stops.specs.declared.watches.Watch.{Watch}
-use Rattle.serde_json.specs.View.{view}
-use Rattle.serde_json.specs.declared.value.Value.{Value}
+use Rattle.mon_runs.specs.declared.watches.Watch.{Watch}
 
 -- ---- watches cleared
 
@@ -35,16 +34,16 @@ with_both [] more p = refl
 with_both (watch ∷ some) more p = with_both some more (with_one watch p)
 
 -- those that are still to be set
-abbrev pub left_set : List Value → ℕ → Watched → Watched
-left_set all i p = with_all (watches_in (map view (drop i all))) p
+abbrev pub left_set : List DataBreakpoint → ℕ → Watched → Watched
+left_set all i p = with_all (watches_in (drop i all)) p
 
-pub set_more : (all : List Value) (i : ℕ) (w : Value) (whole p q : Watched) → i < length all → w ≡ get_or all i w → q ≡ with_all (watches_of (view w)) p
+pub set_more : (all : List DataBreakpoint) (i : ℕ) (e : DataBreakpoint) (whole p q : Watched) → i < length all → q ≡ with_all (watches_of (get_or all i e)) p
     → whole ≡ left_set all i p → whole ≡ left_set all (i + 1) q
-set_more all i w whole p q within is set so_far =
-    let cons : drop i all ≡ get_or all i w ∷ drop (i + 1) all = rw add-one (drop-cons all i w within) in
-    let rest = watches_in (map view (drop (i + 1) all)) in
-    so_far ∙ ap (λ (vs : List Value). with_all (watches_in (map view vs)) p) cons ∙ with_both (watches_of (view (get_or all i w))) rest p
-    ∙ ap (λ (v : Value). with_all rest (with_all (watches_of (view v)) p)) (sym is) ∙ ap (with_all rest) (sym set)
+set_more all i e whole p q within set so_far =
+    let byte = get_or all i e in
+    let cons : drop i all ≡ byte ∷ drop (i + 1) all = rw add-one (drop-cons all i e within) in
+    let rest = watches_in (drop (i + 1) all) in
+    so_far ∙ ap (λ (bytes : List DataBreakpoint). with_all (watches_in bytes) p) cons ∙ with_both (watches_of byte) rest p ∙ ap (with_all rest) (sym set)
 
-pub set_done : (all : List Value) (i : ℕ) (whole p : Watched) → length all ≤ i → whole ≡ left_set all i p → whole ≡ p
-set_done all i whole p over so_far = so_far ∙ ap (λ (vs : List Value). with_all (watches_in (map view vs)) p) (drop_all i all over)
+pub set_done : (all : List DataBreakpoint) (i : ℕ) (whole p : Watched) → length all ≤ i → whole ≡ left_set all i p → whole ≡ p
+set_done all i whole p over so_far = so_far ∙ ap (λ (vs : List DataBreakpoint). with_all (watches_in vs) p) (drop_all i all over)

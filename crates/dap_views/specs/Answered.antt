@@ -1,35 +1,46 @@
 -- What is answered of breakpoints. Source: Debug Adapter Protocol 1.65, "Breakpoint"; mos65.
-use Rattle.std.specs.Prelude.{ℕ, ◌≡◌, nat_eq, if◌then◌else◌, List, map, string_bytes, Option, Some, None}
+use Rattle.std.specs.Prelude.{ℕ, nat_eq, if◌then◌else◌, List, [], ◌∷◌, ◌++◌, string_bytes, Option, Some, None, option_map}
 use Rattle.std.specs.List.{list_any}
-use Rattle.dap_views.specs.Found.{AreTold, Found}
 use Rattle.dap_views.specs.declared.listed.TheConstants.{NO_ROOM, OTHER_SOURCE}
 use Rattle.dap_views.specs.declared.wanted.Wanted.{Wanted}
 use Rattle.dap_views.specs.BreakValues.{breakpoint_set, breakpoint_unset, data_unwatched}
-use Rattle.dap_messages.specs.Answers.{breakpoints_body}
 use Rattle.dap_messages.specs.Counting.{shown_line}
+use Rattle.dap_messages.specs.Messages.{next_number}
 use Rattle.dap_messages.specs.declared.counting.Counting.{Counting}
+use Rattle.dap_messages.specs.declared.listed.Placed.{Placed}
+use Rattle.dap_messages.specs.declared.request.SourceBreakpoint.{SourceBreakpoint}
 use Rattle.model.specs.Session.{Session}
 use Rattle.serde_json.specs.Data.{Data}
 
--- A breakpoint at an address is set if the session has one there.
-abbrev pub answer_at : Session → ℕ → ℕ → Data
-answer_at session line address = if list_any (nat_eq address) session.breaks
-    then breakpoint_set address line else breakpoint_unset line NO_ROOM.now
+-- ---- one breakpoint, of a number
 
--- One that can stand nowhere is not set.
-abbrev pub answer_by : Session → ℕ → List ℕ → Option ℕ → Data
-answer_by session line words (Some address) = answer_at session line address
-answer_by session line words None = breakpoint_unset line words
+-- A breakpoint at an address is set if the session has one there. One that can stand nowhere is not
+-- set.
+abbrev pub answer_by : Session → ℕ → Option ℕ → List ℕ → Option ℕ → Data
+answer_by session id line words (Some address) = if list_any (nat_eq address) session.breaks
+    then breakpoint_set id address line else breakpoint_unset id line NO_ROOM.now
+answer_by session id line words None = breakpoint_unset id line words
 
-abbrev pub answer_of : Session → Counting → Wanted → Data
-answer_of session counting wanted = answer_by session (shown_line counting wanted.line)
-    (string_bytes wanted.words) wanted.address
+abbrev pub answer_of : Session → Counting → ℕ → Wanted → Data
+answer_of session counting id wanted = answer_by session id
+    (option_map (shown_line counting) wanted.line) (string_bytes wanted.words) wanted.address
 
 -- One of another source is not set.
-abbrev pub answer_elsewhere : Data → Data
+abbrev pub answer_elsewhere : SourceBreakpoint → Data
 answer_elsewhere wanted = data_unwatched OTHER_SOURCE.now
 
--- What is answered of a list.
-abbrev pub IsAnswer : Session → Counting → (Data → Found) → List Data → Data → Type 0
-IsAnswer session counting find listed v = (told : List Wanted) × AreTold find listed told
-    × (v ≡ breakpoints_body (map (answer_of session counting) told))
+-- ---- a list, of which the first has this number
+
+unfoldable pub answers_of : Session → Counting → ℕ → List Wanted → List Data
+answers_of session counting id [] = []
+answers_of session counting id (wanted ∷ rest) = answer_of session counting id wanted
+    ∷ answers_of session counting (next_number id) rest
+
+-- Where those stand that stand somewhere.
+abbrev pub placed_at : ℕ → Option ℕ → List Placed
+placed_at id (Some address) = record { id = id; address = address } ∷ []
+placed_at id None = []
+
+unfoldable pub placed_of : ℕ → List Wanted → List Placed
+placed_of id [] = []
+placed_of id (wanted ∷ rest) = placed_at id wanted.address ++ placed_of (next_number id) rest

@@ -1,22 +1,28 @@
 -- The values of answers. The members of an object stand in the order of their names. Source: Debug
 -- Adapter Protocol 1.65, "Breakpoint", "GotoTarget", "CompletionItem",
 -- "DataBreakpointInfo Request".
-use Rattle.std.specs.Prelude.{ℕ, true, false, List, [], ◌∷◌, codes}
+use Rattle.std.specs.Prelude.{ℕ, true, false, List, [], ◌∷◌, codes, Option, Some, None}
 use Rattle.dap_messages.specs.Bodies.{list_body}
 use Rattle.dap_messages.specs.Texts.{address_text, reference}
-use Rattle.json_values.specs.Values.{count, flag, list_of, object_of, word}
+use Rattle.json_messages.specs.Values.{count, flag, list_of, object_of, word}
 use Rattle.serde_json.specs.Data.{Data, null}
 
 -- ---- breakpoints
 
--- A breakpoint's address is its number.
-abbrev pub breakpoint_set : ℕ → ℕ → Data
-breakpoint_set address line = object_of ((codes "id", count address)
+-- A breakpoint has a number, and may have a line.
+abbrev pub breakpoint_set : ℕ → ℕ → Option ℕ → Data
+breakpoint_set id address (Some line) = object_of ((codes "id", count id)
     ∷ (codes "instructionReference", word (reference address)) ∷ (codes "line", count line)
     ∷ (codes "verified", flag true) ∷ [])
+breakpoint_set id address None = object_of ((codes "id", count id)
+    ∷ (codes "instructionReference", word (reference address)) ∷ (codes "verified", flag true)
+    ∷ [])
 
-abbrev pub breakpoint_unset : ℕ → List ℕ → Data
-breakpoint_unset line words = object_of ((codes "line", count line)
+abbrev pub breakpoint_unset : ℕ → Option ℕ → List ℕ → Data
+breakpoint_unset id (Some line) words = object_of ((codes "id", count id)
+    ∷ (codes "line", count line) ∷ (codes "message", word words)
+    ∷ (codes "verified", flag false) ∷ [])
+breakpoint_unset id None words = object_of ((codes "id", count id)
     ∷ (codes "message", word words) ∷ (codes "verified", flag false) ∷ [])
 
 -- ---- lines to go to

@@ -1,76 +1,78 @@
--- What lists of breakpoints do to a desk, and what is answered. Source: Debug Adapter Protocol
--- 1.65, "SetBreakpoints Request", "SetInstructionBreakpoints Request"; mos65.
-use Rattle.std.specs.Prelude.{ℕ, ◌≡◌, ◌⊎◌, false, List, codes, map, option_map, Option, Some}
+-- What lists of breakpoints do to a state of `mon`, and what is answered. Source: Debug Adapter
+-- Protocol 1.65, "SetBreakpoints Request", "SetInstructionBreakpoints Request"; mos65.
+use Rattle.std.specs.Prelude.{ℕ, ◌≡◌, ◌⊎◌, false, List, map, Option, Some}
 use Rattle.std.specs.Str.{bytes_eq}
 use Rattle.assembler.specs.Assembly.{AssemblyView}
 use Rattle.dap_desk.specs.Breaks.{all_cleared, all_set, place_of}
 use Rattle.dap_messages.specs.Answers.{breakpoints_body}
 use Rattle.dap_messages.specs.declared.counting.Counting.{Counting}
+use Rattle.dap_messages.specs.declared.listed.AddressList.{AddressList}
+use Rattle.dap_messages.specs.declared.listed.LineList.{LineList}
 use Rattle.dap_messages.specs.declared.listed.Listed.{Listed}
-use Rattle.dap_views.specs.Answered.{IsAnswer, answer_elsewhere}
+use Rattle.dap_messages.specs.declared.listed.Placed.{Placed}
+use Rattle.dap_messages.specs.declared.request.SourceBreakpoint.{SourceBreakpoint}
+use Rattle.dap_views.specs.Answered.{answer_elsewhere, answers_of, placed_of}
 use Rattle.dap_views.specs.Found.{AreStops, AreTold, Found, found_address, found_line}
-use Rattle.dap_views.specs.Targets.{path_of}
-use Rattle.dap_views.specs.Wanted.{Matches, addresses}
-use Rattle.dap_views.specs.Watches.{items_at}
 use Rattle.dap_views.specs.declared.wanted.List.{List as WantedList}
-use Rattle.mon_runs.specs.Looked.{Place}
-use Rattle.mon_session.specs.declared.desk.Desk.{Desk}
-use Rattle.mon_stops.specs.declared.breaks.Break.{Break}
+use Rattle.dap_views.specs.declared.wanted.Wanted.{Wanted}
+use Rattle.mon_session.specs.declared.mon_state.MonState.{MonState}
+use Rattle.mon_runs.specs.declared.breaks.Break.{Break}
 use Rattle.serde_json.specs.Data.{Data}
-use Rattle.serde_json.specs.View.{items_of, view}
 
 -- ---- a list
 
--- The breakpoints that a request lists.
-abbrev pub AreListed : List Data → Data → Type 0
-AreListed listed request = items_of listed ≡ items_at (codes "/arguments/breakpoints") request
+-- All breakpoints of a list were looked for.
+abbrev pub Finds : {W : Type 0} → (W → Found) → List W → WantedList → Type 0
+Finds find listed list = AreTold find listed list.told.items
+    × AreStops find listed list.stops.items
 
--- All of them were looked for.
-abbrev pub Finds : (Data → Found) → Data → WantedList → Type 0
-Finds find request list = Matches list × (listed : List Data) × AreListed listed request
-    × AreTold find listed list.told.items × AreStops find listed list.stops.items
-
--- The breakpoints at some addresses are replaced by those that can be set of a list, whose
--- addresses are these.
-abbrev pub SetsBreaks : (Data → Found) → List Data → List ℕ → List ℕ → Place → Place → Type 0
-SetsBreaks find listed before after old new = (stops : List Break) × AreStops find listed stops
-    × (addresses stops ≡ after) × (new ≡ all_set stops (all_cleared before old))
-
--- So are they by those of a request, and each of these is told of.
-abbrev pub SetsList : (Data → Found) → Counting → Data → List ℕ → List ℕ → Desk → Desk → Data
-    → Type 0
-SetsList find counting request before after old new v = (listed : List Data)
-    × AreListed listed request
-    × SetsBreaks find listed before after (place_of old) (place_of new)
-    × IsAnswer new.session counting find listed v
+-- The breakpoints that stood somewhere are replaced by those that can be set of a list, of which the
+-- first has this number; each is told of, and it is held where they stand.
+abbrev pub SetsList : {W : Type 0} → (W → Found) → Counting → ℕ → List W → List Placed → List Placed
+    → MonState → MonState → Data → Type 0
+SetsList find counting first listed before after old new v = (told : List Wanted)
+    × (stops : List Break) × AreTold find listed told × AreStops find listed stops
+    × (place_of new ≡ all_set stops (all_cleared before (place_of old)))
+    × (after ≡ placed_of first told)
+    × (v ≡ breakpoints_body (answers_of new.session counting first told))
 
 -- ---- breakpoints at lines, and at addresses
 
-abbrev pub SetsLines : Counting → Option AssemblyView → Data → List ℕ → List ℕ → Desk → Desk
-    → Data → Type 0
-SetsLines counting assembly request before after old new v
+abbrev pub SetsLines : Counting → Option AssemblyView → LineList → List Placed → List Placed
+    → MonState → MonState → Data → Type 0
+SetsLines counting assembly listed before after old new v
     = SetsList (found_line old.places old.session.current.regs.pc counting assembly) counting
-    request before after old new v
+    listed.first listed.list.items before after old new v
 
-abbrev pub SetsAddresses : Counting → Data → List ℕ → List ℕ → Desk → Desk → Data → Type 0
-SetsAddresses counting request before after old new v
-    = SetsList (found_address old.places old.session.current.regs.pc) counting request before
-    after old new v
+abbrev pub SetsAddresses : Counting → AddressList → List Placed → List Placed → MonState → MonState
+    → Data → Type 0
+SetsAddresses counting listed before after old new v
+    = SetsList (found_address old.places old.session.current.regs.pc) counting listed.first
+    listed.list.items before after old new v
 
--- Nothing is changed, and each breakpoint of a request is said not to be set.
-abbrev pub SetsNone : Data → Listed → Listed → Desk → Desk → Data → Type 0
-SetsNone request before after old new v = (after ≡ before) × (place_of new ≡ place_of old)
-    × (listed : List Data) × AreListed listed request
+-- Nothing is changed, and each breakpoint of a list is said not to be set.
+abbrev pub SetsNone : List SourceBreakpoint → Listed → Listed → MonState → MonState → Data → Type 0
+SetsNone listed before after old new v = (after ≡ before) × (place_of new ≡ place_of old)
     × (v ≡ breakpoints_body (map answer_elsewhere listed))
 
--- Those of the source of the session, which has this path, are set, and the request is held, with
--- that for addresses and that for watches. None is set if the source is another: its path is another,
--- and which other paths name the same file, no definition can say.
-abbrev pub SetsSource : Counting → List ℕ → Option AssemblyView → Data → Listed → Listed → Desk
-    → Desk → Data → Type 0
-SetsSource counting path assembly request before after old new v
-    = (SetsLines counting assembly request before.lines.items after.lines.items old new v
-    × (option_map view after.line_request ≡ Some request)
-    × (after.address_request ≡ before.address_request)
-    × (after.data_request ≡ before.data_request))
-    ⊎ ((bytes_eq (path_of request) path ≡ false) × SetsNone request before after old new v)
+-- What is held besides where breakpoints at lines stand: their list, and what was held for addresses
+-- and watches, with the number of the next breakpoint.
+abbrev pub HoldsLines : LineList → Listed → Listed → Type 0
+HoldsLines listed old new = (new.last_lines ≡ Some listed)
+    × (new.last_addresses ≡ old.last_addresses) × (new.last_bytes ≡ old.last_bytes)
+    × (new.next ≡ old.next)
+
+abbrev pub HoldsAddresses : AddressList → Listed → Listed → Type 0
+HoldsAddresses listed old new = (new.last_addresses ≡ Some listed)
+    × (new.last_lines ≡ old.last_lines) × (new.last_bytes ≡ old.last_bytes)
+    × (new.next ≡ old.next)
+
+-- Those of the source of the session, which has this path, are set, and the list is held, with that
+-- for addresses and that for watches. None is set if the source is another: the path that is named
+-- is another, and which other paths name the same file, no definition can say.
+abbrev pub SetsSource : Counting → List ℕ → Option AssemblyView → List ℕ → LineList → Listed
+    → Listed → MonState → MonState → Data → Type 0
+SetsSource counting path assembly named listed before after old new v
+    = (SetsLines counting assembly listed before.lines.items after.lines.items old new v
+    × HoldsLines listed before after)
+    ⊎ ((bytes_eq named path ≡ false) × SetsNone listed.list.items before after old new v)

@@ -1,39 +1,102 @@
--- The frames of the stack. Source: Debug Adapter Protocol 1.65, "StackTrace Request"; that there is
--- one frame, mos65.
-use Rattle.std.specs.Prelude.{ℕ, ◌≡◌, ◌==◌, Bool, true, false, List, [], ◌∷◌, codes, Option, Some, None, unwrap_or}
+-- The frames of the stack: where the program is, and the calls and interrupts that have led there.
+-- Source: Debug Adapter Protocol 1.65, "StackTrace Request"; what is taken for a call or an
+-- interrupt, mos65: what `where` of `mon` takes for one.
+use Rattle.std.specs.Prelude.{ℕ, zero, suc, ◌+◌, ◌==◌, nat_le, ◌≡◌, Bool, true, false, if◌then◌else◌, List, [], ◌∷◌, ◌++◌, length, map, Option, Some, None}
+use Rattle.std.specs.List.{flat_map, list_any}
 use Rattle.std.specs.Str.Lossy.{utf8_lossy}
-use Rattle.json_values.specs.Fields.{number_at}
-use Rattle.dap_views.specs.Values.{frame_at_line, frame_without_line, frames_body}
 use Rattle.dap_messages.specs.Counting.{first_column, shown_line}
 use Rattle.dap_messages.specs.declared.counting.Counting.{Counting}
+use Rattle.dap_messages.specs.declared.request.Page.{Page}
+use Rattle.dap_views.specs.Pages.{page_of}
+use Rattle.dap_views.specs.Values.{frame_at_line, frame_without_line, frames_body}
+use Rattle.dap_views.specs.declared.pushed.Pushed.{Pushed as OwnPushed}
+use Rattle.dap_views.specs.declared.pushed.Pushed.TheVariants as own
+use Rattle.dap_views.specs.declared.stack.Frame.{Frame}
+use Rattle.model.specs.State.{State}
 use Rattle.mon_instructions.specs.Places.{place_text}
+use Rattle.mon_texts.specs.Calls.{at_line, calls_text, from_line}
+use Rattle.mon_texts.specs.Pushed.{entry_len, pushed_at}
+use Rattle.mon_texts.specs.declared.pushed.Pushed.{Pushed}
+use Rattle.mon_texts.specs.declared.pushed.Pushed.TheVariants.{Call, Break, Interrupt, Byte}
+use Rattle.mon_texts.specs.declared.wording.TheConstants.{CALLED_FROM, INTERRUPTED_AT}
 use Rattle.serde_json.specs.Data.{Data}
 use Rattle.source_map.specs.Lines.{PlacesView, line_at}
 use Rattle.source_map.specs.Names.{Named}
+use Rattle.source_map.specs.declared.rows.Row.{Row}
+
+-- ---- which frames there are
+
+-- What is taken to have pushed something, as `where` takes it.
+abbrev pub seen : OwnPushed → Pushed
+seen (own.Call at) = Call at
+seen (own.Break at) = Break at
+seen (own.Interrupt at) = Interrupt at
+seen own.Byte = Byte
+
+abbrev pub new_frame : ℕ → ℕ → Bool → Frame
+new_frame id address is_interrupted
+    = record { id = id; address = address; is_interrupted = is_interrupted }
+
+-- The frame that a call, a BRK or an interrupt has left, which has pushed what stands at an address
+-- of the stack.
+abbrev pub frame_of : ℕ → Pushed → List Frame
+frame_of place (Call at) = new_frame place at false ∷ []
+frame_of place (Break at) = new_frame place at false ∷ []
+frame_of place (Interrupt at) = new_frame place at true ∷ []
+frame_of place Byte = []
+
+-- Those of up to n that were pushed, from an address on, where the stack ends at $01FF.
+unfoldable pub frames_from : ℕ → List ℕ → List Row → ℕ → List Frame
+frames_from zero memory lines address = []
+frames_from (suc n) memory lines address = if nat_le 512 address then []
+    else frame_of address (pushed_at memory lines address)
+    ++ frames_from n memory lines (address + entry_len memory lines address)
+
+-- Those below that of the program counter.
+abbrev pub left_frames : State → List Row → List Frame
+left_frames s lines = frames_from 256 s.bus.memory lines (257 + s.regs.s)
+
+-- All, the last one first.
+abbrev pub stack_frames : State → List Row → List Frame
+stack_frames s lines = new_frame 1 s.regs.pc false ∷ left_frames s lines
+
+-- Whether there is a frame of a number.
+abbrev pub has_frame : List Frame → ℕ → Bool
+has_frame frames id = list_any (λ frame. frame.id == id) frames
+
+-- ---- they are those of `where`
+
+-- The line that `where` has of a frame.
+abbrev pub where_line : State → List Named → Frame → List ℕ
+where_line s names frame = from_line
+    (if frame.is_interrupted then INTERRUPTED_AT.now else CALLED_FROM.now) s names frame.address
+
+-- `where` has a line of each frame below the first, and no other, in the same order.
+abbrev pub FramesAreThoseOfWhere : Type 0
+FramesAreThoseOfWhere = (s : State) (places : PlacesView) → calls_text s places
+    ≡ at_line places.names s.regs.pc
+    ++ flat_map (where_line s places.names) (left_frames s places.lines)
+
+-- ---- what is shown of a frame
 
 -- An address, and the name that stands there or nearest below it.
-abbrev pub place_name : List Named → ℕ → List ℕ
-place_name names address = utf8_lossy (place_text names address)
+abbrev pub frame_words : List Named → Frame → List ℕ
+frame_words names frame = if frame.is_interrupted
+    then INTERRUPTED_AT.now ++ place_text names frame.address
+    else place_text names frame.address
 
--- The frame at an address with these words in a line. The source has some short name.
-abbrev pub IsFrameAt : List ℕ → Counting → ℕ → List ℕ → ℕ → Data → Type 0
-IsFrameAt path counting address words line v = (name : List ℕ)
-    × (v ≡ frame_at_line address words (shown_line counting line) (first_column counting) name path)
+-- A frame with these words, which may stand in a line. The source has a short name.
+abbrev pub frame_on : List ℕ → Counting → List ℕ → Frame → List ℕ → Option ℕ → Data
+frame_on path counting name frame words (Some line) = frame_at_line frame.id frame.address words
+    (shown_line counting line) (first_column counting) name path
+frame_on path counting name frame words None = frame_without_line frame.id frame.address words
 
-abbrev pub IsFrameOn : List ℕ → Counting → ℕ → List ℕ → Option ℕ → Data → Type 0
-IsFrameOn path counting address words (Some line) v = IsFrameAt path counting address words line v
-IsFrameOn path counting address words None v = v ≡ frame_without_line address words
+abbrev pub frame_shown : PlacesView → List ℕ → Counting → List ℕ → Frame → Data
+frame_shown places path counting name frame = frame_on path counting name frame
+    (utf8_lossy (frame_words places.names frame)) (line_at places.lines frame.address)
 
-abbrev pub IsFrame : PlacesView → List ℕ → Counting → ℕ → Data → Type 0
-IsFrame places path counting address v = IsFrameOn path counting address
-    (place_name places.names address) (line_at places.lines address) v
-
--- Whether the first frame is asked for.
-abbrev pub wants_first : Data → Bool
-wants_first request = unwrap_or (number_at (codes "/arguments/startFrame") request) 0 == 0
-
--- The frame at the program counter, if the first is asked for.
-abbrev pub AreFrames : Bool → PlacesView → List ℕ → Counting → ℕ → Data → Type 0
-AreFrames true places path counting pc v
-    = (f : Data) × IsFrame places path counting pc f × (v ≡ frames_body (f ∷ []))
-AreFrames false places path counting pc v = v ≡ frames_body []
+-- Those that are asked for, and how many there are. The source has some short name.
+abbrev pub AreFrames : State → PlacesView → List ℕ → Counting → Page → Data → Type 0
+AreFrames s places path counting asked v = (name : List ℕ) × (v ≡ frames_body
+    (page_of asked (map (frame_shown places path counting name) (stack_frames s places.lines)))
+    (length (stack_frames s places.lines)))

@@ -5,6 +5,8 @@ pub mod Found
 pub mod Frames
 pub mod Looks
 pub mod Memory
+pub mod Named
+pub mod Pages
 pub mod Rows
 pub mod Scopes
 pub mod Targets

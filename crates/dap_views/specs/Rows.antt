@@ -1,16 +1,14 @@
 -- The rows of a disassembly: those of the list of `mon`, instructions and data. Source: Debug Adapter
 -- Protocol 1.65, "Disassemble Request"; where rows before an address begin, mos65.
-use Rattle.std.specs.Prelude.{ℕ, ℤ, zero, suc, pos, negsuc, ◌+◌, ◌-◌, ◌*◌, ◌==◌, ◌&&◌, min, nat_lt, Bool, if◌then◌else◌, List, [], ◌∷◌, ◌++◌, codes, take, Option, Some, None}
+use Rattle.std.specs.Prelude.{ℕ, ℤ, zero, suc, pos, negsuc, ◌+◌, ◌-◌, ◌*◌, ◌==◌, ◌&&◌, min, nat_lt, Bool, if◌then◌else◌, List, [], ◌∷◌, ◌++◌, codes, decimal, take, Option, Some, None}
 use Rattle.std.specs.List.{flat_map}
 use Rattle.std.specs.Str.Lossy.{utf8_lossy}
 use Rattle.dap_views.specs.Values.{instruction_at_line, instruction_row, instructions_body, no_instruction}
 use Rattle.dap_messages.specs.Counting.{shown_line}
-use Rattle.dap_messages.specs.References.{offset_at, place_at}
 use Rattle.dap_messages.specs.declared.counting.Counting.{Counting}
-use Rattle.dap_views.specs.Memory.{count_at}
 use Rattle.mon_instructions.specs.Instructions.{bytes_at, instruction_at, instruction_text}
 use Rattle.mon_instructions.specs.Listed.{listed_len}
-use Rattle.mon_session.specs.declared.desk.Desk.{Desk}
+use Rattle.mon_session.specs.declared.mon_state.MonState.{MonState}
 use Rattle.model.specs.Text.{hex_byte}
 use Rattle.serde_json.specs.Data.{Data}
 use Rattle.source_map.specs.Lines.{data_left, line_at}
@@ -22,25 +20,30 @@ abbrev pub up_to : ℕ → ℕ → ℕ → ℕ
 up_to end address len
     = if nat_lt address end && nat_lt end (address + len) then 1 else len
 
-abbrev pub row_len : Desk → ℕ → ℕ → ℕ
-row_len desk end address
-    = up_to end address (listed_len desk.session.current desk.places.lines address)
+abbrev pub row_len : MonState → ℕ → ℕ → ℕ
+row_len mon end address
+    = up_to end address (listed_len mon.session.current mon.places.lines address)
 
--- Where the row behind one begins. Behind the memory no row is.
-abbrev pub next_row : Desk → ℕ → ℕ → ℕ
-next_row desk end address = if nat_lt address 65536 then address + row_len desk end address
-    else address
+-- The address behind a row of so many bytes. Behind the memory a row has one, up to the largest
+-- number of 32 bits.
+abbrev pub behind_row : ℕ → ℕ → ℕ
+behind_row address len = if nat_lt address 65536 then address + len
+    else if address == 4294967295 then address else address + 1
+
+-- Where the row behind one begins.
+abbrev pub next_row : MonState → ℕ → ℕ → ℕ
+next_row mon end address = behind_row address (row_len mon end address)
 
 -- Where the row begins that is so many rows on.
-unfoldable pub rows_on : Desk → ℕ → ℕ → ℕ → ℕ
-rows_on desk end zero address = address
-rows_on desk end (suc n) address = rows_on desk end n (next_row desk end address)
+unfoldable pub rows_on : MonState → ℕ → ℕ → ℕ → ℕ
+rows_on mon end zero address = address
+rows_on mon end (suc n) address = rows_on mon end n (next_row mon end address)
 
 -- How many rows there are from an address to the end, at most so many.
-unfoldable pub rows_to : Desk → ℕ → ℕ → ℕ → ℕ
-rows_to desk end zero address = 0
-rows_to desk end (suc n) address = if nat_lt address end
-    then suc (rows_to desk end n (next_row desk end address)) else 0
+unfoldable pub rows_to : MonState → ℕ → ℕ → ℕ → ℕ
+rows_to mon end zero address = 0
+rows_to mon end (suc n) address = if nat_lt address end
+    then suc (rows_to mon end n (next_row mon end address)) else 0
 
 -- ---- what a row shows
 
@@ -53,18 +56,18 @@ joined front between [] = []
 joined front between (byte ∷ bytes)
     = front ++ hex_byte byte ++ flat_map (further between) bytes
 
-abbrev pub row_bytes : Desk → ℕ → ℕ → List ℕ
-row_bytes desk address len = take (min len 3) (bytes_at desk.session.current address)
+abbrev pub row_bytes : MonState → ℕ → ℕ → List ℕ
+row_bytes mon address len = take (min len 3) (bytes_at mon.session.current address)
 
 -- Whether a row is an instruction. The others are data.
-abbrev pub is_instruction : Desk → ℕ → ℕ → Bool
-is_instruction desk address len = (instruction_at desk.session.current address).len == len
-    && data_left desk.places.lines address == 0
+abbrev pub is_instruction : MonState → ℕ → ℕ → Bool
+is_instruction mon address len = (instruction_at mon.session.current address).len == len
+    && data_left mon.places.lines address == 0
 
-abbrev pub row_text : Desk → ℕ → ℕ → List ℕ
-row_text desk address len = if is_instruction desk address len
-    then instruction_text desk.session.current desk.places.names address
-    else joined (codes ".BYTE $") (codes ",$") (row_bytes desk address len)
+abbrev pub row_text : MonState → ℕ → ℕ → List ℕ
+row_text mon address len = if is_instruction mon address len
+    then instruction_text mon.session.current mon.places.names address
+    else joined (codes ".BYTE $") (codes ",$") (row_bytes mon address len)
 
 -- A row of bytes and a text, which may begin a line of the source.
 abbrev pub row_on : List ℕ → Counting → ℕ → List ℕ → List ℕ → Option ℕ → Data
@@ -72,25 +75,31 @@ row_on path counting address bytes text (Some line)
     = instruction_at_line address bytes text (shown_line counting line) path
 row_on path counting address bytes text None = instruction_row address bytes text
 
-abbrev pub row_shown : Desk → List ℕ → Counting → ℕ → ℕ → Data
-row_shown desk path counting address len = row_on path counting address
-    (utf8_lossy (joined [] (codes " ") (row_bytes desk address len)))
-    (utf8_lossy (row_text desk address len)) (line_at desk.places.lines address)
+abbrev pub row_shown : MonState → List ℕ → Counting → ℕ → ℕ → Data
+row_shown mon path counting address len = row_on path counting address
+    (utf8_lossy (joined [] (codes " ") (row_bytes mon address len)))
+    (utf8_lossy (row_text mon address len)) (line_at mon.places.lines address)
 
 -- Where no memory is, a row says so.
-abbrev pub row_of : Desk → List ℕ → Counting → ℕ → ℕ → Data
-row_of desk path counting address len = if nat_lt address 65536
-    then row_shown desk path counting address len else no_instruction
+abbrev pub row_of : MonState → List ℕ → Counting → ℕ → ℕ → Data
+row_of mon path counting address len = if nat_lt address 65536
+    then row_shown mon path counting address len else no_instruction (decimal address)
 
-abbrev pub row_at : Desk → List ℕ → Counting → ℕ → ℕ → Data
-row_at desk path counting end address
-    = row_of desk path counting address (row_len desk end address)
+abbrev pub row_at : MonState → List ℕ → Counting → ℕ → ℕ → Data
+row_at mon path counting end address
+    = row_of mon path counting address (row_len mon end address)
 
 -- So many rows from an address on.
-unfoldable pub rows : Desk → List ℕ → Counting → ℕ → ℕ → ℕ → List Data
-rows desk path counting end zero address = []
-rows desk path counting end (suc n) address = row_at desk path counting end address
-    ∷ rows desk path counting end n (next_row desk end address)
+unfoldable pub rows : MonState → List ℕ → Counting → ℕ → ℕ → ℕ → List Data
+rows mon path counting end zero address = []
+rows mon path counting end (suc n) address = row_at mon path counting end address
+    ∷ rows mon path counting end n (next_row mon end address)
+
+-- Rows in front of the memory, of which the first is so many bytes before it.
+unfoldable pub lacking_rows : ℕ → ℕ → List Data
+lacking_rows zero before = []
+lacking_rows (suc n) before
+    = no_instruction (codes "-" ++ decimal before) ∷ lacking_rows n (before - 1)
 
 -- ---- which rows are asked for
 
@@ -107,30 +116,27 @@ behind (negsuc n) = min (suc n) 65536
 abbrev pub begin : ℕ → ℕ → ℕ
 begin end back = end - back * 3
 
-abbrev pub found : Desk → ℕ → ℕ → ℕ
-found desk end back = rows_to desk end (end - begin end back) (begin end back)
+abbrev pub found : MonState → ℕ → ℕ → ℕ
+found mon end back = rows_to mon end (end - begin end back) (begin end back)
 
 -- Where the first row begins: of the rows found the last are shown, and those ahead are passed by.
-abbrev pub first : Desk → ℕ → ℕ → ℕ → ℕ
-first desk end back on
-    = rows_on desk end ((found desk end back - back) + on) (begin end back)
+abbrev pub first : MonState → ℕ → ℕ → ℕ → ℕ
+first mon end back on
+    = rows_on mon end ((found mon end back - back) + on) (begin end back)
 
 -- Rows in front of the memory, as many as were not found, and the rows behind them.
-abbrev pub rows_around : Desk → List ℕ → Counting → ℕ → ℕ → ℕ → ℕ → List Data
-rows_around desk path counting end back on count
-    = rows desk path counting end (min (back - found desk end back) count) 65536
-    ++ rows desk path counting end (count - (back - found desk end back))
-    (first desk end back on)
+abbrev pub rows_around : MonState → List ℕ → Counting → ℕ → ℕ → ℕ → ℕ → List Data
+rows_around mon path counting end back on count
+    = lacking_rows (min (back - found mon end back) count) (back - found mon end back)
+    ++ rows mon path counting end (count - (back - found mon end back))
+    (first mon end back on)
 
 -- Where no address is named, no memory is.
-abbrev pub rows_at : Desk → List ℕ → Counting → ℤ → ℕ → Option ℕ → List Data
-rows_at desk path counting offset count None = rows desk path counting 0 count 65536
-rows_at desk path counting offset count (Some end)
-    = rows_around desk path counting end (behind offset) (ahead offset) count
+abbrev pub rows_at : MonState → List ℕ → Counting → ℤ → ℕ → Option ℕ → List Data
+rows_at mon path counting offset count None = rows mon path counting 0 count 65536
+rows_at mon path counting offset count (Some end)
+    = rows_around mon path counting end (behind offset) (ahead offset) count
 
--- As many rows as are asked for, at most 65,536.
-abbrev pub disassembled : Desk → List ℕ → Counting → Data → Data
-disassembled desk path counting request = instructions_body (rows_at desk path counting
-    (offset_at (codes "/arguments/instructionOffset") request)
-    (count_at (codes "/arguments/instructionCount") request)
-    (place_at (codes "/arguments/memoryReference") (codes "/arguments/offset") request))
+abbrev pub disassembled : MonState → List ℕ → Counting → Option ℕ → ℤ → ℕ → Data
+disassembled mon path counting address offset count
+    = instructions_body (rows_at mon path counting offset count address)

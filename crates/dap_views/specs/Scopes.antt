@@ -1,9 +1,12 @@
--- The variables of each scope. Source: Debug Adapter Protocol 1.65, "Variables Request"; which
--- scopes there are, mos65.
-use Rattle.std.specs.Prelude.{ℕ, zero, suc, ◌+◌, ◌-◌, ◌==◌, if◌then◌else◌, List, [], ◌∷◌, codes, length, map as each, slice_index, Option, Some, None}
+-- The variables of each scope. Source: Debug Adapter Protocol 1.65, "Variables Request"; what a
+-- scope has, mos65.
+use Rattle.std.specs.Prelude.{ℕ, zero, suc, ◌+◌, ◌-◌, List, [], ◌∷◌, codes, length, map as each, slice_index, Option, Some, None}
 use Rattle.std.specs.Str.Lossy.{utf8_lossy}
-use Rattle.json_values.specs.Fields.{number_at}
 use Rattle.dap_messages.specs.Texts.{address_text}
+use Rattle.dap_messages.specs.declared.request.Page.{Page}
+use Rattle.dap_messages.specs.declared.request.Scope.{Scope}
+use Rattle.dap_messages.specs.declared.request.Scope.TheVariants as scope
+use Rattle.dap_views.specs.Pages.{page_of}
 use Rattle.dap_views.specs.Variables.{byte_variable, flags_shown, number_variable, registers_shown, variables_body}
 use Rattle.model.specs.Session.{Session}
 use Rattle.model.specs.State.{State}
@@ -39,20 +42,20 @@ machine_shown session = number_variable (codes "cycles") session.current.cycles
     ∷ number_variable (codes "events held") (length session.earlier)
     ∷ number_variable (codes "bytes put out") (length session.current.bus.out) ∷ []
 
--- By the number of a scope. A number of no scope has no variables.
-abbrev pub scope_shown : Session → List Named → ℕ → List Data
-scope_shown session names number
-    = if number == 1 then registers_shown session.current.regs
-    else if number == 2 then flags_shown session.current.regs.flags
-    else if number == 3 then symbols_shown session.current.bus.memory names
-    else if number == 4 then stack_shown session.current
-    else if number == 5 then cells session.current.bus.memory 0 256
-    else if number == 6 then machine_shown session else []
+abbrev pub scope_shown : Session → List Named → Scope → List Data
+scope_shown session names scope.Registers = registers_shown session.current.regs
+scope_shown session names scope.Flags = flags_shown session.current.regs.flags
+scope_shown session names scope.Symbols = symbols_shown session.current.bus.memory names
+scope_shown session names scope.Stack = stack_shown session.current
+scope_shown session names scope.ZeroPage = cells session.current.bus.memory 0 256
+scope_shown session names scope.Machine = machine_shown session
 
-abbrev pub listed : Session → List Named → Option ℕ → List Data
-listed session names (Some number) = scope_shown session names number
+-- No scope has no variables.
+abbrev pub listed : Session → List Named → Option Scope → List Data
+listed session names (Some asked) = scope_shown session names asked
 listed session names None = []
 
-abbrev pub variables_shown : Session → List Named → Data → Data
-variables_shown session names request = variables_body
-    (listed session names (number_at (codes "/arguments/variablesReference") request))
+-- Those that are asked for.
+abbrev pub variables_shown : Session → List Named → Option Scope → Page → Data
+variables_shown session names asked page
+    = variables_body (page_of page (listed session names asked))

@@ -1,10 +1,10 @@
 -- The values of answers and of events. The members of an object stand in the order of their names.
 -- Source: Debug Adapter Protocol 1.65, "StackFrame", "DisassembledInstruction", "Evaluate Request",
 -- "ReadMemory Request", "Stopped Event", "Output Event", "Invalidated Event".
-use Rattle.std.specs.Prelude.{ℕ, List, [], ◌∷◌, codes}
+use Rattle.std.specs.Prelude.{ℕ, List, [], ◌∷◌, codes, map}
 use Rattle.dap_messages.specs.Bodies.{list_body, only, yes}
 use Rattle.dap_messages.specs.Texts.{reference}
-use Rattle.json_values.specs.Values.{count, list_of, object_of, word}
+use Rattle.json_messages.specs.Values.{count, list_of, object_of, word}
 use Rattle.serde_json.specs.Data.{Data}
 
 -- ---- frames
@@ -12,22 +12,24 @@ use Rattle.serde_json.specs.Data.{Data}
 abbrev pub source : List ℕ → List ℕ → Data
 source name path = object_of ((codes "name", word name) ∷ (codes "path", word path) ∷ [])
 
--- A frame has an address, words that say where it is, and a line of a source.
-abbrev pub frame_at_line : ℕ → List ℕ → ℕ → ℕ → List ℕ → List ℕ → Data
-frame_at_line address words line column name path = object_of ((codes "column", count column)
-    ∷ (codes "id", count 1) ∷ (codes "instructionPointerReference", word (reference address))
+-- A frame has a number, an address, words that say where it is, and a line of a source.
+abbrev pub frame_at_line : ℕ → ℕ → List ℕ → ℕ → ℕ → List ℕ → List ℕ → Data
+frame_at_line id address words line column name path = object_of ((codes "column", count column)
+    ∷ (codes "id", count id) ∷ (codes "instructionPointerReference", word (reference address))
     ∷ (codes "line", count line) ∷ (codes "name", word words)
     ∷ (codes "source", source name path) ∷ [])
 
 -- Without a line it has the line 0, and is shown as less important.
-abbrev pub frame_without_line : ℕ → List ℕ → Data
-frame_without_line address words = object_of ((codes "column", count 0) ∷ (codes "id", count 1)
+abbrev pub frame_without_line : ℕ → ℕ → List ℕ → Data
+frame_without_line id address words = object_of ((codes "column", count 0)
+    ∷ (codes "id", count id)
     ∷ (codes "instructionPointerReference", word (reference address)) ∷ (codes "line", count 0)
     ∷ (codes "name", word words) ∷ (codes "presentationHint", word (codes "subtle")) ∷ [])
 
-abbrev pub frames_body : List Data → Data
-frames_body ds = object_of ((codes "stackFrames", list_of ds)
-    ∷ (codes "totalFrames", count 1) ∷ [])
+-- Some frames, and how many there are.
+abbrev pub frames_body : List Data → ℕ → Data
+frames_body ds total = object_of ((codes "stackFrames", list_of ds)
+    ∷ (codes "totalFrames", count total) ∷ [])
 
 -- ---- a disassembly
 
@@ -47,9 +49,9 @@ instruction_at_line address bytes text line path = object_of (
     ∷ (codes "location", at_path path) ∷ []
     )
 
--- A row where no memory is.
-abbrev pub no_instruction : Data
-no_instruction = object_of ((codes "address", word (codes "0xFFFF"))
+-- A row where no memory is, with an address in decimal.
+abbrev pub no_instruction : List ℕ → Data
+no_instruction address = object_of ((codes "address", word address)
     ∷ (codes "instruction", word []) ∷ (codes "presentationHint", word (codes "invalid")) ∷ [])
 
 abbrev pub instructions_body : List Data → Data
@@ -67,10 +69,11 @@ memory_body address data_text unread = object_of ((codes "address", word (refere
 
 -- ---- events
 
-abbrev pub stopped_body : List ℕ → List ℕ → Data
-stopped_body reason words = object_of ((codes "allThreadsStopped", yes)
-    ∷ (codes "description", word words) ∷ (codes "reason", word reason)
-    ∷ (codes "threadId", count 1) ∷ [])
+-- The numbers are those of the breakpoints that have stopped the machine.
+abbrev pub stopped_body : List ℕ → List ℕ → List ℕ → Data
+stopped_body reason words hits = object_of ((codes "allThreadsStopped", yes)
+    ∷ (codes "description", word words) ∷ (codes "hitBreakpointIds", list_of (map count hits))
+    ∷ (codes "reason", word reason) ∷ (codes "threadId", count 1) ∷ [])
 
 abbrev pub output_body : List ℕ → List ℕ → Data
 output_body category text = object_of ((codes "category", word category)

@@ -1,18 +1,33 @@
 -- Variables of a scope. Source: Debug Adapter Protocol 1.65, "Variable"; what is shown, mos65.
 use Rattle.std.specs.Prelude.{ℕ, Bool, false, if◌then◌else◌, List, [], ◌∷◌, ◌++◌, codes, decimal}
 use Rattle.std.specs.Str.Lossy.{utf8_lossy}
-use Rattle.json_values.specs.Values.{count, object_of, word}
+use Rattle.json_messages.specs.Values.{count, object_of, word}
 use Rattle.dap_messages.specs.Bodies.{list_body}
 use Rattle.dap_messages.specs.Texts.{address_text}
 use Rattle.model.specs.Effect.{status}
 use Rattle.model.specs.declared.registers.Flags.{Flags}
 use Rattle.model.specs.declared.registers.Regs.{Regs}
 use Rattle.model.specs.Text.{hex_byte}
+use Rattle.mon_lines.specs.declared.command.Register.{Register}
+use Rattle.mon_lines.specs.declared.command.Register.TheVariants as register
 use Rattle.serde_json.specs.Data.{Data}
 
 -- A byte is ASCII, so that it is text as it stands.
 abbrev pub byte_text : ℕ → List ℕ
 byte_text byte = utf8_lossy (codes "$" ++ hex_byte byte)
+
+-- The value of a register. That of the status register has B clear.
+abbrev pub register_text : Regs → Register → List ℕ
+register_text regs register.Pc = address_text regs.pc
+register_text regs register.A = byte_text regs.a
+register_text regs register.X = byte_text regs.x
+register_text regs register.Y = byte_text regs.y
+register_text regs register.S = byte_text regs.s
+register_text regs register.P = byte_text (status false regs.flags)
+
+-- The value of a flag.
+abbrev pub bit_text : Bool → List ℕ
+bit_text is_set = if is_set then codes "1" else codes "0"
 
 -- A variable of a name, with its value. It has no variables of its own.
 abbrev pub variable : List ℕ → List ℕ → Data
@@ -22,18 +37,22 @@ variable name value = object_of ((codes "evaluateName", word name) ∷ (codes "n
 abbrev pub byte_variable : List ℕ → ℕ → Data
 byte_variable name byte = variable name (byte_text byte)
 
+abbrev pub register_variable : List ℕ → Regs → Register → Data
+register_variable name regs register = variable name (register_text regs register)
+
 abbrev pub flag_variable : List ℕ → Bool → Data
-flag_variable name is_set = if is_set then variable name (codes "1") else variable name (codes "0")
+flag_variable name is_set = variable name (bit_text is_set)
 
 abbrev pub number_variable : List ℕ → ℕ → Data
 number_variable name number = variable name (decimal number)
 
--- The registers. The status register is shown with B clear.
 abbrev pub registers_shown : Regs → List Data
-registers_shown regs = variable (codes "PC") (address_text regs.pc)
-    ∷ byte_variable (codes "A") regs.a ∷ byte_variable (codes "X") regs.x
-    ∷ byte_variable (codes "Y") regs.y ∷ byte_variable (codes "S") regs.s
-    ∷ byte_variable (codes "P") (status false regs.flags) ∷ []
+registers_shown regs = register_variable (codes "PC") regs register.Pc
+    ∷ register_variable (codes "A") regs register.A
+    ∷ register_variable (codes "X") regs register.X
+    ∷ register_variable (codes "Y") regs register.Y
+    ∷ register_variable (codes "S") regs register.S
+    ∷ register_variable (codes "P") regs register.P ∷ []
 
 abbrev pub flags_shown : Flags → List Data
 flags_shown flags = flag_variable (codes "N") flags.n ∷ flag_variable (codes "V") flags.v

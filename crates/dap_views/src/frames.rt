@@ -1,45 +1,59 @@
-//! The frames of the stack.
+//! The frames of the stack as they are shown.
 
-ghost use Rattle.std.specs.Prelude.{◌≡◌, ℕ, IfOk, List, string_bytes};
-ghost use Rattle.dap_views.specs.Frames.{AreFrames, IsFrame, IsFrameOn, wants_first};
+ghost use Rattle.std.specs.Prelude.{◌≡◌, ◌++◌, ℕ, IfOk, List, OnOk, map as each, string_bytes};
+ghost use Rattle.dap_views.specs.Frames.{AreFrames, frame_on, frame_shown, frame_words};
+ghost use Rattle.dap_views.specs.Pages.{page_of};
+ghost use Rattle.json_messages.specs.Values.{list_of};
 ghost use Rattle.serde_json.specs.View.{view};
 
+use crate::paged::Paged;
 use crate::source::Source;
+use crate::stack::{Frame, stack_frames};
 use crate::texts::as_text;
-use dap_messages::reference;
-use json_values::{Object, ValueList, number_at};
+use dap_messages::{Page, reference};
+use formatting::push_text;
+use json_messages::Object;
 use mon_instructions::push_place;
-use mon_session::Desk;
+use mon_session::MonState;
+use mon_texts::wording::INTERRUPTED_AT;
 use serde_json::Value;
 use source_map::Places;
 use std::alloc::{AllocError, Global};
 
-/// Returns the frame at an address that has a line, if it has one, if memory did not run out for
-/// the words of it. The name of the source is the last part of its path.
+/// Returns the last part of a path.
+fn last_part(path: &str) -> &str {
+    match path.rsplit_once('/') {
+        Some((_, name)) => name,
+        None => path,
+    }
+}
+
+/// Returns a frame that may have a line of the source, if memory did not run out for the words of
+/// it. The source has a short name.
 fn frame_on(
     alloc: Global,
     file: &Source<'_>,
-    address: u16,
+    name: &str,
+    frame: Frame,
     words: Result<String, AllocError>,
     line: Option<u32>,
 ) -> Result<Value, AllocError>
     ensures { (w : List ℕ) → IfOk words (λ s. string_bytes s ≡ w)
-        → IfOk result (λ v. IsFrameOn file.now.path.now file.now.counting address w line
-        (view v)) }
+        → IfOk result (λ v. view v
+        ≡ frame_on file.now.path.now file.now.counting name.now frame w line) }
 {
     let Some(line) = line else {
         return Object::new(alloc)
             .count("column", 0)
-            .count("id", 1)
-            .text("instructionPointerReference", reference(alloc, address))
+            .count("id", u64::from(frame.id))
+            .text(
+                "instructionPointerReference",
+                reference(alloc, frame.address),
+            )
             .count("line", 0)
             .text("name", words)
             .word("presentationHint", "subtle")
             .build();
-    };
-    let name = match file.path.rsplit_once('/') {
-        Some((_, name)) => name,
-        None => file.path,
     };
     let source = Object::new(alloc)
         .word("name", name)
@@ -47,49 +61,90 @@ fn frame_on(
         .build();
     Object::new(alloc)
         .count("column", file.counting.first_column())
-        .count("id", 1)
-        .text("instructionPointerReference", reference(alloc, address))
+        .count("id", u64::from(frame.id))
+        .text(
+            "instructionPointerReference",
+            reference(alloc, frame.address),
+        )
         .count("line", file.counting.shown_line(line))
         .text("name", words)
         .member("source", source)
         .build()
 }
 
-/// Returns the frame at an address, with the name that stands there or nearest below it.
-fn frame(
+/// Appends where a frame stands, and whether it was interrupted there.
+fn push_words(text: &mut Vec<u8>, places: &Places, frame: Frame) -> Result<(), AllocError>
+    ensures { OnOk result
+        (text.new.items ≡ text.old.items ++ frame_words places.now.names frame) }
+{
+    if !frame.is_interrupted {
+        return push_place(text, places, frame.address);
+    }
+    push_text(text, INTERRUPTED_AT)?;
+    push_place(text, places, frame.address)
+}
+
+/// Returns a frame: the name that stands at its address or nearest below it, and the line.
+fn frame_shown(
     alloc: Global,
     places: &Places,
     file: &Source<'_>,
-    address: u16,
+    name: &str,
+    frame: Frame,
 ) -> Result<Value, AllocError>
-    ensures { IfOk result
-        (λ v. IsFrame places.now file.now.path.now file.now.counting address (view v)) }
+    ensures { IfOk result (λ v. view v ≡ frame_shown places.now file.now.path.now
+        file.now.counting name.now frame) }
 {
     let mut text = Vec::new(alloc);
-    let grown = push_place(&mut text, places, address);
+    let grown = push_words(&mut text, places, frame);
     let words = as_text(alloc, text, grown);
-    frame_on(alloc, file, address, words, places.line_at(address))
+    frame_on(
+        alloc,
+        file,
+        name,
+        frame,
+        words,
+        places.line_at(frame.address),
+    )
 }
 
-/// Returns the frames from one on that the request names: that at the program counter is the only
-/// one.
+/// Returns those of some frames that are asked for.
+fn frames_listed(
+    alloc: Global,
+    places: &Places,
+    file: &Source<'_>,
+    name: &str,
+    asked: Page,
+    frames: &[Frame],
+) -> Result<Value, AllocError>
+    ensures { IfOk result (λ v. view v ≡ list_of (page_of asked
+        (each (frame_shown places.now file.now.path.now file.now.counting name.now)
+        frames.now))) }
+{
+    let mut page = Paged::new(alloc, asked);
+    for frame in frames {
+        page = page.with(frame_shown(alloc, places, file, name, *frame));
+    }
+    page.build()
+}
+
+/// Returns the frames that are asked for, the last one first, and how many there are: that at the
+/// program counter, and those that were left by a call, a BRK or an interrupt.
 pub fn frames_shown(
     alloc: Global,
-    desk: &Desk,
+    mon: &MonState,
     source: &Source<'_>,
-    request: &Value,
+    asked: Page,
 ) -> Result<Value, AllocError>
-    ensures { IfOk result (λ v. AreFrames (wants_first (view request.now)) desk.now.places
-        source.now.path.now source.now.counting desk.now.session.current.regs.pc (view v)) }
+    ensures { IfOk result (λ v. AreFrames mon.now.session.current mon.now.places
+        source.now.path.now source.now.counting asked (view v)) }
 {
-    let mut list = ValueList::new(alloc);
-    let wants_first = number_at(request, "/arguments/startFrame").unwrap_or(0) == 0;
-    if wants_first {
-        let pc = desk.session.regs().pc;
-        list = list.with(frame(alloc, &desk.places, source, pc));
-    }
+    let frames = stack_frames(alloc, &mon.session, &mon.places)?;
+    let all = frames.as_slice();
+    let name = last_part(source.path);
+    let shown = frames_listed(alloc, &mon.places, source, name, asked, all);
     Object::new(alloc)
-        .member("stackFrames", list.build())
-        .count("totalFrames", 1)
+        .member("stackFrames", shown)
+        .count("totalFrames", all.len() as u64)
         .build()
 }

@@ -1,26 +1,33 @@
 //! What an editor's views show of a session, and the breakpoints and watches that it lists.
 //!
-//! `frames` shows where the machine stands, `variables` the variables of a scope, `memory` bytes,
-//! `rows` instructions, `looks` a register or a place. `texts` makes texts of bytes, `source` is
-//! the source that a client sees. These change nothing.
+//! `stack` finds the frames of the stack, by what `pushed` takes to have pushed something; `frames`
+//! shows them. `variables` shows the variables of a scope, `memory` bytes, `rows` instructions,
+//! `looks` a register or a place. `named` finds the variable that a client names. `paged` is a page
+//! of a list. `texts` makes texts of bytes, `source` is the source that a client sees. These change
+//! nothing. `laws` has what holds of all frames.
 //!
 //! Each list of breakpoints replaces the one before: `wanted` reads the breakpoints of a list,
 //! `listed` sets them and answers, `watches` watches bytes. `targets` has the addresses at which a
 //! line can be gone to. `values` makes the values of answers.
 //!
-//! What is shown stands in `specs/Frames.antt`, `specs/Scopes.antt`, `specs/Memory.antt`,
-//! `specs/Rows.antt` and `specs/Looks.antt`, with the values of `specs/Values.antt` and
-//! `specs/Variables.antt`. What a list does stands in `specs/Breaks.antt` and `specs/Watches.antt`,
-//! what is answered in `specs/Answered.antt`, what can be chosen in `specs/Targets.antt`, with the
-//! values of `specs/BreakValues.antt`.
+//! What is shown stands in `specs/Frames.antt`, `specs/Scopes.antt`, `specs/Pages.antt`,
+//! `specs/Memory.antt`, `specs/Rows.antt`, `specs/Looks.antt` and `specs/Named.antt`, with the
+//! values of `specs/Values.antt` and `specs/Variables.antt`. What a list does stands in
+//! `specs/Breaks.antt` and `specs/Watches.antt`, what is answered in `specs/Answered.antt`, what
+//! can be chosen in `specs/Targets.antt`, with the values of `specs/BreakValues.antt`.
 #![tactic(auto)]
 
 mod frames;
+mod laws;
 mod listed;
 mod looks;
 mod memory;
+mod named;
+mod paged;
+mod pushed;
 mod rows;
 mod source;
+mod stack;
 mod targets;
 mod texts;
 mod values;
@@ -29,11 +36,14 @@ mod wanted;
 mod watches;
 
 pub use frames::frames_shown;
+pub use laws::frames_are_those_of_where;
 pub use listed::{set_addresses, set_lines, set_source};
 pub use looks::look_at;
 pub use memory::memory_shown;
+pub use named::{Variable, value_shown, variable_named};
 pub use rows::disassembled;
 pub use source::Source;
+pub use stack::is_frame;
 pub use targets::goto_targets;
 pub use texts::as_text;
 pub use values::list_body;

@@ -1,24 +1,29 @@
-//! Requests that list breakpoints: each replaces those of the one before.
+//! Lists of breakpoints: each replaces the one before.
 
-ghost use Rattle.std.specs.Prelude.{◌≡◌, [], IfOk, OnOk, Some, codes, map as each, option_map};
-ghost use Rattle.dap_views.specs.Answered.{answer_elsewhere, answer_of};
-ghost use Rattle.dap_views.specs.Breaks.{Finds, SetsAddresses, SetsLines, SetsSource};
+ghost use Rattle.std.specs.Prelude.{◌≡◌, ◌++◌, [], IfOk, OnOk, map as each, option_map};
+ghost use Rattle.dap_messages.specs.Counting.{shown_line};
+ghost use Rattle.dap_views.specs.Answered.{answer_elsewhere, answer_of, answers_of, placed_at};
+ghost use Rattle.dap_views.specs.Answered.{placed_of};
+ghost use Rattle.dap_views.specs.BreakValues.{breakpoint_set, breakpoint_unset};
+ghost use Rattle.dap_views.specs.Breaks.{Finds, HoldsAddresses, HoldsLines, SetsAddresses};
+ghost use Rattle.dap_views.specs.Breaks.{SetsLines, SetsSource};
 ghost use Rattle.dap_views.specs.Found.{HasFound, found_address, found_line};
 ghost use Rattle.dap_desk.specs.Breaks.{KeepsEvents, all_cleared, all_set, place_of};
-ghost use Rattle.dap_views.specs.Wanted.{Matches};
 ghost use Rattle.dap_messages.specs.Answers.{breakpoints_body};
-ghost use Rattle.dap_views.specs.Watches.{items_at};
-ghost use Rattle.serde_json.specs.View.{items_view, view};
+ghost use Rattle.serde_json.specs.View.{view};
 
 use crate::source::Source;
 use crate::values::{data_unwatched, list_body};
 use crate::wanted::{List, Wanted, push_at, push_unset, row_in};
 use arguments::is_one_file;
 use dap_desk::{is_break, replace};
-use dap_messages::{Counting, Listed, place_at, reference};
-use json_values::{Object, ValueList, text_or};
+use dap_messages::{
+    AddressList, Counting, InstructionBreakpoint, LineList, Listed, Placed, SourceBreakpoint,
+    next_number, reference,
+};
+use json_messages::{Object, ValueList};
 use mon_runs::Session;
-use mon_session::Desk;
+use mon_session::MonState;
 use serde_json::Value;
 use std::alloc::{AllocError, Global};
 use std::rt::Files;
@@ -32,36 +37,24 @@ pub const NO_ROOM: &str = "256 breakpoints are set";
 /// What is said of a breakpoint of another source.
 pub const OTHER_SOURCE: &str = "this is not the source of the session";
 
-/// Returns the breakpoints that a request lists.
-pub fn list_of(request: &Value) -> &[Value]
-    ensures { items_view result.now ≡ items_at (codes "/arguments/breakpoints") (view request.now) }
-{
-    let Some(listed) = request.pointer("/arguments/breakpoints") else {
-        return &[];
-    };
-    match listed.as_array() {
-        Some(list) => list.as_slice(),
-        None => &[],
-    }
-}
-
 /// Appends a breakpoint that a client wants at a line of the source.
 fn push_line(
     alloc: Global,
     list: &mut List,
-    desk: &Desk,
+    mon: &MonState,
     source: &Source<'_>,
-    wanted: &Value,
+    wanted: &SourceBreakpoint,
 ) -> Result<(), AllocError>
-    ensures matches { OnOk result (Matches list.old → Matches list.new) }
-    ensures found { OnOk result (HasFound (found_line desk.now.places
-        desk.now.session.current.regs.pc source.now.counting
-        (option_map (λ a. a.now) source.now.assembly) (view wanted.now)) list.old list.new) }
+    ensures { OnOk result (HasFound (found_line mon.now.places
+        mon.now.session.current.regs.pc source.now.counting
+        (option_map (λ a. a.now) source.now.assembly) wanted.now) list.old list.new) }
 {
-    let line = source.counting.line_at(wanted);
+    let line = source.counting.own_line(wanted.line);
     match row_in(source, line) {
-        Some((line, address)) => push_at(alloc, list, desk, wanted, line, address),
-        None => push_unset(list, line, String::from_str(alloc, NO_BYTES)),
+        Some((line, address)) => {
+            push_at(alloc, list, mon, &wanted.condition, Some(line), address)
+        }
+        None => push_unset(list, Some(line), String::from_str(alloc, NO_BYTES)),
     }
 }
 
@@ -69,217 +62,250 @@ fn push_line(
 fn push_address(
     alloc: Global,
     list: &mut List,
-    desk: &Desk,
-    wanted: &Value,
+    mon: &MonState,
+    wanted: &InstructionBreakpoint,
 ) -> Result<(), AllocError>
-    ensures matches { OnOk result (Matches list.old → Matches list.new) }
-    ensures found { OnOk result (HasFound (found_address desk.now.places
-        desk.now.session.current.regs.pc (view wanted.now)) list.old list.new) }
+    ensures { OnOk result (HasFound (found_address mon.now.places
+        mon.now.session.current.regs.pc wanted.now) list.old list.new) }
 {
-    match place_at(wanted, "/instructionReference", "/offset") {
+    match wanted.address {
         Some(address) => {
-            let line = desk.places.line_at(address).unwrap_or(0);
-            push_at(alloc, list, desk, wanted, line, address)
+            let line = mon.places.line_at(address);
+            push_at(alloc, list, mon, &wanted.condition, line, address)
         }
-        None => push_unset(list, 0, String::from_str(alloc, "this is no address")),
+        None => push_unset(list, None, String::from_str(alloc, "this is no address")),
     }
-}
-
-/// Holds a request in place of the one before.
-pub fn hold(held: &mut Option<Value>, request: &Value) -> Result<(), AllocError>
-    ensures { OnOk result (option_map view held.new ≡ Some (view request.now)) }
-{
-    *held = Some(request.clone()?);
-    Ok(())
 }
 
 /// Makes an empty list.
 fn new_list(alloc: Global) -> List
     ensures told { result.told.items ≡ [] }
     ensures stops { result.stops.items ≡ [] }
-    ensures addresses { result.addresses.items ≡ [] }
 {
     List {
         told: Vec::new(alloc),
         stops: Vec::new(alloc),
-        addresses: Vec::new(alloc),
     }
 }
 
-/// Holds a request in place of the one before, and returns the breakpoints of lines that it lists.
+/// Looks for the breakpoints of lines that a client wants.
 fn lines_wanted(
     alloc: Global,
-    desk: &Desk,
+    mon: &MonState,
     source: &Source<'_>,
-    held: &mut Option<Value>,
-    request: &Value,
+    all: &[SourceBreakpoint],
 ) -> Result<List, AllocError>
-    ensures found { IfOk result (Finds (found_line desk.now.places
-        desk.now.session.current.regs.pc source.now.counting
-        (option_map (λ a. a.now) source.now.assembly)) (view request.now)) }
-    ensures held { OnOk result (option_map view held.new ≡ Some (view request.now)) }
+    ensures { IfOk result (Finds (found_line mon.now.places
+        mon.now.session.current.regs.pc source.now.counting
+        (option_map (λ a. a.now) source.now.assembly)) all.now) }
 {
-    hold(held, request)?;
     let mut list = new_list(alloc);
-    let all = list_of(request);
     for wanted in all {
-        push_line(alloc, &mut list, desk, source, wanted)?;
+        push_line(alloc, &mut list, mon, source, wanted)?;
     }
     Ok(list)
 }
 
-/// Holds a request in place of the one before, and returns the breakpoints at addresses that it
-/// lists.
+/// Looks for the breakpoints at addresses that a client wants.
 fn addresses_wanted(
     alloc: Global,
-    desk: &Desk,
-    held: &mut Option<Value>,
-    request: &Value,
+    mon: &MonState,
+    all: &[InstructionBreakpoint],
 ) -> Result<List, AllocError>
-    ensures found { IfOk result (Finds (found_address desk.now.places
-        desk.now.session.current.regs.pc) (view request.now)) }
-    ensures held { OnOk result (option_map view held.new ≡ Some (view request.now)) }
+    ensures { IfOk result
+        (Finds (found_address mon.now.places mon.now.session.current.regs.pc) all.now) }
 {
-    hold(held, request)?;
     let mut list = new_list(alloc);
-    let all = list_of(request);
     for wanted in all {
-        push_address(alloc, &mut list, desk, wanted)?;
+        push_address(alloc, &mut list, mon, wanted)?;
     }
     Ok(list)
 }
 
-/// Returns what is answered of a breakpoint: whether it is set, if it stands at an address.
+/// Returns the number of a line as the client counts lines, if there is a line.
+fn shown(counting: Counting, line: Option<u32>) -> Option<u64>
+    ensures { result ≡ option_map (shown_line counting) line }
+{
+    match line {
+        Some(line) => Some(counting.shown_line(line)),
+        None => None,
+    }
+}
+
+/// Returns what is answered of a breakpoint that is set.
+fn told_set(alloc: Global, id: u64, address: u16, line: Option<u64>) -> Result<Value, AllocError>
+    ensures { IfOk result (λ v. view v ≡ breakpoint_set id address line) }
+{
+    let told = Object::new(alloc)
+        .count("id", id)
+        .text("instructionReference", reference(alloc, address))
+        .flag("verified", true);
+    match line {
+        Some(line) => told.count("line", line).build(),
+        None => told.build(),
+    }
+}
+
+/// Returns what is answered of a breakpoint that is not set, with words of why.
+fn told_unset(alloc: Global, id: u64, line: Option<u64>, words: &str) -> Result<Value, AllocError>
+    ensures { IfOk result (λ v. view v ≡ breakpoint_unset id line words.now) }
+{
+    let told = Object::new(alloc)
+        .count("id", id)
+        .word("message", words)
+        .flag("verified", false);
+    match line {
+        Some(line) => told.count("line", line).build(),
+        None => told.build(),
+    }
+}
+
+/// Returns what is answered of a breakpoint of a number: whether it is set, if it stands at an
+/// address.
 fn answer(
     alloc: Global,
     session: &Session,
     counting: Counting,
+    id: u64,
     wanted: &Wanted,
 ) -> Result<Value, AllocError>
-    ensures { IfOk result (λ v. view v ≡ answer_of session.now counting wanted.now) }
+    ensures { IfOk result (λ v. view v ≡ answer_of session.now counting id wanted.now) }
 {
-    let line = counting.shown_line(wanted.line);
-    let words = match wanted.address {
+    let line = shown(counting, wanted.line);
+    match wanted.address {
         Some(address) => {
             if is_break(session, address) {
-                return Object::new(alloc)
-                    .count("id", address as u64)
-                    .text("instructionReference", reference(alloc, address))
-                    .count("line", line)
-                    .flag("verified", true)
-                    .build();
+                told_set(alloc, id, address, line)
+            } else {
+                told_unset(alloc, id, line, NO_ROOM)
             }
-            NO_ROOM
         }
-        None => wanted.words.as_str(),
-    };
-    Object::new(alloc)
-        .count("line", line)
-        .word("message", words)
-        .flag("verified", false)
-        .build()
+        None => told_unset(alloc, id, line, wanted.words.as_str()),
+    }
 }
 
-/// Returns what is answered of breakpoints.
+/// Returns what is answered of breakpoints, of which the first has this number.
 fn answers(
     alloc: Global,
     session: &Session,
     counting: Counting,
+    first: u64,
     told: &[Wanted],
 ) -> Result<Value, AllocError>
-    ensures { IfOk result
-        (λ v. view v ≡ breakpoints_body (each (answer_of session.now counting) told.now)) }
+    ensures { IfOk result (λ v. view v
+        ≡ breakpoints_body (answers_of session.now counting first told.now)) }
 {
     let mut list = ValueList::new(alloc);
+    let mut id = first;
     for wanted in told {
-        list = list.with(answer(alloc, session, counting, wanted));
+        list = list.with(answer(alloc, session, counting, id, wanted));
+        id = next_number(id);
     }
     list_body(alloc, "breakpoints", list)
 }
 
-/// Sets the breakpoints of a list in place of those at the addresses that are held, and returns
-/// what is answered.
-fn set_list(
-    alloc: Global,
-    desk: &mut Desk,
-    held: &mut Vec<u16>,
-    counting: Counting,
-    list: List,
-) -> Result<Value, AllocError>
-    ensures place { OnOk result (place_of desk.new
-        ≡ all_set list.stops.items (all_cleared held.old.items (place_of desk.old))) }
-    ensures held { OnOk result (held.new.items ≡ list.addresses.items) }
-    ensures kept { KeepsEvents desk.old desk.new }
-    ensures answer { IfOk result (λ v. view v
-        ≡ breakpoints_body (each (answer_of desk.new.session counting) list.told.items)) }
+/// Appends where a breakpoint stands, if it stands somewhere.
+fn push_placed(placed: &mut Vec<Placed>, id: u64, address: Option<u16>) -> Result<(), AllocError>
+    ensures { OnOk result (placed.new.items ≡ placed.old.items ++ placed_at id address) }
 {
-    let List {
-        told,
-        stops,
-        addresses,
-    } = list;
-    replace(desk, held.as_slice(), stops)?;
-    *held = addresses;
-    answers(alloc, &desk.session, counting, told.as_slice())
+    match address {
+        Some(address) => {
+            placed.push(Placed { id, address })?;
+            Ok(())
+        }
+        None => Ok(()),
+    }
 }
 
-/// Sets the breakpoints of the source that a request lists, in place of those before, and returns
+/// Returns where those of some breakpoints stand that stand somewhere. The first has this number.
+fn placed_of(alloc: Global, first: u64, told: &[Wanted]) -> Result<Vec<Placed>, AllocError>
+    ensures { IfOk result (λ placed. placed.items ≡ placed_of first told.now) }
+{
+    let mut placed = Vec::new(alloc);
+    let mut id = first;
+    for wanted in told {
+        push_placed(&mut placed, id, wanted.address)?;
+        id = next_number(id);
+    }
+    Ok(placed)
+}
+
+/// Sets the breakpoints of a list, of which the first has this number, in place of those that are
+/// held, and returns what is answered.
+fn set_list(
+    alloc: Global,
+    mon: &mut MonState,
+    held: &mut Vec<Placed>,
+    counting: Counting,
+    first: u64,
+    list: List,
+) -> Result<Value, AllocError>
+    ensures place { OnOk result (place_of mon.new
+        ≡ all_set list.stops.items (all_cleared held.old.items (place_of mon.old))) }
+    ensures held { OnOk result (held.new.items ≡ placed_of first list.told.items) }
+    ensures kept { KeepsEvents mon.old mon.new }
+    ensures answer { IfOk result (λ v. view v
+        ≡ breakpoints_body (answers_of mon.new.session counting first list.told.items)) }
+{
+    let List { told, stops } = list;
+    let placed = placed_of(alloc, first, told.as_slice())?;
+    replace(mon, held.as_slice(), stops)?;
+    *held = placed;
+    answers(alloc, &mon.session, counting, first, told.as_slice())
+}
+
+/// Sets the breakpoints of the source that a client wants, in place of those before, and returns
 /// what is answered.
 ///
 /// Errors: `AllocError` if an allocation fails; the old ones are cleared then, and some of the new
 /// ones may be set.
 pub fn set_lines(
     alloc: Global,
-    desk: &mut Desk,
+    mon: &mut MonState,
     listed: &mut Listed,
     source: &Source<'_>,
-    request: &Value,
+    wanted: LineList,
 ) -> Result<Value, AllocError>
     ensures sets { IfOk result (λ v. SetsLines source.now.counting
-        (option_map (λ a. a.now) source.now.assembly) (view request.now) listed.old.lines.items
-        listed.new.lines.items desk.old desk.new (view v)) }
-    ensures kept { KeepsEvents desk.old desk.new }
+        (option_map (λ a. a.now) source.now.assembly) wanted listed.old.lines.items
+        listed.new.lines.items mon.old mon.new (view v)) }
+    ensures kept { KeepsEvents mon.old mon.new }
     ensures addresses { listed.new.addresses ≡ listed.old.addresses }
-    ensures held { OnOk result
-        (option_map view listed.new.line_request ≡ Some (view request.now)) }
-    ensures others { (listed.new.address_request ≡ listed.old.address_request)
-        × (listed.new.data_request ≡ listed.old.data_request) }
+    ensures held { OnOk result (HoldsLines wanted listed.old listed.new) }
 {
-    let held = &mut listed.line_request;
-    let list = lines_wanted(alloc, desk, source, held, request)?;
-    set_list(alloc, desk, &mut listed.lines, source.counting, list)
+    let first = wanted.first;
+    let list = lines_wanted(alloc, mon, source, wanted.list.as_slice())?;
+    listed.last_lines = Some(wanted);
+    set_list(alloc, mon, &mut listed.lines, source.counting, first, list)
 }
 
-/// Sets the breakpoints at addresses that a request lists, in place of those before, and returns
+/// Sets the breakpoints at addresses that a client wants, in place of those before, and returns
 /// what is answered.
 ///
 /// Errors: `AllocError` if an allocation fails; the old ones are cleared then, and some of the new
 /// ones may be set.
 pub fn set_addresses(
     alloc: Global,
-    desk: &mut Desk,
+    mon: &mut MonState,
     listed: &mut Listed,
     counting: Counting,
-    request: &Value,
+    wanted: AddressList,
 ) -> Result<Value, AllocError>
-    ensures sets { IfOk result (λ v. SetsAddresses counting (view request.now)
-        listed.old.addresses.items listed.new.addresses.items desk.old desk.new (view v)) }
-    ensures kept { KeepsEvents desk.old desk.new }
+    ensures sets { IfOk result (λ v. SetsAddresses counting wanted
+        listed.old.addresses.items listed.new.addresses.items mon.old mon.new (view v)) }
+    ensures kept { KeepsEvents mon.old mon.new }
     ensures lines { listed.new.lines ≡ listed.old.lines }
-    ensures held { OnOk result
-        (option_map view listed.new.address_request ≡ Some (view request.now)) }
-    ensures others { (listed.new.line_request ≡ listed.old.line_request)
-        × (listed.new.data_request ≡ listed.old.data_request) }
+    ensures held { OnOk result (HoldsAddresses wanted listed.old listed.new) }
 {
-    let held = &mut listed.address_request;
-    let list = addresses_wanted(alloc, desk, held, request)?;
-    set_list(alloc, desk, &mut listed.addresses, counting, list)
+    let first = wanted.first;
+    let list = addresses_wanted(alloc, mon, wanted.list.as_slice())?;
+    listed.last_addresses = Some(wanted);
+    set_list(alloc, mon, &mut listed.addresses, counting, first, list)
 }
 
 /// Returns what is answered of breakpoints of another source than that of the session.
-fn none_set(alloc: Global, listed: &[Value]) -> Result<Value, AllocError>
-    ensures { IfOk result
-        (λ v. view v ≡ breakpoints_body (each answer_elsewhere (each view listed.now))) }
+fn none_set(alloc: Global, listed: &[SourceBreakpoint]) -> Result<Value, AllocError>
+    ensures { IfOk result (λ v. view v ≡ breakpoints_body (each answer_elsewhere listed.now)) }
 {
     let mut list = ValueList::new(alloc);
     for _ in listed {
@@ -288,27 +314,27 @@ fn none_set(alloc: Global, listed: &[Value]) -> Result<Value, AllocError>
     list_body(alloc, "breakpoints", list)
 }
 
-/// Sets the breakpoints that a request lists for a source, in place of those before, if the source
-/// is that of the session. Returns what is answered: of another source none is set.
+/// Sets the breakpoints that a client wants in the source with a path, in place of those before, if
+/// the source is that of the session. Returns what is answered: of another source none is set.
 ///
 /// Errors: as those of `set_lines`.
 pub fn set_source<H: Files + AllocGlobal>(
     rt: &H,
-    desk: &mut Desk,
+    mon: &mut MonState,
     listed: &mut Listed,
     source: &Source<'_>,
-    request: &Value,
+    path: &str,
+    wanted: LineList,
 ) -> Result<Value, AllocError>
     ensures sets { IfOk result (λ v. SetsSource source.now.counting source.now.path.now
-        (option_map (λ a. a.now) source.now.assembly) (view request.now) listed.old listed.new
-        desk.old desk.new (view v)) }
-    ensures kept { KeepsEvents desk.old desk.new }
+        (option_map (λ a. a.now) source.now.assembly) path.now wanted listed.old listed.new
+        mon.old mon.new (view v)) }
+    ensures kept { KeepsEvents mon.old mon.new }
     ensures addresses { listed.new.addresses ≡ listed.old.addresses }
 {
     let alloc = rt.alloc();
-    let path = text_or(request, "/arguments/source/path", "");
     if is_one_file(rt, path, source.path) {
-        return set_lines(alloc, desk, listed, source, request);
+        return set_lines(alloc, mon, listed, source, wanted);
     }
-    none_set(alloc, list_of(request))
+    none_set(alloc, wanted.list.as_slice())
 }

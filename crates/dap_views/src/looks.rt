@@ -7,9 +7,9 @@ ghost use Rattle.serde_json.specs.View.{view};
 
 use crate::texts::byte_text;
 use dap_messages::{address_text, evaluated, reference};
-use json_values::Object;
-use mon_lines::{Command, read_line};
-use mon_session::Desk;
+use json_messages::Object;
+use mon_lines::read_place;
+use mon_session::MonState;
 use serde_json::Value;
 use std::alloc::{AllocError, Global};
 
@@ -26,36 +26,28 @@ fn register_shown(
     Ok(Some(value))
 }
 
-/// Returns the address of the place that a text names, if it names one: the first address that a
-/// line `mem` of `mon` shows, which has at most 255 bytes.
-///
-/// Errors: `AllocError` if an allocation fails.
-pub fn place_named(alloc: Global, desk: &Desk, text: &str) -> Result<Option<u16>, AllocError>
-    ensures { IfOk result (λ found. found
-        ≡ place_named desk.now.places.names desk.now.session.current.regs.pc text.now) }
+/// Returns the address of the place that a text names, if it names one.
+pub fn place_named(mon: &MonState, text: &str) -> Option<u16>
+    ensures { result
+        ≡ place_named mon.now.places.names mon.now.session.current.regs.pc text.now }
 {
-    let line = format!(in alloc; "mem {text}")?;
-    let line = line.as_bytes();
-    if line.len() > 255 {
-        return Ok(None);
-    }
-    match read_line(line, &desk.places, desk.session.regs().pc) {
-        Ok(Command::Mem(stretch)) => Ok(Some(stretch.first)),
-        _ => Ok(None),
+    match read_place(text.as_bytes(), &mon.places, mon.session.regs().pc) {
+        Ok(address) => Some(address),
+        Err(_) => None,
     }
 }
 
 /// Returns the byte at the place that a text names, if it names one.
-fn place_shown(alloc: Global, desk: &Desk, text: &str) -> Result<Option<Value>, AllocError>
+fn place_shown(alloc: Global, mon: &MonState, text: &str) -> Result<Option<Value>, AllocError>
     ensures { IfOk result (λ found. option_map view found
-        ≡ place_shown desk.now.session.current desk.now.places.names text.now) }
+        ≡ place_shown mon.now.session.current mon.now.places.names text.now) }
 {
-    let Some(address) = place_named(alloc, desk, text)? else {
+    let Some(address) = place_named(mon, text) else {
         return Ok(None);
     };
     let value = Object::new(alloc)
         .text("memoryReference", reference(alloc, address))
-        .text("result", byte_text(alloc, desk.session.peek(address)))
+        .text("result", byte_text(alloc, mon.session.peek(address)))
         .count("variablesReference", 0)
         .build()?;
     Ok(Some(value))
@@ -63,11 +55,11 @@ fn place_shown(alloc: Global, desk: &Desk, text: &str) -> Result<Option<Value>, 
 
 /// Returns the register that a text names, or the byte at the place that it names: `None` if it
 /// names neither. The status register has B clear.
-pub fn look_at(alloc: Global, desk: &Desk, text: &str) -> Result<Option<Value>, AllocError>
+pub fn look_at(alloc: Global, mon: &MonState, text: &str) -> Result<Option<Value>, AllocError>
     ensures { IfOk result (λ found. option_map view found
-        ≡ look_at desk.now.session.current desk.now.places.names text.now) }
+        ≡ look_at mon.now.session.current mon.now.places.names text.now) }
 {
-    let regs = desk.session.regs();
+    let regs = mon.session.regs();
     let byte = match text {
         "PC" => return register_shown(alloc, address_text(alloc, regs.pc)),
         "A" => regs.a,
@@ -75,7 +67,7 @@ pub fn look_at(alloc: Global, desk: &Desk, text: &str) -> Result<Option<Value>, 
         "Y" => regs.y,
         "S" => regs.s,
         "P" => regs.flags.to_byte(false),
-        _ => return place_shown(alloc, desk, text),
+        _ => return place_shown(alloc, mon, text),
     };
     register_shown(alloc, byte_text(alloc, byte))
 }

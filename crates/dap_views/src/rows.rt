@@ -2,40 +2,51 @@
 
 ghost use Rattle.std.specs.Prelude.{◌≡◌, ◌+◌, ◌≤◌, ◌++◌, ◌-◌, [], ℕ, IfOk, List, OnOk, codes};
 ghost use Rattle.std.specs.Prelude.{string_bytes};
-ghost use Rattle.dap_views.specs.Rows.{ahead, behind, disassembled, joined, next_row, row_bytes};
-ghost use Rattle.dap_views.specs.Rows.{row_of, row_on, row_text, rows, rows_around, rows_on};
-ghost use Rattle.dap_views.specs.Rows.{rows_to};
-ghost use Rattle.json_values.specs.ValueLists.{HasValues};
+ghost use Rattle.dap_views.specs.Rows.{ahead, behind, behind_row, disassembled, joined};
+ghost use Rattle.dap_views.specs.Rows.{lacking_rows, next_row, row_bytes, row_of, row_on, row_text};
+ghost use Rattle.dap_views.specs.Rows.{rows, rows_around, rows_on, rows_to};
+ghost use Rattle.dap_views.specs.Values.{no_instruction};
+ghost use Rattle.json_messages.specs.ValueLists.{HasValues};
 ghost use Rattle.serde_json.specs.Data.{Data};
 ghost use Rattle.serde_json.specs.View.{view};
 
-use crate::memory::count_at;
 use crate::source::Source;
 use crate::texts::as_text;
-use dap_messages::{offset_at, place_at, reference};
+use dap_messages::reference;
 use disasm::line_in;
 use formatting::{push_byte, push_text};
-use json_values::{Object, ValueList};
+use json_messages::{Object, ValueList};
 use mon_instructions::{push_instruction, push_listed};
-use mon_session::Desk;
+use mon_session::MonState;
 use serde_json::Value;
 use std::alloc::{AllocError, Global};
 
 /// Behind the memory.
 const BEHIND: u32 = 65536;
 
-/// Returns how many bytes the row at an address has: one if it would run past an end, none behind
-/// the memory.
-fn row_len(alloc: Global, desk: &Desk, until: u32, address: u32) -> Result<u8, AllocError>
-    requires { address ≤ 65790 }
-    ensures next { IfOk result (λ len. address + len ≡ next_row desk.now until address) }
-    ensures within { IfOk result (λ len. address + len ≤ 65790) }
+/// Returns the address behind a row of so many bytes. Behind the memory a row has one.
+fn behind_row(address: u32, len: u8) -> u32
+    ensures { result ≡ behind_row address len }
+{
+    if address < BEHIND {
+        address + u32::from(len)
+    } else if address == u32::MAX {
+        address
+    } else {
+        address + 1
+    }
+}
+
+/// Returns how many bytes the row at an address has: one if it would run past an end. Behind the
+/// memory it does not matter.
+fn row_len(alloc: Global, mon: &MonState, until: u32, address: u32) -> Result<u8, AllocError>
+    ensures { IfOk result (λ len. behind_row address len ≡ next_row mon.now until address) }
 {
     if address >= BEHIND {
         return Ok(0);
     }
     let mut text = Vec::new(alloc);
-    let len = push_listed(&mut text, &desk.session, &desk.places, address as u16)?;
+    let len = push_listed(&mut text, &mon.session, &mon.places, address as u16)?;
     if address < until && until < address + u32::from(len) {
         return Ok(1);
     }
@@ -43,23 +54,27 @@ fn row_len(alloc: Global, desk: &Desk, until: u32, address: u32) -> Result<u8, A
 }
 
 /// Returns where the row begins that is `count` rows on.
-fn rows_on(alloc: Global, desk: &Desk, until: u32, count: u32, from: u32) -> Result<u32, AllocError>
-    requires { from ≤ 65790 }
-    ensures value { IfOk result (λ at. at ≡ rows_on desk.now until count from) }
-    ensures within { IfOk result (λ at. at ≤ 65790) }
+fn rows_on(
+    alloc: Global,
+    mon: &MonState,
+    until: u32,
+    count: u32,
+    from: u32,
+) -> Result<u32, AllocError>
+    ensures { IfOk result (λ at. at ≡ rows_on mon.now until count from) }
 {
     let mut address = from;
     for _ in 0..count {
-        let len = row_len(alloc, desk, until, address)?;
-        address += u32::from(len);
+        let len = row_len(alloc, mon, until, address)?;
+        address = behind_row(address, len);
     }
     Ok(address)
 }
 
 /// Returns how many rows there are from an address to the end.
-fn rows_to(alloc: Global, desk: &Desk, until: u32, from: u32) -> Result<u32, AllocError>
+fn rows_to(alloc: Global, mon: &MonState, until: u32, from: u32) -> Result<u32, AllocError>
     requires { from ≤ 65790 }
-    ensures value { IfOk result (λ count. count ≡ rows_to desk.now until (until - from) from) }
+    ensures value { IfOk result (λ count. count ≡ rows_to mon.now until (until - from) from) }
     ensures most { IfOk result (λ count. count ≤ until - from) }
 {
     let mut address = from;
@@ -68,8 +83,8 @@ fn rows_to(alloc: Global, desk: &Desk, until: u32, from: u32) -> Result<u32, All
         if address >= until {
             return Ok(count);
         }
-        let len = row_len(alloc, desk, until, address)?;
-        address += u32::from(len);
+        let len = row_len(alloc, mon, until, address)?;
+        address = behind_row(address, len);
         count += 1;
     }
     Ok(count)
@@ -98,16 +113,16 @@ fn push_row_bytes(
 fn push_row(
     column: &mut Vec<u8>,
     words: &mut Vec<u8>,
-    desk: &Desk,
+    mon: &MonState,
     address: u16,
     len: u8,
 ) -> Result<(), AllocError>
     ensures column { OnOk result (column.new.items
-        ≡ column.old.items ++ joined [] (codes " ") (row_bytes desk.now address len)) }
+        ≡ column.old.items ++ joined [] (codes " ") (row_bytes mon.now address len)) }
     ensures words { OnOk result
-        (words.new.items ≡ words.old.items ++ row_text desk.now address len) }
+        (words.new.items ≡ words.old.items ++ row_text mon.now address len) }
 {
-    let session = &desk.session;
+    let session = &mon.session;
     let bytes = [
         session.peek(address),
         session.peek(address.wrapping_add(1)),
@@ -116,9 +131,9 @@ fn push_row(
     let shown = &bytes[..usize::from(len.min(3))];
     push_row_bytes(column, "", " ", shown)?;
     if line_in(session.profile(), &bytes, address).len == len
-        && desk.places.data_left(address) == 0
+        && mon.places.data_left(address) == 0
     {
-        push_instruction(words, session, &desk.places, address)
+        push_instruction(words, session, &mon.places, address)
     } else {
         push_row_bytes(words, ".BYTE $", ",$", shown)
     }
@@ -154,32 +169,40 @@ fn row_on(
     }
 }
 
+/// Returns a row where no memory is, if memory did not run out for its address.
+fn no_row(alloc: Global, address: Result<String, AllocError>) -> Result<Value, AllocError>
+    ensures { (a : List ℕ) → IfOk address (λ s. string_bytes s ≡ a)
+        → IfOk result (λ v. view v ≡ no_instruction a) }
+{
+    Object::new(alloc)
+        .text("address", address)
+        .word("instruction", "")
+        .word("presentationHint", "invalid")
+        .build()
+}
+
 /// Returns the row of some bytes at an address, an instruction or data, which may begin a line of
 /// the source. Where no memory is, it says so.
 fn row_of(
     alloc: Global,
-    desk: &Desk,
+    mon: &MonState,
     source: &Source<'_>,
     address: u32,
     len: u8,
 ) -> Result<Value, AllocError>
-    ensures { IfOk result (λ v. view v ≡ row_of desk.now source.now.path.now
+    ensures { IfOk result (λ v. view v ≡ row_of mon.now source.now.path.now
         source.now.counting address len) }
 {
     if address >= BEHIND {
-        return Object::new(alloc)
-            .word("address", "0xFFFF")
-            .word("instruction", "")
-            .word("presentationHint", "invalid")
-            .build();
+        return no_row(alloc, format!(in alloc; "{address}"));
     }
     let address = address as u16;
     let mut column = Vec::new(alloc);
     let mut words = Vec::new(alloc);
-    let grown = push_row(&mut column, &mut words, desk, address, len);
+    let grown = push_row(&mut column, &mut words, mon, address, len);
     let bytes = as_text(alloc, column, grown);
     let text = as_text(alloc, words, grown);
-    let line = desk.places.line_at(address);
+    let line = mon.places.line_at(address);
     row_on(alloc, source, address, bytes, text, line)
 }
 
@@ -187,24 +210,37 @@ fn row_of(
 fn with_rows(
     alloc: Global,
     values: ValueList,
-    desk: &Desk,
+    mon: &MonState,
     source: &Source<'_>,
     until: u32,
     count: u32,
     from: u32,
 ) -> Result<ValueList, AllocError>
-    requires { from ≤ 65790 }
     ensures { (ds : List Data) → HasValues ds values → IfOk result (HasValues (ds
-        ++ rows desk.now source.now.path.now source.now.counting until count from)) }
+        ++ rows mon.now source.now.path.now source.now.counting until count from)) }
 {
     let mut list = values;
     let mut address = from;
     for _ in 0..count {
-        let len = row_len(alloc, desk, until, address)?;
-        list = list.with(row_of(alloc, desk, source, address, len));
-        address += u32::from(len);
+        let len = row_len(alloc, mon, until, address)?;
+        list = list.with(row_of(alloc, mon, source, address, len));
+        address = behind_row(address, len);
     }
     Ok(list)
+}
+
+/// Returns rows in front of the memory, at most so many, of which the first is so many bytes before
+/// it.
+fn lacking_rows(alloc: Global, count: u32, lacking: u32) -> ValueList
+    ensures { HasValues (lacking_rows count lacking) result }
+{
+    let mut list = ValueList::new(alloc);
+    let mut before = lacking;
+    for _ in 0..count {
+        list = list.with(no_row(alloc, format!(in alloc; "-{before}")));
+        before = before.saturating_sub(1);
+    }
+    list
 }
 
 /// Returns how many rows back the first one is, and how many rows ahead.
@@ -228,46 +264,44 @@ fn moved(offset: i64) -> (u32, u32)
 /// Returns so many rows, of which the first is some rows before an address or behind it.
 fn rows_around(
     alloc: Global,
-    desk: &Desk,
+    mon: &MonState,
     source: &Source<'_>,
     until: u16,
     offset: i64,
     count: u32,
 ) -> Result<ValueList, AllocError>
-    ensures { IfOk result (HasValues (rows_around desk.now source.now.path.now
+    ensures { IfOk result (HasValues (rows_around mon.now source.now.path.now
         source.now.counting until (behind offset) (ahead offset) count)) }
 {
     let until = u32::from(until);
     let (back, on) = moved(offset);
     let begin = until.saturating_sub(back * 3);
-    let found = rows_to(alloc, desk, until, begin)?;
+    let found = rows_to(alloc, mon, until, begin)?;
     let passed = found.saturating_sub(back) + on;
-    let first = rows_on(alloc, desk, until, passed, begin)?;
+    let first = rows_on(alloc, mon, until, passed, begin)?;
     let lacking = back.saturating_sub(found);
-    let none = ValueList::new(alloc);
-    let front = with_rows(alloc, none, desk, source, until, lacking.min(count), BEHIND)?;
+    let front = lacking_rows(alloc, lacking.min(count), lacking);
     let left = count.saturating_sub(lacking);
-    with_rows(alloc, front, desk, source, until, left, first)
+    with_rows(alloc, front, mon, source, until, left, first)
 }
 
-/// Returns as many rows of a disassembly as a request asks for, at most 65,536: instructions, and
-/// data where a line of the source says so. Rows before the address that the request names end
-/// there. Rows where no memory is say so; all do if the request names no address.
+/// Returns so many rows of a disassembly, of which the first is some rows before an address or
+/// behind it: instructions, and data where a line of the source says so. Rows before the address
+/// end there. Rows where no memory is say so; all do if no address is named.
 pub fn disassembled(
     alloc: Global,
-    desk: &Desk,
+    mon: &MonState,
     source: &Source<'_>,
-    request: &Value,
+    address: Option<u16>,
+    offset: i64,
+    count: u32,
 ) -> Result<Value, AllocError>
-    ensures { IfOk result (λ v. view v ≡ disassembled desk.now source.now.path.now
-        source.now.counting (view request.now)) }
+    ensures { IfOk result (λ v. view v ≡ disassembled mon.now source.now.path.now
+        source.now.counting address offset count) }
 {
-    let until = place_at(request, "/arguments/memoryReference", "/arguments/offset");
-    let offset = offset_at(request, "/arguments/instructionOffset");
-    let count = count_at(request, "/arguments/instructionCount");
-    let rows = match until {
-        Some(until) => rows_around(alloc, desk, source, until, offset, count),
-        None => with_rows(alloc, ValueList::new(alloc), desk, source, 0, count, BEHIND),
+    let rows = match address {
+        Some(until) => rows_around(alloc, mon, source, until, offset, count),
+        None => with_rows(alloc, ValueList::new(alloc), mon, source, 0, count, BEHIND),
     };
     let list = rows?;
     Object::new(alloc)

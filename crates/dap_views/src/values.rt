@@ -3,12 +3,12 @@
 ghost use Rattle.std.specs.Prelude.{◌≡◌, IfOk, List};
 ghost use Rattle.dap_views.specs.BreakValues.{data_at, data_unwatched};
 ghost use Rattle.dap_messages.specs.Bodies.{list_body};
-ghost use Rattle.json_values.specs.ValueLists.{HasValues};
+ghost use Rattle.json_messages.specs.ValueLists.{HasValues};
 ghost use Rattle.serde_json.specs.Data.{Data};
 ghost use Rattle.serde_json.specs.View.{view};
 
 use dap_messages::{address_text, reference};
-use json_values::{Object, ValueList};
+use json_messages::{Object, ValueList};
 use serde_json::Value;
 use std::alloc::{AllocError, Global};
 

@@ -1,23 +1,53 @@
 //! The variables of a scope.
 
-ghost use Rattle.std.specs.Prelude.{◌≡◌, ◌-◌, ℕ, IfOk, List, map as each, slice_index};
+ghost use Rattle.std.specs.Prelude.{◌≡◌, ◌-◌, ℕ, [], IfOk, List, map as each, slice_index};
 ghost use Rattle.std.specs.Prelude.{string_bytes};
-ghost use Rattle.dap_views.specs.Scopes.{cells, machine_shown, symbols_shown, variables_shown};
-ghost use Rattle.dap_views.specs.Variables.{byte_variable, flag_variable, flags_shown};
-ghost use Rattle.dap_views.specs.Variables.{number_variable, registers_shown, variable};
-ghost use Rattle.json_values.specs.Values.{list_of};
+ghost use Rattle.dap_messages.specs.declared.request.Page.{Page};
+ghost use Rattle.dap_views.specs.Pages.{IsPage};
+ghost use Rattle.dap_views.specs.Scopes.{cells, listed, machine_shown, scope_shown, symbols_shown};
+ghost use Rattle.dap_views.specs.Scopes.{variables_shown};
+ghost use Rattle.dap_views.specs.Variables.{bit_text, byte_variable, flag_variable, flags_shown};
+ghost use Rattle.dap_views.specs.Variables.{number_variable, register_text, register_variable};
+ghost use Rattle.dap_views.specs.Variables.{registers_shown, variable};
 ghost use Rattle.serde_json.specs.View.{view};
 ghost use Rattle.source_map.specs.Names.{named};
 
+use crate::paged::Paged;
 use crate::texts::byte_text;
-use dap_messages::address_text;
-use json_values::{Object, ValueList, number_at};
+use dap_messages::{Page, Scope, address_text};
+use json_messages::Object;
 use model::{Flags, Regs};
+use mon_lines::Register;
 use mon_runs::Session;
-use mon_session::Desk;
+use mon_session::MonState;
 use serde_json::Value;
 use source_map::Name;
 use std::alloc::{AllocError, Global};
+
+/// Returns the value of a register. That of the status register has B clear.
+pub fn register_text(alloc: Global, regs: Regs, register: Register) -> Result<String, AllocError>
+    ensures { IfOk result (λ text. string_bytes text ≡ register_text regs register) }
+{
+    match register {
+        Register::Pc => address_text(alloc, regs.pc),
+        Register::A => byte_text(alloc, regs.a),
+        Register::X => byte_text(alloc, regs.x),
+        Register::Y => byte_text(alloc, regs.y),
+        Register::S => byte_text(alloc, regs.s),
+        Register::P => byte_text(alloc, regs.flags.to_byte(false)),
+    }
+}
+
+/// Returns the value of a flag: 1 or 0.
+pub fn bit_text(alloc: Global, is_set: bool) -> Result<String, AllocError>
+    ensures { IfOk result (λ text. string_bytes text ≡ bit_text is_set) }
+{
+    if is_set {
+        String::from_str(alloc, "1")
+    } else {
+        String::from_str(alloc, "0")
+    }
+}
 
 /// Returns a variable of a name, with its value, if memory did not run out for that.
 fn variable(
@@ -43,15 +73,23 @@ fn byte_variable(alloc: Global, name: &str, byte: u8) -> Result<Value, AllocErro
     variable(alloc, name, byte_text(alloc, byte))
 }
 
+/// Returns a register as a variable.
+fn register_variable(
+    alloc: Global,
+    name: &str,
+    regs: Regs,
+    register: Register,
+) -> Result<Value, AllocError>
+    ensures { IfOk result (λ v. view v ≡ register_variable name.now regs register) }
+{
+    variable(alloc, name, register_text(alloc, regs, register))
+}
+
 /// Returns a flag as a variable.
 fn flag_variable(alloc: Global, name: &str, is_set: bool) -> Result<Value, AllocError>
     ensures { IfOk result (λ v. view v ≡ flag_variable name.now is_set) }
 {
-    if is_set {
-        variable(alloc, name, String::from_str(alloc, "1"))
-    } else {
-        variable(alloc, name, String::from_str(alloc, "0"))
-    }
+    variable(alloc, name, bit_text(alloc, is_set))
 }
 
 /// Returns a number in decimal as a variable.
@@ -61,32 +99,29 @@ fn number_variable(alloc: Global, name: &str, number: u64) -> Result<Value, Allo
     variable(alloc, name, format!(in alloc; "{number}"))
 }
 
-/// Returns the registers. The status register is shown with B clear.
-fn registers(alloc: Global, regs: Regs) -> Result<Value, AllocError>
-    ensures { IfOk result (λ v. view v ≡ list_of (registers_shown regs)) }
+/// Returns a page of the registers, of which none was shown.
+fn registers(alloc: Global, page: Paged, regs: Regs) -> Paged
+    ensures { (asked : Page) → IsPage asked [] page
+        → IsPage asked (registers_shown regs) result }
 {
-    ValueList::new(alloc)
-        .with(variable(alloc, "PC", address_text(alloc, regs.pc)))
-        .with(byte_variable(alloc, "A", regs.a))
-        .with(byte_variable(alloc, "X", regs.x))
-        .with(byte_variable(alloc, "Y", regs.y))
-        .with(byte_variable(alloc, "S", regs.s))
-        .with(byte_variable(alloc, "P", regs.flags.to_byte(false)))
-        .build()
+    page.with(register_variable(alloc, "PC", regs, Register::Pc))
+        .with(register_variable(alloc, "A", regs, Register::A))
+        .with(register_variable(alloc, "X", regs, Register::X))
+        .with(register_variable(alloc, "Y", regs, Register::Y))
+        .with(register_variable(alloc, "S", regs, Register::S))
+        .with(register_variable(alloc, "P", regs, Register::P))
 }
 
-/// Returns the flags.
-fn flags(alloc: Global, flags: Flags) -> Result<Value, AllocError>
-    ensures { IfOk result (λ v. view v ≡ list_of (flags_shown flags)) }
+/// Returns a page of the flags, of which none was shown.
+fn flags(alloc: Global, page: Paged, flags: Flags) -> Paged
+    ensures { (asked : Page) → IsPage asked [] page → IsPage asked (flags_shown flags) result }
 {
-    ValueList::new(alloc)
-        .with(flag_variable(alloc, "N", flags.n))
+    page.with(flag_variable(alloc, "N", flags.n))
         .with(flag_variable(alloc, "V", flags.v))
         .with(flag_variable(alloc, "D", flags.d))
         .with(flag_variable(alloc, "I", flags.i))
         .with(flag_variable(alloc, "Z", flags.z))
         .with(flag_variable(alloc, "C", flags.c))
-        .build()
 }
 
 /// Returns a byte as a variable of a name, if memory did not run out for that.
@@ -102,60 +137,82 @@ fn byte_named(
     byte_variable(alloc, name.as_str(), byte)
 }
 
-/// Returns the bytes at names, each under its name.
-fn symbols(alloc: Global, session: &Session, names: &[Name]) -> Result<Value, AllocError>
-    ensures { IfOk result (λ v. view v
-        ≡ list_of (symbols_shown session.now.current.bus.memory (each named names.now))) }
+/// Returns a page of the bytes at names, each under its name. None was shown.
+fn symbols(alloc: Global, page: Paged, session: &Session, names: &[Name]) -> Paged
+    ensures { (asked : Page) → IsPage asked [] page → IsPage asked
+        (symbols_shown session.now.current.bus.memory (each named names.now)) result }
 {
-    let mut list = ValueList::new(alloc);
+    let mut page = page;
     for name in names {
         let text = String::from_utf8_lossy(alloc, name.text.as_slice());
-        list = list.with(byte_named(alloc, text, session.peek(name.address)));
+        page = page.with(byte_named(alloc, text, session.peek(name.address)));
     }
-    list.build()
+    page
 }
 
-/// Returns the bytes from an address up to another, each under its address.
-fn cells(alloc: Global, session: &Session, from: u16, to: u16) -> Result<Value, AllocError>
-    ensures { IfOk result
-        (λ v. view v ≡ list_of (cells session.now.current.bus.memory from (to - from))) }
+/// Returns a page of the bytes from an address up to another, each under its address. None was
+/// shown.
+fn cells(alloc: Global, page: Paged, session: &Session, from: u16, to: u16) -> Paged
+    ensures { (asked : Page) → IsPage asked [] page → IsPage asked
+        (cells session.now.current.bus.memory from (to - from)) result }
 {
-    let mut list = ValueList::new(alloc);
+    let mut page = page;
     for address in from..to {
         let name = address_text(alloc, address);
-        list = list.with(byte_named(alloc, name, session.peek(address)));
+        page = page.with(byte_named(alloc, name, session.peek(address)));
     }
-    list.build()
+    page
 }
 
-/// Returns the cycles, how many events are held, and how many bytes were put out.
-fn machine(alloc: Global, session: &Session) -> Result<Value, AllocError>
-    ensures { IfOk result (λ v. view v ≡ list_of (machine_shown session.now)) }
+/// Returns a page of the cycles, how many events are held, and how many bytes were put out. None
+/// was shown.
+fn machine(alloc: Global, page: Paged, session: &Session) -> Paged
+    ensures { (asked : Page) → IsPage asked [] page
+        → IsPage asked (machine_shown session.now) result }
 {
-    ValueList::new(alloc)
-        .with(number_variable(alloc, "cycles", session.cycles()))
+    page.with(number_variable(alloc, "cycles", session.cycles()))
         .with(number_variable(alloc, "events held", session.held() as u64))
         .with(number_variable(alloc, "bytes put out", session.output_len() as u64))
-        .build()
 }
 
-/// Returns the variables of the scope whose number a request names: 1 for the registers, 2 for the
-/// flags, 3 for the names of the program, 4 for the stack, 5 for the zero page, 6 for what is told
-/// of the machine. Another scope has none. The bytes of the stack are those from that above the
-/// stack pointer on.
-pub fn variables_shown(alloc: Global, desk: &Desk, request: &Value) -> Result<Value, AllocError>
-    ensures { IfOk result (λ v. view v
-        ≡ variables_shown desk.now.session desk.now.places.names (view request.now)) }
+/// Returns a page of the variables of a scope, of which none was shown. The bytes of the stack are
+/// those from that above the stack pointer on.
+fn scope_shown(alloc: Global, page: Paged, mon: &MonState, scope: Scope) -> Paged
+    ensures { (asked : Page) → IsPage asked [] page → IsPage asked
+        (scope_shown mon.now.session mon.now.places.names scope) result }
 {
-    let session = &desk.session;
-    let list = match number_at(request, "/arguments/variablesReference") {
-        Some(1) => registers(alloc, session.regs()),
-        Some(2) => flags(alloc, session.regs().flags),
-        Some(3) => symbols(alloc, session, desk.places.names().all()),
-        Some(4) => cells(alloc, session, 257 + u16::from(session.regs().s), 512),
-        Some(5) => cells(alloc, session, 0, 256),
-        Some(6) => machine(alloc, session),
-        _ => ValueList::new(alloc).build(),
-    };
-    Object::new(alloc).member("variables", list).build()
+    let session = &mon.session;
+    match scope {
+        Scope::Registers => registers(alloc, page, session.regs()),
+        Scope::Flags => flags(alloc, page, session.regs().flags),
+        Scope::Symbols => symbols(alloc, page, session, mon.places.names().all()),
+        Scope::Stack => cells(alloc, page, session, 257 + u16::from(session.regs().s), 512),
+        Scope::ZeroPage => cells(alloc, page, session, 0, 256),
+        Scope::Machine => machine(alloc, page, session),
+    }
+}
+
+/// Returns a page of the variables of a scope, if there is such a scope. None was shown.
+fn listed(alloc: Global, page: Paged, mon: &MonState, scope: Option<Scope>) -> Paged
+    ensures { (asked : Page) → IsPage asked [] page → IsPage asked
+        (listed mon.now.session mon.now.places.names scope) result }
+{
+    match scope {
+        Some(scope) => scope_shown(alloc, page, mon, scope),
+        None => page,
+    }
+}
+
+/// Returns those variables of a scope that are asked for: none if there is no such scope.
+pub fn variables_shown(
+    alloc: Global,
+    mon: &MonState,
+    scope: Option<Scope>,
+    asked: Page,
+) -> Result<Value, AllocError>
+    ensures { IfOk result (λ v. view v
+        ≡ variables_shown mon.now.session mon.now.places.names scope asked) }
+{
+    let page = listed(alloc, Paged::new(alloc, asked), mon, scope);
+    Object::new(alloc).member("variables", page.build()).build()
 }

@@ -1,23 +1,20 @@
 //! The breakpoints that a client wants, read from its list.
 
-ghost use Rattle.std.specs.Prelude.{◌≡◌, ◌++◌, IfOk, MatchResult, None, OnOk, Some, option_map};
+ghost use Rattle.std.specs.Prelude.{◌≡◌, MatchResult, None, OnOk, Some, option_map};
 ghost use Rattle.assembler.specs.Assembly.{source_lines};
 ghost use Rattle.assembler.specs.Lines.{line_view};
-ghost use Rattle.dap_views.specs.Found.{HasFound, found_on, stop_on, stop_view};
+ghost use Rattle.dap_views.specs.Found.{HasFound, found_on, stop_at, stop_view};
 ghost use Rattle.dap_views.specs.Targets.{row_in};
-ghost use Rattle.dap_views.specs.Wanted.{Matches, break_line, condition_text, first_row};
-ghost use Rattle.dap_views.specs.Wanted.{hits_text, option_text, row_with};
-ghost use Rattle.serde_json.specs.View.{view};
+ghost use Rattle.dap_views.specs.Wanted.{first_row, row_with};
 
 use crate::source::Source;
 use assembler::SourceLine;
-use formatting::{push_address, push_text};
-use json_values::text_or;
-use mon_lines::{Command, Slip, read_line};
-use mon_session::Desk;
-use mon_stops::Break;
+use dap_messages::Condition;
+use mon_line_parts::{Flaw, Topic};
+use mon_lines::{Slip, read_tests, read_times};
+use mon_runs::Break;
+use mon_session::MonState;
 use mon_texts::push_slip;
-use serde_json::Value;
 use std::alloc::{AllocError, Global};
 
 /// What a client is told of a breakpoint that it wants.
@@ -25,19 +22,17 @@ use std::alloc::{AllocError, Global};
 pub struct Wanted {
     /// Where it stands, if it can stand somewhere.
     pub address: Option<u16>,
-    /// The line that it stands at, or is wanted at: 0 if it has none.
-    pub line: u32,
+    /// The line that it stands at, or is wanted at, if it has one.
+    pub line: Option<u32>,
     /// Why it cannot stand anywhere.
     pub words: String,
 }
 
-/// A list of breakpoints that a client wants: what is told of each, those that are set, and the
-/// addresses of these.
+/// A list of breakpoints that a client wants: what is told of each, and those that are set.
 #[derive(Drop)]
 pub struct List {
     pub told: Vec<Wanted>,
     pub stops: Vec<Break>,
-    pub addresses: Vec<u16>,
 }
 
 /// Returns the number and the address of a line, if it is at a number or behind it, and has bytes.
@@ -73,46 +68,14 @@ pub fn row_in(source: &Source<'_>, line: u32) -> Option<(u32, u16)>
     None
 }
 
-/// Appends words and a text behind them, unless the text is empty.
-fn push_option(text: &mut Vec<u8>, words: &str, option: &str) -> Result<(), AllocError>
-    ensures { OnOk result
-        (text.new.items ≡ text.old.items ++ option_text words.now option.now) }
-{
-    if option.is_empty() {
-        return Ok(());
-    }
-    push_text(text, words)?;
-    push_text(text, option)
-}
-
-/// Appends the condition and the hit count of a breakpoint, each if it has one.
-fn push_options(line: &mut Vec<u8>, wanted: &Value) -> Result<(), AllocError>
-    ensures { OnOk result (line.new.items ≡ line.old.items
-        ++ (condition_text (view wanted.now) ++ hits_text (view wanted.now))) }
-{
-    push_option(line, " if ", text_or(wanted, "/condition", ""))?;
-    push_option(line, " times ", text_or(wanted, "/hitCondition", ""))
-}
-
-/// Appends the line of `mon` that sets a breakpoint.
-fn push_break(line: &mut Vec<u8>, wanted: &Value, address: u16) -> Result<(), AllocError>
-    ensures { OnOk result
-        (line.new.items ≡ line.old.items ++ break_line (view wanted.now) address) }
-{
-    push_text(line, "break $")?;
-    push_address(line, address)?;
-    push_options(line, wanted)
-}
-
 /// Appends what is told of a breakpoint that cannot be set, if memory did not run out for words of
 /// why.
 pub fn push_unset(
     list: &mut List,
-    line: u32,
+    line: Option<u32>,
     words: Result<String, AllocError>,
 ) -> Result<(), AllocError>
-    ensures matches { OnOk result (Matches list.old → Matches list.new) }
-    ensures found { OnOk result (HasFound (line, None) list.old list.new) }
+    ensures { OnOk result (HasFound (line, None) list.old list.new) }
 {
     let words = words?;
     let wanted = Wanted {
@@ -124,17 +87,22 @@ pub fn push_unset(
     Ok(())
 }
 
-/// Returns what is wrong in a line of `mon`.
-fn slip_text(alloc: Global, slip: Slip<'_>) -> Result<String, AllocError> {
+/// Returns why a condition or a hit count cannot be read.
+fn why_text(alloc: Global, flaw: Flaw<'_>) -> Result<String, AllocError> {
     let mut text = Vec::new(alloc);
-    push_slip(&mut text, slip)?;
+    let topic = Some(Topic::Break);
+    push_slip(&mut text, Slip { topic, flaw })?;
     String::from_utf8_lossy(alloc, text.as_slice().trim_ascii())
 }
 
 /// Appends a breakpoint that can be set.
-fn push_stop(alloc: Global, list: &mut List, line: u32, stop: Break) -> Result<(), AllocError>
-    ensures matches { OnOk result (Matches list.old → Matches list.new) }
-    ensures found { OnOk result (HasFound (line, Some (stop_view stop)) list.old list.new) }
+fn push_stop(
+    alloc: Global,
+    list: &mut List,
+    line: Option<u32>,
+    stop: Break,
+) -> Result<(), AllocError>
+    ensures { OnOk result (HasFound (line, Some (stop_view stop)) list.old list.new) }
 {
     let wanted = Wanted {
         address: Some(stop.address),
@@ -142,61 +110,40 @@ fn push_stop(alloc: Global, list: &mut List, line: u32, stop: Break) -> Result<(
         words: String::new(alloc),
     };
     list.told.push(wanted)?;
-    list.addresses.push(stop.address)?;
     list.stops.push(stop)?;
     Ok(())
 }
 
-/// Returns the breakpoint that a line of `mon` sets, or words of why it sets none. A line of more
-/// than 255 bytes is too long.
-fn stop_on(alloc: Global, desk: &Desk, line: &[u8]) -> Result<Result<Break, String>, AllocError>
-    ensures { IfOk result (λ found. MatchResult found
-        (λ stop. stop_on desk.now.places.names desk.now.session.current.regs.pc line.now
-        ≡ Some (stop_view stop))
-        (λ words. stop_on desk.now.places.names desk.now.session.current.regs.pc line.now
-        ≡ None)) }
+/// Returns the breakpoint at an address with a condition, or why the condition or its hit count
+/// cannot be read.
+fn stop_at<'a>(mon: &MonState, condition: &'a Condition, address: u16) -> Result<Break, Flaw<'a>>
+    ensures { MatchResult result
+        (λ stop. stop_at mon.now.places.names mon.now.session.current.regs.pc condition.now
+        address ≡ Some (stop_view stop))
+        (λ why. stop_at mon.now.places.names mon.now.session.current.regs.pc condition.now
+        address ≡ None) }
 {
-    if line.len() > 255 {
-        let words = String::from_str(alloc, "the condition is too long")?;
-        return Ok(Err(words));
-    }
-    match read_line(line, &desk.places, desk.session.regs().pc) {
-        Ok(
-            Command::Break {
-                address,
-                tests,
-                times,
-            },
-        ) => Ok(Ok(Break::new(address, tests, times))),
-        Ok(_) => {
-            let words = String::from_str(alloc, "this is no break")?;
-            Ok(Err(words))
-        }
-        Err(slip) => {
-            let words = slip_text(alloc, slip)?;
-            Ok(Err(words))
-        }
-    }
+    let pc = mon.session.regs().pc;
+    let tests = read_tests(condition.tests.as_bytes(), &mon.places, pc)?;
+    let times = read_times(condition.hits.as_bytes(), &mon.places)?;
+    Ok(Break::new(address, tests, times))
 }
 
-/// Appends a breakpoint that a client wants at an address, which a line has, or none. The line of
-/// `mon` that sets it is read. If it is wrong, what is wrong in it is told.
+/// Appends a breakpoint that a client wants at an address, which a line has, or none. If its
+/// condition or its hit count cannot be read, it is told why.
 pub fn push_at(
     alloc: Global,
     list: &mut List,
-    desk: &Desk,
-    wanted: &Value,
-    line: u32,
+    mon: &MonState,
+    condition: &Condition,
+    line: Option<u32>,
     address: u16,
 ) -> Result<(), AllocError>
-    ensures matches { OnOk result (Matches list.old → Matches list.new) }
-    ensures found { OnOk result (HasFound (found_on desk.now.places
-        desk.now.session.current.regs.pc (view wanted.now) line address) list.old list.new) }
+    ensures { OnOk result (HasFound (found_on mon.now.places
+        mon.now.session.current.regs.pc condition.now line address) list.old list.new) }
 {
-    let mut text = Vec::new(alloc);
-    push_break(&mut text, wanted, address)?;
-    match stop_on(alloc, desk, text.as_slice())? {
+    match stop_at(mon, condition, address) {
         Ok(stop) => push_stop(alloc, list, line, stop),
-        Err(words) => push_unset(list, line, Ok(words)),
+        Err(why) => push_unset(list, line, why_text(alloc, why)),
     }
 }

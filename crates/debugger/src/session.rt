@@ -5,6 +5,7 @@ ghost use Rattle.std.specs.Prelude.{length, take, slice_get, slice_index, OnOk, 
 ghost use Rattle.std.specs.Prelude.{IsErrOf, IsOk, Ok, Err};
 ghost use Rattle.model.specs.State.{has_port_byte, is_port, IsState, State};
 ghost use Rattle.model.specs.Event.{event_of, start};
+ghost use Rattle.model.specs.Step.{entry_due};
 ghost use Rattle.model.specs.Undo.{CanRestore, bus_before, Undoes};
 ghost use Rattle.model.specs.Session.{with_state, new_session};
 ghost use Rattle.model.specs.Back.{back_of, without_last};
@@ -491,6 +492,43 @@ impl Session {
         ensures { result + length self.now.current.bus.given ≡ 65536 }
     {
         self.machine.input_room()
+    }
+
+    /// Returns how many bytes of input were handed in up to the current state, 0 to 65,536, taken
+    /// ones included.
+    pub fn input_len(&self) -> u32
+        ensures { result ≡ length self.now.current.bus.given }
+    {
+        self.machine.input_len()
+    }
+
+    /// Returns the byte of the current state's input at an index, counted from 0.
+    pub fn input_at(&self, index: u32) -> Option<u8>
+        ensures { result ≡ slice_get self.now.current.bus.given index }
+    {
+        self.machine.input_at(index)
+    }
+
+    /// Returns the level of the IRQ line in the current state.
+    pub fn irq(&self) -> bool
+        ensures { result ≡ self.now.current.irq }
+    {
+        self.machine.irq()
+    }
+
+    /// Returns whether an NMI is pending in the current state.
+    pub fn nmi_is_pending(&self) -> bool
+        ensures { result ≡ self.now.current.nmi }
+    {
+        self.machine.nmi_is_pending()
+    }
+
+    /// Returns whether the next step is an interrupt entry: an NMI is pending, or an IRQ is asked
+    /// for and I is 0.
+    pub fn entry_is_due(&self) -> bool
+        ensures { result ≡ entry_due self.now.current }
+    {
+        self.machine.entry_is_due()
     }
 
     /// States the invariant of every current state: a bus of 65,536 bytes, registers of 8 and 16

@@ -1,12 +1,12 @@
 //! Operands as text.
 
 ghost use Rattle.std.specs.Prelude.{◌≡◌, ◌≤◌, ◌∷◌, ◌++◌, length};
-ghost use Rattle.model.specs.InstructionText.{absolute_text, has_row, operand_text, target_of};
+ghost use Rattle.model.specs.InstructionText.{absolute_text, has_row, operand_text};
 
 use crate::text::{Text, push_bytes, text_of};
 use formatting::{digits_of, digits_of_address};
 use model::{Mnemonic, Mode, Profile};
-use optable::encode_in;
+use optable::{branch_target, encode_in};
 
 /// Returns whether an instruction has a mode in a profile.
 #[tactic(auto, unfolding(model::specs::InstructionText::has_row))]
@@ -14,19 +14,6 @@ fn has_row(profile: Profile, mnemonic: Mnemonic, mode: Mode) -> bool
     ensures { result ≡ has_row profile mnemonic mode }
 {
     encode_in(profile, mnemonic, mode).is_some()
-}
-
-/// Returns the target of a branch at an address, by its second byte.
-fn target(address: u16, second: u8) -> u16
-    ensures { result ≡ target_of address second }
-{
-    let next = address as u32 + 2;
-    let distance = if second < 128 {
-        second as u32
-    } else {
-        second as u32 + 65280
-    };
-    ((next + distance) % 65536) as u16
 }
 
 /// Returns an address in an absolute mode, and what comes after it.
@@ -78,7 +65,7 @@ pub fn operand(
             text_of(&[b' ', b'(', b'$', a, b, c, d, b')'])
         }
         Mode::Rel => {
-            let [a, b, c, d] = digits_of_address(target(address, second));
+            let [a, b, c, d] = digits_of_address(branch_target(address, second));
             text_of(&[b' ', b'$', a, b, c, d])
         }
         Mode::IndZ => text_of(&[b' ', b'(', b'$', h, l, b')']),

@@ -1,9 +1,13 @@
 -- What is marked of a line.
-use Rattle.std.proofs.Common.{◌≡◌, ℕ, suc, ◌∙◌, Bool, List, [], ◌∷◌, ◌++◌, length, drop, take, Some, None, Result, Ok, Err, IfOk, refl, sym, ap, subst, inl, inr}
+use Rattle.std.proofs.Common.{◌≡◌, ℕ, suc, ◌<◌, ◌∙◌, Bool, true, List, [], ◌∷◌, ◌++◌, length, drop, get_or, map, take, Option, Some, None, Result, Ok, Err, IfOk, refl, sym, ap, subst, inl, inr}
 use Rattle.std.proofs.lemmas.Bool.{cases_Bool}
-use Rattle.std.proofs.lemmas.List.{drop-map, take-map}
+use Rattle.std.proofs.lemmas.List.{drop-map, get_or-map, length-map, take-map}
+use Rattle.std.proofs.lemmas.List.Folds.{list_any_at}
+use Rattle.std.proofs.lemmas.Result.{IfOk-weaker}
+use Rattle.std.proofs.lemmas.Slice.Eq.{bytes_eq-Decides}
 use Rattle.std.specs.Borrow.{Bor}
 use Rattle.std.specs.List.{find}
+use Rattle.std.specs.Str.{bytes_eq}
 use Rattle.line_parts.specs.Lexemes.{lexeme_of, lexemes}
 use Rattle.line_parts.specs.declared.token.Token.{Token}
 use Rattle.model.specs.AllFaults.{Mending, fixed_after, found_lines}
@@ -16,11 +20,12 @@ use Rattle.model.specs.SourceLine.{read_line}
 use Rattle.model.specs.TextLines.{lines_of}
 use Rattle.model.specs.declared.instruction.Profile.{Profile}
 use Rattle.model.specs.declared.source_fault.AsmFault.{AsmFault}
-use Rattle.source_notes.specs.Lines.{texts_of}
+use Rattle.source_notes.specs.Lines.{name_view, texts_of}
+use Rattle.source_notes.specs.declared.lines.Name.{Name}
 use Rattle.source_notes.specs.declared.note.Note.{Note}
 use Rattle.source_notes.specs.Blocks.{AreBlocks}
 use Rattle.fault_notes.specs.Blocks.{fault_blocks}
-use Rattle.fault_notes.specs.Marks.{IsMeant, Known, Place, expression_place, first_or, note_place, unless_read}
+use Rattle.fault_notes.specs.Marks.{IsMeant, IsNote, IsPlain, IsRight, Known, Place, begins_line, expression_place, first_or, unless_read}
 
 -- the tokens behind an expression
 behind_expression : (index taken : ℕ) (tokens : List Token) → first_or index (lexemes (drop taken tokens)) ≡ first_or index (drop taken (lexemes tokens))
@@ -36,12 +41,38 @@ left_marked index taken tokens rest term e found =
 pub none_marked : (index : ℕ) (tokens : List Token) → expression_of (lexemes tokens) ≡ None → first_or index (lexemes tokens) ≡ expression_place index tokens
 none_marked index tokens none = ap (unless_read index (lexemes tokens)) (sym none)
 
-pub marked_as : {E : Type 0} (result made : Result Note E) (place same : Place) → result ≡ made → place ≡ same → IfOk made (λ note. note_place note ≡ place) → IfOk result (λ note. note_place note ≡ same)
-marked_as result (Ok note) place same is e marked = rw is (marked ∙ e)
+-- a place without a right word
+abbrev plain : Place → Place × Option (List ℕ)
+plain place = (place, None)
+
+pub marked_as : {E : Type 0} (result made : Result Note E) (place same : Place) → result ≡ made → place ≡ same → IfOk made (IsPlain place) → IfOk result (IsPlain same)
+marked_as result (Ok note) place same is e marked = rw is (marked ∙ ap plain e)
 marked_as result (Err fault) place same is e marked = rw is tt
 
-pub not_marked : {E : Type 0} (result : Result Note E) (fault : E) (place : Place) → result ≡ Err fault → IfOk result (λ note. note_place note ≡ place)
+pub not_marked : {E : Type 0} (result : Result Note E) (fault : E) (place : Place) → result ≡ Err fault → IfOk result (IsPlain place)
 not_marked result fault place is = rw is tt
+
+-- ---- the right word
+
+-- a note without one
+pub plain_note : (place : Place) (may_be : List ℕ → Bool) (note : Note) → IsPlain place note → IsNote place may_be note
+plain_note place may_be note is = record {
+  means = ap (λ (p : Place × Option (List ℕ)). p.0) is;
+  right = subst (IsRight may_be note.words.items) (sym (ap (λ (p : Place × Option (List ℕ)). p.1) is)) tt;
+}
+
+pub plain_result : {E : Type 0} (result : Result Note E) (place : Place) (may_be : List ℕ → Bool) → IfOk result (IsPlain place) → IfOk result (IsNote place may_be)
+plain_result result place may_be marked = IfOk-weaker result _ _ (λ note. plain_note place may_be note) marked
+
+pub ruleset plain_steps = (plain_note, plain_result)
+
+-- a name with which a line begins
+pub line_name_at : (names : List Name) (i : ℕ) (d : Name) → i < length names → begins_line (map name_view names) (get_or names i d).text.now ≡ true
+line_name_at names i d within =
+    let text = (get_or names i d).text.now in
+    let inside : i < length (map name_view names) = rw (length-map names name_view) within in
+    list_any_at (λ (n : List ℕ × ℕ). bytes_eq n.0 text) (map name_view names) i (name_view d) inside
+    (ap (λ (n : List ℕ × ℕ). bytes_eq n.0 text) (get_or-map name_view names i d (name_view d) within) ∙ (bytes_eq-Decides text text).1 refl)
 
 -- ---- the first among two lists
 

@@ -2,10 +2,11 @@
 use Rattle.std.specs.Prelude.{◌≡◌, ℕ, nat_lt, Bool, true, false, if◌then◌else◌, List, [], ◌∷◌, ◌++◌, length, take, codes}
 use Rattle.std.specs.Fmt.{decimal}
 use Rattle.std.specs.List.Sorted.{IsNonDecreasingBy, IsPermutation}
-use Rattle.fault_notes.specs.Marks.{IsMeant, Known, Place, note_place}
+use Rattle.fault_notes.specs.Marks.{IsMeant, IsPlain, Known}
 use Rattle.fault_notes.specs.declared.wording.TheConstants.{FAULTS, ONE_FAULT}
 use Rattle.source_notes.specs.Blocks.{AreBlocks, BlockKind, total_of}
 use Rattle.source_notes.specs.Lines.{names_of}
+use Rattle.source_notes.specs.declared.note.Note.{Note}
 use Rattle.model.specs.AllFaults.{fixed_by, smallest}
 use Rattle.model.specs.FaultNames.{source_fault_name, source_fault_number}
 use Rattle.model.specs.Source.{first_context, read_lines}
@@ -19,16 +20,17 @@ abbrev pub title_of : AsmFaultKind → List ℕ
 title_of kind
     = source_fault_name kind ++ 32 ∷ (decimal (source_fault_number kind) ++ codes ": ")
 
--- Which bytes a fault of this kind means in a line of this number.
+-- Whether a note means what a fault of this kind means in a line of this number.
 abbrev pub Meaning : Type 1
-Meaning = AsmFaultKind → ℕ → List ℕ → Place → Type 0
+Meaning = AsmFaultKind → ℕ → List ℕ → Note → Type 0
 
--- The blocks of faults. A note means the bytes that its fault means; its words are open.
+-- The blocks of faults. A note means the bytes that its fault means; its words are open, but that they
+-- name its right word.
 abbrev pub fault_blocks : Meaning → BlockKind AsmFault
 fault_blocks Means = record {
   number = λ fault. fault.line;
   title = λ fault. title_of fault.kind;
-  Fits = λ fault line note. Means fault.kind fault.line line (note_place note);
+  Fits = λ fault line note. Means fault.kind fault.line line note;
 }
 
 -- The lines of a source that are shown: all, and none of a source that is too long to be read.
@@ -45,7 +47,7 @@ known_in profile source = record {
 
 -- A source that is too long has no line whose bytes are meant.
 abbrev pub means_first : Meaning
-means_first kind number line place = place ≡ (0, 1)
+means_first kind number line note = IsPlain (0, 1) note
 
 abbrev pub means_by : Bool → Known → Meaning
 means_by true known = means_first

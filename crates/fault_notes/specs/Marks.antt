@@ -1,5 +1,5 @@
--- Which bytes of its line a fault means. Source: mos65.
-use Rattle.std.specs.Prelude.{◌≡◌, ◌⊎◌, ℕ, ◌+◌, ◌-◌, nat_lt, ◌&&◌, ◌||◌, not, Bool, true, false, if◌then◌else◌, List, [], ◌∷◌, ◌++◌, length, drop, codes, slice_get, map, Option, Some, None}
+-- Which bytes of its line a fault means, and which word may be right there. Source: mos65.
+use Rattle.std.specs.Prelude.{◌≡◌, ◌⊎◌, ⊤, ℕ, ◌+◌, ◌-◌, nat_le, nat_lt, ◌&&◌, ◌||◌, not, Bool, true, false, if◌then◌else◌, List, [], ◌∷◌, ◌++◌, length, drop, codes, slice_get, map, Option, Some, None}
 use Rattle.std.specs.List.{count_by, find, list_any, prefix_len}
 use Rattle.std.specs.Option.{is_some}
 use Rattle.std.specs.Str.{bytes_eq, str_eq_ignore_ascii_case}
@@ -10,7 +10,7 @@ use Rattle.line_parts.specs.declared.token.Token.{Token}
 use Rattle.model.specs.Mnemonics.{mnemonic_named}
 use Rattle.model.specs.Names.{Definitions, number_in}
 use Rattle.model.specs.Reading.{Read, expression_of}
-use Rattle.model.specs.Token.{Lexeme, is_blank, is_source_byte, is_word_byte, tokens_of}
+use Rattle.model.specs.Token.{Lexeme, begins, is_blank, is_letter, is_source_byte, is_word_byte, tokens_of}
 use Rattle.model.specs.declared.expression.TokenKind.{TokenKind}
 use Rattle.model.specs.declared.expression.TokenKind.TheVariants.{Word, Directive}
 use Rattle.model.specs.declared.instruction.Profile.{Profile}
@@ -18,6 +18,7 @@ use Rattle.model.specs.declared.source_fault.AsmFaultKind.{AsmFaultKind}
 use Rattle.model.specs.declared.source_fault.AsmFaultKind.TheVariants.{LineTooLong, NotAscii, Syntax, ReservedName, DuplicateName, UnknownHere, UndefinedName}
 use Rattle.source_notes.specs.Lines.{name_view}
 use Rattle.source_notes.specs.Operands.{after_label, end_of, is_symbol, operand_of, operand_place}
+use Rattle.source_notes.specs.RightWord.{Names, right_of}
 use Rattle.source_notes.specs.declared.note.Note.{Note}
 
 -- The first byte that is meant, counted from 0, and how many are.
@@ -26,6 +27,28 @@ Place = ℕ × ℕ
 
 abbrev pub note_place : Note → Place
 note_place note = (note.start, note.width)
+
+-- The place of a note, and its right word, if it has one.
+abbrev pub facts_of : Note → Place × Option (List ℕ)
+facts_of note = (note_place note, right_of note)
+
+-- A note of this place without a right word.
+abbrev pub IsPlain : Place → Note → Type 0
+IsPlain place note = facts_of note ≡ (place, None)
+
+-- A word passes a test, and stands among these words.
+abbrev pub IsRight : (List ℕ → Bool) → List ℕ → Option (List ℕ) → Type 0
+IsRight may_be words None = ⊤
+IsRight may_be words (Some word) = (may_be word ≡ true) × Names words word
+
+-- The right word of a note, if it has one, passes a test, and the words of the note name it.
+abbrev pub HasRight : (List ℕ → Bool) → Note → Type 0
+HasRight may_be note = IsRight may_be note.words.items (right_of note)
+
+-- A note of this place, with such a right word or without one.
+pub record IsNote (place : Place) (may_be : List ℕ → Bool) (note : Note) : Type 0 where
+  pub means : note_place note ≡ place
+  pub right : HasRight may_be note
 
 abbrev pub token_place : Token → Place
 token_place token = (token.start, length token.text.now)
@@ -110,6 +133,10 @@ is_directive text = str_eq_ignore_ascii_case text (codes ".BYTE")
     || str_eq_ignore_ascii_case text (codes ".DBYTE")
     || str_eq_ignore_ascii_case text (codes ".RES") || str_eq_ignore_ascii_case text (codes ".END")
 
+-- A mnemonic of a profile, or a directive.
+abbrev pub is_operation : Profile → List ℕ → Bool
+is_operation profile word = is_some (mnemonic_named profile word) || is_directive word
+
 -- An operation: the operand of a mnemonic or of a directive; otherwise the first token.
 abbrev pub operation_place : Profile → TokenKind → Token → List Token → Place
 operation_place profile Word first rest
@@ -177,6 +204,20 @@ known_of context = record {
   numbers = context.symbols.now;
 }
 
+-- A word that a line may define: it begins with a letter and has at most 31 bytes, and is neither a
+-- mnemonic nor A, X or Y.
+abbrev pub may_be_name : Profile → List ℕ → Bool
+may_be_name profile word = begins is_letter word && nat_le (length word) 31
+    && not (is_register word || is_some (mnemonic_named profile word))
+
+-- Whether a line begins with a word.
+abbrev pub begins_line : List (List ℕ × ℕ) → List ℕ → Bool
+begins_line names word = list_any (λ name. bytes_eq name.0 word) names
+
+-- A name with which a line begins.
+abbrev pub is_line_name : Known → List ℕ → Bool
+is_line_name known word = may_be_name known.profile word && begins_line known.names word
+
 -- A name of an earlier line.
 abbrev pub is_earlier : ℕ → List ℕ → List ℕ × ℕ → Bool
 is_earlier number text name = nat_lt name.1 number && bytes_eq name.0 text
@@ -214,15 +255,23 @@ tokens_place known UnknownHere number line tokens = unknown_place known true num
 tokens_place known UndefinedName number line tokens = unknown_place known false number line tokens
 tokens_place known kind number line tokens = operand_place line tokens
 
--- By the tokens of a line, or by the byte that begins none.
-abbrev pub IsMeantBy : Known → AsmFaultKind → ℕ → List ℕ → Place → Type 0
-IsMeantBy known kind number line place =
-    ((tokens_of line ≡ None) × (place ≡ stray_place line (first_stray line)))
-    ⊎ ((tokens : List Token) × (tokens_of line ≡ Some (lexemes tokens))
-    × (place ≡ tokens_place known kind number line tokens))
+-- Which word may be right: an operation where tokens are none of the grammar, and a name with which
+-- a line begins where a name is not known.
+abbrev pub may_be_right : Known → AsmFaultKind → List ℕ → Bool
+may_be_right known Syntax word = is_operation known.profile word
+may_be_right known UnknownHere word = is_line_name known word
+may_be_right known UndefinedName word = is_line_name known word
+may_be_right known kind word = false
 
--- What a fault of this kind means in a line.
-abbrev pub IsMeant : Known → AsmFaultKind → ℕ → List ℕ → Place → Type 0
-IsMeant known LineTooLong number line place = place ≡ (255, 1)
-IsMeant known NotAscii number line place = place ≡ (prefix_len is_source_byte line, 1)
-IsMeant known kind number line place = IsMeantBy known kind number line place
+-- By the tokens of a line, or by the byte that begins none.
+abbrev pub IsMeantBy : Known → AsmFaultKind → ℕ → List ℕ → Note → Type 0
+IsMeantBy known kind number line note =
+    ((tokens_of line ≡ None) × IsPlain (stray_place line (first_stray line)) note)
+    ⊎ ((tokens : List Token) × (tokens_of line ≡ Some (lexemes tokens))
+    × IsNote (tokens_place known kind number line tokens) (may_be_right known kind) note)
+
+-- What a fault of this kind means in a line, and which word may be right there.
+abbrev pub IsMeant : Known → AsmFaultKind → ℕ → List ℕ → Note → Type 0
+IsMeant known LineTooLong number line note = IsPlain (255, 1) note
+IsMeant known NotAscii number line note = IsPlain (prefix_len is_source_byte line, 1) note
+IsMeant known kind number line note = IsMeantBy known kind number line note

@@ -1,38 +1,33 @@
 //! Why the tokens of a line are none of the grammar.
 
-ghost use Rattle.std.specs.Prelude.{◌≡◌, IfOk};
+ghost use Rattle.std.specs.Prelude.{◌≡◌, ℕ, Bool, true, IfOk, IfSome, List};
 ghost use Rattle.std.specs.Option.{option_map};
-ghost use Rattle.fault_notes.specs.Marks.{closed_place, count_of, expression_place, first_of, first_or};
-ghost use Rattle.fault_notes.specs.Marks.{form_place, inside_place, is_directive, is_word, line_place};
-ghost use Rattle.fault_notes.specs.Marks.{may_be_defined, note_place, operation_place, token_place};
+ghost use Rattle.fault_notes.specs.Marks.{IsNote, IsPlain, closed_place, count_of, expression_place};
+ghost use Rattle.fault_notes.specs.Marks.{first_of, first_or, form_place, inside_place, is_directive};
+ghost use Rattle.fault_notes.specs.Marks.{is_operation, is_word, line_place, may_be_defined};
+ghost use Rattle.fault_notes.specs.Marks.{operation_place, token_place};
 ghost use Rattle.fault_notes.specs.Marks.{unclosed, whole, wrong_operand_place};
 ghost use Rattle.line_parts.specs.Lexemes.{lexemes};
 ghost use Rattle.source_notes.specs.Operands.{end_of};
 
+use crate::left::{
+    BRACKETS, COMMENT, END, LOCAL, Part, UNNAMED, left_words, no_value_words, round_words,
+};
 use crate::near::is_near;
 use line_parts::Token;
-use model::{LineFault, Profile, TokenKind};
-use optable::mnemonic_in;
+use model::{LineFault, Mnemonic, Profile, TokenKind};
+use opcode_facts::mnemonics_in;
+use optable::{letters_of, mnemonic_in};
 use parser::parse_expr;
 use source_notes::{
-    Note, after_label, concat, defines_next, describe, directive_hint, gives_value, is_symbol,
-    operation_hint, phrase,
+    Hint, Note, after_label, concat, defines_next, describe, directive_hint, gives_value,
+    is_symbol, operation_hint, phrase,
 };
 use std::alloc::{AllocError, Global};
 
-/// The mnemonics, those of profile C last.
-const MNEMONICS: [&[u8]; 62] = [
-    b"ADC", b"AND", b"ASL", b"BCC", b"BCS", b"BEQ", b"BIT", b"BMI", b"BNE", b"BPL", b"BRK", b"BVC",
-    b"BVS", b"CLC", b"CLD", b"CLI", b"CLV", b"CMP", b"CPX", b"CPY", b"DEC", b"DEX", b"DEY", b"EOR",
-    b"INC", b"INX", b"INY", b"JMP", b"JSR", b"LDA", b"LDX", b"LDY", b"LSR", b"NOP", b"ORA", b"PHA",
-    b"PHP", b"PLA", b"PLP", b"ROL", b"ROR", b"RTI", b"RTS", b"SBC", b"SEC", b"SED", b"SEI", b"STA",
-    b"STX", b"STY", b"TAX", b"TAY", b"TSX", b"TXA", b"TXS", b"TYA", b"BRA", b"PHX", b"PHY", b"PLX",
-    b"PLY", b"STZ",
-];
-
 /// Returns a note about one token.
 pub fn about(token: &Token<'_>, words: Vec<u8>) -> Note
-    ensures { note_place result ≡ token_place token.now }
+    ensures { IsPlain (token_place token.now) result }
 {
     Note::new(token.start, token.text.len(), words)
 }
@@ -113,6 +108,46 @@ fn definition_words(
     Ok(words)
 }
 
+/// Returns how many of some tokens stand before a `:` or a `=`, if each is a part of a name as
+/// other assemblers take it: a word, a number, a `-`, or a point with letters.
+fn parts_of_name(tokens: &[Token<'_>]) -> Option<usize> {
+    let mut count = 0usize;
+    for token in tokens {
+        if is_symbol(token, b':') || is_symbol(token, b'=') {
+            return if count > 0 { Some(count) } else { None };
+        }
+        let is_part = match token.kind {
+            TokenKind::Word | TokenKind::Number | TokenKind::Directive => true,
+            _ => is_symbol(token, b'-'),
+        };
+        if !is_part {
+            return None;
+        }
+        count = count.saturating_add(1);
+    }
+    None
+}
+
+/// Returns words about a name of several parts: it has letters, digits and `_` alone.
+fn joined_words(alloc: Global, word: &[u8], parts: &[Token<'_>]) -> Result<Vec<u8>, AllocError> {
+    let pieces: [&[u8]; 2] = [b"a name has letters, digits and _ alone, as in ", word];
+    let mut words = concat(alloc, &pieces)?;
+    for token in parts {
+        match token.text {
+            [b'-'] => {}
+            [b'.' | b'$' | b'%', rest @ ..] => {
+                words.extend_from_slice(b"_")?;
+                words.extend_from_slice(rest)?;
+            }
+            text => {
+                words.extend_from_slice(b"_")?;
+                words.extend_from_slice(text)?;
+            }
+        }
+    }
+    Ok(words)
+}
+
 /// Returns words about a label without a colon.
 fn label_words(alloc: Global, label: &[u8]) -> Result<Vec<u8>, AllocError> {
     let pieces: [&[u8]; 3] = [b"a label ends with a colon: ", label, b":"];
@@ -124,38 +159,82 @@ fn label_hint_words(
     alloc: Global,
     label: &[u8],
     directive: &[u8],
-    hint: &str,
+    hint: Hint,
 ) -> Result<Vec<u8>, AllocError> {
+    let (before, hinted) = hint.parts();
     let mut words = label_words(alloc, label)?;
-    let pieces: [&[u8]; 4] = [b", and for ", directive, b" ", hint.as_bytes()];
-    words.extend_from_slice(&concat(alloc, &pieces)?)?;
+    words.extend_from_slice(b", and for ")?;
+    words.extend_from_slice(directive)?;
+    words.extend_from_slice(b" ")?;
+    words.extend_from_slice(before)?;
+    words.extend_from_slice(hinted)?;
     Ok(words)
 }
 
-/// Returns the first mnemonic of a profile that is near a word.
-fn near_mnemonic<'w>(profile: Profile, word: &'w [u8]) -> Option<&'w [u8]> {
-    for name in &MNEMONICS {
-        if is_near(name, word) && mnemonic_in(profile, name).is_some() {
-            return Some(name);
+/// Returns a note about a token whose words name the right word for it, between these.
+pub fn naming(
+    alloc: Global,
+    token: &Token<'_>,
+    before: Vec<u8>,
+    right: &[u8],
+    behind: &[u8],
+) -> Result<Note, AllocError>
+    ensures { (may_be : List ℕ → Bool) → may_be right.now ≡ true
+        → IfOk result (IsNote (token_place token.now) may_be) }
+{
+    let mut words = before;
+    words.extend_from_slice(right)?;
+    words.extend_from_slice(behind)?;
+    let right = Vec::from_slice(alloc, right)?;
+    Ok(Note::new(token.start, token.text.len(), words).with_right(right))
+}
+
+/// Returns whether a word is a mnemonic of a profile or a directive.
+fn is_operation(profile: Profile, word: &[u8]) -> bool
+    ensures { result ≡ is_operation profile word.now }
+{
+    mnemonic_in(profile, word).is_some() || is_directive(word)
+}
+
+/// Returns a note about a token of another assembler or processor, and what to write here: the
+/// right word for it, where that is an operation.
+#[tactic(auto, using(crate::proofs::Marked::plain_steps))]
+fn hint_note(
+    alloc: Global,
+    profile: Profile,
+    token: &Token<'_>,
+    reason: &str,
+    hint: Hint,
+) -> Result<Note, AllocError>
+    ensures { IfOk result (IsNote (token_place token.now) (is_operation profile)) }
+{
+    let (before, hinted) = hint.parts();
+    let mut words = describe(alloc, token.text, reason)?;
+    words.extend_from_slice(before)?;
+    match hint {
+        Hint::Word(word) if is_operation(profile, word) => naming(alloc, token, words, word, b""),
+        _ => {
+            words.extend_from_slice(hinted)?;
+            Ok(about(token, words))
+        }
+    }
+}
+
+/// Returns the letters of the first mnemonic of a profile that is near a word.
+fn near_mnemonic(profile: Profile, word: &[u8]) -> Option<[u8; 3]>
+    ensures { IfSome result (λ letters. is_operation profile letters ≡ true) }
+{
+    for mnemonic in mnemonics_in(Profile::C) {
+        let letters = letters_of(*mnemonic);
+        if is_near(&letters, word) && mnemonic_in(profile, &letters).is_some() {
+            return Some(letters);
         }
     }
     None
 }
 
-/// Returns why a word is no mnemonic: its profile, the nearest mnemonic, or that it may be a label.
-fn mnemonic_words(
-    alloc: Global,
-    profile: Profile,
-    word: &[u8],
-    is_alone: bool,
-) -> Result<Vec<u8>, AllocError> {
-    if mnemonic_in(Profile::C, word).is_some() {
-        return describe(alloc, word, " is a mnemonic of profile C (--profile C)");
-    }
-    if let Some(name) = near_mnemonic(profile, word) {
-        let pieces: [&[u8]; 4] = [word, b" is no mnemonic; ", name, b" is"];
-        return concat(alloc, &pieces);
-    }
+/// Returns why a word is no mnemonic, where none is near: its profile, or that it may be a label.
+fn far_words(alloc: Global, word: &[u8], is_alone: bool) -> Result<Vec<u8>, AllocError> {
     if is_alone {
         let pieces: [&[u8]; 4] = [
             word,
@@ -168,98 +247,104 @@ fn mnemonic_words(
     describe(alloc, word, " is no mnemonic")
 }
 
-/// Returns words about a word of another assembler or processor, and what to write here.
-fn here_words(alloc: Global, word: &[u8], hint: &str) -> Result<Vec<u8>, AllocError> {
-    let pieces: [&[u8]; 3] = [word, b" is no mnemonic here; ", hint.as_bytes()];
-    concat(alloc, &pieces)
+/// Returns words about a mnemonic that only profile C has, with what profile N has for it.
+fn added_words(alloc: Global, mnemonic: Mnemonic, word: &[u8]) -> Result<Vec<u8>, AllocError> {
+    let instead = match mnemonic {
+        Mnemonic::Phx => "write TXA, then PHA; ",
+        Mnemonic::Phy => "write TYA, then PHA; ",
+        Mnemonic::Plx => "write PLA, then TAX; ",
+        Mnemonic::Ply => "write PLA, then TAY; ",
+        Mnemonic::Stz => "write LDA #0, then STA; ",
+        Mnemonic::Bra => "write JMP; ",
+        _ => "",
+    };
+    let mut words = phrase(alloc, instead)?;
+    words.extend_from_slice(word)?;
+    words.extend_from_slice(b" is a mnemonic of profile C (--profile C)")?;
+    Ok(words)
 }
 
-/// Returns why a word that is no mnemonic begins no operation, by the tokens after it.
-fn word_words(
+/// Returns why a word is no mnemonic: its profile, the nearest mnemonic, or that it may be a label.
+#[tactic(auto, using(crate::proofs::Marked::plain_steps))]
+fn mnemonic_note(
+    alloc: Global,
+    profile: Profile,
+    word: &Token<'_>,
+    is_alone: bool,
+) -> Result<Note, AllocError>
+    ensures { IfOk result (IsNote (token_place word.now) (is_operation profile)) }
+{
+    if let Some(mnemonic) = mnemonic_in(Profile::C, word.text) {
+        return Ok(about(word, added_words(alloc, mnemonic, word.text)?));
+    }
+    match near_mnemonic(profile, word.text) {
+        Some(letters) => {
+            let before = describe(alloc, word.text, " is no mnemonic; ")?;
+            naming(alloc, word, before, &letters, b" is")
+        }
+        None => Ok(about(word, far_words(alloc, word.text, is_alone)?)),
+    }
+}
+
+/// Returns words about a definition or a label, if one is written as in another assembler.
+fn named_words(
     alloc: Global,
     profile: Profile,
     word: &Token<'_>,
     rest: &[Token<'_>],
-) -> Result<Vec<u8>, AllocError> {
-    match rest {
+) -> Result<Option<Vec<u8>>, AllocError> {
+    let words = match rest {
         [next, value @ ..] if gives_value(next.text) => {
-            return definition_words(alloc, word.text, value);
+            definition_words(alloc, word.text, value)?
         }
         [next, value @ ..] if defines_next(word.text) && is_word(next) => {
-            return definition_words(alloc, next.text, value);
+            definition_words(alloc, next.text, value)?
         }
-        [next, ..] if begins_operation(profile, next) => return label_words(alloc, word.text),
-        _ => {}
+        [next, ..] if begins_operation(profile, next) => label_words(alloc, word.text)?,
+        _ => match parts_of_name(rest) {
+            Some(count) => joined_words(alloc, word.text, &rest[..count.min(rest.len())])?,
+            None => return Ok(None),
+        },
+    };
+    Ok(Some(words))
+}
+
+/// Returns why a word that is no mnemonic begins no operation, by the tokens after it.
+#[tactic(auto, using(crate::proofs::Marked::plain_steps))]
+fn word_note(
+    alloc: Global,
+    profile: Profile,
+    word: &Token<'_>,
+    rest: &[Token<'_>],
+) -> Result<Note, AllocError>
+    ensures { IfOk result (IsNote (token_place word.now) (is_operation profile)) }
+{
+    if let Some(words) = named_words(alloc, profile, word, rest)? {
+        return Ok(about(word, words));
     }
     if let Some(hint) = operation_hint(word.text) {
-        return here_words(alloc, word.text, hint);
+        return hint_note(alloc, profile, word, NO_MNEMONIC, hint);
     }
     if let [next, _, ..] = rest {
         if let Some(hint) = directive_hint(next.text) {
-            return label_hint_words(alloc, word.text, next.text, hint);
+            let words = label_hint_words(alloc, word.text, next.text, hint)?;
+            return Ok(about(word, words));
         }
     }
-    if let Some(hint) = directive_hint(word.text) {
-        return here_words(alloc, word.text, hint);
-    }
-    mnemonic_words(alloc, profile, word.text, rest.is_empty())
-}
-
-/// What is said of a comment that begins as in another language.
-const COMMENT: &str = "a comment begins with ;";
-
-/// What is said of a second statement on a line.
-const ONE_STATEMENT: &str = "a line has one statement: the next one stands on a line of its own";
-
-/// What is said of two strings beside each other.
-const QUOTE: &str = "a quote inside a string is the number 34: .., 34, ..";
-
-/// What is said of a label whose name has no letter in front.
-const LOCAL: &str = "there are no local labels: each label is a name of its own";
-
-/// What is said of a label without a name.
-const UNNAMED: &str = "there are no labels without a name: give this one a name";
-
-/// Returns whether tokens begin as a comment does in another language.
-fn begins_comment(tokens: &[Token<'_>]) -> bool {
-    match tokens {
-        [slash, next, ..] if is_symbol(slash, b'/') => {
-            is_symbol(next, b'/') || is_symbol(next, b'*')
-        }
-        [first, ..] => is_symbol(first, b'#'),
-        [] => false,
+    match directive_hint(word.text) {
+        Some(hint) => hint_note(alloc, profile, word, NO_MNEMONIC, hint),
+        None => mnemonic_note(alloc, profile, word, rest.is_empty()),
     }
 }
 
-/// Returns words about the first of some tokens that are left over.
-fn left_words(
-    alloc: Global,
-    token: &Token<'_>,
-    rest: &[Token<'_>],
-    is_list: bool,
-) -> Result<Vec<u8>, AllocError> {
-    if is_list && is_symbol(token, b',') {
-        return phrase(alloc, "a value after this comma cannot be read");
-    }
-    if begins_comment(rest) {
-        return phrase(alloc, COMMENT);
-    }
-    if is_symbol(token, b':') {
-        return phrase(alloc, ONE_STATEMENT);
-    }
-    match token.kind {
-        TokenKind::Word => {
-            if mnemonic_in(Profile::C, token.text).is_some() {
-                return phrase(alloc, ONE_STATEMENT);
-            }
-            describe(
-                alloc,
-                token.text,
-                " is left over after the operand; a comment begins with ;",
-            )
-        }
-        TokenKind::Str => phrase(alloc, QUOTE),
-        _ => describe(alloc, token.text, " is left over after the operand"),
+/// Follows a word of another assembler or processor.
+const NO_MNEMONIC: &str = " is no mnemonic here; ";
+
+/// Returns what is said where nothing follows a value.
+fn nothing_left_words(part: Part) -> &'static str {
+    match part {
+        Part::Nothing => END,
+        _ => "something is missing here",
     }
 }
 
@@ -268,49 +353,13 @@ fn left_note(
     alloc: Global,
     index: usize,
     rest: &[Token<'_>],
-    is_list: bool,
+    part: Part,
 ) -> Result<Note, AllocError>
-    ensures { IfOk result (λ note. note_place note ≡ first_or index (lexemes rest.now)) }
+    ensures { IfOk result (IsPlain (first_or index (lexemes rest.now))) }
 {
     match rest {
-        [token, ..] => Ok(about(token, left_words(alloc, token, rest, is_list)?)),
-        [] => Ok(Note::new(index, 1, phrase(alloc, "something is missing here")?)),
-    }
-}
-
-/// Returns why a list is wrong that begins with a string.
-fn list_words(tokens: &[Token<'_>]) -> &'static str {
-    for pair in tokens.windows(2) {
-        if let [one, next] = pair {
-            if matches!((one.kind, next.kind), (TokenKind::Str, TokenKind::Str)) {
-                return QUOTE;
-            }
-        }
-    }
-    "one of these values cannot be read"
-}
-
-/// Returns why some tokens begin with no value, of which this is the first.
-fn no_value_words(first: &Token<'_>, tokens: &[Token<'_>], is_list: bool) -> &'static str {
-    if is_list && matches!(first.kind, TokenKind::Str) {
-        return list_words(tokens);
-    }
-    if first_of(b'(', tokens).is_some() {
-        return BRACKETS;
-    }
-    if is_symbol(first, b'#') {
-        return "# stands in the operand of an instruction alone: leave it out";
-    }
-    if begins_comment(tokens) {
-        return COMMENT;
-    }
-    let is_sign = is_symbol(first, b'+') || is_symbol(first, b'-');
-    match first.kind {
-        TokenKind::Directive => LOCAL,
-        TokenKind::Str => "a string stands in .BYTE alone; one character is written 'A'",
-        TokenKind::Symbol if is_symbol(first, b':') => UNNAMED,
-        TokenKind::Symbol if is_sign && tokens.len() == 1 => UNNAMED,
-        _ => "no value can be read here",
+        [token, ..] => Ok(about(token, left_words(alloc, token, rest, part)?)),
+        [] => Ok(Note::new(index, 1, phrase(alloc, nothing_left_words(part))?)),
     }
 }
 
@@ -319,16 +368,13 @@ fn no_value_note(
     alloc: Global,
     index: usize,
     tokens: &[Token<'_>],
-    is_list: bool,
+    part: Part,
 ) -> Result<Note, AllocError>
-    ensures { IfOk result (λ note. note_place note ≡ first_or index (lexemes tokens.now)) }
+    ensures { IfOk result (IsPlain (first_or index (lexemes tokens.now))) }
 {
     match tokens {
-        [token, ..] => Ok(about(
-            token,
-            phrase(alloc, no_value_words(token, tokens, is_list))?,
-        )),
-        [] => Ok(Note::new(index, 1, phrase(alloc, "an operand is missing")?)),
+        [token, ..] => Ok(about(token, no_value_words(alloc, token, tokens, part)?)),
+        [] => Ok(Note::new(index, 1, phrase(alloc, "a value is missing here")?)),
     }
 }
 
@@ -337,14 +383,14 @@ fn expression_note(
     alloc: Global,
     index: usize,
     tokens: &[Token<'_>],
-    is_list: bool,
+    part: Part,
 ) -> Result<Note, AllocError>
-    ensures { IfOk result (λ note. note_place note ≡ expression_place index tokens.now) }
+    ensures { IfOk result (IsPlain (expression_place index tokens.now)) }
 {
     match parse_expr(alloc, tokens) {
-        Ok((_, taken)) => left_note(alloc, index, tokens.split_at(taken).1, is_list),
+        Ok((_, taken)) => left_note(alloc, index, tokens.split_at(taken).1, part),
         Err(LineFault::OutOfMemory) => Err(AllocError),
-        Err(LineFault::Syntax) => no_value_note(alloc, index, tokens, is_list),
+        Err(LineFault::Syntax) => no_value_note(alloc, index, tokens, part),
     }
 }
 
@@ -367,12 +413,9 @@ fn pointer_words(tokens: &[Token<'_>]) -> &'static str {
     }
 }
 
-/// What is said of round brackets in an expression.
-const BRACKETS: &str = "round brackets stand round a pointer; in an expression write [ and ]";
-
 /// Returns a note about tokens from the first to the last.
 fn whole_note(tokens: &[Token<'_>], words: Vec<u8>) -> Note
-    ensures { note_place result ≡ whole tokens.now }
+    ensures { IsPlain (whole tokens.now) result }
 {
     match (tokens.first(), tokens.last()) {
         (Some(first), Some(last)) => {
@@ -384,35 +427,37 @@ fn whole_note(tokens: &[Token<'_>], words: Vec<u8>) -> Note
 
 /// Returns what is said of an expression, which may have a round bracket in it.
 fn inside_note(alloc: Global, index: usize, tokens: &[Token<'_>]) -> Result<Note, AllocError>
-    ensures { IfOk result
-        (λ note. note_place note ≡ inside_place index tokens.now (first_of 40 tokens.now)) }
+    ensures { IfOk result (IsPlain (inside_place index tokens.now (first_of 40 tokens.now))) }
 {
     match first_of(b'(', tokens) {
-        Some(bracket) => Ok(about(bracket, phrase(alloc, BRACKETS)?)),
-        None => expression_note(alloc, index, tokens, false),
+        Some(bracket) => Ok(about(bracket, phrase(alloc, round_words(tokens))?)),
+        None => expression_note(alloc, index, tokens, Part::Operand),
     }
 }
 
 /// Returns what is said of an operand whose brackets are closed.
 fn closed_note(alloc: Global, index: usize, tokens: &[Token<'_>]) -> Result<Note, AllocError>
-    ensures { IfOk result (λ note. note_place note ≡ closed_place index tokens.now) }
+    ensures { IfOk result (IsPlain (closed_place index tokens.now)) }
 {
     let [first, rest @ ..] = tokens else {
-        return expression_note(alloc, index, &[], false);
+        return expression_note(alloc, index, &[], Part::Operand);
     };
     if is_symbol(first, b'(') {
         let words = phrase(alloc, pointer_words(tokens))?;
         return Ok(whole_note(tokens, words));
     }
-    if is_symbol(first, b'#') || is_symbol(first, b'!') {
-        return expression_note(alloc, behind(first), rest, false);
+    if is_symbol(first, b'#') {
+        return expression_note(alloc, behind(first), rest, Part::Immediate);
+    }
+    if is_symbol(first, b'!') {
+        return expression_note(alloc, behind(first), rest, Part::Operand);
     }
     inside_note(alloc, index, tokens)
 }
 
 /// Returns why the operand of an instruction is wrong, which stands behind this index.
 fn wrong_operand_note(alloc: Global, index: usize, tokens: &[Token<'_>]) -> Result<Note, AllocError>
-    ensures { IfOk result (λ note. note_place note ≡ wrong_operand_place index tokens.now) }
+    ensures { IfOk result (IsPlain (wrong_operand_place index tokens.now)) }
 {
     if let Some(bracket) = unclosed(b'(', b')', tokens) {
         return Ok(about(bracket, phrase(alloc, "this bracket is not closed")?));
@@ -434,19 +479,70 @@ fn is_directive(text: &[u8]) -> bool
         || text.eq_ignore_ascii_case(b".END")
 }
 
-/// Returns words about a text that is none of the five directives.
-fn directive_words(alloc: Global, text: &[u8]) -> Result<Vec<u8>, AllocError> {
-    match directive_hint(text) {
+/// Returns what stands behind one of the five directives.
+fn part_of(directive: &[u8]) -> Part {
+    if directive.eq_ignore_ascii_case(b".BYTE") {
+        Part::Bytes
+    } else if directive.eq_ignore_ascii_case(b".RES") {
+        Part::Value
+    } else if directive.eq_ignore_ascii_case(b".END") {
+        Part::Nothing
+    } else {
+        Part::Words
+    }
+}
+
+/// Returns a note about a directive that is none of the five.
+#[tactic(auto, using(crate::proofs::Marked::plain_steps))]
+fn directive_note(
+    alloc: Global,
+    profile: Profile,
+    directive: &Token<'_>,
+) -> Result<Note, AllocError>
+    ensures { IfOk result (IsNote (token_place directive.now) (is_operation profile)) }
+{
+    match directive_hint(directive.text) {
+        Some(hint) => hint_note(alloc, profile, directive, " is no directive here; ", hint),
+        None => Ok(about(directive, describe(alloc, directive.text, NO_DIRECTIVE)?)),
+    }
+}
+
+/// What is said of a macro that is called.
+const NO_MACROS: &str = "there are no macros: write the lines, or a subroutine";
+
+/// What is said of a directive that is not known.
+const NO_DIRECTIVE: &str = " is no directive; there are .BYTE .WORD .DBYTE .RES .END";
+
+/// Returns words about a directive that begins with `!`, as in ACME.
+fn marked_words(alloc: Global, word: &[u8]) -> Result<Vec<u8>, AllocError> {
+    let pieces: [&[u8]; 2] = [b"!", word];
+    let mut words = concat(alloc, &pieces)?;
+    match directive_hint(word) {
         Some(hint) => {
-            let mut words = describe(alloc, text, " is no directive here; ")?;
-            words.extend_from_slice(hint.as_bytes())?;
-            Ok(words)
+            let (before, hinted) = hint.parts();
+            words.extend_from_slice(b" is no directive here; ")?;
+            words.extend_from_slice(before)?;
+            words.extend_from_slice(hinted)?;
         }
-        None => describe(
-            alloc,
-            text,
-            " is no directive; there are .BYTE .WORD .DBYTE .RES .END",
-        ),
+        None => words.extend_from_slice(NO_DIRECTIVE.as_bytes())?,
+    }
+    Ok(words)
+}
+
+/// Returns words about a symbol, a number or a string that begins no operation, by the tokens
+/// behind it.
+fn first_words(
+    alloc: Global,
+    first: &Token<'_>,
+    rest: &[Token<'_>],
+) -> Result<Vec<u8>, AllocError> {
+    match rest {
+        [next, ..] if is_symbol(first, b'!') => marked_words(alloc, next.text),
+        [next, ..] if is_symbol(first, b'+') && is_word(next) => {
+            let is_mnemonic = mnemonic_in(Profile::C, next.text).is_some();
+            phrase(alloc, if is_mnemonic { UNNAMED } else { NO_MACROS })
+        }
+        _ => phrase(alloc, other_words(first, rest)),
     }
 }
 
@@ -472,29 +568,30 @@ fn other_words(first: &Token<'_>, rest: &[Token<'_>]) -> &'static str {
 }
 
 /// Returns why an operation that begins with this token is wrong.
+#[tactic(auto, using(crate::proofs::Marked::plain_steps))]
 fn operation_note(
     alloc: Global,
     profile: Profile,
     first: &Token<'_>,
     rest: &[Token<'_>],
 ) -> Result<Note, AllocError>
-    ensures { IfOk result (λ note. note_place note
-        ≡ operation_place profile first.now.kind first.now rest.now) }
+    ensures { IfOk result (IsNote
+        (operation_place profile first.now.kind first.now rest.now) (is_operation profile)) }
 {
     match first.kind {
         TokenKind::Word => {
             if mnemonic_in(profile, first.text).is_some() {
                 return wrong_operand_note(alloc, behind(first), rest);
             }
-            Ok(about(first, word_words(alloc, profile, first, rest)?))
+            word_note(alloc, profile, first, rest)
         }
         TokenKind::Directive => {
             if is_directive(first.text) {
-                return expression_note(alloc, behind(first), rest, true);
+                return expression_note(alloc, behind(first), rest, part_of(first.text));
             }
-            Ok(about(first, directive_words(alloc, first.text)?))
+            directive_note(alloc, profile, first)
         }
-        _ => Ok(about(first, phrase(alloc, other_words(first, rest))?)),
+        _ => Ok(about(first, first_words(alloc, first, rest)?)),
     }
 }
 
@@ -513,9 +610,10 @@ fn no_label_words(label: &Token<'_>) -> &'static str {
     }
 }
 
-/// Returns why the tokens of a line are none of the grammar.
+/// Returns why the tokens of a line are none of the grammar, and which operation may be meant.
+#[tactic(auto, using(crate::proofs::Marked::plain_steps))]
 pub fn line_note(alloc: Global, profile: Profile, tokens: &[Token<'_>]) -> Result<Note, AllocError>
-    ensures { IfOk result (λ note. note_place note ≡ line_place profile tokens.now) }
+    ensures { IfOk result (IsNote (line_place profile tokens.now) (is_operation profile)) }
 {
     match tokens {
         [label, colon, ..] if is_symbol(colon, b':') && !is_word(label) => {
@@ -526,12 +624,13 @@ pub fn line_note(alloc: Global, profile: Profile, tokens: &[Token<'_>]) -> Resul
 }
 
 /// Returns why the tokens of a line behind its label are none of the grammar.
+#[tactic(auto, using(crate::proofs::Marked::plain_steps))]
 fn form_note(alloc: Global, profile: Profile, tokens: &[Token<'_>]) -> Result<Note, AllocError>
-    ensures { IfOk result (λ note. note_place note ≡ form_place profile tokens.now) }
+    ensures { IfOk result (IsNote (form_place profile tokens.now) (is_operation profile)) }
 {
     match tokens {
         [first, second, rest @ ..] if is_symbol(second, b'=') && may_be_defined(first) => {
-            expression_note(alloc, behind(second), rest, false)
+            expression_note(alloc, behind(second), rest, Part::Value)
         }
         [first, rest @ ..] => operation_note(alloc, profile, first, rest),
         [] => Ok(Note::new(

@@ -1,29 +1,33 @@
 //! What is said of each kind of fault.
 
-ghost use Rattle.std.specs.Prelude.{◌≡◌, ◌++◌, ◌||◌, IfOk, map, slice_get};
+ghost use Rattle.std.specs.Prelude.{◌≡◌, ◌++◌, ◌||◌, true, IfOk, IfSome, map, slice_get};
 ghost use Rattle.std.specs.List.{find, list_any};
 ghost use Rattle.std.specs.Option.{option_map};
 ghost use Rattle.std.specs.Str.{bytes_eq};
-ghost use Rattle.fault_notes.specs.Marks.{IsMeant, IsMeantBy, first_before, is_earlier, is_known};
-ghost use Rattle.fault_notes.specs.Marks.{is_known_before, is_register, is_reserved, is_text};
-ghost use Rattle.fault_notes.specs.Marks.{is_unknown, known_of, note_place, places_of_names};
-ghost use Rattle.fault_notes.specs.Marks.{token_or, tokens_place, unknown_place};
+ghost use Rattle.fault_notes.specs.Marks.{IsMeant, IsMeantBy, IsNote, IsPlain, begins_line};
+ghost use Rattle.fault_notes.specs.Marks.{first_before, is_earlier, is_known, is_known_before};
+ghost use Rattle.fault_notes.specs.Marks.{is_line_name, is_register, is_reserved, is_text};
+ghost use Rattle.fault_notes.specs.Marks.{is_unknown, known_of, may_be_name, may_be_right};
+ghost use Rattle.fault_notes.specs.Marks.{places_of_names, token_or, token_place, tokens_place};
+ghost use Rattle.fault_notes.specs.Marks.{unknown_place};
+ghost use Rattle.model.specs.Token.{begins, is_letter};
 ghost use Rattle.source_notes.specs.Lines.{name_view};
 ghost use Rattle.source_notes.specs.Operands.{operand_place, operand_of};
 
-use crate::form::{about, is_word, line_note};
+use crate::form::{about, is_word, line_note, naming};
 use crate::near::is_near;
+use crate::operands::{modes_words, push_bytes, push_zero_page, register_words};
 use crate::scan::text_note;
 use crate::values::{Outside, branch_miss, first_outside};
 use formatting::push_count;
 use lexer::tokens;
 use line_parts::{KeptLine, Token};
-use model::{AsmFault, AsmFaultKind, LineFault, Mnemonic, Mode, Profile};
-use optable::{encode_in, mnemonic_in};
+use model::{AsmFault, AsmFaultKind, LineFault, Mode, Profile};
+use optable::mnemonic_in;
 use source_faults::Found;
 use source_notes::{
-    Class, Name, Note, about_operand, after, after_label, concat, describe, further, is_symbol,
-    operand_of, phrase, push_dollar_address, push_signed, run_of,
+    Class, Name, Note, about_operand, after, after_label, describe, further, is_symbol, operand_of,
+    phrase, push_dollar_address, push_signed, run_of,
 };
 use std::alloc::{AllocError, Global};
 use symbols::Symbols;
@@ -47,8 +51,8 @@ fn about_or_operand(
     token: Option<&Token<'_>>,
     words: Vec<u8>,
 ) -> Note
-    ensures { note_place result ≡ token_or (operand_place line.now tokens.now)
-        (option_map (λ token. token.now) token.entry) }
+    ensures { IsPlain (token_or (operand_place line.now tokens.now)
+        (option_map (λ token. token.now) token.entry)) result }
 {
     match token {
         Some(token) => about(token, words),
@@ -162,38 +166,98 @@ fn unknown_token<'t, 'a>(
     None
 }
 
-/// Returns words about a name that is not known, with its line or with the nearest name that is.
-fn unknown_words(
+/// Returns the first of some names with this text.
+fn named<'a>(names: &[Name<'a>], text: &[u8]) -> Option<Name<'a>> {
+    for name in names {
+        if name.text == text {
+            return Some(*name);
+        }
+    }
+    None
+}
+
+/// The most bytes of a name.
+const LONGEST_NAME: usize = 31;
+
+/// Returns whether a text begins with a letter.
+fn begins_with_letter(text: &[u8]) -> bool
+    ensures { result ≡ begins is_letter text.now }
+{
+    match text {
+        [byte, ..] => matches!(*byte, b'A'..=b'Z' | b'a'..=b'z'),
+        [] => false,
+    }
+}
+
+/// Returns whether a line may define a word: it begins with a letter and has at most 31 bytes, and
+/// is neither a mnemonic nor A, X or Y.
+fn may_be_name(profile: Profile, word: &[u8]) -> bool
+    ensures { result ≡ may_be_name profile word.now }
+{
+    begins_with_letter(word)
+        && word.len() <= LONGEST_NAME
+        && !(is_register(word) || mnemonic_in(profile, word).is_some())
+}
+
+/// Returns the first of some names that is near a text and that a line of a profile may define.
+#[tactic(auto, using(crate::proofs::Marked::line_name_at))]
+fn near_name<'a>(profile: Profile, names: &[Name<'a>], text: &[u8]) -> Option<Name<'a>>
+    ensures named { IfSome result (λ name. may_be_name profile name.text.now ≡ true) }
+    ensures on_line { IfSome result
+        (λ name. begins_line (map name_view names.now) name.text.now ≡ true) }
+{
+    for name in names {
+        if may_be_name(profile, name.text) && is_near(name.text, text) {
+            return Some(*name);
+        }
+    }
+    None
+}
+
+/// Returns what is said of a name that is not defined, with the nearest name that is.
+#[tactic(auto, using(crate::proofs::Marked::plain_steps))]
+fn undefined_note(
+    alloc: Global,
+    context: &Context<'_, '_>,
+    token: &Token<'_>,
+) -> Result<Note, AllocError>
+    ensures { IfOk result (IsNote (token_place token.now)
+        (is_line_name (known_of context.now))) }
+{
+    let Some(near) = near_name(context.profile, context.names, token.text) else {
+        return Ok(about(token, describe(alloc, token.text, " is not defined")?));
+    };
+    let before = describe(alloc, token.text, " is not defined; ")?;
+    let mut behind = phrase(alloc, " is, on line ")?;
+    push_count(&mut behind, near.line as u64)?;
+    naming(alloc, token, before, near.text, &behind)
+}
+
+/// Returns what is said of a name that is not known, with its line or with the nearest name that
+/// is.
+#[tactic(auto, using(crate::proofs::Marked::plain_steps))]
+fn unknown_name_note(
     alloc: Global,
     context: &Context<'_, '_>,
     at_once: bool,
-    token: Option<&Token<'_>>,
-) -> Result<Vec<u8>, AllocError> {
-    let Some(token) = token else {
-        return phrase(alloc, "a name has to be defined on an earlier line");
-    };
-    for name in context.names {
-        if name.text == token.text && at_once {
+    token: &Token<'_>,
+) -> Result<Note, AllocError>
+    ensures { IfOk result (IsNote (token_place token.now)
+        (is_line_name (known_of context.now))) }
+{
+    match named(context.names, token.text) {
+        Some(name) if at_once => {
             let when = " has to be defined before it is used here; it is on line ";
             let mut words = describe(alloc, token.text, when)?;
             push_count(&mut words, name.line as u64)?;
-            return Ok(words);
+            Ok(about(token, words))
         }
+        _ => undefined_note(alloc, context, token),
     }
-    let mut words = describe(alloc, token.text, " is not defined")?;
-    for name in context.names {
-        if is_near(name.text, token.text) {
-            words.extend_from_slice(b"; ")?;
-            words.extend_from_slice(name.text)?;
-            words.extend_from_slice(b" is, on line ")?;
-            push_count(&mut words, name.line as u64)?;
-            return Ok(words);
-        }
-    }
-    Ok(words)
 }
 
 /// Returns what is said of a name that is not defined, or not defined before its line.
+#[tactic(auto, using(crate::proofs::Marked::plain_steps))]
 fn unknown_note(
     alloc: Global,
     context: &Context<'_, '_>,
@@ -202,12 +266,17 @@ fn unknown_note(
     line: &[u8],
     tokens: &[Token<'_>],
 ) -> Result<Note, AllocError>
-    ensures { IfOk result (λ note. note_place note
-        ≡ unknown_place (known_of context.now) at_once number line.now tokens.now) }
+    ensures { IfOk result (IsNote
+        (unknown_place (known_of context.now) at_once number line.now tokens.now)
+        (is_line_name (known_of context.now))) }
 {
-    let token = unknown_token(context, at_once, number, tokens, operand_of(tokens));
-    let words = unknown_words(alloc, context, at_once, token)?;
-    Ok(about_or_operand(line, tokens, token, words))
+    match unknown_token(context, at_once, number, tokens, operand_of(tokens)) {
+        Some(token) => unknown_name_note(alloc, context, at_once, token),
+        None => {
+            let words = phrase(alloc, "a name has to be defined on an earlier line")?;
+            Ok(about_operand(line, tokens, words))
+        }
+    }
 }
 
 /// Returns words about a name that an earlier line defines.
@@ -217,12 +286,9 @@ fn duplicate_words(
     token: &Token<'_>,
 ) -> Result<Vec<u8>, AllocError> {
     let mut words = describe(alloc, token.text, " is defined already")?;
-    for name in context.names {
-        if name.text == token.text {
-            words.extend_from_slice(b", on line ")?;
-            push_count(&mut words, name.line as u64)?;
-            return Ok(words);
-        }
+    if let Some(name) = named(context.names, token.text) {
+        words.extend_from_slice(b", on line ")?;
+        push_count(&mut words, name.line as u64)?;
     }
     Ok(words)
 }
@@ -233,8 +299,7 @@ fn duplicate_note(
     context: &Context<'_, '_>,
     tokens: &[Token<'_>],
 ) -> Result<Note, AllocError>
-    ensures { IfOk result
-        (λ note. note_place note ≡ token_or (0, 1) (slice_get tokens.now 0)) }
+    ensures { IfOk result (IsPlain (token_or (0, 1) (slice_get tokens.now 0))) }
 {
     match tokens.first() {
         Some(token) => Ok(about(token, duplicate_words(alloc, context, token)?)),
@@ -276,14 +341,19 @@ fn reserved_token<'t, 'a>(profile: Profile, tokens: &'t [Token<'a>]) -> Option<&
     reserved_among(profile, operand_of(tokens))
 }
 
-/// Returns words about a reserved word.
-fn reserved_words(alloc: Global, token: Option<&Token<'_>>) -> Result<Vec<u8>, AllocError> {
+/// Returns words about a reserved word in a line of some tokens.
+fn reserved_words(
+    alloc: Global,
+    token: Option<&Token<'_>>,
+    tokens: &[Token<'_>],
+) -> Result<Vec<u8>, AllocError> {
     let Some(token) = token else {
         return phrase(alloc, "a reserved word stands where a name stands");
     };
-    let reason = if is_register(token.text) {
-        " is reserved: it names a register"
-    } else if mnemonic_in(Profile::N, token.text).is_none() {
+    if is_register(token.text) {
+        return register_words(alloc, token, tokens);
+    }
+    let reason = if mnemonic_in(Profile::N, token.text).is_none() {
         " is reserved: it is a mnemonic of profile C"
     } else {
         " is reserved: it is a mnemonic"
@@ -298,107 +368,21 @@ fn reserved_note(
     line: &[u8],
     tokens: &[Token<'_>],
 ) -> Result<Note, AllocError>
-    ensures { IfOk result (λ note. note_place note ≡ token_or (operand_place line.now tokens.now)
-        (find (is_reserved profile) (places_of_names tokens.now))) }
+    ensures { IfOk result (IsPlain (token_or (operand_place line.now tokens.now)
+        (find (is_reserved profile) (places_of_names tokens.now)))) }
 {
     let token = reserved_token(profile, tokens);
-    let words = reserved_words(alloc, token)?;
+    let words = reserved_words(alloc, token, tokens)?;
     Ok(about_or_operand(line, tokens, token, words))
 }
 
-/// Each mode with its operand as it is written.
-const MODES: [(Mode, &[u8]); 14] = [
-    (Mode::Imp, b"no operand"),
-    (Mode::Acc, b"A"),
-    (Mode::Imm, b"#n"),
-    (Mode::Zp, b"zp"),
-    (Mode::ZpX, b"zp,X"),
-    (Mode::ZpY, b"zp,Y"),
-    (Mode::Abs, b"abs"),
-    (Mode::AbsX, b"abs,X"),
-    (Mode::AbsY, b"abs,Y"),
-    (Mode::IndX, b"(zp,X)"),
-    (Mode::IndY, b"(zp),Y"),
-    (Mode::Ind, b"(abs)"),
-    (Mode::IndZ, b"(zp)"),
-    (Mode::Rel, b"target"),
-];
-
-/// Appends the operands that a mnemonic takes, each as it is written.
-fn push_modes(words: &mut Vec<u8>, profile: Profile, mnemonic: Mnemonic) -> Result<(), AllocError> {
-    let mut is_first = true;
-    for (mode, text) in &MODES {
-        if encode_in(profile, mnemonic, *mode).is_some() {
-            if !is_first {
-                words.extend_from_slice(b"  ")?;
-            }
-            words.extend_from_slice(text)?;
-            is_first = false;
-        }
-    }
-    Ok(())
-}
-
-/// Returns words about a mnemonic without an operand, before the operands that it takes.
-fn alone_words(
+/// Returns words about a value outside its range, with what can stand in its place.
+fn outside_words(
     alloc: Global,
-    profile: Profile,
-    name: &[u8],
-    mnemonic: Mnemonic,
-) -> Result<Vec<u8>, AllocError> {
-    if encode_in(profile, mnemonic, Mode::Acc).is_some() {
-        let pieces: [&[u8]; 3] = [b"write ", name, b" A; it takes "];
-        return concat(alloc, &pieces);
-    }
-    describe(alloc, name, " needs an operand; it takes ")
-}
-
-/// Returns words about an operand that an instruction has not, with those that it takes.
-fn modes_words(
-    alloc: Global,
-    profile: Profile,
-    tokens: &[Token<'_>],
-) -> Result<Vec<u8>, AllocError> {
-    let [name, operand @ ..] = after_label(tokens) else {
-        return phrase(alloc, "the instruction has no such form");
-    };
-    let Some(mnemonic) = mnemonic_in(profile, name.text) else {
-        return phrase(alloc, "the instruction has no such form");
-    };
-    let mut words = if operand.is_empty() {
-        alone_words(alloc, profile, name.text, mnemonic)?
-    } else {
-        describe(alloc, name.text, " has no such operand; it takes ")?
-    };
-    push_modes(&mut words, profile, mnemonic)?;
-    Ok(words)
-}
-
-/// Appends which operand in the zero page an instruction takes, if it takes one there alone.
-fn push_zero_page(
-    words: &mut Vec<u8>,
+    found: Option<Outside>,
     line: &KeptLine<'_>,
     tokens: &[Token<'_>],
-) -> Result<(), AllocError> {
-    let (Some(code), Some(name)) = (line.code, after_label(tokens).first()) else {
-        return Ok(());
-    };
-    let text: &[u8] = match code.mode {
-        Mode::ZpX => b"zp,X",
-        Mode::ZpY => b"zp,Y",
-        Mode::IndX => b"(zp,X)",
-        Mode::IndY => b"(zp),Y",
-        Mode::IndZ => b"(zp)",
-        _ => return Ok(()),
-    };
-    words.extend_from_slice(b"; ")?;
-    words.extend_from_slice(name.text)?;
-    words.extend_from_slice(b" takes ")?;
-    words.extend_from_slice(text)
-}
-
-/// Returns words about a value outside its range.
-fn outside_words(alloc: Global, found: Option<Outside>) -> Result<Vec<u8>, AllocError> {
+) -> Result<Vec<u8>, AllocError> {
     let Some(found) = found else {
         return phrase(alloc, "the value is outside its range");
     };
@@ -408,6 +392,16 @@ fn outside_words(alloc: Global, found: Option<Outside>) -> Result<Vec<u8>, Alloc
     push_signed(&mut words, found.range.least)?;
     words.extend_from_slice(b"..")?;
     push_signed(&mut words, found.range.most)?;
+    match line.code {
+        Some(code) if !matches!(code.mode, Mode::Imm) => {
+            push_zero_page(&mut words, code.mode, tokens)?;
+        }
+        _ => {
+            if found.value > found.range.most && found.range.most == 255 {
+                push_bytes(&mut words, tokens)?;
+            }
+        }
+    }
     Ok(words)
 }
 
@@ -465,9 +459,7 @@ fn placed_words(
 ) -> Result<Vec<u8>, AllocError> {
     match kind {
         AsmFaultKind::ByteRange | AsmFaultKind::WordRange => {
-            let mut words = outside_words(alloc, first_outside(line, context.symbols))?;
-            push_zero_page(&mut words, line, tokens)?;
-            Ok(words)
+            outside_words(alloc, first_outside(line, context.symbols), line, tokens)
         }
         AsmFaultKind::BranchRange => branch_words(alloc, branch_miss(line, context.symbols)),
         AsmFaultKind::Overlap => overlap_words(alloc, context, line),
@@ -523,6 +515,7 @@ fn other_words(
 }
 
 /// Returns what is said of a fault of a line that is made of tokens.
+#[tactic(auto, using(crate::proofs::Marked::plain_steps))]
 fn tokens_note(
     alloc: Global,
     context: &Context<'_, '_>,
@@ -531,8 +524,9 @@ fn tokens_note(
     line: &[u8],
     tokens: &[Token<'_>],
 ) -> Result<Note, AllocError>
-    ensures { IfOk result (λ note. note_place note
-        ≡ tokens_place (known_of context.now) kind number line.now tokens.now) }
+    ensures { IfOk result (IsNote
+        (tokens_place (known_of context.now) kind number line.now tokens.now)
+        (may_be_right (known_of context.now) kind)) }
 {
     match kind {
         AsmFaultKind::Syntax => line_note(alloc, context.profile, tokens),
@@ -555,8 +549,7 @@ fn read_note(
     number: u32,
     line: &[u8],
 ) -> Result<Note, AllocError>
-    ensures { IfOk result (λ note.
-        IsMeantBy (known_of context.now) kind number line.now (note_place note)) }
+    ensures { IfOk result (IsMeantBy (known_of context.now) kind number line.now) }
 {
     match tokens(alloc, line) {
         Ok(found) => tokens_note(alloc, context, kind, number, line, &found),
@@ -569,13 +562,15 @@ fn read_note(
 fn ascii_words(alloc: Global, bytes: &[u8]) -> Result<Vec<u8>, AllocError> {
     let more = further(bytes);
     if more > 0 && more < bytes.len() {
-        let reason = " is not ASCII: a source, its comments too, has printable ASCII and tabs";
+        let reason = " is not ASCII: a source has printable ASCII and tabs, and any letters in \
+        comments (asm: with --utf8)";
         return describe(alloc, &bytes[..more + 1], reason);
     }
     phrase(alloc, "a byte is neither printable ASCII nor a tab")
 }
 
-/// Returns what is said of a fault of a line, and which bytes of the line are meant. Source: mos65.
+/// Returns what is said of a fault of a line, which bytes of the line are meant, and which word is
+/// right in their place if the words name one. Source: mos65.
 ///
 /// Errors: `AllocError` if an allocation fails.
 pub fn note_of(
@@ -584,8 +579,7 @@ pub fn note_of(
     fault: AsmFault,
     line: &[u8],
 ) -> Result<Note, AllocError>
-    ensures { IfOk result (λ note.
-        IsMeant (known_of context.now) fault.kind fault.line line.now (note_place note)) }
+    ensures { IfOk result (IsMeant (known_of context.now) fault.kind fault.line line.now) }
 {
     match fault.kind {
         AsmFaultKind::LineTooLong => {

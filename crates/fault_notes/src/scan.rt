@@ -2,13 +2,19 @@
 
 ghost use Rattle.std.specs.Prelude.{◌≡◌, ◌+◌, IfOk, drop};
 ghost use Rattle.std.specs.List.{prefix_len};
-ghost use Rattle.fault_notes.specs.Marks.{note_place, stray_place};
+ghost use Rattle.fault_notes.specs.Marks.{IsPlain, stray_place};
 ghost use Rattle.lexer.specs.Stray.{first_stray};
 ghost use Rattle.model.specs.Token.{is_word_byte};
 
 use lexer::first_stray;
-use source_notes::{Class, Note, after, blank_run, phrase, run_of, word_run};
+use source_notes::{Class, Note, after, blank_run, describe, phrase, run_of, word_run};
 use std::alloc::{AllocError, Global};
+
+/// Why no token begins with some bytes: a byte that is named, or none, and words behind it.
+type Reason<'a> = (&'a [u8], &'static str);
+
+/// No byte is named.
+const NONE: &[u8] = b"";
 
 /// Returns whether some bytes are hex digits and an `H`, as other assemblers write a hex number.
 fn ends_in_h(bytes: &[u8]) -> bool {
@@ -18,37 +24,66 @@ fn ends_in_h(bytes: &[u8]) -> bool {
     }
 }
 
-/// Returns why a decimal number is none.
-fn decimal_reason(bytes: &[u8]) -> &'static str {
+/// Returns the first of some bytes, alone.
+fn first_alone(bytes: &[u8]) -> &[u8] {
     match bytes {
-        [b'0', b'x' | b'X', ..] => "a hex number is written $FF, not 0xFF",
+        [_, ..] => &bytes[..1],
+        [] => bytes,
+    }
+}
+
+/// Returns whether a word stands before `:` or `=`, at the front of some bytes.
+fn is_named(bytes: &[u8]) -> bool {
+    let rest = after(bytes, word_run(bytes));
+    match after(rest, blank_run(rest)) {
+        [b':' | b'=', ..] => true,
+        _ => false,
+    }
+}
+
+/// Returns why a decimal number is none.
+fn decimal_reason(bytes: &[u8]) -> Reason<'_> {
+    let rest = after(bytes, run_of(Class::Decimal, bytes));
+    match bytes {
+        [b'0', b'x' | b'X', ..] => (NONE, "a hex number is written $FF, not 0xFF"),
         _ => {
-            if ends_in_h(bytes) {
-                "a hex number is written $FF, not 0FFH"
+            if is_named(bytes) {
+                (NONE, "a name begins with a letter")
+            } else if ends_in_h(bytes) {
+                (NONE, "a hex number is written $FF, not 0FFH")
+            } else if run_of(Class::Hex, bytes) == word_run(bytes) {
+                (
+                    first_alone(rest),
+                    " is no decimal digit; a hex number is written $1F",
+                )
             } else {
-                "a number ends in a byte that is none of its digits"
+                (
+                    first_alone(rest),
+                    " is no decimal digit; a name begins with a letter",
+                )
             }
         }
     }
 }
 
 /// Returns why a hex number after its mark is none.
-fn hex_reason(bytes: &[u8]) -> &'static str {
-    if run_of(Class::Hex, bytes) > 0 {
-        return "a number ends in a byte that is none of its digits";
-    }
+fn hex_reason(bytes: &[u8]) -> Reason<'_> {
     if word_run(bytes) > 0 {
-        return "digits are missing after the mark of a number";
+        let rest = after(bytes, run_of(Class::Hex, bytes));
+        return (first_alone(rest), " is no hex digit");
     }
-    "digits are missing after $; the address of this line is *"
+    (
+        NONE,
+        "digits are missing after $; the address of this line is *",
+    )
 }
 
 /// Returns why a binary number after its mark is none.
-fn binary_reason(bytes: &[u8]) -> &'static str {
+fn binary_reason(bytes: &[u8]) -> Reason<'_> {
     if word_run(bytes) > 0 {
-        "a binary number has the digits 0 and 1 alone"
+        (NONE, "a binary number has the digits 0 and 1 alone")
     } else {
-        "digits are missing after the mark of a number"
+        (NONE, "digits are missing after %")
     }
 }
 
@@ -92,21 +127,32 @@ fn string_reason(bytes: &[u8]) -> &'static str {
 }
 
 /// Returns why no token begins with some bytes.
-fn reason_of(bytes: &[u8]) -> &'static str {
+fn reason_of(bytes: &[u8]) -> Reason<'_> {
     let Some(first) = bytes.first() else {
-        return "this byte has no meaning here";
+        return (NONE, "the line is none of the grammar");
     };
     let rest = after(bytes, 1);
     match *first {
-        b'A'..=b'Z' | b'a'..=b'z' => "a name has at most 31 bytes",
+        b'A'..=b'Z' | b'a'..=b'z' => (NONE, "a name has at most 31 bytes"),
         b'0'..=b'9' => decimal_reason(bytes),
         b'$' => hex_reason(rest),
         b'%' => binary_reason(rest),
-        b'\'' => character_reason(rest),
-        b'"' => string_reason(rest),
-        b'.' => "a directive's letters are missing after the point",
-        b'@' => "there are no local labels: each label is a name of its own",
-        _ => "this byte has no meaning here",
+        b'\'' => (NONE, character_reason(rest)),
+        b'"' => (NONE, string_reason(rest)),
+        b'.' => (NONE, "a directive's letters are missing after the point"),
+        b'@' => (
+            NONE,
+            "there are no local labels: each label is a name of its own",
+        ),
+        b'{' | b'}' => (
+            first_alone(bytes),
+            " has no meaning here: lines stand in no blocks",
+        ),
+        b'\\' => (
+            first_alone(bytes),
+            " has no meaning here; a quote in a string is the number 34",
+        ),
+        _ => (first_alone(bytes), " has no meaning here"),
     }
 }
 
@@ -120,12 +166,13 @@ fn stray_width(bytes: &[u8]) -> usize
 
 /// Returns what is said of a line that is not made of tokens.
 pub fn text_note(alloc: Global, line: &[u8]) -> Result<Note, AllocError>
-    ensures { IfOk result (λ note. note_place note ≡ stray_place line.now (first_stray line.now)) }
+    ensures { IfOk result (IsPlain (stray_place line.now (first_stray line.now))) }
 {
     match first_stray(line) {
         Some(start) => {
             let bytes = after(line, start);
-            let words = phrase(alloc, reason_of(bytes))?;
+            let (named, reason) = reason_of(bytes);
+            let words = describe(alloc, named, reason)?;
             Ok(Note::new(start, stray_width(bytes), words))
         }
         None => {

@@ -2,6 +2,5 @@ pub mod Fronts
 pub mod Again
 pub mod Fed
 pub mod Sizes
-pub mod Streaming
 pub mod Tapes
 pub mod EndRecords

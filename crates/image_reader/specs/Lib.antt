@@ -7,4 +7,3 @@ pub mod Texts
 pub mod Feeding
 pub mod EndRecords
 pub mod Images
-pub mod Streaming

@@ -96,8 +96,12 @@ as_ends said bus_map (AtPort first last free) (why.Refused refusal, ends, is) = 
     no : AtPort first last free ≡ Refused refusal → ⊥
     no e = cc
 
-pub memory_as_image : (said : Option Form) (bus_map : Map) (refusal : Refusal) → refusal ≡ OutOfMemory → EndsAsImage said bus_map (Refused refusal)
+memory_as_image : (said : Option Form) (bus_map : Map) (refusal : Refusal) → refusal ≡ OutOfMemory → EndsAsImage said bus_map (Refused refusal)
 memory_as_image said bus_map refusal is = (why.Refused refusal, subst (λ r. EndsImage said (why.Refused r)) (sym is) tt, refl)
+
+pub memory_image_residual : {X : Type 0} (said : Option Form) (bus_map : Map) (refusal : Refusal) (result : Result X LoadFault) → refusal ≡ OutOfMemory → IsErrAnd result (λ f. f ≡ Refused refusal) → IfErr result (EndsAsImage said bus_map)
+memory_image_residual said bus_map refusal (Ok x) memory is = absurd is
+memory_image_residual said bus_map refusal (Err fault) memory is = subst (EndsAsImage said bus_map) (sym is) (memory_as_image said bus_map refusal memory)
 
 as_image : (f : FileForm) (bus_map : Map) (file : List ℕ) (fault : LoadFault) → (f ≡ form.Source → ⊥) → EndsAsImage (said_of f) bus_map fault → EndsFile f bus_map file fault
 as_image form.Source bus_map file fault apart ends = absurd (apart refl)

@@ -19,10 +19,13 @@ use Rattle.image_files.specs.Told.{IsUnloaded}
 use Rattle.image_files.specs.declared.refusal.ImageRefusal.{ImageRefusal}
 use Rattle.image_reader.specs.declared.form.Form.{Form}
 use Rattle.model.specs.AllFaults.{faults_of}
+use Rattle.model.specs.Names.{Definitions}
 use Rattle.model.specs.Source.{HasFault}
 use Rattle.model.specs.State.{Map, has_port_byte, is_map}
 use Rattle.model.specs.declared.bus_fault.BusFault.TheVariants.{BadMap}
+use Rattle.model.specs.declared.instruction.Profile.{Profile}
 use Rattle.model.specs.declared.source_fault.AsmFault.{AsmFault}
+use Rattle.names_files.specs.NamesFile.{names_file}
 
 -- A port and a ROM that make no map are rejected for that.
 abbrev pub IsBadMap : Map → Refusal → Type 0
@@ -47,6 +50,12 @@ abbrev pub MeetsPort : Option Form → Map → ℕ → ℕ → Option ℕ → Ty
 MeetsPort said bus_map first last free = (first ≡ bus_map.port) × (last ≡ bus_map.port + 3)
     × ((image : List (Option ℕ)) × IsOfFile said image
     × (has_port_byte bus_map image ≡ true) × IsFreeBase bus_map.rom image free)
+
+-- What some file of names gives: its source, and the names that cannot stand in one.
+abbrev pub AreOfFile : Profile → AssemblyView → Definitions → Type 0
+AreOfFile profile assembly others = (file : List ℕ)
+    × (assembly.source ≡ (names_file profile file).source)
+    × (others ≡ (names_file profile file).others)
 
 -- Why a file of names is not assembled.
 abbrev pub EndsNames : FileAsked → Refusal → Type 0

@@ -13,6 +13,8 @@ mod loaded;
 mod named;
 mod place;
 
-pub use loaded::{Loaded, assembled_source, faults_of, load, load_names, load_with_history};
+pub use loaded::{
+    ImageNames, Loaded, assembled_source, faults_of, load, load_names, load_with_history,
+};
 pub use named::{NamedFault, load_named};
 pub use place::place_of;

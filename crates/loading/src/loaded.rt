@@ -7,8 +7,9 @@ ghost use Rattle.accesses.specs.Writing.{bytes_in};
 ghost use Rattle.arguments.specs.Asked.{file_view, map_of};
 ghost use Rattle.arguments.specs.declared.load_fault.LoadFault.TheVariants.{Refused};
 ghost use Rattle.assembler.specs.Assembly.{IsAssembled, out_of_memory};
+ghost use Rattle.clean_source.specs.Cleaned.{cleaned};
 ghost use Rattle.image_files.specs.Files.{IsOfFile};
-ghost use Rattle.loading.specs.Loads.{EndsAsImage, EndsFile, EndsImageFile, EndsLoad, EndsNames};
+ghost use Rattle.loading.specs.Loads.{AreOfFile, EndsAsImage, EndsFile, EndsImageFile, EndsLoad, EndsNames};
 ghost use Rattle.loading.specs.Loads.{EndsSource};
 ghost use Rattle.loading.specs.Loads.{EndsSourceFile, IsBadMap, IsImageOf, IsLoaded};
 ghost use Rattle.model.specs.Event.{start};
@@ -16,20 +17,25 @@ ghost use Rattle.model.specs.Session.{new_session};
 ghost use Rattle.model.specs.Source.{HasFault};
 ghost use Rattle.model.specs.State.{has_port_byte, input_waits, is_map};
 ghost use Rattle.names_files.specs.NamesFile.{names_file};
+ghost use Rattle.names_files.specs.Views.{names_view};
 ghost use Rattle.model.specs.declared.bus_fault.BusFault.TheVariants.{BadMap};
 
 use accesses::Written;
-use arguments::{FileForm, FileWords, LoadFault, Refusal, map_of, read_source, shown_name};
+use arguments::{
+    FileForm, FileWords, LoadFault, ReadFault, Refusal, map_of, read_source, shown_name,
+};
 use assembler::{Assembly, assemble};
+use clean_source::clean_source;
 use debugger::Session;
 use fault_notes::told_faults;
-use image_files::{free_base, image_of_file, refuse_image, said_of};
+use image_files::{ImageRefusal, free_base, image_of_file, refuse_image, said_of};
 use image_reader::Form;
 use memory_map::{Image, MapSpec};
 use model::{AsmFault, Profile};
 use names_files::{NamesFile, names_of_file};
 use std::alloc::Global;
 use std::rt::Files;
+use symbols::Symbols;
 
 /// A session on the image of a file, what the file says of names if it is a source, and the
 /// addresses at which it has a byte.
@@ -85,7 +91,18 @@ pub fn faults_of(
     }
 }
 
-/// Assembles the source of a file on a map, unless it begins with a record of an image.
+/// Returns a source as it is read.
+///
+/// Errors: `OutOfMemory` if an allocation fails.
+fn cleaned_source(alloc: Global, bytes: &[u8]) -> Result<Vec<u8>, Refusal>
+    ensures cleaned { IfOk result (λ source. source.items ≡ cleaned bytes.now) }
+    ensures refused { IfErr result (λ fault. fault ≡ Refusal.OutOfMemory) }
+{
+    clean_source(alloc, bytes).map_err(|_| Refusal::OutOfMemory)
+}
+
+/// Assembles the source of a file on a map, unless it begins with a record of an image. What is
+/// assembled is the text that is read in the place of the file's bytes, as `clean_source` says.
 ///
 /// # Errors
 ///
@@ -95,18 +112,19 @@ pub fn faults_of(
 pub fn assembled_source(
     alloc: Global,
     file: &str,
-    source: &[u8],
+    bytes: &[u8],
     map: &MapSpec,
 ) -> Result<Assembly, LoadFault>
     ensures assembled { IfOk result (IsAssembled map.now) }
-    ensures kept { IfOk result (λ a. a.source ≡ source.now) }
+    ensures kept { IfOk result (λ a. a.source ≡ cleaned bytes.now) }
     ensures spared { IfOk result (λ a. has_port_byte map.now a.image ≡ false) }
     ensures refused { IfErr result (EndsFile FileForm.Source map.now file.now) }
 {
-    refuse_image(alloc, source)?;
-    match assemble(alloc, source, map) {
+    let source = cleaned_source(alloc, bytes)?;
+    refuse_image(alloc, &source)?;
+    match assemble(alloc, &source, map) {
         Ok(assembly) => Ok(assembly),
-        Err(fault) => Err(faults_of(alloc, file, source, map, fault)),
+        Err(fault) => Err(faults_of(alloc, file, &source, map, fault)),
     }
 }
 
@@ -154,17 +172,12 @@ fn start_source(
     ensures bytes { IfOk result (λ loaded. loaded.written ≡ bytes_in assembly.image) }
     ensures refused { IfErr result (λ fault. fault ≡ Refusal.OutOfMemory) }
 {
-    match started(alloc, map, assembly.image(), history) {
-        Ok((session, written)) => Ok(Loaded {
-            session,
-            assembly: Some(assembly),
-            written,
-        }),
-        Err(refusal) => {
-            drop(assembly);
-            Err(refusal)
-        }
-    }
+    let (session, written) = started(alloc, map, assembly.image(), history)?;
+    Ok(Loaded {
+        session,
+        assembly: Some(assembly),
+        written,
+    })
 }
 
 /// Returns a session that holds at most `history` earlier states, on the image of a source's file.
@@ -218,10 +231,7 @@ fn image_in<H: Files + AllocGlobal>(
     ensures found { IfOk result (IsOfFile said) }
     ensures refused { IfErr result (EndsImageFile said) }
 {
-    match image_of_file(rt, path, said) {
-        Ok(image) => Ok(image),
-        Err(why) => Err(why.unloaded()),
-    }
+    image_of_file(rt, path, said).map_err(ImageRefusal::unloaded)
 }
 
 /// Returns why an image is not loaded that has bytes at the port of a map.
@@ -279,10 +289,7 @@ fn load_image<H: Files + AllocGlobal>(
     ensures refused { IfErr result (EndsAsImage said map) }
 {
     let image = image_on(rt, path, said, &map, rom)?;
-    match start_image(rt.alloc(), map, &image, history) {
-        Ok(loaded) => Ok(loaded),
-        Err(refusal) => Err(LoadFault::Refused(refusal)),
-    }
+    Ok(start_image(rt.alloc(), map, &image, history)?)
 }
 
 /// Returns a session that holds at most `history` earlier states, on the image of a file that the
@@ -359,35 +366,55 @@ pub fn load_with_history<H: Files + AllocGlobal>(
     }
 }
 
+/// The names of a file of names.
+#[derive(Drop)]
+pub struct ImageNames {
+    /// Those that its source gives.
+    pub assembly: Assembly,
+    /// Those that cannot stand in a source.
+    pub others: Symbols,
+}
+
 /// Returns what a file of names says as a source.
 ///
 /// Errors: `OutOfMemory` if an allocation fails.
 fn names_in(alloc: Global, profile: Profile, file: &[u8]) -> Result<NamesFile, Refusal>
-    ensures source { IfOk result
-        (λ names. names.source.items ≡ (names_file profile file.now).source) }
+    ensures names { IfOk result (λ names. names_view names ≡ names_file profile file.now) }
     ensures refused { IfErr result (λ fault. fault ≡ Refusal.OutOfMemory) }
 {
     names_of_file(alloc, profile, file).map_err(|_| Refusal::OutOfMemory)
 }
 
-/// Assembles a file of names, as `asm --symbols` or another tool writes it, on the map of the
-/// words. Names that cannot stand in a source are left out. Bytes that it has are loaded nowhere.
+/// Returns the names of a file of names, as `asm --symbols` or another tool writes it: assembles
+/// its source on the map of the words, and keeps the names that cannot stand in one. Bytes that
+/// the source has are loaded nowhere.
 ///
 /// # Errors
 ///
-/// In this order: `Map`, `Read`, `Source`, as `load` says. `OutOfMemory` if an allocation fails.
+/// In this order: `Map`, `Read`, `Source`, as `load` says; `Read` with `NoName` if no line of the
+/// file is a name in a form that is known. `OutOfMemory` if an allocation fails.
 pub fn load_names<H: Files + AllocGlobal>(
     rt: &H,
     words: &FileWords<'_>,
     path: &str,
-) -> Result<Assembly, Refusal>
-    ensures assembled { IfOk result (IsAssembled (map_of (file_view words.now))) }
-    ensures named { IfOk result (λ names. (file : List ℕ)
-        × (names.source ≡ (names_file words.now.profile file).source)) }
+) -> Result<ImageNames, Refusal>
+    ensures assembled { IfOk result (λ names. IsAssembled (map_of (file_view words.now))
+        names.assembly) }
+    ensures named { IfOk result (λ names. AreOfFile words.now.profile names.assembly names.others) }
     ensures refused { IfErr result (EndsNames (file_view words.now)) }
 {
     let map = map_of_words(words)?;
     let file = read_source(rt, path)?;
     let names = names_in(rt.alloc(), words.profile, file.as_slice())?;
-    assembled(rt.alloc(), names.source.as_slice(), &map)
+    if names.is_unknown {
+        return Err(Refusal::Read(ReadFault::NoName));
+    }
+    let NamesFile {
+        source,
+        others,
+        left_out: _,
+        is_unknown: _,
+    } = names;
+    let assembly = assembled(rt.alloc(), source.as_slice(), &map)?;
+    Ok(ImageNames { assembly, others })
 }

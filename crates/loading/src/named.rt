@@ -36,6 +36,14 @@ pub enum NamedFault {
     OfNames(Refusal),
 }
 
+impl From<LoadFault> for NamedFault {
+    ghost from_gives = { λ fault named. named ≡ OfFile fault };
+
+    fn from(fault: LoadFault) -> NamedFault {
+        NamedFault::OfFile(fault)
+    }
+}
+
 impl NamedFault {
     /// Writes why nothing was loaded, and returns the exit status, even if that cannot be written.
     /// It is 2 where names are given for a source, and otherwise that of the file, or of the file
@@ -92,29 +100,13 @@ fn load_with_names<H: Files + AllocGlobal>(
         → result ≡ Err (OfFile (Refused (Refusal.Map BadMap))) }
     ensures refused { IfErr result (EndsNamed (file_view words.now) (Some path.now)) }
 {
-    let (loaded, image) = match load_image(rt, words) {
-        Ok(made) => made,
-        Err(fault) => return Err(NamedFault::OfFile(fault)),
-    };
+    let (loaded, image) = load_image(rt, words)?;
     match load_names(rt, words, path) {
         Ok(names) => {
-            let Loaded {
-                session,
-                assembly: none,
-                written,
-            } = loaded;
-            drop(none);
-            Ok(Loaded {
-                session,
-                assembly: Some(names.with_image(rt.alloc(), image)),
-                written,
-            })
+            let assembly = Some(names.assembly.with_image(rt.alloc(), image));
+            Ok(Loaded { assembly, ..loaded })
         }
-        Err(refusal) => {
-            drop(image);
-            drop(loaded);
-            Err(NamedFault::OfNames(refusal))
-        }
+        Err(refusal) => Err(NamedFault::OfNames(refusal)),
     }
 }
 
@@ -142,17 +134,11 @@ pub fn load_named<H: Files + AllocGlobal>(
     ensures refused { IfErr result (EndsNamed (file_view words.now)
         (option_map (λ s. s.now) symbols.entry)) }
 {
-    match symbols {
-        None => match load(rt, words) {
-            Ok(loaded) => Ok(loaded),
-            Err(fault) => Err(NamedFault::OfFile(fault)),
-        },
-        Some(path) => {
-            if words.form == FileForm::Source {
-                Err(NamedFault::HasSource)
-            } else {
-                load_with_names(rt, words, path)
-            }
-        }
+    let Some(path) = symbols else {
+        return Ok(load(rt, words)?);
+    };
+    if words.form == FileForm::Source {
+        return Err(NamedFault::HasSource);
     }
+    load_with_names(rt, words, path)
 }

@@ -1,8 +1,8 @@
 -- Values put behind others, one for each item.
 use Rattle.std.proofs.Common.{Bor, ℕ, ◌+◌, ◌<◌, ◌≤◌, ◌∙◌, List, [], ◌∷◌, ◌++◌, length, take, map, get_or, sym, ap, append_assoc, append-nil, subst}
 use Rattle.std.proofs.lemmas.List.{map-append, take_all, take_more}
-use Rattle.json_values.specs.ValueLists.{HasValues}
-use Rattle.json_values.specs.declared.value_list.ValueList.{ValueList}
+use Rattle.json_messages.specs.ValueLists.{HasValues}
+use Rattle.json_messages.specs.declared.value_list.ValueList.{ValueList}
 use Rattle.lsp_messages.specs.Values.{item_data}
 use Rattle.serde_json.specs.Data.{Data}
 

@@ -2,8 +2,8 @@
 use Rattle.std.proofs.Common.{◌≡◌, ◌∙◌, ℕ, ◌+◌, ◌<◌, ◌≤◌, true, false, List, [], ◌∷◌, ◌++◌, length, take, map, refl, sym, ap, subst, append-nil, get_or}
 use Rattle.std.proofs.lemmas.List.{map-append, take_all, take_more}
 use Rattle.std.proofs.lemmas.List.Elements.{filter-append}
-use Rattle.json_values.specs.ValueLists.{HasValues}
-use Rattle.json_values.specs.declared.value_list.ValueList.{ValueList}
+use Rattle.json_messages.specs.ValueLists.{HasValues}
+use Rattle.json_messages.specs.declared.value_list.ValueList.{ValueList}
 use Rattle.lsp_answers.specs.Lists.{defined, is_defined}
 use Rattle.name_uses.specs.Uses.{Use}
 use Rattle.name_uses.specs.Views.{use_view, use_views}

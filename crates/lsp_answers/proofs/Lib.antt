@@ -2,3 +2,4 @@ pub mod Behind
 pub mod DefinedSteps
 pub mod Marking
 mod SaidSteps
+mod StillFaulty

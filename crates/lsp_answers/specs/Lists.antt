@@ -5,7 +5,7 @@ use Rattle.std.specs.List.{filter}
 use Rattle.std.specs.Str.Lossy.{utf8_lossy}
 use Rattle.lsp_answers.specs.Texts.{TextView, use_range}
 use Rattle.lsp_answers.specs.Written.{directive_items}
-use Rattle.json_values.specs.Values.{list_of}
+use Rattle.json_messages.specs.Values.{list_of}
 use Rattle.lsp_messages.specs.Values.{item_data, symbol_data}
 use Rattle.model.specs.Mnemonics.{mnemonic_text, mnemonics}
 use Rattle.model.specs.declared.instruction.Mnemonic.{Mnemonic}

@@ -3,7 +3,7 @@
 use Rattle.std.specs.Prelude.{◌≡◌, ℕ, max, if◌then◌else◌, List, map}
 use Rattle.std.specs.Str.Lossy.{utf8_lossy}
 use Rattle.lsp_answers.specs.Texts.{TextView, range_in}
-use Rattle.json_values.specs.Values.{list_of}
+use Rattle.json_messages.specs.Values.{list_of}
 use Rattle.lsp_messages.specs.Values.{mark_data, marks_data}
 use Rattle.model.specs.AllFaults.{faults_of}
 use Rattle.model.specs.State.{Map}

@@ -1,9 +1,9 @@
 -- Where a name stands. Source: Language Server Protocol 3.17, "Goto Definition Request", "Find
--- References Request"; which uses a name has, mos65.
+-- References Request", "Document Highlights Request"; which uses a name has, mos65.
 use Rattle.std.specs.Prelude.{ℕ, Bool, if◌then◌else◌, List, map, Option, Some, None}
 use Rattle.lsp_answers.specs.Texts.{TextView, name_at, use_range}
-use Rattle.json_values.specs.Values.{list_of}
-use Rattle.lsp_messages.specs.Values.{location_data}
+use Rattle.json_messages.specs.Values.{list_of}
+use Rattle.lsp_messages.specs.Values.{highlight_data, location_data}
 use Rattle.name_uses.specs.Picked.{picked}
 use Rattle.name_uses.specs.Uses.{Use}
 use Rattle.name_uses.specs.declared.picks.Part.{Part}
@@ -26,3 +26,15 @@ definition_at uri t line character = locations_by uri t Definitions (name_at t l
 abbrev pub references_at : List ℕ → TextView → ℕ → ℕ → Bool → Data
 references_at uri t line character declares
     = locations_by uri t (if declares then All else Others) (name_at t line character)
+
+-- A definition is a write, which is the number 3, and any other use a read, which is 2.
+abbrev pub highlight_of : TextView → Use → Data
+highlight_of t u = highlight_data (if u.defines then 3 else 2) (use_range t u)
+
+abbrev pub highlights_by : TextView → Option Use → Data
+highlights_by t None = null
+highlights_by t (Some u) = list_of (map (highlight_of t) (picked All u.text t.uses))
+
+-- All uses of the name at a place; `null` without a name.
+abbrev pub highlights_at : TextView → ℕ → ℕ → Data
+highlights_at t line character = highlights_by t (name_at t line character)

@@ -1,17 +1,18 @@
--- A name changed. Source: Language Server Protocol 3.17, "Rename Request"; which name may be given,
--- mos65.
+-- A name changed. Source: Language Server Protocol 3.17, "Rename Request", "Prepare Rename Request";
+-- which name may be given, mos65.
 use Rattle.std.specs.Prelude.{◌≡◌, ◌<◌, ◌⊎◌, ⊤, ℕ, true, List, [], length, map, Option, Some, None}
+use Rattle.std.specs.Str.Lossy.{utf8_lossy}
 use Rattle.lsp_answers.specs.Texts.{TextView, use_range}
-use Rattle.json_values.specs.Values.{list_of}
-use Rattle.lsp_messages.specs.Values.{changes_data, edit_data}
+use Rattle.json_messages.specs.Values.{list_of}
+use Rattle.lsp_messages.specs.Values.{changes_data, edit_data, ready_data}
 use Rattle.model.specs.Source.{Denotes}
 use Rattle.model.specs.State.{Map}
 use Rattle.name_uses.specs.Faulty.{faulty_line}
 use Rattle.name_uses.specs.Uses.{Use, is_name}
 use Rattle.serde_json.specs.Data.{Data}
-use Rattle.source_renaming.specs.Renaming.{IsRefused, renamed, uses_named}
-use Rattle.source_renaming.specs.declared.fault.RenameFault.{RenameFault}
-use Rattle.source_renaming.specs.declared.fault.RenameFault.TheVariants.{NoName, Taken, Faulty, Changed, OutOfMemory}
+use Rattle.name_uses.specs.Renaming.{IsRefused, renamed, uses_named}
+use Rattle.name_uses.specs.declared.fault.RenameFault.{RenameFault}
+use Rattle.name_uses.specs.declared.fault.RenameFault.TheVariants.{NoName, Taken, Faulty, Changed, OutOfMemory}
 
 -- The changes that put a word in place of some uses.
 abbrev pub edits_of : TextView → List ℕ → List Use → Data
@@ -50,3 +51,17 @@ IsRenameAt bus_map uri t (Some u) new v = IsRename bus_map uri t u.text new v
 abbrev pub IsKeptAt : Map → TextView → Option Use → List ℕ → Type 0
 IsKeptAt bus_map t None new = ⊤
 IsKeptAt bus_map t (Some u) new = IsKept bus_map t u.text new
+
+-- ---- whether a name may get another one
+
+abbrev pub ready_of : TextView → Use → Data
+ready_of t u = ready_data (utf8_lossy u.text) (use_range t u)
+
+-- It may: it stands in no line whose text has a fault.
+pub record IsReady (bus_map : Map) (t : TextView) (u : Use) (v : Data) : Type 0 where
+  pub told : v ≡ ready_of t u
+  pub sound : faulty_line bus_map.profile t.source u.text u.text ≡ None
+
+abbrev pub IsReadyAt : Map → TextView → Option Use → Data → Type 0
+IsReadyAt bus_map t None v = ⊥
+IsReadyAt bus_map t (Some u) v = IsReady bus_map t u v

@@ -4,7 +4,7 @@
 //! `Text` is a source with its lines and names (`specs/Texts.antt`). Each other call makes an
 //! answer's value of it: `marks` (`Marks.antt`), `meanings` (`Meanings.antt`) with what is `said`
 //! of names and instructions (`Said.antt`), `names` (`Names.antt`), `renaming` (`Renames.antt`),
-//! and `lists` (`Lists.antt`) with what may be written in any source (`written`).
+//! and `lists` (`Lists.antt`) with the directives, which may be `written` in any source.
 //!
 //! `diagnostics` (`finding`) is what is marked, and finds the same as `check`: all faults
 //! (`fault_marks`), and the warnings (`warning_marks`) where there is none. `Diagnostics.antt` says
@@ -30,6 +30,6 @@ pub use kinds::Diagnostic;
 pub use lists::{completion, symbols};
 pub use marks::published;
 pub use meanings::hover;
-pub use names::{definition, references};
-pub use renaming::rename;
+pub use names::{definition, highlights, references};
+pub use renaming::{prepare_rename, rename};
 pub use source_text::Text;

@@ -6,9 +6,10 @@ ghost use Rattle.lsp_answers.specs.Texts.{text_view};
 ghost use Rattle.serde_json.specs.View.{view};
 
 use crate::source_text::Text;
-use crate::written::{DIRECTIVES, mnemonics_in};
-use json_values::ValueList;
+use crate::written::DIRECTIVES;
+use json_messages::ValueList;
 use lsp_messages::{item, symbol};
+use opcode_facts::mnemonics_in;
 use optable::letters_of;
 use serde_json::Value;
 use std::alloc::{AllocError, Global};

@@ -9,7 +9,7 @@ use crate::finding::diagnostics;
 use crate::kinds::{Diagnostic, DiagnosticKind};
 use crate::source_text::Text;
 use bus::MapSpec;
-use json_values::ValueList;
+use json_messages::ValueList;
 use lsp_messages::{mark, marks};
 use serde_json::Value;
 use std::alloc::{AllocError, Global};

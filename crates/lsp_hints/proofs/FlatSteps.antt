@@ -1,5 +1,5 @@
 -- The way along a list to what is made of each of it.
-use Rattle.std.proofs.Common.{◌≡◌, ◌∙◌, ℕ, ◌+◌, ◌<◌, ◌≤◌, List, [], ◌∷◌, ◌++◌, length, drop, map, get_or, refl, ap, add-one, drop-cons}
+use Rattle.std.proofs.Common.{◌≡◌, ◌∙◌, ℕ, ◌+◌, ◌<◌, ◌≤◌, List, [], ◌∷◌, ◌++◌, length, drop, get_or, refl, ap, add-one, drop-cons}
 use Rattle.std.proofs.lemmas.List.{drop_all}
 use Rattle.std.proofs.lemmas.List.Concat.{flat_map-cons}
 use Rattle.std.specs.List.{flat_map}
@@ -9,15 +9,6 @@ module _ {A D : Type 0} (f : A → List D) where
   flat_next all i e within =
       let cut : drop i all ≡ get_or all i e ∷ drop (i + 1) all = rw (add-one, drop-cons all i e) refl in
       ap (flat_map f) cut ∙ flat_map-cons f (get_or all i e) (drop (i + 1) all)
-
-  -- the same, of each as it is written
-  pub mapped_next : {B : Type 0} (g : B → A) (all : List B) (i : ℕ) (e : B) → i < length all → flat_map f (map g (drop i all)) ≡ f (g (get_or all i e)) ++ flat_map f (map g (drop (i + 1) all))
-  mapped_next g all i e within =
-      let cut : drop i all ≡ get_or all i e ∷ drop (i + 1) all = rw (add-one, drop-cons all i e) refl in
-      ap (λ xs. flat_map f (map g xs)) cut ∙ flat_map-cons f (g (get_or all i e)) (map g (drop (i + 1) all))
-
-  pub mapped_end : {B : Type 0} (g : B → A) (all : List B) (i : ℕ) → length all ≤ i → flat_map f (map g (drop i all)) ≡ []
-  mapped_end g all i past = rw (drop_all i all past) refl
 
   pub flat_end : (all : List A) (i : ℕ) → length all ≤ i → flat_map f (drop i all) ≡ []
   flat_end all i past = rw (drop_all i all past) refl

@@ -5,14 +5,14 @@ use Rattle.std.specs.List.{flat_map}
 use Rattle.std.specs.Str.Lossy.{utf8_lossy}
 use Rattle.lsp_answers.specs.Texts.{TextView, range_in}
 use Rattle.lsp_hints.specs.Hints.{is_between}
-use Rattle.lsp_hints.specs.RightWords.{right_word}
-use Rattle.json_values.specs.Values.{list_of, object_of, word}
+use Rattle.json_messages.specs.Values.{list_of, object_of, word}
 use Rattle.lsp_messages.specs.Values.{changes_data, edit_data}
 use Rattle.model.specs.AllFaults.{faults_of}
 use Rattle.model.specs.State.{Map}
 use Rattle.serde_json.specs.Data.{Data}
 use Rattle.lsp_answers.specs.Diagnostics.{AreDiagnostics}
 use Rattle.lsp_answers.specs.declared.kinds.Diagnostic.{Diagnostic}
+use Rattle.source_notes.specs.RightWord.{right_of}
 
 abbrev pub action_data : List ℕ → Data → Data
 action_data title edit = object_of ((codes "edit", edit) ∷ (codes "kind", word (codes "quickfix"))
@@ -34,9 +34,9 @@ abbrev pub fixes_by : List ℕ → TextView → Diagnostic → Option (List ℕ)
 fixes_by uri t d None = []
 fixes_by uri t d (Some right) = fix_of uri t d right ∷ []
 
--- The change for a fault or a warning, if its words name the right word.
+-- The change for a fault or a warning, if its note has the right word.
 abbrev pub fixes_of : List ℕ → TextView → Diagnostic → List Data
-fixes_of uri t d = fixes_by uri t d (right_word t.profile t.uses d.note.words.items)
+fixes_of uri t d = fixes_by uri t d (right_of d.note)
 
 -- Its line is between the first and the last of those that are asked for, counted from 0.
 abbrev pub fixes_between : List ℕ → TextView → ℕ × ℕ → Diagnostic → List Data

@@ -6,7 +6,7 @@ use Rattle.lsp_hints.specs.Painted.{is_mark}
 use Rattle.lsp_hints.specs.declared.folds.Fold.{Fold}
 use Rattle.lsp_hints.specs.declared.folds.FoldKind.{FoldKind}
 use Rattle.lsp_hints.specs.declared.folds.FoldKind.TheVariants as kinds
-use Rattle.json_values.specs.Values.{count, list_of, object_of, word}
+use Rattle.json_messages.specs.Values.{count, list_of, object_of, word}
 use Rattle.model.specs.Token.{Lexeme, tokens_of}
 use Rattle.model.specs.declared.instruction.Profile.{Profile}
 use Rattle.name_uses.specs.Uses.{is_name_token}

@@ -2,7 +2,7 @@
 -- Request"; what is shown of which line, mos65.
 use Rattle.std.specs.Prelude.{ℕ, ◌+◌, ◌&&◌, nat_le, nat_lt, Bool, true, false, if◌then◌else◌, is_some, List, [], ◌∷◌, ◌++◌, length, codes, decimal, Option, Some, None, slice_get}
 use Rattle.std.specs.Str.Lossy.{utf8_lossy}
-use Rattle.json_values.specs.Values.{list_of, object_of, word}
+use Rattle.json_messages.specs.Values.{list_of, object_of, word}
 use Rattle.lsp_messages.specs.Values.{position_data}
 use Rattle.model.specs.AllFaults.{Found, found_lines, smallest}
 use Rattle.model.specs.Layout.{Content, PlacedLine, no_bytes, byte_list, word_list, word_list_high_first, code}

@@ -4,5 +4,4 @@ pub mod Folds
 pub mod Hints
 pub mod Operations
 pub mod Painted
-pub mod RightWords
 pub mod Signatures

@@ -5,7 +5,7 @@ use Rattle.lsp_hints.specs.Operations.{blanks_after}
 use Rattle.lsp_hints.specs.declared.colour.Colour.{Colour}
 use Rattle.lsp_hints.specs.declared.colour.Colour.TheVariants.{Comment}
 use Rattle.lsp_hints.specs.declared.paint.Paint.{Paint}
-use Rattle.json_values.specs.Values.{count, list_of, object_of}
+use Rattle.json_messages.specs.Values.{count, list_of, object_of}
 use Rattle.model.specs.Token.{Lexeme, tokens_of}
 use Rattle.model.specs.declared.instruction.Profile.{Profile}
 use Rattle.serde_json.specs.Data.{Data}

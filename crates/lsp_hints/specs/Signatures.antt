@@ -1,20 +1,20 @@
 -- The forms of operations. Source: Language Server Protocol 3.17, "Signature Help Request"; how a
 -- form is written, mos65.
-use Rattle.std.specs.Prelude.{ℕ, List, [], ◌∷◌, ◌++◌, codes, map, Option, Some, None}
-use Rattle.std.specs.Borrow.{Bor}
+use Rattle.std.specs.Prelude.{ℕ, List, [], ◌∷◌, ◌++◌, codes, Option, Some, None}
 use Rattle.std.specs.List.{flat_map}
 use Rattle.std.specs.Str.Lossy.{utf8_lossy}
 use Rattle.lsp_hints.specs.Operations.{operation_at}
 use Rattle.lsp_hints.specs.declared.operation.Operation.{Operation}
 use Rattle.lsp_hints.specs.declared.operation.Operation.TheVariants.{Instruction, Bytes, Words, WordsHighFirst, Reserve, Finish, Origin, Definition}
-use Rattle.lsp_hints.specs.declared.wording.TheConstants.{BYTE_FORM, DBYTE_FORM, DEFINITION_FORM, END_FORM, OPERANDS, ORIGIN_FORM, RES_FORM, WORD_FORM}
+use Rattle.lsp_hints.specs.declared.wording.TheConstants.{BYTE_FORM, DBYTE_FORM, DEFINITION_FORM, END_FORM, ORIGIN_FORM, RES_FORM, WORD_FORM}
 use Rattle.lsp_messages.specs.Columns.{column_of}
-use Rattle.json_values.specs.Values.{count, list_of, object_of, word}
+use Rattle.json_messages.specs.Values.{count, list_of, object_of, word}
 use Rattle.model.specs.Mnemonics.{mnemonic_text}
 use Rattle.model.specs.OpcodeTable.{opcode_of}
 use Rattle.model.specs.declared.instruction.Mnemonic.{Mnemonic}
 use Rattle.model.specs.declared.instruction.Mode.{Mode}
 use Rattle.model.specs.declared.instruction.Profile.{Profile}
+use Rattle.opcode_facts.specs.Forms.{all_modes, operand_form}
 use Rattle.serde_json.specs.Data.{Data, null}
 
 abbrev pub form_label : Mnemonic → List ℕ → List ℕ
@@ -27,20 +27,13 @@ abbrev pub form_by : Mnemonic → List ℕ → Option ℕ → List Data
 form_by m operand None = []
 form_by m operand (Some opcode) = signature_data (utf8_lossy (form_label m operand)) ∷ []
 
--- The form of a mnemonic in a mode with this operand, if the profile has it.
-abbrev pub form_of : Profile → Mnemonic → Mode × List ℕ → List Data
-form_of profile m row = form_by m row.1 (opcode_of profile m row.0)
-
-abbrev pub written : Mode × Bor (List ℕ) → Mode × List ℕ
-written row = (row.0, row.1.now)
-
--- The modes with their operands, in the order in which forms are listed.
-unfoldable pub all_operands : List (Mode × List ℕ)
-all_operands = map (λ row. (row.0, row.1.now)) OPERANDS
+-- The form of a mnemonic in a mode, if the profile has it.
+abbrev pub form_of : Profile → Mnemonic → Mode → List Data
+form_of profile m mode = form_by m (operand_form mode) (opcode_of profile m mode)
 
 -- The forms of an operation: of a mnemonic one for each of its modes.
 abbrev pub forms_of : Profile → Operation → List Data
-forms_of profile (Instruction m) = flat_map (form_of profile m) all_operands
+forms_of profile (Instruction m) = flat_map (form_of profile m) all_modes
 forms_of profile Bytes = signature_data BYTE_FORM.now ∷ []
 forms_of profile Words = signature_data WORD_FORM.now ∷ []
 forms_of profile WordsHighFirst = signature_data DBYTE_FORM.now ∷ []

@@ -1,17 +1,16 @@
 //! The changes for faults.
 
 ghost use Rattle.std.specs.Prelude.{◌≡◌, ◌++◌, IfOk, List};
-ghost use Rattle.json_values.specs.ValueLists.{HasValues};
+ghost use Rattle.json_messages.specs.ValueLists.{HasValues};
 ghost use Rattle.lsp_answers.specs.Texts.{text_view};
 ghost use Rattle.lsp_hints.specs.Fixes.{AreFixes, fix_of, fixes_between};
 ghost use Rattle.serde_json.specs.Data.{Data};
 ghost use Rattle.serde_json.specs.View.{view};
 
 use crate::hints::is_between;
-use crate::right_words::right_word;
 use crate::values::text_of;
 use bus::MapSpec;
-use json_values::{Object, ValueList};
+use json_messages::{Object, ValueList};
 use lsp_answers::{Diagnostic, Text, diagnostics};
 use lsp_messages::{changes, edit};
 use serde_json::Value;
@@ -45,7 +44,7 @@ fn fix_of(
         .build()
 }
 
-/// Puts the change for a fault or a warning between two lines behind others, if its words name the
+/// Puts the change for a fault or a warning between two lines behind others, if its note has the
 /// right word.
 fn with_fix(
     alloc: Global,
@@ -61,15 +60,15 @@ fn with_fix(
     if !is_between(between, (one.line as u64).saturating_sub(1)) {
         return fixes;
     }
-    match right_word(text.profile, &text.uses, &one.note.words) {
+    match &one.note.right {
         Some(word) => fixes.with(fix_of(alloc, uri, text, one, word)),
         None => fixes,
     }
 }
 
 /// Returns the changes for the faults of a document on a map, or for its warnings, from one line to
-/// another, counted from 0: for each of which `check` names the right word, that word in place of
-/// the bytes that it means. The only error is that a request for memory was refused.
+/// another, counted from 0: for each whose note has the right word, that word in place of the bytes
+/// that it means. The only error is that a request for memory was refused.
 pub fn fixes_in(
     alloc: Global,
     map: &MapSpec,

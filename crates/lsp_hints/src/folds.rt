@@ -8,7 +8,7 @@ ghost use Rattle.source_notes.specs.Lines.{texts_of};
 
 use crate::labels::is_label_line;
 use crate::operation::begins_with;
-use json_values::{Object, ValueList};
+use json_messages::{Object, ValueList};
 use line_parts::Token;
 use model::Profile;
 use serde_json::Value;

@@ -1,7 +1,7 @@
 //! What stands behind the lines of a source.
 
 ghost use Rattle.std.specs.Prelude.{◌≡◌, ◌++◌, IfOk, List};
-ghost use Rattle.json_values.specs.ValueLists.{HasValues};
+ghost use Rattle.json_messages.specs.ValueLists.{HasValues};
 ghost use Rattle.lsp_hints.specs.Hints.{hints_at, hints_of, is_between, is_refused, width_of};
 ghost use Rattle.serde_json.specs.Data.{Data};
 ghost use Rattle.serde_json.specs.View.{view};
@@ -9,7 +9,7 @@ ghost use Rattle.source_faults.specs.Views.{found_view};
 ghost use Rattle.source_notes.specs.Lines.{texts_of};
 
 use crate::cycles::{place_of, place_words};
-use json_values::{Object, ValueList};
+use json_messages::{Object, ValueList};
 use lsp_messages::position;
 use model::Profile;
 use serde_json::Value;

@@ -4,9 +4,8 @@
 //!
 //! `hints` has what stands behind lines, in the words of `cycles`. `signatures` has the forms of
 //! the operation at a place, which `operation` finds in a line. `fixes` has the change for a fault
-//! where `check` names the right word, which `right_words` finds in what `check` says. The
-//! definitions are `Hints.antt`, `Operations.antt`, `Signatures.antt`, `RightWords.antt` and
-//! `Fixes.antt`.
+//! whose note has the right word. The definitions are `Hints.antt`, `Operations.antt`,
+//! `Signatures.antt` and `Fixes.antt`.
 //!
 //! `painted` has the colours as the protocol counts them: `colour` gives each token one, `paint`
 //! finds where they stand, `numbers` counts from one to the next. `folded` has the folds; `labels`
@@ -22,7 +21,6 @@ mod labels;
 mod numbers;
 mod operation;
 mod paint;
-mod right_words;
 mod signatures;
 mod values;
 mod wording;

@@ -1,14 +1,14 @@
 //! The colours as the protocol counts them.
 
 ghost use Rattle.std.specs.Prelude.{◌≡◌, ◌++◌, IfOk, List};
-ghost use Rattle.json_values.specs.ValueLists.{HasValues};
+ghost use Rattle.json_messages.specs.ValueLists.{HasValues};
 ghost use Rattle.lsp_hints.specs.Painted.{paint_counts, painted};
 ghost use Rattle.serde_json.specs.Data.{Data};
 ghost use Rattle.serde_json.specs.View.{view};
 ghost use Rattle.source_notes.specs.Lines.{texts_of};
 
 use crate::paint::{Paint, push_lines};
-use json_values::{Object, ValueList};
+use json_messages::{Object, ValueList};
 use model::Profile;
 use serde_json::Value;
 use std::alloc::{AllocError, Global};

@@ -1,68 +1,60 @@
 //! The forms of operations.
 
-ghost use Rattle.std.specs.Prelude.{◌≡◌, ◌++◌, IfOk, List, map};
+ghost use Rattle.std.specs.Prelude.{◌≡◌, ◌++◌, IfOk, List};
 ghost use Rattle.std.specs.List.{flat_map};
-ghost use Rattle.json_values.specs.ValueLists.{HasValues};
-ghost use Rattle.json_values.specs.Values.{list_of};
-ghost use Rattle.lsp_hints.specs.Signatures.{all_operands, form_of, forms_of, signatures_of};
-ghost use Rattle.lsp_hints.specs.Signatures.{written};
+ghost use Rattle.json_messages.specs.ValueLists.{HasValues};
+ghost use Rattle.json_messages.specs.Values.{list_of};
+ghost use Rattle.lsp_hints.specs.Signatures.{form_of, forms_of, signatures_of};
 ghost use Rattle.serde_json.specs.Data.{Data};
 ghost use Rattle.serde_json.specs.View.{view};
 
 use crate::operation::{Operation, operation_at};
 use crate::values::{signature, text_of};
 use crate::wording::{
-    BYTE_FORM, DBYTE_FORM, DEFINITION_FORM, END_FORM, OPERANDS, ORIGIN_FORM, RES_FORM, WORD_FORM,
+    BYTE_FORM, DBYTE_FORM, DEFINITION_FORM, END_FORM, ORIGIN_FORM, RES_FORM, WORD_FORM,
 };
-use json_values::{Object, ValueList};
+use json_messages::{Object, ValueList};
 use lsp_messages::column_of;
 use model::{Mnemonic, Mode, Profile};
+use opcode_facts::{all_modes, operand_form};
 use optable::{encode_in, letters_of};
 use serde_json::Value;
 use source_notes::describe;
 use std::alloc::{AllocError, Global};
 
-/// Puts the form of a mnemonic in a mode with its operand behind others, if there is one.
+/// Puts the form of a mnemonic in a mode behind others, if there is one.
 fn with_form(
     alloc: Global,
     forms: ValueList,
     profile: Profile,
     mnemonic: Mnemonic,
-    operand: &(Mode, &str),
+    mode: Mode,
 ) -> ValueList
     ensures { (ds : List Data) → HasValues ds forms
-        → HasValues (ds ++ form_of profile mnemonic (written operand.now)) result }
+        → HasValues (ds ++ form_of profile mnemonic mode) result }
 {
-    match encode_in(profile, mnemonic, operand.0) {
+    match encode_in(profile, mnemonic, mode) {
         Some(_) => {
-            let label = describe(alloc, &letters_of(mnemonic), operand.1);
+            let label = describe(alloc, &letters_of(mnemonic), operand_form(mode));
             forms.with(signature(alloc, text_of(alloc, label)))
         }
         None => forms,
     }
 }
 
-/// Returns the modes with their operands, in the order in which forms are listed.
-#[tactic(auto, unfolding(crate::specs::Signatures::all_operands))]
-fn all_operands() -> &'static [(Mode, &'static str)]
-    ensures { map written result.now ≡ all_operands }
-{
-    &OPERANDS
-}
-
-/// Returns the forms of a mnemonic in some modes with their operands.
+/// Returns the forms of a mnemonic in some modes.
 fn forms_in(
     alloc: Global,
     profile: Profile,
     mnemonic: Mnemonic,
-    operands: &[(Mode, &str)],
+    modes: &[Mode],
 ) -> Result<Value, AllocError>
     ensures { IfOk result (λ v. view v
-        ≡ list_of (flat_map (form_of profile mnemonic) (map written operands.now))) }
+        ≡ list_of (flat_map (form_of profile mnemonic) modes.now)) }
 {
     let mut forms = ValueList::new(alloc);
-    for operand in operands {
-        forms = with_form(alloc, forms, profile, mnemonic, operand);
+    for mode in modes {
+        forms = with_form(alloc, forms, profile, mnemonic, *mode);
     }
     forms.build()
 }
@@ -73,7 +65,7 @@ fn forms_of(alloc: Global, profile: Profile, operation: Operation) -> Result<Val
 {
     let form = match operation {
         Operation::Instruction(mnemonic) => {
-            return forms_in(alloc, profile, mnemonic, all_operands());
+            return forms_in(alloc, profile, mnemonic, all_modes());
         }
         Operation::Bytes => BYTE_FORM,
         Operation::Words => WORD_FORM,

@@ -6,7 +6,7 @@ ghost use Rattle.std.specs.Str.Lossy.{utf8_lossy};
 ghost use Rattle.lsp_hints.specs.Signatures.{signature_data};
 ghost use Rattle.serde_json.specs.View.{view};
 
-use json_values::Object;
+use json_messages::Object;
 use serde_json::Value;
 use std::alloc::{AllocError, Global};
 

@@ -1,1 +1,2 @@
 pub mod ColumnSteps
+pub mod TextSteps

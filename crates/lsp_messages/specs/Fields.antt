@@ -1,9 +1,8 @@
--- The fields of messages. Source: Language Server Protocol 3.17; that a change has the whole text,
--- mos65 (the server asks for that).
-use Rattle.std.specs.Prelude.{ℕ, Bool, is_some, if◌then◌else◌, List, codes, Option, Some, None}
-use Rattle.json_values.specs.Fields.{number_at, text_at}
-use Rattle.serde_json.specs.Data.{Data}
-use Rattle.serde_json.specs.Find.{pointer}
+-- The fields of messages. Source: Language Server Protocol 3.17.
+use Rattle.std.specs.Prelude.{ℕ, List, codes, Option, Some, None, option_and_then}
+use Rattle.json_messages.specs.Fields.{number_at, text_at}
+use Rattle.serde_json.specs.Data.{Data, Items}
+use Rattle.serde_json.specs.Find.{as_array, pointer}
 
 abbrev pub uri_of : Data → Option (List ℕ)
 uri_of message = text_at (codes "/params/textDocument/uri") message
@@ -26,12 +25,6 @@ abbrev pub lines_of : Data → Option (ℕ × ℕ)
 lines_of message = numbers_at (codes "/params/range/start/line")
     (codes "/params/range/end/line") message
 
--- Something stands at a path.
-unfoldable pub has : List ℕ → Data → Bool
-has path message = is_some (pointer path message)
-
--- The text of a change, of which there is one, and it has no range.
-abbrev pub changed_text : Data → Option (List ℕ)
-changed_text message = if has (codes "/params/contentChanges/1") message then None
-    else if has (codes "/params/contentChanges/0/range") message then None
-    else text_at (codes "/params/contentChanges/0/text") message
+-- The changes of a text, if there is a list of them.
+abbrev pub changes_in : Data → Option Items
+changes_in message = option_and_then as_array (pointer (codes "/params/contentChanges") message)

@@ -1,7 +1,7 @@
 -- Answers and notices. The members stand in the order of their names. Source: JSON-RPC 2.0,
 -- "Response object", "Error object", "Notification"; Language Server Protocol 3.17, "ErrorCodes".
 use Rattle.std.specs.Prelude.{ℕ, ℤ, negsuc, List, [], ◌∷◌, codes}
-use Rattle.json_values.specs.Values.{object_of, word}
+use Rattle.json_messages.specs.Values.{object_of, word}
 use Rattle.lsp_messages.specs.declared.replies.Failure.{Failure}
 use Rattle.lsp_messages.specs.declared.replies.Failure.TheVariants.{NotJson, NoRequest, UnknownMethod, WrongParameters, NotInitialized, Refused}
 use Rattle.serde_json.specs.Data.{Data, number}

@@ -1,10 +1,11 @@
 -- What a message asks for. Source: Language Server Protocol 3.17.
 use Rattle.std.specs.Prelude.{ℕ, bytes_eq, false, if◌then◌else◌, List, codes, Option, Some, None, unwrap_or}
-use Rattle.serde_json.specs.Data.{Data}
-use Rattle.json_values.specs.Fields.{flag_at, text_at}
-use Rattle.lsp_messages.specs.Fields.{changed_text, lines_of, position_of, uri_of}
+use Rattle.serde_json.specs.Data.{Data, Items}
+use Rattle.json_messages.specs.Fields.{flag_at, text_at}
+use Rattle.lsp_messages.specs.Fields.{changes_in, lines_of, position_of, uri_of}
 use Rattle.lsp_messages.specs.declared.asked.At.{At}
 use Rattle.lsp_messages.specs.declared.asked.At.TheVariants as positions
+use Rattle.lsp_messages.specs.declared.asked.Client.{Client}
 use Rattle.lsp_messages.specs.declared.asked.Question.{Question}
 use Rattle.lsp_messages.specs.declared.asked.Question.TheVariants as questions
 use Rattle.lsp_messages.specs.declared.asked.Whole.{Whole}
@@ -12,25 +13,42 @@ use Rattle.lsp_messages.specs.declared.asked.Whole.TheVariants as documents
 use Rattle.lsp_messages.specs.declared.asked.Within.{Within}
 use Rattle.lsp_messages.specs.declared.asked.Within.TheVariants as ranges
 
--- A document has a text, or none any more; something is asked of a document; the name at a position
--- gets another one.
+-- A client says what it can do; a document has a text, another one by changes, or none any more;
+-- something is asked of a document; the name at a position is to get another one, or gets it.
 pub data RequestView : Type 0 where
-  initialize : RequestView
+  initialize : Client → RequestView
   shutdown : RequestView
   exit : RequestView
   opens : List ℕ → List ℕ → RequestView
+  changes : List ℕ → Option Items → RequestView
   closes : List ℕ → RequestView
   asks : List ℕ → Question → RequestView
+  prepares : List ℕ → ℕ → ℕ → RequestView
   renames : List ℕ → ℕ → ℕ → List ℕ → RequestView
   invalid : RequestView
   unknown : RequestView
   no_method : RequestView
+
+-- ---- what a client can do, where it says so
+
+abbrev pub client_of : Data → Client
+client_of message = record {
+  prepares = unwrap_or (flag_at
+      (codes "/params/capabilities/textDocument/rename/prepareSupport") message) false;
+}
 
 -- ---- by what a method needs: without it a message is invalid
 
 abbrev pub open_by : Option (List ℕ) → Option (List ℕ) → RequestView
 open_by (Some uri) (Some text) = opens uri text
 open_by uri text = invalid
+
+abbrev pub change_by : Option (List ℕ) → Data → RequestView
+change_by (Some uri) message = changes uri (changes_in message)
+change_by None message = invalid
+
+abbrev pub change_of : Data → RequestView
+change_of message = change_by (uri_of message) message
 
 abbrev pub close_by : Option (List ℕ) → RequestView
 close_by (Some uri) = closes uri
@@ -62,6 +80,13 @@ of_lines what uri lines = invalid
 abbrev pub asked_within : Within → Data → RequestView
 asked_within what message = of_lines what (uri_of message) (lines_of message)
 
+abbrev pub prepare_by : Option (List ℕ) → Option (ℕ × ℕ) → RequestView
+prepare_by (Some uri) (Some position) = prepares uri position.0 position.1
+prepare_by uri position = invalid
+
+abbrev pub prepare_of : Data → RequestView
+prepare_of message = prepare_by (uri_of message) (position_of message)
+
 abbrev pub rename_by : Option (List ℕ) → Option (ℕ × ℕ) → Option (List ℕ) → RequestView
 rename_by (Some uri) (Some position) (Some name) = renames uri position.0 position.1 name
 rename_by uri position name = invalid
@@ -71,6 +96,19 @@ rename_of message
     = rename_by (uri_of message) (position_of message) (text_at (codes "/params/newName") message)
 
 -- ---- by the method
+
+-- What is asked of a position.
+unfoldable pub position_by_method : List ℕ → Data → RequestView
+position_by_method method message =
+    if bytes_eq method (codes "textDocument/hover") then asked_at positions.Hover message
+    else if bytes_eq method (codes "textDocument/definition") then
+    asked_at positions.Definition message
+    else if bytes_eq method (codes "textDocument/references") then references_of message
+    else if bytes_eq method (codes "textDocument/documentHighlight") then
+    asked_at positions.Highlights message
+    else if bytes_eq method (codes "textDocument/signatureHelp") then
+    asked_at positions.Signatures message
+    else unknown
 
 -- What is asked of a document.
 unfoldable pub question_by_method : List ℕ → Data → RequestView
@@ -82,26 +120,20 @@ question_by_method method message =
     asked_of documents.Colours message
     else if bytes_eq method (codes "textDocument/foldingRange") then
     asked_of documents.Folds message
-    else if bytes_eq method (codes "textDocument/hover") then asked_at positions.Hover message
-    else if bytes_eq method (codes "textDocument/definition") then
-    asked_at positions.Definition message
-    else if bytes_eq method (codes "textDocument/references") then references_of message
-    else if bytes_eq method (codes "textDocument/signatureHelp") then
-    asked_at positions.Signatures message
     else if bytes_eq method (codes "textDocument/inlayHint") then asked_within ranges.Hints message
     else if bytes_eq method (codes "textDocument/codeAction") then asked_within ranges.Fixes message
+    else if bytes_eq method (codes "textDocument/prepareRename") then prepare_of message
     else if bytes_eq method (codes "textDocument/rename") then rename_of message
-    else unknown
+    else position_by_method method message
 
 abbrev pub by_method : List ℕ → Data → RequestView
 by_method method message =
-    if bytes_eq method (codes "initialize") then initialize
+    if bytes_eq method (codes "initialize") then initialize (client_of message)
     else if bytes_eq method (codes "shutdown") then shutdown
     else if bytes_eq method (codes "exit") then exit
     else if bytes_eq method (codes "textDocument/didOpen") then open_by (uri_of message)
     (text_at (codes "/params/textDocument/text") message)
-    else if bytes_eq method (codes "textDocument/didChange") then open_by (uri_of message)
-    (changed_text message)
+    else if bytes_eq method (codes "textDocument/didChange") then change_of message
     else if bytes_eq method (codes "textDocument/didClose") then close_by (uri_of message)
     else question_by_method method message
 

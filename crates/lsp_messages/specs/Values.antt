@@ -1,8 +1,9 @@
 -- The values of answers. The members of an object stand in the order of their names. Source:
--- Language Server Protocol 3.17, "Range", "Location", "TextEdit", "WorkspaceEdit", "Hover",
--- "CompletionItem", "DocumentSymbol", "Diagnostic", "PublishDiagnosticsParams".
+-- Language Server Protocol 3.17, "Range", "Location", "TextEdit", "WorkspaceEdit",
+-- "DocumentHighlight", "Prepare Rename Request", "Hover", "CompletionItem", "DocumentSymbol",
+-- "Diagnostic", "PublishDiagnosticsParams".
 use Rattle.std.specs.Prelude.{ℕ, List, [], ◌∷◌, codes}
-use Rattle.json_values.specs.Values.{count, object_of, word}
+use Rattle.json_messages.specs.Values.{count, object_of, word}
 use Rattle.serde_json.specs.Data.{Data}
 
 -- ---- places
@@ -27,6 +28,14 @@ edit_data text range = object_of ((codes "newText", word text) ∷ (codes "range
 -- The changes of one document.
 abbrev pub changes_data : List ℕ → Data → Data
 changes_data uri edits = object_of ((codes "changes", object_of ((uri, edits) ∷ [])) ∷ [])
+
+abbrev pub highlight_data : ℕ → Data → Data
+highlight_data kind range = object_of ((codes "kind", count kind) ∷ (codes "range", range) ∷ [])
+
+-- A name that may get another one.
+abbrev pub ready_data : List ℕ → Data → Data
+ready_data name range
+    = object_of ((codes "placeholder", word name) ∷ (codes "range", range) ∷ [])
 
 abbrev pub hover_data : List ℕ → Data → Data
 hover_data words range = object_of ((

@@ -1,5 +1,7 @@
 //! What a client asks for.
 
+use serde_json::Value;
+
 /// What is asked of a whole document.
 #[derive(Clone, Copy)]
 pub enum Whole {
@@ -22,6 +24,8 @@ pub enum At {
     Definition,
     /// `textDocument/references`, and whether definitions are wanted too.
     References { declares: bool },
+    /// `textDocument/documentHighlight`
+    Highlights,
     /// `textDocument/signatureHelp`
     Signatures,
 }
@@ -47,19 +51,33 @@ pub enum Question {
     Within { what: Within, from: u64, to: u64 },
 }
 
+/// What a client says that it can do.
+#[derive(Clone, Copy)]
+pub struct Client {
+    /// It asks whether a name may get another one before it asks for the other name.
+    pub prepares: bool,
+}
+
 /// What a message asks for.
 #[derive(Clone, Copy)]
 pub enum Request<'a> {
     /// `initialize`
-    Initialize,
+    Initialize {
+        client: Client,
+    },
     /// `shutdown`
     Shutdown,
     /// `exit`
     Exit,
-    /// `textDocument/didOpen`, `textDocument/didChange`: the whole text that a document has now.
+    /// `textDocument/didOpen`: the whole text that a document has.
     Open {
         uri: &'a str,
         text: &'a str,
+    },
+    /// `textDocument/didChange`: the changes of its text, if there is a list of them.
+    Change {
+        uri: &'a str,
+        changes: Option<&'a [Value]>,
     },
     /// `textDocument/didClose`
     Close {
@@ -69,6 +87,12 @@ pub enum Request<'a> {
     Question {
         uri: &'a str,
         question: Question,
+    },
+    /// `textDocument/prepareRename`: whether the name at a position may get another one.
+    Prepare {
+        uri: &'a str,
+        line: u64,
+        character: u64,
     },
     /// `textDocument/rename`: another name for the name at a position.
     Rename {

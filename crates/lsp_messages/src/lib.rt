@@ -2,10 +2,11 @@
 //! answer is made of.
 //!
 //! `requests` reads a message, by its method and by what stands in it; `asked` has what it asks
-//! for. `columns` counts columns in units of UTF-16, `places` has ranges and locations, `pieces`
-//! what stands in an answer, `replies` the envelopes.
-//! `specs/Requests.antt` says what each message asks for, `specs/Values.antt` and
-//! `specs/Replies.antt` which value each answer is.
+//! for. `columns` counts columns in units of UTF-16, `text_places` finds a place in a text, and
+//! `text_changes` has the text after a change. `places` has ranges and locations, `pieces` what
+//! stands in an answer, `replies` the envelopes.
+//! `specs/Requests.antt` says what each message asks for, `specs/TextChanges.antt` what a change
+//! does, `specs/Values.antt` and `specs/Replies.antt` which value each answer is.
 #![tactic(auto)]
 
 mod asked;
@@ -14,10 +15,13 @@ mod pieces;
 mod places;
 mod replies;
 mod requests;
+mod text_changes;
+mod text_places;
 
-pub use asked::{At, Question, Request, Whole, Within};
+pub use asked::{At, Client, Question, Request, Whole, Within};
 pub use columns::{character_of, column_of};
-pub use pieces::{changes, edit, hover, item, mark, marks, symbol};
+pub use pieces::{changes, edit, highlight, hover, item, mark, marks, ready, symbol};
 pub use places::{location, position, range};
 pub use replies::{Failure, failure_reply, notice, result_reply};
 pub use requests::read_request;
+pub use text_changes::changed_text;

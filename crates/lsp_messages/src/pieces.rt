@@ -2,12 +2,13 @@
 //! no whole either.
 
 ghost use Rattle.std.specs.Prelude.{◌≡◌, ℕ, IfOk, List, string_bytes};
-ghost use Rattle.lsp_messages.specs.Values.{changes_data, edit_data, hover_data, item_data};
-ghost use Rattle.lsp_messages.specs.Values.{mark_data, marks_data, symbol_data};
+ghost use Rattle.lsp_messages.specs.Values.{changes_data, edit_data, highlight_data, hover_data};
+ghost use Rattle.lsp_messages.specs.Values.{item_data, mark_data, marks_data, ready_data};
+ghost use Rattle.lsp_messages.specs.Values.{symbol_data};
 ghost use Rattle.serde_json.specs.Data.{Data};
 ghost use Rattle.serde_json.specs.View.{view};
 
-use json_values::Object;
+use json_messages::Object;
 use serde_json::Value;
 use std::alloc::{AllocError, Global};
 
@@ -37,6 +38,36 @@ pub fn changes(
 {
     let changes = Object::new(alloc).member(uri, edits).build();
     Object::new(alloc).member("changes", changes).build()
+}
+
+/// Returns a place of the name under the cursor, of a kind of the protocol.
+pub fn highlight(
+    alloc: Global,
+    kind: u64,
+    range: Result<Value, AllocError>,
+) -> Result<Value, AllocError>
+    ensures { (r : Data) → IfOk range (λ v. view v ≡ r)
+        → IfOk result (λ v. view v ≡ highlight_data kind r) }
+{
+    Object::new(alloc)
+        .count("kind", kind)
+        .member("range", range)
+        .build()
+}
+
+/// Returns a name that may get another one, with its range.
+pub fn ready(
+    alloc: Global,
+    name: Result<String, AllocError>,
+    range: Result<Value, AllocError>,
+) -> Result<Value, AllocError>
+    ensures { (text : List ℕ) (r : Data) → IfOk name (λ s. string_bytes s ≡ text)
+        → IfOk range (λ v. view v ≡ r) → IfOk result (λ v. view v ≡ ready_data text r) }
+{
+    Object::new(alloc)
+        .text("placeholder", name)
+        .member("range", range)
+        .build()
 }
 
 /// Returns what is said at a place, with the range that it is said of.

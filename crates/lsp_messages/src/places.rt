@@ -5,7 +5,7 @@ ghost use Rattle.lsp_messages.specs.Values.{location_data, position_data, range_
 ghost use Rattle.serde_json.specs.Data.{Data};
 ghost use Rattle.serde_json.specs.View.{view};
 
-use json_values::Object;
+use json_messages::Object;
 use serde_json::Value;
 use std::alloc::{AllocError, Global};
 

@@ -4,7 +4,7 @@ ghost use Rattle.std.specs.Prelude.{◌≡◌, IfOk};
 ghost use Rattle.lsp_messages.specs.Replies.{failure_data, notice_data, number_of, result_data};
 ghost use Rattle.serde_json.specs.View.{view};
 
-use json_values::Object;
+use json_messages::Object;
 use serde_json::Value;
 use std::alloc::{AllocError, Global};
 

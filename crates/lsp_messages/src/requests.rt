@@ -2,31 +2,56 @@
 
 ghost use Rattle.std.specs.Prelude.{◌≡◌};
 ghost use Rattle.std.specs.Option.{option_map};
-ghost use Rattle.serde_json.specs.View.{view};
-ghost use Rattle.lsp_messages.specs.Fields.{changed_text, uri_of};
-ghost use Rattle.lsp_messages.specs.Requests.{asked_at, asked_of, asked_within, open_by};
+ghost use Rattle.serde_json.specs.View.{items_view, view};
+ghost use Rattle.lsp_messages.specs.Fields.{changes_in, uri_of};
+ghost use Rattle.lsp_messages.specs.Requests.{asked_at, asked_of, asked_within, change_of};
+ghost use Rattle.lsp_messages.specs.Requests.{client_of, open_by, position_by_method, prepare_of};
 ghost use Rattle.lsp_messages.specs.Requests.{question_by_method, rename_of, request_of};
 ghost use Rattle.lsp_messages.specs.Views.{request_view};
 
-use crate::asked::{At, Question, Request, Whole, Within};
-use json_values::{flag_or, number_at, text_at};
+use crate::asked::{At, Client, Question, Request, Whole, Within};
+use json_messages::{flag_or, number_at, text_at};
 use serde_json::Value;
 
 /// The path of the name of the document that a message is about.
 const URI: &str = "/params/textDocument/uri";
 
-/// Returns the whole text of a change, if the message has one change, of the whole text.
-#[tactic(auto, unfolding(crate::specs::Fields::has))]
-fn changed_text(message: &Value) -> Option<&str>
-    ensures { option_map (λ s. s.now) result ≡ changed_text (view message.now) }
+/// The path of what a client says of renames.
+const PREPARES: &str = "/params/capabilities/textDocument/rename/prepareSupport";
+
+/// Reads what a client says that it can do.
+fn client_of(message: &Value) -> Client
+    ensures { result ≡ client_of (view message.now) }
 {
-    if let Some(_) = message.pointer("/params/contentChanges/1") {
-        return None;
+    Client {
+        prepares: flag_or(message, PREPARES, false),
     }
-    if let Some(_) = message.pointer("/params/contentChanges/0/range") {
-        return None;
+}
+
+/// Returns the changes of a text, if there is a list of them.
+fn changes_in(message: &Value) -> Option<&[Value]>
+    ensures { option_map (λ vs. items_view vs.now) result ≡ changes_in (view message.now) }
+{
+    match message
+        .pointer("/params/contentChanges")
+        .and_then(Value::as_array)
+    {
+        Some(changes) => Some(changes.as_slice()),
+        None => None,
     }
-    text_at(message, "/params/contentChanges/0/text")
+}
+
+/// Reads `textDocument/didChange`: the changes of the text of a document.
+fn change_of(message: &Value) -> Request<'_>
+    ensures { request_view result ≡ change_of (view message.now) }
+{
+    match text_at(message, URI) {
+        Some(uri) => Request::Change {
+            uri,
+            changes: changes_in(message),
+        },
+        None => Request::Invalid,
+    }
 }
 
 /// Reads the notice of the whole text of a document, if the text is given.
@@ -95,6 +120,26 @@ fn asked_within(what: Within, message: &Value) -> Request<'_>
     }
 }
 
+/// Reads `textDocument/prepareRename`: whether the name at a position may get another one.
+fn prepare_of(message: &Value) -> Request<'_>
+    ensures { request_view result ≡ prepare_of (view message.now) }
+{
+    let Some(uri) = text_at(message, URI) else {
+        return Request::Invalid;
+    };
+    let Some(line) = number_at(message, "/params/position/line") else {
+        return Request::Invalid;
+    };
+    let Some(character) = number_at(message, "/params/position/character") else {
+        return Request::Invalid;
+    };
+    Request::Prepare {
+        uri,
+        line,
+        character,
+    }
+}
+
 /// Reads `textDocument/rename`: another name for the name at a position.
 fn rename_of(message: &Value) -> Request<'_>
     ensures { request_view result ≡ rename_of (view message.now) }
@@ -119,6 +164,24 @@ fn rename_of(message: &Value) -> Request<'_>
     }
 }
 
+/// Reads a message that asks something of a position.
+#[tactic(auto, unfolding(crate::specs::Requests::position_by_method))]
+fn position_by_method<'a>(method: &str, message: &'a Value) -> Request<'a>
+    ensures { request_view result ≡ position_by_method method.now (view message.now) }
+{
+    match method {
+        "textDocument/hover" => asked_at(At::Hover, message),
+        "textDocument/definition" => asked_at(At::Definition, message),
+        "textDocument/references" => {
+            let declares = flag_or(message, "/params/context/includeDeclaration", false);
+            asked_at(At::References { declares }, message)
+        }
+        "textDocument/documentHighlight" => asked_at(At::Highlights, message),
+        "textDocument/signatureHelp" => asked_at(At::Signatures, message),
+        _ => Request::Unknown,
+    }
+}
+
 /// Reads a message that asks something of a document.
 #[tactic(auto, unfolding(crate::specs::Requests::question_by_method))]
 fn question_by_method<'a>(method: &str, message: &'a Value) -> Request<'a>
@@ -129,17 +192,11 @@ fn question_by_method<'a>(method: &str, message: &'a Value) -> Request<'a>
         "textDocument/completion" => asked_of(Whole::Completion, message),
         "textDocument/semanticTokens/full" => asked_of(Whole::Colours, message),
         "textDocument/foldingRange" => asked_of(Whole::Folds, message),
-        "textDocument/hover" => asked_at(At::Hover, message),
-        "textDocument/definition" => asked_at(At::Definition, message),
-        "textDocument/references" => {
-            let declares = flag_or(message, "/params/context/includeDeclaration", false);
-            asked_at(At::References { declares }, message)
-        }
-        "textDocument/signatureHelp" => asked_at(At::Signatures, message),
         "textDocument/inlayHint" => asked_within(Within::Hints, message),
         "textDocument/codeAction" => asked_within(Within::Fixes, message),
+        "textDocument/prepareRename" => prepare_of(message),
         "textDocument/rename" => rename_of(message),
-        _ => Request::Unknown,
+        method => position_by_method(method, message),
     }
 }
 
@@ -152,13 +209,15 @@ pub fn read_request(message: &Value) -> Request<'_>
         return Request::NoMethod;
     };
     match method {
-        "initialize" => Request::Initialize,
+        "initialize" => Request::Initialize {
+            client: client_of(message),
+        },
         "shutdown" => Request::Shutdown,
         "exit" => Request::Exit,
         "textDocument/didOpen" => {
             open_by(message, text_at(message, "/params/textDocument/text"))
         }
-        "textDocument/didChange" => open_by(message, changed_text(message)),
+        "textDocument/didChange" => change_of(message),
         "textDocument/didClose" => match text_at(message, URI) {
             Some(uri) => Request::Close { uri },
             None => Request::Invalid,

@@ -9,7 +9,7 @@ pub use image::Image;
 pub use map_spec::MapSpec;
 pub use memory::memory_of;
 pub use model::{BusFault, Profile};
-pub use port::Port;
+pub use port::{DEFAULT_PORT, Port};
 
 mod image;
 mod map_spec;

@@ -5,6 +5,9 @@ ghost use Rattle.model.specs.State.{no_port};
 
 use std::marker::Model;
 
+/// The first of the port's addresses where none is asked for. Source: mos65.
+pub const DEFAULT_PORT: u16 = 0xf000;
+
 /// The base of a port that is not there: the number past the last address.
 const NO_PORT: u32 = 0x10000;
 

@@ -7,8 +7,8 @@ use Rattle.std.proofs.Math.ListN.{drop_of_length-le}
 use Rattle.std.specs.List.{flat_map}
 use Rattle.source_map.specs.Names.{Named}
 use Rattle.std.specs.Prelude.{slice_index}
-use Rattle.mon_dispatch.specs.LookTexts.{found_below, found_line, places_found, stands_at}
-use Rattle.mon_dispatch.specs.declared.wording.TheConstants.{AND_MORE, NOWHERE}
+use Rattle.mon_dispatch.specs.LookTexts.{found_below, found_line, nowhere_text, places_found, stands_at}
+use Rattle.mon_dispatch.specs.declared.wording.TheConstants.{AND_MORE}
 
 -- one address more
 more : (m b : List ℕ) (n : ℕ) → found_below m b (suc n)
@@ -91,7 +91,7 @@ module _ (m b : List ℕ) (names others : List Named) (same : others ≡ names) 
       → new ≡ count + cond s 1 0 → 16 < new
       → t2 ≡ t1 ++ cond s (cond (nat_lt count 16) (found_line others n) []) []
       → t3 ≡ t2 ++ AND_MORE.now
-      → t3 ≡ t0 ++ places_found names (found_below m b (length m))
+      → t3 ≡ t0 ++ places_found b names (found_below m b (length m))
   many_by false n count new t0 t1 t2 t3 e within so_far counted few grown past now last =
       absurd (omega (arith, grown, few, past))
   many_by true n count new t0 t1 t2 t3 e within so_far counted few grown past now last =
@@ -113,8 +113,8 @@ module _ (m b : List ℕ) (names others : List Named) (same : others ≡ names) 
       ∙ append_assoc t0 (flat_map f xs) AND_MORE.now
       ∙ ap (λ l. t0 ++ l) (
       (λ i. flat_map f (sym (front 16 xs (n ∷ rest.0) size) i) ++ cond (sym (lt-ltb 16 (length ys) long) i) AND_MORE.now [])
-      ∙ ap (λ t. cond t NOWHERE.now (flat_map f (take 16 ys) ++ cond (nat_lt 16 (length ys)) AND_MORE.now [])) (sym (ne_eqb (length ys) 0 some))
-      ∙ ap (places_found names) (sym whole))
+      ∙ ap (λ t. cond t (nowhere_text b) (flat_map f (take 16 ys) ++ cond (nat_lt 16 (length ys)) AND_MORE.now [])) (sym (ne_eqb (length ys) 0 some))
+      ∙ ap (places_found b names) (sym whole))
 
   pub many_found : (n count new : ℕ) (t0 t1 t2 t3 : List ℕ) → n < length m
       → t1 ≡ t0 ++ flat_map (found_line names) (found_below m b n)
@@ -122,14 +122,14 @@ module _ (m b : List ℕ) (names others : List Named) (same : others ≡ names) 
       → new ≡ count + cond (stands_at m b n) 1 0 → 16 < new
       → t2 ≡ t1 ++ cond (stands_at m b n) (cond (nat_lt count 16) (found_line others n) []) []
       → t3 ≡ t2 ++ AND_MORE.now
-      → t3 ≡ t0 ++ places_found names (found_below m b (length m))
+      → t3 ≡ t0 ++ places_found b names (found_below m b (length m))
   many_found n count new t0 t1 t2 t3 = many_by (stands_at m b n) n count new t0 t1 t2 t3 refl
 
   -- all addresses were looked at
   pub all_found : (n count : ℕ) (t0 t1 : List ℕ) → n ≡ length m
       → t1 ≡ t0 ++ flat_map (found_line names) (found_below m b n)
       → count ≡ length (found_below m b n) → count ≤ 16 → (count ≡ 0 → ⊥)
-      → t1 ≡ t0 ++ places_found names (found_below m b (length m))
+      → t1 ≡ t0 ++ places_found b names (found_below m b (length m))
   all_found n count t0 t1 whole so_far counted few some =
       let xs = found_below m b n in
       let f = found_line names in
@@ -138,19 +138,19 @@ module _ (m b : List ℕ) (names others : List Named) (same : others ≡ names) 
       so_far ∙ ap (λ l. t0 ++ l) (
       sym (append-nil (flat_map f xs))
       ∙ (λ i. flat_map f (sym (take_all 16 xs size) i) ++ cond (sym (le-ltb 16 (length xs) size) i) AND_MORE.now [])
-      ∙ ap (λ t. cond t NOWHERE.now (flat_map f (take 16 xs) ++ cond (nat_lt 16 (length xs)) AND_MORE.now [])) (sym (ne_eqb (length xs) 0 not_none))
-      ∙ ap (λ k. places_found names (found_below m b k)) whole)
+      ∙ ap (λ t. cond t (nowhere_text b) (flat_map f (take 16 xs) ++ cond (nat_lt 16 (length xs)) AND_MORE.now [])) (sym (ne_eqb (length xs) 0 not_none))
+      ∙ ap (λ k. places_found b names (found_below m b k)) whole)
 
   pub nowhere_found : (n count : ℕ) (t0 t1 t2 : List ℕ) → n ≡ length m
       → t1 ≡ t0 ++ flat_map (found_line names) (found_below m b n)
-      → count ≡ length (found_below m b n) → count ≡ 0 → t2 ≡ t1 ++ NOWHERE.now
-      → t2 ≡ t0 ++ places_found names (found_below m b (length m))
+      → count ≡ length (found_below m b n) → count ≡ 0 → t2 ≡ t1 ++ (nowhere_text b)
+      → t2 ≡ t0 ++ places_found b names (found_below m b (length m))
   nowhere_found n count t0 t1 t2 whole so_far counted none last =
       let xs = found_below m b n in
       let f = found_line names in
       let empty : xs ≡ [] = no_elements xs (sym counted ∙ none) in
-      last ∙ ap (λ l. l ++ NOWHERE.now) (so_far ∙ ap (λ l. t0 ++ flat_map f l) empty ∙ append-nil t0)
-      ∙ ap (λ l. t0 ++ l) (ap (places_found names) (sym empty) ∙ ap (λ k. places_found names (found_below m b k)) whole)
+      last ∙ ap (λ l. l ++ (nowhere_text b)) (so_far ∙ ap (λ l. t0 ++ flat_map f l) empty ∙ append-nil t0)
+      ∙ ap (λ l. t0 ++ l) (ap (places_found b names) (sym empty) ∙ ap (λ k. places_found b names (found_below m b k)) whole)
     where
       no_elements : (xs : List ℕ) → length xs ≡ 0 → xs ≡ []
       no_elements [] h = refl

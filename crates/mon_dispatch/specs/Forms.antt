@@ -8,34 +8,17 @@ use Rattle.model.specs.OpcodeTable.{opcode_of, row_at}
 use Rattle.model.specs.Text.{hex_byte}
 use Rattle.model.specs.declared.instruction.Mnemonic.{Mnemonic}
 use Rattle.model.specs.declared.instruction.Mode.{Mode}
-use Rattle.model.specs.declared.instruction.Mode.TheVariants.{Imp, Acc, Imm, Zp, ZpX, ZpY, Abs, AbsX, AbsY, IndX, IndY, Ind, Rel, IndZ}
+use Rattle.model.specs.declared.instruction.Mode.TheVariants.{Rel}
 use Rattle.model.specs.declared.instruction.Profile.{Profile}
 use Rattle.model.specs.declared.instruction.Row.{Row}
 use Rattle.model.specs.declared.registers.Flags.{Flags}
 use Rattle.opcode_facts.specs.Changed.{changed_by}
+use Rattle.opcode_facts.specs.Forms.{all_modes, operand_form}
 use Rattle.opcode_facts.specs.Letters.{flags_text, is_any}
 use Rattle.mon_session.specs.declared.wording.TheConstants.{NO_INSTRUCTION}
-use Rattle.mon_dispatch.specs.declared.forms.TheConstants.{MODES}
-use Rattle.mon_dispatch.specs.declared.wording.TheConstants.{BRANCH_CYCLES, BYTE, BYTES, CHANGES, CHANGES_NO_FLAG, CYCLES, FORM_ABS, FORM_ABSX, FORM_ABSY, FORM_ACC, FORM_IMM, FORM_IND, FORM_INDX, FORM_INDY, FORM_INDZ, FORM_REL, FORM_ZP, FORM_ZPX, FORM_ZPY, PAGE_CYCLE}
+use Rattle.mon_dispatch.specs.declared.wording.TheConstants.{BRANCH_CYCLES, BYTE, BYTES, CHANGES, CHANGES_NO_FLAG, CYCLES, PAGE_CYCLE}
 
 -- ---- the row of a form
-
--- How an operand is written.
-abbrev pub operand_form : Mode → List ℕ
-operand_form Imp = []
-operand_form Acc = FORM_ACC.now
-operand_form Imm = FORM_IMM.now
-operand_form Zp = FORM_ZP.now
-operand_form ZpX = FORM_ZPX.now
-operand_form ZpY = FORM_ZPY.now
-operand_form Abs = FORM_ABS.now
-operand_form AbsX = FORM_ABSX.now
-operand_form AbsY = FORM_ABSY.now
-operand_form IndX = FORM_INDX.now
-operand_form IndY = FORM_INDY.now
-operand_form Ind = FORM_IND.now
-operand_form Rel = FORM_REL.now
-operand_form IndZ = FORM_INDZ.now
 
 abbrev pub len_text : ℕ → List ℕ
 len_text len = decimal len ++ (if len == 1 then BYTE.now else BYTES.now)
@@ -67,10 +50,6 @@ opcode_form profile (Some opcode) = row_form opcode (row_at profile opcode)
 -- The form in a mode, if there is one.
 abbrev pub form_by : Profile → Mnemonic → Mode → List ℕ
 form_by profile mnemonic mode = opcode_form profile (opcode_of profile mnemonic mode)
-
--- The modes, in the order in which forms are listed.
-unfoldable pub all_modes : List Mode
-all_modes = MODES
 
 -- ---- the flags that it changes
 

@@ -5,10 +5,10 @@ use Rattle.model.specs.declared.event.Event.TheVariants as event
 use Rattle.mon_lines.specs.Lines.{SeenCommand, SeenLine, SeenSlip, command_view, seen_line}
 use Rattle.mon_lines.specs.declared.command.Command.{Command}
 use Rattle.mon_lines.specs.declared.command.Command.TheVariants as line
-use Rattle.mon_stops.specs.Stops.{first_with, new_changes, without, without_first_with, without_register}
-use Rattle.mon_stops.specs.declared.breaks.Break.{Break}
-use Rattle.mon_stops.specs.declared.watches.Watch.{Watch}
-use Rattle.mon_stops.specs.declared.watches.Watch.TheVariants as watching
+use Rattle.mon_runs.specs.Stops.{first_with, new_changes, without, without_first_with, without_register}
+use Rattle.mon_runs.specs.declared.breaks.Break.{Break}
+use Rattle.mon_runs.specs.declared.watches.Watch.{Watch}
+use Rattle.mon_runs.specs.declared.watches.Watch.TheVariants as watching
 use Rattle.mon_lines.specs.declared.command.Register.{Register}
 use Rattle.mon_session.specs.Course.{Course, KeepsStops, ShowsOnly, course_of, happened}
 use Rattle.mon_settings.specs.StopLines.{can_watch, changes_left, is_set, or_same, with_break, with_watch, without_stops}
@@ -18,22 +18,22 @@ use Rattle.mon_settings.specs.FlagLines.{flag_setting}
 use Rattle.mon_settings.specs.Names.{without_names}
 use Rattle.mon_steps.specs.BackLines.{history_shown, most_remade, remade, undone_by, undone_by_watches}
 use Rattle.mon_steps.specs.RunLines.{KeepsWatches, Stand, ran_by, ran_until, returned, some_steps, stand_of, stepped_over, watches_of}
-use Rattle.mon_session.specs.declared.desk.Desk.{Desk}
+use Rattle.mon_session.specs.declared.mon_state.MonState.{MonState}
 use Rattle.mon_dispatch.specs.LineTexts.{behind_text, line_text, slip_line}
 use Rattle.mon_dispatch.specs.declared.lines.Outcome.{Outcome}
 use Rattle.mon_dispatch.specs.declared.lines.Outcome.TheVariants as outcome
 
 -- So much was written for a line.
-abbrev pub Says : List ℕ → Desk → Desk → Type 0
+abbrev pub Says : List ℕ → MonState → MonState → Type 0
 Says text old new = new.text.items ≡ old.text.items ++ text
 
 -- The events, the places, and what is shown at each stop are what they were.
-abbrev pub KeepsPast : Desk → Desk → Type 0
+abbrev pub KeepsPast : MonState → MonState → Type 0
 KeepsPast old new = (new.events ≡ old.events) × (new.places ≡ old.places)
     × (new.displays ≡ old.displays)
 
 -- A break is set.
-abbrev pub SetsBreak : Break → Desk → Desk → Type 0
+abbrev pub SetsBreak : Break → MonState → MonState → Type 0
 SetsBreak stop old new = let given = break_set stop.address old.session in
     (new.session ≡ or_same old.session given)
     × (new.stops.breaks.items ≡ (if is_set given then with_break stop old.stops.breaks.items
@@ -42,7 +42,7 @@ SetsBreak stop old new = let given = break_set stop.address old.session in
     × KeepsPast old new
 
 -- A watch is set.
-abbrev pub SetsWatch : Watch → Desk → Desk → Type 0
+abbrev pub SetsWatch : Watch → MonState → MonState → Type 0
 SetsWatch watch old new = let watches = old.stops.watches.items in
     let can = can_watch watch old.session in
     (new.session ≡ with_watch watch watches old.session)
@@ -52,7 +52,7 @@ SetsWatch watch old new = let watches = old.stops.watches.items in
     × (new.stops.breaks ≡ old.stops.breaks) × KeepsPast old new
 
 -- The break and the first watch at an address are cleared.
-abbrev pub Deletes : ℕ → Desk → Desk → Type 0
+abbrev pub Deletes : ℕ → MonState → MonState → Type 0
 Deletes address old new = let watches = old.stops.watches.items in
     let left = without_first_with address watches in
     (new.session ≡ without_stops address watches old.session)
@@ -63,27 +63,27 @@ Deletes address old new = let watches = old.stops.watches.items in
     × KeepsPast old new
 
 -- The first watch of a register is cleared.
-abbrev pub DeletesRegister : Register → Desk → Desk → Type 0
+abbrev pub DeletesRegister : Register → MonState → MonState → Type 0
 DeletesRegister register old new = (new.session ≡ old.session)
     × (new.stops.watches.items ≡ without_register register old.stops.watches.items)
     × (new.stops.breaks ≡ old.stops.breaks) × (new.stops.changes ≡ old.stops.changes)
     × KeepsPast old new
 
 -- Other bytes are shown at each stop.
-abbrev pub SetsDisplays : List ℕ → Desk → Desk → Type 0
+abbrev pub SetsDisplays : List ℕ → MonState → MonState → Type 0
 SetsDisplays displays old new = (new.displays.items ≡ displays)
     × (course_of new ≡ course_of old) × (new.stops ≡ old.stops) × (new.places ≡ old.places)
 
 -- A run leads the session, its events and its breaks there, and all else stays.
-abbrev pub Arrives : Stand → Desk → Desk → Type 0
+abbrev pub Arrives : Stand → MonState → MonState → Type 0
 Arrives stand old new = (stand_of new ≡ stand) × KeepsWatches old new
 
 -- The session and its events become others, and all else stays.
-abbrev pub Becomes : Course → Desk → Desk → Type 0
+abbrev pub Becomes : Course → MonState → MonState → Type 0
 Becomes course old new = (course_of new ≡ course) × KeepsStops old new
 
 -- What a line does that asks for something. Most lines only look.
-abbrev pub Does : Command → Desk → Desk → Type 0
+abbrev pub Does : Command → MonState → MonState → Type 0
 Does line.Nothing old new = Arrives (some_steps 1 (watches_of old) (stand_of old)) old new
 Does (line.Step count) old new
     = Arrives (some_steps count (watches_of old) (stand_of old)) old new
@@ -143,12 +143,12 @@ is_over outcome.Over = true
 is_over outcome.Moved = false
 is_over outcome.Stays = false
 
--- What a line is read as at a desk.
-abbrev pub read_at : Desk → List ℕ → SeenLine
-read_at desk line = seen_line desk.places.names desk.session.current.regs.pc line
+-- What a line is read as at a state of `mon`.
+abbrev pub read_at : MonState → List ℕ → SeenLine
+read_at mon line = seen_line mon.places.names mon.session.current.regs.pc line
 
 -- A line that can be read does what it asks for, and says so. Any other only says what is wrong.
-abbrev pub Follows : Result SeenCommand SeenSlip → Outcome → Desk → Desk → Type 0
+abbrev pub Follows : Result SeenCommand SeenSlip → Outcome → MonState → MonState → Type 0
 Follows (Ok seen) result old new = (command : Command) × (command_view command ≡ seen)
     × (result ≡ outcome_of command) × Does command old new × Says (line_text command old) old new
 Follows (Err slip) result old new = (result ≡ outcome.Stays) × ShowsOnly old new
@@ -156,7 +156,7 @@ Follows (Err slip) result old new = (result ≡ outcome.Stays) × ShowsOnly old 
 
 -- A line does what it asks for. If the session has moved, the bytes that are displayed are shown
 -- then.
-abbrev pub Serves : SeenLine → Bool → Desk → Desk → Type 0
-Serves line over old new = (between : Desk) × (result : Outcome)
+abbrev pub Serves : SeenLine → Bool → MonState → MonState → Type 0
+Serves line over old new = (between : MonState) × (result : Outcome)
     × Follows line.asked result old between × (over ≡ is_over result)
     × ShowsOnly between new × Says (behind_text result line.decimal between) between new

@@ -2,6 +2,7 @@
 use Rattle.std.specs.Prelude.{ℕ, ◌+◌, ◌%◌, ◌==◌, zero, suc, min, nat_le, nat_lt, Bool, true, false, if◌then◌else◌, List, [], ◌∷◌, ◌++◌, None, codes, length, slice_index, take}
 use Rattle.std.specs.List.{flat_map}
 use Rattle.model.specs.State.{State}
+use Rattle.model.specs.Text.{hex_byte}
 use Rattle.mon_lines.specs.declared.command.Command.{Command}
 use Rattle.mon_lines.specs.declared.command.Command.TheVariants as line
 use Rattle.mon_texts.specs.Calls.{calls_text}
@@ -48,15 +49,22 @@ found_below memory bytes (suc n) = found_below memory bytes n
 abbrev pub found_line : List Named → ℕ → List ℕ
 found_line names address = place_text names address ++ codes "\n"
 
+-- That bytes stand nowhere, with these bytes.
+abbrev pub sought_byte : ℕ → List ℕ
+sought_byte byte = 32 ∷ hex_byte byte
+
+unfoldable pub nowhere_text : List ℕ → List ℕ
+nowhere_text bytes = NOWHERE.now ++ (flat_map sought_byte bytes ++ codes "\n")
+
 -- At most 16 places are shown.
-abbrev pub places_found : List Named → List ℕ → List ℕ
-places_found names addresses = if length addresses == 0 then NOWHERE.now
+abbrev pub places_found : List ℕ → List Named → List ℕ → List ℕ
+places_found bytes names addresses = if length addresses == 0 then nowhere_text bytes
     else flat_map (found_line names) (take 16 addresses)
     ++ (if nat_lt 16 (length addresses) then AND_MORE.now else [])
 
 abbrev pub find_text : List ℕ → List ℕ → List Named → List ℕ
 find_text memory bytes names
-    = places_found names (found_below memory bytes (length memory))
+    = places_found bytes names (found_below memory bytes (length memory))
 
 -- ---- the lines
 

@@ -2,71 +2,19 @@
 
 ghost use Rattle.std.specs.Prelude.{◌≡◌, ◌++◌, OnOk};
 ghost use Rattle.std.specs.List.{flat_map};
-ghost use Rattle.mon_dispatch.specs.Forms.{all_forms, all_modes, changes_text, extra_text};
-ghost use Rattle.mon_dispatch.specs.Forms.{form_by, form_row, forms_text, len_text};
-ghost use Rattle.mon_dispatch.specs.Forms.{known_forms, no_forms, opcode_form, operand_form, row_form};
+ghost use Rattle.mon_dispatch.specs.Forms.{all_forms, changes_text, extra_text, form_by, form_row};
+ghost use Rattle.mon_dispatch.specs.Forms.{forms_text, known_forms, len_text, no_forms};
+ghost use Rattle.mon_dispatch.specs.Forms.{opcode_form, row_form};
 
-use crate::wording::{
-    BRANCH_CYCLES, BYTE, BYTES, CHANGES, CHANGES_NO_FLAG, CYCLES, FORM_ABS, FORM_ABSX, FORM_ABSY,
-    FORM_ACC, FORM_IMM, FORM_IND, FORM_INDX, FORM_INDY, FORM_INDZ, FORM_REL, FORM_ZP, FORM_ZPX,
-    FORM_ZPY, PAGE_CYCLE,
-};
+use crate::wording::{BRANCH_CYCLES, BYTE, BYTES, CHANGES, CHANGES_NO_FLAG, CYCLES, PAGE_CYCLE};
 use formatting::{push_blanks, push_byte, push_count, push_text};
 use model::Flags;
 use mon_session::wording::NO_INSTRUCTION;
-use opcode_facts::{changed_by, is_any, push_flags};
+use opcode_facts::{all_modes, changed_by, is_any, operand_form, push_flags};
 use optable::{
     Mnemonic, Mode, Profile, Row, decode_in, encode_in, letters_of, mnemonic_in, operation,
 };
 use std::alloc::AllocError;
-
-/// The modes, in the order in which forms are listed.
-pub const MODES: [Mode; 14] = [
-    Mode::Imp,
-    Mode::Acc,
-    Mode::Imm,
-    Mode::Zp,
-    Mode::ZpX,
-    Mode::ZpY,
-    Mode::Abs,
-    Mode::AbsX,
-    Mode::AbsY,
-    Mode::Ind,
-    Mode::IndX,
-    Mode::IndY,
-    Mode::IndZ,
-    Mode::Rel,
-];
-
-/// Returns the modes, in the order in which forms are listed.
-#[tactic(auto, unfolding(crate::specs::Forms::all_modes))]
-fn all_modes() -> &'static [Mode]
-    ensures { result.now ≡ all_modes }
-{
-    &MODES
-}
-
-/// How an operand is written.
-fn operand_form(mode: Mode) -> &'static str
-    ensures { result.now ≡ operand_form mode }
-{
-    match mode {
-        Mode::Imp => "",
-        Mode::Acc => FORM_ACC,
-        Mode::Imm => FORM_IMM,
-        Mode::Zp => FORM_ZP,
-        Mode::ZpX => FORM_ZPX,
-        Mode::ZpY => FORM_ZPY,
-        Mode::Abs => FORM_ABS,
-        Mode::AbsX => FORM_ABSX,
-        Mode::AbsY => FORM_ABSY,
-        Mode::IndX => FORM_INDX,
-        Mode::IndY => FORM_INDY,
-        Mode::Ind => FORM_IND,
-        Mode::Rel => FORM_REL,
-        Mode::IndZ => FORM_INDZ,
-    }
-}
 
 /// Appends how many bytes an instruction has.
 fn push_len(text: &mut Vec<u8>, len: u8) -> Result<(), AllocError>

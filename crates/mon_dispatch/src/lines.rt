@@ -12,7 +12,8 @@ use crate::wording::{IS_DECIMAL, IS_HEX};
 use arrayvec::ArrayVec;
 use formatting::push_text;
 use mon_lines::{Command, ReadLine, Slip, Test};
-use mon_session::Desk;
+use mon_runs::{Break, Watch};
+use mon_session::MonState;
 use mon_settings::{
     ask_nmi, assemble, delete, delete_register, display, hand_in, list, list_displays, put, reset,
     set, set_break, set_flag, set_irq, set_watch, show_displays, undisplay,
@@ -20,7 +21,6 @@ use mon_settings::{
 use mon_steps::{
     redo, run, run_until, show_history, step_out, step_over, steps, undo, undo_to_stop,
 };
-use mon_stops::{Break, Watch};
 use mon_texts::push_slip;
 use std::alloc::{AllocError, Global};
 
@@ -49,14 +49,14 @@ fn outcome_of(command: &Command<'_>) -> Outcome
 }
 
 /// Has a byte shown at each stop, or lists those that are.
-fn display_or_list(desk: &mut Desk, place: Option<u16>) -> Result<(), AllocError>
-    ensures does { OnOk result (Does (Command.Display place) desk.old desk.new) }
+fn display_or_list(mon: &mut MonState, place: Option<u16>) -> Result<(), AllocError>
+    ensures does { OnOk result (Does (Command.Display place) mon.old mon.new) }
     ensures text { OnOk result
-        (Says (line_text (Command.Display place) desk.old) desk.old desk.new) }
+        (Says (line_text (Command.Display place) mon.old) mon.old mon.new) }
 {
     match place {
-        Some(address) => display(desk, address),
-        None => list_displays(desk),
+        Some(address) => display(mon, address),
+        None => list_displays(mon),
     }
 }
 
@@ -81,58 +81,58 @@ fn break_of(address: u16, tests: &ArrayVec<Test, 4>, times: u32) -> Break
 }
 
 /// Does what a line asks for, and says so.
-fn obey(desk: &mut Desk, alloc: Global, command: &Command<'_>) -> Result<(), AllocError>
-    ensures does { OnOk result (Does command.now desk.old desk.new) }
-    ensures text { OnOk result (Says (line_text command.now desk.old) desk.old desk.new) }
+fn obey(mon: &mut MonState, alloc: Global, command: &Command<'_>) -> Result<(), AllocError>
+    ensures does { OnOk result (Does command.now mon.old mon.new) }
+    ensures text { OnOk result (Says (line_text command.now mon.old) mon.old mon.new) }
 {
     match command {
-        Command::Nothing => steps(desk, 1),
-        Command::Step(count) => steps(desk, *count),
-        Command::Over => step_over(desk),
-        Command::Out => step_out(desk),
-        Command::Until(address) => run_until(desk, *address),
-        Command::Go(count) => run(desk, *count),
-        Command::Back(undoing) => undo(desk, *undoing),
-        Command::Rback => undo_to_stop(desk),
-        Command::Redo(count) => redo(desk, *count),
-        Command::History(count) => show_history(desk, *count),
+        Command::Nothing => steps(mon, 1),
+        Command::Step(count) => steps(mon, *count),
+        Command::Over => step_over(mon),
+        Command::Out => step_out(mon),
+        Command::Until(address) => run_until(mon, *address),
+        Command::Go(count) => run(mon, *count),
+        Command::Back(undoing) => undo(mon, *undoing),
+        Command::Rback => undo_to_stop(mon),
+        Command::Redo(count) => redo(mon, *count),
+        Command::History(count) => show_history(mon, *count),
         Command::Break {
             address,
             tests,
             times,
-        } => set_break(desk, break_of(*address, tests, *times)),
+        } => set_break(mon, break_of(*address, tests, *times)),
         Command::Watch { stretch, kind } => {
             let bytes = Watch::Bytes {
                 stretch: *stretch,
                 kind: *kind,
             };
-            set_watch(desk, bytes)
+            set_watch(mon, bytes)
         }
-        Command::WatchRegister(register) => set_watch(desk, Watch::Register(*register)),
-        Command::List => list(desk),
-        Command::Delete(address) => delete(desk, *address),
-        Command::DeleteRegister(register) => delete_register(desk, *register),
-        Command::Display(place) => display_or_list(desk, *place),
-        Command::Undisplay(address) => undisplay(desk, *address),
-        Command::Set(setting) => set(desk, *setting),
-        Command::SetFlag { flag, value } => set_flag(desk, *flag, *value),
-        Command::Put { address, bytes } => put(desk, *address, bytes.as_slice()),
-        Command::Asm { address, text } => assemble(desk, alloc, *address, *text),
-        Command::Type(bytes) => hand_in(desk, bytes.as_slice()),
-        Command::Irq(level) => set_irq(desk, *level),
-        Command::Nmi => ask_nmi(desk),
-        Command::Reset => reset(desk),
-        command => look(desk, command),
+        Command::WatchRegister(register) => set_watch(mon, Watch::Register(*register)),
+        Command::List => list(mon),
+        Command::Delete(address) => delete(mon, *address),
+        Command::DeleteRegister(register) => delete_register(mon, *register),
+        Command::Display(place) => display_or_list(mon, *place),
+        Command::Undisplay(address) => undisplay(mon, *address),
+        Command::Set(setting) => set(mon, *setting),
+        Command::SetFlag { flag, value } => set_flag(mon, *flag, *value),
+        Command::Put { address, bytes } => put(mon, *address, bytes.as_slice()),
+        Command::Asm { address, text } => assemble(mon, alloc, *address, *text),
+        Command::Type(bytes) => hand_in(mon, bytes.as_slice()),
+        Command::Irq(level) => set_irq(mon, *level),
+        Command::Nmi => ask_nmi(mon),
+        Command::Reset => reset(mon),
+        command => look(mon, command),
     }
 }
 
 /// Does what a line asks for, says so, and returns what it has made of the session.
-fn execute(desk: &mut Desk, alloc: Global, command: &Command<'_>) -> Result<Outcome, AllocError>
-    ensures does { OnOk result (Does command.now desk.old desk.new) }
-    ensures text { OnOk result (Says (line_text command.now desk.old) desk.old desk.new) }
+fn execute(mon: &mut MonState, alloc: Global, command: &Command<'_>) -> Result<Outcome, AllocError>
+    ensures does { OnOk result (Does command.now mon.old mon.new) }
+    ensures text { OnOk result (Says (line_text command.now mon.old) mon.old mon.new) }
     ensures outcome { IfOk result (λ outcome. outcome ≡ outcome_of command.now) }
 {
-    obey(desk, alloc, command)?;
+    obey(mon, alloc, command)?;
     Ok(outcome_of(command))
 }
 
@@ -141,16 +141,16 @@ fn execute(desk: &mut Desk, alloc: Global, command: &Command<'_>) -> Result<Outc
 ///
 /// Errors: `AllocError` if an allocation fails.
 pub fn follow(
-    desk: &mut Desk,
+    mon: &mut MonState,
     alloc: Global,
     asked: &Result<Command<'_>, Slip<'_>>,
 ) -> Result<Outcome, AllocError>
-    ensures { IfOk result (λ outcome. Follows (asked_view asked.now) outcome desk.old desk.new) }
+    ensures { IfOk result (λ outcome. Follows (asked_view asked.now) outcome mon.old mon.new) }
 {
     match asked {
-        Ok(command) => execute(desk, alloc, command),
+        Ok(command) => execute(mon, alloc, command),
         Err(slip) => {
-            push_slip(&mut desk.text, *slip)?;
+            push_slip(&mut mon.text, *slip)?;
             Ok(Outcome::Stays)
         }
     }
@@ -182,37 +182,41 @@ fn push_decimal(text: &mut Vec<u8>, word: &[u8]) -> Result<(), AllocError>
 }
 
 /// Says so if a line has a decimal number where an address is wanted.
-fn tell_decimal(desk: &mut Desk, decimal: Option<&[u8]>) -> Result<(), AllocError>
-    ensures shows { ShowsOnly desk.old desk.new }
+fn tell_decimal(mon: &mut MonState, decimal: Option<&[u8]>) -> Result<(), AllocError>
+    ensures shows { ShowsOnly mon.old mon.new }
     ensures text { OnOk result
-        (Says (if_decimal (option_copied decimal.entry)) desk.old desk.new) }
+        (Says (if_decimal (option_copied decimal.entry)) mon.old mon.new) }
 {
     match decimal {
-        Some(word) => push_decimal(&mut desk.text, word),
+        Some(word) => push_decimal(&mut mon.text, word),
         None => Ok(()),
     }
 }
 
 /// Shows the bytes that are displayed, if the session has moved.
-fn tell_moved(desk: &mut Desk, outcome: Outcome) -> Result<(), AllocError>
-    ensures shows { ShowsOnly desk.old desk.new }
-    ensures text { OnOk result (Says (moved_text outcome desk.old) desk.old desk.new) }
+fn tell_moved(mon: &mut MonState, outcome: Outcome) -> Result<(), AllocError>
+    ensures shows { ShowsOnly mon.old mon.new }
+    ensures text { OnOk result (Says (moved_text outcome mon.old) mon.old mon.new) }
 {
     match outcome {
-        Outcome::Moved => show_displays(desk),
+        Outcome::Moved => show_displays(mon),
         Outcome::Over | Outcome::Stays => Ok(()),
     }
 }
 
 /// Shows the bytes that are displayed, if the session has moved, and says so if the line has a
 /// decimal number where an address is wanted.
-fn tell_behind(desk: &mut Desk, outcome: Outcome, decimal: Option<&[u8]>) -> Result<(), AllocError>
-    ensures shows { ShowsOnly desk.old desk.new }
+fn tell_behind(
+    mon: &mut MonState,
+    outcome: Outcome,
+    decimal: Option<&[u8]>,
+) -> Result<(), AllocError>
+    ensures shows { ShowsOnly mon.old mon.new }
     ensures text { OnOk result
-        (Says (behind_text outcome (option_copied decimal.entry) desk.old) desk.old desk.new) }
+        (Says (behind_text outcome (option_copied decimal.entry) mon.old) mon.old mon.new) }
 {
-    tell_moved(desk, outcome)?;
-    tell_decimal(desk, decimal)
+    tell_moved(mon, outcome)?;
+    tell_decimal(mon, decimal)
 }
 
 /// Returns whether a session is to end.
@@ -223,13 +227,13 @@ fn is_over(outcome: Outcome) -> bool
 }
 
 /// Does what a line asks for, or says what is missing or wrong in it. Returns whether the session
-/// is to end. What is said is appended to the desk's text.
+/// is to end. What is said is appended to the text of the state.
 ///
 /// Errors: `AllocError` if an allocation fails.
-pub fn serve(desk: &mut Desk, alloc: Global, line: &ReadLine<'_>) -> Result<bool, AllocError>
-    ensures { IfOk result (λ over. Serves (line_view line.now) over desk.old desk.new) }
+pub fn serve(mon: &mut MonState, alloc: Global, line: &ReadLine<'_>) -> Result<bool, AllocError>
+    ensures { IfOk result (λ over. Serves (line_view line.now) over mon.old mon.new) }
 {
-    let outcome = follow(desk, alloc, &line.asked)?;
-    tell_behind(desk, outcome, line.decimal)?;
+    let outcome = follow(mon, alloc, &line.asked)?;
+    tell_behind(mon, outcome, line.decimal)?;
     Ok(is_over(outcome))
 }

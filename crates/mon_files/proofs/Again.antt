@@ -1,25 +1,22 @@
 -- A session that goes back over all its events, and makes them again.
-use Rattle.std.proofs.Common.{◌≡◌, ◌∙◌, ℕ, ◌+◌, ◌-◌, ◌<◌, ◌≤◌, false, cond, eqb, List, [], ◌∷◌, ◌++◌, length, length-append, take, get_or, Result, Ok, Err, Option, Some, refl, sym, ap, subst, arith}
+use Rattle.std.proofs.Common.{◌≡◌, ◌∙◌, ℕ, ◌+◌, ◌-◌, ◌≤◌, List, [], ◌∷◌, ◌++◌, length, length-append, take, get_or, Result, Ok, Err, Option, Some, refl, sym, ap, subst, arith}
 use Rattle.std.specs.Prelude.{⊤, IfErr, OnOk, slice_get}
-use Rattle.std.proofs.lemmas.Bool.Decides.{nat_tests}
 use Rattle.law_sessions.proofs.Backs.{back_of-held, length-keep_last}
-use Rattle.model.specs.Back.{back_of, number_back, states, without_last}
+use Rattle.model.specs.Back.{back_of, states, without_last}
 use Rattle.model.specs.Event.{event_of}
 use Rattle.model.specs.Session.{Session}
 use Rattle.model.specs.State.{State}
 use Rattle.model.specs.declared.event.Event.{Event}
 use Rattle.model.specs.declared.event.EventFault.{EventFault}
 use Rattle.model.specs.declared.session_fault.SessionFault.{SessionFault}
-use Rattle.mon_files.specs.First.{IsFresh}
 use Rattle.mon_files.specs.Held.{oldest}
 use Rattle.mon_runs.specs.Recall.{if_made, made_again}
 use Rattle.mon_session.specs.Course.{Course}
 use Rattle.mon_session.specs.Events.{Kept, with_redone, with_undone}
 use Rattle.mon_steps.specs.BackLines.{if_held, if_next, remade_one, undone}
 use Rattle.page_data.specs.Changes.{Tells}
-use Rattle.page_data.specs.Events.{AreAsked, HoldsSession, TellsOf, if_led, led_by}
+use Rattle.page_data.specs.Events.{HoldsSession, if_led, led_by}
 use Rattle.page_data.specs.Start.{start_at, start_bytes}
-use Rattle.page_data.specs.declared.event.Interrupts.{Interrupts}
 use Rattle.page_data.proofs.Telling.{told_none}
 
 -- ---- back
@@ -41,7 +38,7 @@ module _ (held : ℕ) (s t : Session) (all : held ≡ length s.earlier) (back : 
   unfolding without_last
   gone_oldest = ap (λ (x : Session). x.current) back ∙ ap (λ n. get_or (states s) n s.current) left
 
-  pub gone_none : t.earlier ≡ []
+  gone_none : t.earlier ≡ []
   unfolding without_last
   gone_none = ap (λ (x : Session). x.earlier) back ∙ ap (λ n. take n s.earlier) left
 
@@ -49,21 +46,8 @@ module _ (held : ℕ) (s t : Session) (all : held ≡ length s.earlier) (back : 
   unfolding without_last
   gone_history = ap (λ (x : Session). x.history) back
 
-  number_then : (without_last held s).number ≡ number_back held s.number
-  unfolding without_last
-  number_then = refl
-
-  replayed_then : 0 < held → (without_last held s).replayed ≡ number_back held s.number
-  unfolding without_last
-  replayed_then some =
-      let test : eqb held 0 ≡ false = grind (arith, nat_tests, some) in
-      ap (λ b. cond b s.replayed (number_back held s.number)) test
-
-  pub gone_fresh : 0 < held → IsFresh t
-  gone_fresh some = record {
-    none = gone_none;
-    back = ap (λ (x : Session). x.replayed) back ∙ replayed_then some ∙ sym number_then ∙ sym (ap (λ (x : Session). x.number) back);
-  }
+  pub gone_length : length t.earlier ≡ 0
+  gone_length = ap length gone_none
 
 -- ---- and again
 
@@ -100,14 +84,11 @@ no_states [] h = refl
 no_states (x ∷ xs) h = absurd (omega (arith, h))
 
 -- no record tells of a state that holds none before it
-pub none_told : (start : State) (s : Session) (asked : Interrupts) (records : List ℕ) → records ≡ [] → length s.earlier ≡ 0 → start ≡ s.current
-    → AreAsked asked start → TellsOf start records asked s
-none_told start s asked records none held at known = record {
-  told = subst (λ (x : State). Tells start records s.earlier x) at
-      (subst (λ (l : List State). Tells start records l start) (sym (no_states s.earlier held))
-      (subst (λ (l : List ℕ). Tells start l [] start) (sym none) (told_none start)));
-  known = subst (λ (x : State). AreAsked asked x) at known;
-}
+pub none_told : (start : State) (s : Session) (records : List ℕ) → records ≡ [] → length s.earlier ≡ 0 → start ≡ s.current → Tells start records s.earlier s.current
+none_told start s records none held at =
+    subst (λ (x : State). Tells start records s.earlier x) at
+    (subst (λ (l : List State). Tells start records l start) (sym (no_states s.earlier held))
+    (subst (λ (l : List ℕ). Tells start l [] start) (sym none) (told_none start)))
 
 -- a state, and records that tell of all that a session holds
 pub holds : (start : State) (s : Session) (first records bytes : List ℕ) → first ≡ start_bytes start → bytes ≡ first ++ records

@@ -1,4 +1,2 @@
-pub mod Tried
-pub mod Interrupts
 pub mod Again
 pub mod Cells

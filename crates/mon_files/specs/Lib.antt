@@ -1,4 +1,3 @@
-pub mod First
 pub mod Held
 pub mod Pages
 pub mod Saved

@@ -4,7 +4,7 @@ use Rattle.accesses.specs.Writing.{is_written}
 use Rattle.model.specs.Image.{cell_at}
 use Rattle.model.specs.State.{Bus, is_port}
 use Rattle.mon_lines.specs.declared.command.Stretch.{Stretch}
-use Rattle.mon_stops.specs.Stops.{is_within}
+use Rattle.mon_runs.specs.Stops.{is_within}
 
 -- Without addresses, each byte that the file has, and each other that is not 0.
 abbrev pub is_asked : List Bool → List ℕ → Option Stretch → ℕ → Bool

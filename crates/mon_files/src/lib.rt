@@ -1,12 +1,11 @@
 //! Files that lines of `mon` write.
 //!
 //! `page` writes what a session holds as one page for a browser: `held` goes back over the events
-//! that the session holds and makes them again, and records each as `page_data` does. `first` says
-//! of the oldest state what a session does not tell, and `known` what else the page shows. `saving`
-//! writes the tape of `save`. `writing` writes a file unless the session has read it.
+//! that the session holds and makes them again, and records each as `page_data` does. `known` says
+//! what else the page shows. `saving` writes the tape of `save`. `writing` writes a file unless the
+//! session has read it.
 #![tactic(auto)]
 
-mod first;
 mod held;
 mod known;
 mod page;

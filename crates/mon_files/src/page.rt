@@ -1,25 +1,24 @@
 //! The page of what a session holds.
 
-ghost use Rattle.std.specs.Prelude.{◌≡◌, ◌<◌, ◌≤◌, ◌++◌, ℕ, List, IfErr, IfOk, IfSome, OnOk, length};
+ghost use Rattle.std.specs.Prelude.{◌≡◌, ◌++◌, ℕ, List, IfErr, IfOk, OnOk};
 ghost use Rattle.mon_dispatch.specs.Lines.{Says};
 ghost use Rattle.mon_files.specs.Held.{shown_again};
 ghost use Rattle.mon_files.specs.Pages.{IsPageOf, ShowsPage};
 ghost use Rattle.mon_session.specs.Course.{KeepsStops, ShowsOnly, course_of};
 
 use crate::held::record_held;
-use crate::wording::{BYTE, BYTES, EVENT, EVENTS, HERE, NONE_HELD, UNKNOWN_FIRST};
+use crate::wording::{BYTE, BYTES, EVENT, EVENTS, HERE, NONE_HELD};
 use crate::writing::{Outcome, of_memory, say_failure, say_of, say_own, write_new};
 use accesses::Written;
 use arguments::Refusal;
 use arguments_play::MonWords;
 use assembler::Assembly;
-use mon_session::Desk;
-use page_facts::{Program as Facts, facts_of, source_of, viewer};
-use page_writer::{Texts, page_of};
+use mon_session::MonState;
+use page_writer::{Program as Facts, Texts, facts_of, page_of, source_of, viewer};
 use std::alloc::{AllocError, Global};
 use std::rt::Files;
 
-/// What is known of the program of a session besides its desk.
+/// What is known of the program of a session besides the state of `mon`.
 #[derive(Clone, Copy)]
 pub struct Program<'a> {
     /// The words that the session was begun by.
@@ -30,8 +29,6 @@ pub struct Program<'a> {
     pub source: Option<&'a Assembly>,
     /// The file of names, if there is one.
     pub names: Option<&'a Assembly>,
-    /// What was handed in as input up to the current state, and then again what was undone.
-    pub typed: &'a [u8],
 }
 
 /// Returns the facts of a session's program.
@@ -50,84 +47,75 @@ fn facts_in(alloc: Global, program: &Program<'_>) -> Result<Vec<u8>, AllocError>
     )
 }
 
-/// Returns the page of what a session holds, or `None` if what asks for interrupts in the oldest
-/// state cannot be found out: undoes all events that are held, and makes them again.
+/// Returns the page of what a session holds: undoes all events that are held, and makes them again.
 ///
 /// Errors: `AllocError` if an allocation fails; only some events may be made again then.
 pub fn page_of_held(
     alloc: Global,
-    desk: &mut Desk,
+    mon: &mut MonState,
     program: &Program<'_>,
-) -> Result<Option<Vec<u8>>, AllocError>
-    requires { 0 < length desk.old.session.earlier }
-    ensures course { OnOk result (program.now.words.now.history ≤ desk.old.session.history
-        → course_of desk.new ≡ shown_again (course_of desk.old)) }
+) -> Result<Vec<u8>, AllocError>
+    ensures course { OnOk result (course_of mon.new ≡ shown_again (course_of mon.old)) }
     // The page's data, read again, give the oldest state that the session holds, and then all
     // others up to the current one, one after another, forwards and back.
-    ensures page { IfOk result (λ page. IfSome page (λ text. IsPageOf program.now.words.now.history
-        program.now.typed.now desk.old.session desk.new.session text.items)) }
-    ensures stops { KeepsStops desk.old desk.new }
-    ensures text { desk.new.text ≡ desk.old.text }
+    ensures page { IfOk result (λ text. IsPageOf mon.old.session mon.new.session text.items) }
+    ensures stops { KeepsStops mon.old mon.new }
+    ensures text { mon.new.text ≡ mon.old.text }
 {
     let facts = facts_in(alloc, program)?;
     let source = source_of(alloc, program.source)?;
-    let held = record_held(alloc, desk, program.words.history, program.typed)?;
-    let Some(bytes) = held else {
-        return Ok(None);
-    };
+    let bytes = record_held(alloc, mon)?;
     let texts = Texts {
         facts: facts.as_slice(),
         source: source.as_slice(),
     };
-    Ok(Some(page_of(alloc, &viewer(), &texts, bytes.as_slice(), HERE)?))
+    let text = page_of(alloc, &viewer(), &texts, bytes.as_slice(), HERE)?;
+    Ok(text)
 }
 
 /// Says how many events and bytes a page has that was written.
-fn say_whole(desk: &mut Desk, file: &[u8], events: u32, bytes: usize) -> Result<(), AllocError>
-    ensures shows { ShowsOnly desk.old desk.new }
-    ensures said { OnOk result ((said : List ℕ) × Says said desk.old desk.new) }
+fn say_whole(mon: &mut MonState, file: &[u8], events: u32, bytes: usize) -> Result<(), AllocError>
+    ensures shows { ShowsOnly mon.old mon.new }
+    ensures said { OnOk result ((said : List ℕ) × Says said mon.old mon.new) }
 {
-    say_of(desk, file, ": ")?;
-    desk.count(events as u64, EVENT, EVENTS)?;
-    desk.count(bytes as u64, BYTE, BYTES)
+    say_of(mon, file, ": ")?;
+    mon.count(events as u64, EVENT, EVENTS)?;
+    mon.count(bytes as u64, BYTE, BYTES)
 }
 
 /// Says what has become of the file of a page.
 fn say_outcome(
-    desk: &mut Desk,
+    mon: &mut MonState,
     file: &[u8],
     outcome: Outcome,
     events: u32,
     bytes: usize,
 ) -> Result<(), AllocError>
-    ensures shows { ShowsOnly desk.old desk.new }
-    ensures said { OnOk result ((said : List ℕ) × Says said desk.old desk.new) }
+    ensures shows { ShowsOnly mon.old mon.new }
+    ensures said { OnOk result ((said : List ℕ) × Says said mon.old mon.new) }
 {
     match outcome {
-        Outcome::Whole => say_whole(desk, file, events, bytes),
-        Outcome::Own => say_own(desk, file),
-        Outcome::Not(fault) => say_failure(desk, file, fault),
+        Outcome::Whole => say_whole(mon, file, events, bytes),
+        Outcome::Own => say_own(mon, file),
+        Outcome::Not(fault) => say_failure(mon, file, fault),
     }
 }
 
-/// Writes a page to a file, if there is one, and says what has become of it.
+/// Writes a page to a file, and says what has become of it.
 fn write_page<H: Files + AllocGlobal>(
     rt: &H,
-    desk: &mut Desk,
+    mon: &mut MonState,
     words: &MonWords<'_>,
     file: &[u8],
-    page: &Option<Vec<u8>>,
+    page: &[u8],
     events: u32,
 ) -> Result<(), Refusal>
-    ensures shows { ShowsOnly desk.old desk.new }
-    ensures said { OnOk result ((said : List ℕ) × Says said desk.old desk.new) }
+    ensures shows { ShowsOnly mon.old mon.new }
+    ensures said { OnOk result ((said : List ℕ) × Says said mon.old mon.new) }
     ensures refused { IfErr result (λ fault. fault ≡ Refusal.OutOfMemory) }
 {
-    let Some(page) = page else {
-        return of_memory(say_of(desk, file, UNKNOWN_FIRST));
-    };
-    let outcome = write_new(rt, words, file, page.as_slice())?;
-    of_memory(say_outcome(desk, file, outcome, events, page.len()))
+    let outcome = write_new(rt, words, file, page)?;
+    of_memory(say_outcome(mon, file, outcome, events, page.len()))
 }
 
 /// Writes what the session holds to a file, as one page for a browser, and says how many events and
@@ -139,17 +127,17 @@ fn write_page<H: Files + AllocGlobal>(
 /// - `OutOfMemory`: an allocation failed. Only some events may be made again then.
 pub fn show_page<H: Files + AllocGlobal>(
     rt: &H,
-    desk: &mut Desk,
+    mon: &mut MonState,
     program: &Program<'_>,
     file: &[u8],
 ) -> Result<(), Refusal>
-    ensures shown { OnOk result (ShowsPage program.now.words.now.history desk.old desk.new) }
+    ensures shown { OnOk result (ShowsPage mon.old mon.new) }
     ensures refused { IfErr result (λ fault. fault ≡ Refusal.OutOfMemory) }
 {
-    let held = desk.session.held();
+    let held = mon.session.held();
     if held == 0 {
-        return of_memory(say_of(desk, file, NONE_HELD));
+        return of_memory(say_of(mon, file, NONE_HELD));
     }
-    let page = of_memory(page_of_held(rt.alloc(), desk, program))?;
-    write_page(rt, desk, program.words, file, &page, held)
+    let page = of_memory(page_of_held(rt.alloc(), mon, program))?;
+    write_page(rt, mon, program.words, file, page.as_slice(), held)
 }

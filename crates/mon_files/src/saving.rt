@@ -16,7 +16,7 @@ use arguments::Refusal;
 use arguments_play::MonWords;
 use memory_map::Image;
 use mon_lines::Stretch;
-use mon_session::{Desk, Session};
+use mon_session::{MonState, Session};
 use papertape::write_tape;
 use std::alloc::{AllocError, Global};
 use std::rt::Files;
@@ -103,17 +103,22 @@ fn saved_tape(
 }
 
 /// Says what has become of a file, and how many bytes it has if it was written.
-fn say_saved(desk: &mut Desk, file: &[u8], outcome: Outcome, count: usize) -> Result<(), AllocError>
-    ensures shows { ShowsOnly desk.old desk.new }
-    ensures said { OnOk result ((said : List ℕ) × Says said desk.old desk.new) }
+fn say_saved(
+    mon: &mut MonState,
+    file: &[u8],
+    outcome: Outcome,
+    count: usize,
+) -> Result<(), AllocError>
+    ensures shows { ShowsOnly mon.old mon.new }
+    ensures said { OnOk result ((said : List ℕ) × Says said mon.old mon.new) }
 {
     match outcome {
         Outcome::Whole => {
-            say_of(desk, file, ": ")?;
-            desk.count(count as u64, BYTE_IS_SAVED, BYTES_ARE_SAVED)
+            say_of(mon, file, ": ")?;
+            mon.count(count as u64, BYTE_IS_SAVED, BYTES_ARE_SAVED)
         }
-        Outcome::Own => say_own(desk, file),
-        Outcome::Not(fault) => say_failure(desk, file, fault),
+        Outcome::Own => say_own(mon, file),
+        Outcome::Not(fault) => say_failure(mon, file, fault),
     }
 }
 
@@ -126,18 +131,18 @@ fn say_saved(desk: &mut Desk, file: &[u8], outcome: Outcome, count: usize) -> Re
 /// - `OutOfMemory`: an allocation failed.
 pub fn save_tape<H: Files + AllocGlobal>(
     rt: &H,
-    desk: &mut Desk,
+    mon: &mut MonState,
     words: &MonWords<'_>,
     known: &Known,
     file: &[u8],
     stretch: Option<Stretch>,
 ) -> Result<(), Refusal>
-    ensures shows { ShowsOnly desk.old desk.new }
-    ensures said { OnOk result ((said : List ℕ) × Says said desk.old desk.new) }
+    ensures shows { ShowsOnly mon.old mon.new }
+    ensures said { OnOk result ((said : List ℕ) × Says said mon.old mon.new) }
     ensures refused { IfErr result (λ fault. fault ≡ Refusal.OutOfMemory) }
 {
-    let tape = saved_tape(rt.alloc(), &desk.session, known.written(), stretch);
+    let tape = saved_tape(rt.alloc(), &mon.session, known.written(), stretch);
     let (tape, count) = of_memory(tape)?;
     let outcome = write_new(rt, words, file, tape.as_slice())?;
-    of_memory(say_saved(desk, file, outcome, count))
+    of_memory(say_saved(mon, file, outcome, count))
 }

@@ -13,8 +13,6 @@ pub const BYTES_ARE_SAVED: &str = " bytes are saved\n";
 
 pub const NONE_HELD: &str = " is not written: no step was made yet, or its history is gone\n";
 
-pub const UNKNOWN_FIRST: &str = " is not written: the history has room for less than 5 events\n";
-
 pub const EVENT: &str = " event, ";
 
 pub const EVENTS: &str = " events, ";

@@ -7,7 +7,7 @@ ghost use Rattle.mon_session.specs.Course.{ShowsOnly};
 use crate::wording::{NOT_UTF8, NOT_WRITTEN, OWN_FILE};
 use arguments::{Refusal, WriteFault, is_one_file, put_shown, write_file, write_reason};
 use arguments_play::MonWords;
-use mon_session::Desk;
+use mon_session::MonState;
 use std::alloc::AllocError;
 use std::rt::Files;
 
@@ -66,54 +66,54 @@ pub fn write_new<H: Files + AllocGlobal>(
 /// Says the name of a file, with a `?` for each control character.
 ///
 /// Errors: `AllocError` if an allocation fails.
-pub fn say_name(desk: &mut Desk, file: &[u8]) -> Result<(), AllocError>
-    ensures shows { ShowsOnly desk.old desk.new }
-    ensures said { OnOk result ((said : List ℕ) × Says said desk.old desk.new) }
+pub fn say_name(mon: &mut MonState, file: &[u8]) -> Result<(), AllocError>
+    ensures shows { ShowsOnly mon.old mon.new }
+    ensures said { OnOk result ((said : List ℕ) × Says said mon.old mon.new) }
 {
     let Ok(name) = str::from_utf8(file) else {
-        return desk.say(NOT_UTF8);
+        return mon.say(NOT_UTF8);
     };
-    match put_shown(&mut desk.text, name) {
+    match put_shown(&mut mon.text, name) {
         Ok(()) => Ok(()),
         Err(_) => Err(AllocError),
     }
 }
 
 /// Says something behind the name of a file.
-pub fn say_of(desk: &mut Desk, file: &[u8], words: &str) -> Result<(), AllocError>
-    ensures shows { ShowsOnly desk.old desk.new }
-    ensures said { OnOk result ((said : List ℕ) × Says said desk.old desk.new) }
+pub fn say_of(mon: &mut MonState, file: &[u8], words: &str) -> Result<(), AllocError>
+    ensures shows { ShowsOnly mon.old mon.new }
+    ensures said { OnOk result ((said : List ℕ) × Says said mon.old mon.new) }
 {
-    say_name(desk, file)?;
-    desk.say(words)
+    say_name(mon, file)?;
+    mon.say(words)
 }
 
 /// Says behind a colon why a file is not written, if that is known, and ends the line.
-fn say_reason(desk: &mut Desk, reason: &str) -> Result<(), AllocError>
-    ensures shows { ShowsOnly desk.old desk.new }
-    ensures said { OnOk result ((said : List ℕ) × Says said desk.old desk.new) }
+fn say_reason(mon: &mut MonState, reason: &str) -> Result<(), AllocError>
+    ensures shows { ShowsOnly mon.old mon.new }
+    ensures said { OnOk result ((said : List ℕ) × Says said mon.old mon.new) }
 {
     if reason.is_empty() {
-        return desk.say("\n");
+        return mon.say("\n");
     }
-    desk.say(":")?;
-    desk.say(reason)?;
-    desk.say("\n")
+    mon.say(":")?;
+    mon.say(reason)?;
+    mon.say("\n")
 }
 
 /// Says that a file cannot be written, and why.
-pub fn say_failure(desk: &mut Desk, file: &[u8], fault: WriteFault) -> Result<(), AllocError>
-    ensures shows { ShowsOnly desk.old desk.new }
-    ensures said { OnOk result ((said : List ℕ) × Says said desk.old desk.new) }
+pub fn say_failure(mon: &mut MonState, file: &[u8], fault: WriteFault) -> Result<(), AllocError>
+    ensures shows { ShowsOnly mon.old mon.new }
+    ensures said { OnOk result ((said : List ℕ) × Says said mon.old mon.new) }
 {
-    say_of(desk, file, NOT_WRITTEN)?;
-    say_reason(desk, write_reason(fault))
+    say_of(mon, file, NOT_WRITTEN)?;
+    say_reason(mon, write_reason(fault))
 }
 
 /// Says that a file is one that the session has read.
-pub fn say_own(desk: &mut Desk, file: &[u8]) -> Result<(), AllocError>
-    ensures shows { ShowsOnly desk.old desk.new }
-    ensures said { OnOk result ((said : List ℕ) × Says said desk.old desk.new) }
+pub fn say_own(mon: &mut MonState, file: &[u8]) -> Result<(), AllocError>
+    ensures shows { ShowsOnly mon.old mon.new }
+    ensures said { OnOk result ((said : List ℕ) × Says said mon.old mon.new) }
 {
-    say_of(desk, file, OWN_FILE)
+    say_of(mon, file, OWN_FILE)
 }

@@ -2,7 +2,7 @@
 use Rattle.std.proofs.Common.{◌≡◌, ℕ, zero, suc, ◌+◌, ℤ, Bool, true, false, List, [], ◌∷◌, Option, Some, None, cond, refl, ap, ◌∙◌, arith, Ok, Err}
 use Rattle.std.specs.Str.{byte}
 use Rattle.source_map.specs.Names.{Named}
-use Rattle.mon_line_parts.specs.Reading.{Reads, SeenWhy, after, and_then, is_empty, past, quoted_next}
+use Rattle.mon_line_parts.specs.Reading.{Reads, SeenFlaw, after, and_then, is_empty, past, quoted_next}
 use Rattle.mon_line_parts.specs.Values.{is_sign, piece_of, pieces_of, quoted_by, quoted_of, term_of, terms_of, with_piece}
 use Rattle.mon_line_parts.specs.declared.values.Kind.{Kind}
 
@@ -24,7 +24,7 @@ term_read (suc n) m names kind total sum text rest e h k =
     let same : n ≡ m = omega (arith, e) in
     rw h (ap (λ (r : Reads ℤ). and_then r (λ sum rest. terms_of n names kind sum rest)) k ∙ ap (λ (i : ℕ). terms_of i names kind sum rest) same)
 
-pub term_refused : (n m : ℕ) (names : List Named) (kind : Kind) (total : ℤ) (text : List ℕ) (why : SeenWhy) → n ≡ m + 1 → is_sign text ≡ true → term_of names kind total text ≡ Err why
+pub term_refused : (n m : ℕ) (names : List Named) (kind : Kind) (total : ℤ) (text : List ℕ) (why : SeenFlaw) → n ≡ m + 1 → is_sign text ≡ true → term_of names kind total text ≡ Err why
     → terms_of n names kind total text ≡ Err why
 unfolding terms_of
 term_refused zero m names kind total text why e h k = absurd (omega (arith, e))
@@ -56,7 +56,7 @@ unfolding pieces_of
 no_piece_left zero names found text h = refl
 no_piece_left (suc n) names found text h = absurd (omega (arith, h))
 
-pub piece_refused : (n m : ℕ) (names : List Named) (found text : List ℕ) (why : SeenWhy) → n ≡ m + 1 → piece_of names found text ≡ Err why → pieces_of n names found text ≡ Err why
+pub piece_refused : (n m : ℕ) (names : List Named) (found text : List ℕ) (why : SeenFlaw) → n ≡ m + 1 → piece_of names found text ≡ Err why → pieces_of n names found text ≡ Err why
 unfolding pieces_of
 piece_refused zero m names found text why e k = absurd (omega (arith, e))
 piece_refused (suc n) m names found text why e k = rw k refl
@@ -87,7 +87,7 @@ pub quoted_more : (n m b : ℕ) (found text rest more behind : List ℕ) → n �
 quoted_more n m b found text rest more behind e h k = quoted_suc n m b found text rest e h
     ∙ ap (λ (r : Reads (List ℕ)). and_then r (λ more behind. quoted_of m more behind)) k
 
-pub quoted_refused : (n m b : ℕ) (found text rest : List ℕ) (why : SeenWhy) → n ≡ m + 1 → quoted_next text ≡ Some (b, rest)
+pub quoted_refused : (n m b : ℕ) (found text rest : List ℕ) (why : SeenFlaw) → n ≡ m + 1 → quoted_next text ≡ Some (b, rest)
     → with_piece found (b ∷ []) rest ≡ Err why → quoted_of n found text ≡ Err why
 quoted_refused n m b found text rest why e h k = quoted_suc n m b found text rest e h
     ∙ ap (λ (r : Reads (List ℕ)). and_then r (λ more behind. quoted_of m more behind)) k

@@ -1,43 +1,43 @@
 -- What stands in a line, read from left to right. Source: mos65.
-use Rattle.std.specs.Prelude.{ℕ, ◌+◌, ◌==◌, not, nat_lt, Bool, min, if◌then◌else◌, List, [], ◌∷◌, length, take, drop, Option, Some, None, Result, Ok, Err}
+use Rattle.std.specs.Prelude.{ℕ, ◌+◌, ◌==◌, ◌||◌, not, nat_lt, Bool, min, if◌then◌else◌, List, [], ◌∷◌, length, take, drop, Option, Some, None, Result, Ok, Err}
 use Rattle.std.specs.List.{prefix_len}
 use Rattle.std.specs.Option.{option_and_then, option_map}
 use Rattle.std.specs.Str.{byte, str_eq_ignore_ascii_case}
 use Rattle.model.specs.Digits.{hex_value, number_from}
 use Rattle.model.specs.Token.{begins, is_blank, is_word_byte}
 use Rattle.mon_line_parts.specs.declared.slip.Lack.{Lack}
-use Rattle.mon_line_parts.specs.declared.slip.Why.{Why}
-use Rattle.mon_line_parts.specs.declared.slip.Why.TheVariants.{Unknown, Several, Missing, Unreadable, Behind, NoName, Range, Many, Long}
+use Rattle.mon_line_parts.specs.declared.slip.Flaw.{Flaw}
+use Rattle.mon_line_parts.specs.declared.slip.Flaw.TheVariants.{Unknown, Several, Missing, Unreadable, Behind, NoName, Range, Many, Long}
 
--- Why a line asks for nothing that can be done: no word or more than one word begins so; something
--- is missing; a piece cannot be read there, is left over, or is no name; a number is not between two
--- others; there are more than fit; the line is too long.
-pub data SeenWhy : Type 0 where
-  unknown : List ℕ → SeenWhy
-  several : List ℕ → SeenWhy
-  missing : Lack → SeenWhy
-  unreadable : List ℕ → SeenWhy
-  behind : List ℕ → SeenWhy
-  no_name : List ℕ → SeenWhy
-  range : ℕ → ℕ → SeenWhy
-  many : SeenWhy
-  long : SeenWhy
+-- What is wrong in a line that asks for nothing that can be done: no word or more than one word
+-- begins so; something is missing; a piece cannot be read there, is left over, or is no name; a
+-- number is not between two others; there are more than fit; the line is too long.
+pub data SeenFlaw : Type 0 where
+  unknown : List ℕ → SeenFlaw
+  several : List ℕ → SeenFlaw
+  missing : Lack → SeenFlaw
+  unreadable : List ℕ → SeenFlaw
+  behind : List ℕ → SeenFlaw
+  no_name : List ℕ → SeenFlaw
+  range : ℕ → ℕ → SeenFlaw
+  many : SeenFlaw
+  long : SeenFlaw
 
 -- The same without where its pieces lie in memory.
-abbrev pub why_view : Why → SeenWhy
-why_view (Unknown word) = unknown word.now
-why_view (Several word) = several word.now
-why_view (Missing lack) = missing lack
-why_view (Unreadable piece) = unreadable piece.now
-why_view (Behind piece) = behind piece.now
-why_view (NoName word) = no_name word.now
-why_view (Range least most) = range least most
-why_view Many = many
-why_view Long = long
+abbrev pub flaw_view : Flaw → SeenFlaw
+flaw_view (Unknown word) = unknown word.now
+flaw_view (Several word) = several word.now
+flaw_view (Missing lack) = missing lack
+flaw_view (Unreadable piece) = unreadable piece.now
+flaw_view (Behind piece) = behind piece.now
+flaw_view (NoName word) = no_name word.now
+flaw_view (Range least most) = range least most
+flaw_view Many = many
+flaw_view Long = long
 
 -- What was read and the text after it, or why it is nothing.
 abbrev pub Reads : Type 0 → Type 0
-Reads X = Result (X × List ℕ) SeenWhy
+Reads X = Result (X × List ℕ) SeenFlaw
 
 -- What is read next, from the text after what was read.
 abbrev pub and_then : {X Y : Type 0} → Reads X → (X → List ℕ → Reads Y) → Reads Y
@@ -75,6 +75,17 @@ word_of text = take (prefix_len is_word_byte text) text
 
 abbrev pub after_word : List ℕ → List ℕ
 after_word text = after (prefix_len is_word_byte text) text
+
+-- A byte of a name of an image: a letter, a digit, or one of `_ @ . :`.
+abbrev pub is_name_byte : ℕ → Bool
+is_name_byte b = is_word_byte b || b == byte "@" || b == byte "." || b == byte ":"
+
+-- Such bytes at the front, and the text after them.
+abbrev pub image_word : List ℕ → List ℕ
+image_word text = take (prefix_len is_name_byte text) text
+
+abbrev pub after_image_word : List ℕ → List ℕ
+after_image_word text = after (prefix_len is_name_byte text) text
 
 -- Whether a word comes next, capitals or not.
 abbrev pub is_word : List ℕ → List ℕ → Bool

@@ -1,11 +1,11 @@
 -- Values: numbers, names, and sums of them. Source: mos65.
-use Rattle.std.specs.Prelude.{ℕ, zero, suc, ◌+◌, ℤ, pos, negsuc, ◌+ℤ◌, ◌-ℤ◌, ◌==◌, ◌&&◌, ◌||◌, nat_le, Bool, codes, if◌then◌else◌, List, [], ◌∷◌, ◌++◌, drop, length, Option, Some, None, Ok, Err}
+use Rattle.std.specs.Prelude.{ℕ, zero, suc, ◌+◌, ℤ, pos, negsuc, ◌+ℤ◌, ◌-ℤ◌, ◌==◌, ◌&&◌, ◌||◌, nat_le, nat_lt, Bool, codes, if◌then◌else◌, List, [], ◌∷◌, ◌++◌, drop, length, Option, Some, None, Ok, Err}
 use Rattle.std.specs.Int.{saturate_signed, w64}
 use Rattle.std.specs.Option.{option_or}
 use Rattle.std.specs.Str.{byte, str_eq_ignore_ascii_case}
 pub use Rattle.source_map.specs.Names.{Named}
 use Rattle.source_map.specs.Names.{address_of}
-use Rattle.mon_line_parts.specs.Reading.{Reads, SeenWhy, missing, unreadable, no_name, range, many, after, after_word, and_then, character_of, is_empty, is_next, number_in, past, quoted_next, word_of}
+use Rattle.mon_line_parts.specs.Reading.{Reads, SeenFlaw, missing, unreadable, no_name, range, many, after, after_image_word, after_word, and_then, character_of, image_word, is_empty, is_next, number_in, past, quoted_next, word_of}
 use Rattle.mon_line_parts.specs.declared.slip.Lack.{Lack}
 use Rattle.mon_line_parts.specs.declared.slip.Lack.TheVariants as lacking
 use Rattle.mon_line_parts.specs.declared.values.Kind.{Kind}
@@ -61,7 +61,7 @@ number_of names kind word = option_or (counter_word kind word)
     (option_or (address_of names word) (option_or (address_word kind word) (number_in 10 word)))
 
 -- A number that was read, or what is missing.
-abbrev pub number_or : SeenWhy → Option ℕ → List ℕ → Reads ℤ
+abbrev pub number_or : SeenFlaw → Option ℕ → List ℕ → Reads ℤ
 number_or why (Some number) rest = Ok (pos number, rest)
 number_or why None rest = Err why
 
@@ -70,6 +70,21 @@ named_number names kind lack text =
     if is_empty text then Err (missing lack)
     else if is_empty (word_of text) then Err (unreadable text)
     else number_or (no_name (word_of text)) (number_of names kind (word_of text)) (after_word text)
+
+-- The address of a name of an image that stands at the front, if it has more bytes than the word
+-- there.
+abbrev pub image_address : List Named → List ℕ → Option ℕ
+image_address names text = if nat_lt (length (word_of text)) (length (image_word text))
+    then address_of names (image_word text) else None
+
+abbrev pub image_number : Option ℕ → List ℕ → Reads ℤ → Reads ℤ
+image_number (Some address) text other = Ok (pos address, after_image_word text)
+image_number None text other = other
+
+-- A name of an image, or else a word.
+abbrev pub name_or_number : List Named → Kind → Lack → List ℕ → Reads ℤ
+name_or_number names kind lack text
+    = image_number (image_address names text) text (named_number names kind lack text)
 
 abbrev pub character_or : Option (ℕ × List ℕ) → Reads ℤ → Reads ℤ
 character_or (Some read) other = Ok (pos read.0, read.1)
@@ -82,7 +97,7 @@ atom_of names kind lack text =
     then number_or (missing lacking.HexDigits) (number_in 16 (word_of (after 1 text))) (after_word (after 1 text))
     else if is_next (byte "%") text
     then number_or (missing lacking.BinaryDigits) (number_in 2 (word_of (after 1 text))) (after_word (after 1 text))
-    else character_or (character_of text) (named_number names kind lack text)
+    else character_or (character_of text) (name_or_number names kind lack text)
 
 -- ---- sums
 

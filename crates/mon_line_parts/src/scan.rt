@@ -6,7 +6,7 @@ ghost use Rattle.std.specs.Option.{option_map};
 ghost use Rattle.model.specs.Token.{is_blank, is_word_byte};
 ghost use Rattle.mon_line_parts.specs.Reading.{after, after_word, behind_part, character_of};
 ghost use Rattle.mon_line_parts.specs.Reading.{escaped, file_of, is_empty, is_no_blank, is_no_quote};
-ghost use Rattle.mon_line_parts.specs.Reading.{up_to};
+ghost use Rattle.mon_line_parts.specs.Reading.{after_image_word, image_word, is_name_byte, up_to};
 ghost use Rattle.mon_line_parts.specs.Reading.{is_next, is_word, past, quoted_next, skip};
 ghost use Rattle.mon_line_parts.specs.Reading.{with_escape, without_comment, without_quote, word_of};
 
@@ -97,6 +97,35 @@ pub fn after_word(text: &[u8]) -> &[u8]
     ensures { result.now ≡ after_word text.now }
 {
     after(word_bytes(text), text)
+}
+
+/// Counts the bytes at the front that are letters, digits, or `_ @ . :`.
+fn name_bytes(text: &[u8]) -> usize
+    ensures counted { result ≡ prefix_len is_name_byte text.now }
+    ensures inside { result ≤ length text.now }
+{
+    text.iter()
+        .take_while(|byte| {
+            matches!(
+                **byte,
+                b'A'..=b'Z' | b'a'..=b'z' | b'0'..=b'9' | b'_' | b'@' | b'.' | b':'
+            )
+        })
+        .count()
+}
+
+/// Returns the letters, digits, and `_ @ . :` at the front, which a name of an image may have.
+pub fn image_word(text: &[u8]) -> &[u8]
+    ensures { result.now ≡ image_word text.now }
+{
+    &text[..name_bytes(text)]
+}
+
+/// Returns the text after such a word and the blanks behind it.
+pub fn after_image_word(text: &[u8]) -> &[u8]
+    ensures { result.now ≡ after_image_word text.now }
+{
+    after(name_bytes(text), text)
 }
 
 /// Returns whether a word comes next, capitals or not.

@@ -30,9 +30,9 @@ pub enum Lack {
     File,
 }
 
-/// Why a line asks for nothing that can be done.
+/// What is wrong in a line that asks for nothing that can be done.
 #[derive(Clone, Copy)]
-pub enum Why<'a> {
+pub enum Flaw<'a> {
     /// No word begins so.
     Unknown(&'a [u8]),
     /// More than one word begins so.

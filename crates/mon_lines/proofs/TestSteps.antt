@@ -1,7 +1,7 @@
 -- The way over the tests of a break.
 use Rattle.std.proofs.Common.{◌≡◌, ℕ, zero, suc, ◌+◌, Bool, true, false, cond, List, codes, refl, ap, ◌∙◌, arith, Ok, Err}
 use Rattle.mon_line_parts.specs.Values.{Named}
-use Rattle.mon_line_parts.specs.Reading.{Reads, SeenWhy, after_word, and_then, is_word}
+use Rattle.mon_line_parts.specs.Reading.{Reads, SeenFlaw, after_word, and_then, is_word}
 use Rattle.mon_lines.specs.Parts.{test_of, tests_within, with_test}
 use Rattle.mon_lines.specs.declared.command.Test.{Test}
 
@@ -31,7 +31,7 @@ unfolding tests_within
 no_test_left zero names pc found text h = refl
 no_test_left (suc n) names pc found text h = absurd (omega (arith, h))
 
-pub test_refused : (n m : ℕ) (names : List Named) (pc : ℕ) (found : List Test) (text : List ℕ) (why : SeenWhy) → n ≡ m + 1 → and_then (test_of names pc text) (with_test found) ≡ Err why → tests_within n names pc found text ≡ Err why
+pub test_refused : (n m : ℕ) (names : List Named) (pc : ℕ) (found : List Test) (text : List ℕ) (why : SeenFlaw) → n ≡ m + 1 → and_then (test_of names pc text) (with_test found) ≡ Err why → tests_within n names pc found text ≡ Err why
 unfolding tests_within
 test_refused zero m names pc found text why e k = absurd (omega (arith, e))
 test_refused (suc n) m names pc found text why e k = rw k refl

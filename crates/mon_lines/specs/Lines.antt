@@ -6,13 +6,13 @@ use Rattle.model.specs.Mnemonics.{mnemonic_named}
 use Rattle.model.specs.declared.event.Setting.{Setting}
 use Rattle.model.specs.declared.instruction.Mnemonic.{Mnemonic}
 use Rattle.model.specs.declared.instruction.Profile.TheVariants.{C}
-use Rattle.mon_line_parts.specs.Reading.{Reads, SeenWhy, unknown, several, missing, behind, long, after, after_word, and_then, file_of, is_empty, is_next, is_word, number_in, past, skip, why_view, word_of}
+use Rattle.mon_line_parts.specs.Reading.{Reads, SeenFlaw, unknown, several, missing, behind, long, after, after_word, and_then, file_of, is_empty, is_next, is_word, number_in, past, skip, flaw_view, word_of}
 use Rattle.mon_line_parts.specs.Values.{Named, bit_of, bytes_of, count_of}
 use Rattle.mon_lines.specs.Parts.{address_at, ends_of, flag_of, kind_of, level_of, setting_of, shown_of, stretch_of, tests_of, times_of, undoing_of, watched_register}
 use Rattle.mon_line_parts.specs.Topics.{topic_of}
 use Rattle.mon_lines.specs.declared.command.Command.{Command}
 use Rattle.mon_lines.specs.declared.command.Command.TheVariants as command
-use Rattle.mon_lines.specs.declared.command.Flag.{Flag}
+use Rattle.opcode_facts.specs.declared.flag.Flag.{Flag}
 use Rattle.mon_lines.specs.declared.command.Register.{Register}
 use Rattle.mon_lines.specs.declared.line.ReadLine.{ReadLine}
 use Rattle.mon_lines.specs.declared.slip.Slip.{Slip}
@@ -285,7 +285,7 @@ moving names pc text other = seeing names pc text other
 
 -- A slip, and what the line is about, if that was read.
 abbrev pub SeenSlip : Type 0
-SeenSlip = Option Topic × SeenWhy
+SeenSlip = Option Topic × SeenFlaw
 
 -- A slip of `page` is shown without what the line is about.
 abbrev pub slip_about : Topic → Option Topic
@@ -372,7 +372,7 @@ seen_line names pc line = record {
 -- The same without where its parts lie in memory.
 abbrev pub asked_view : Result Command Slip → Result SeenCommand SeenSlip
 asked_view (Ok command) = Ok (command_view command)
-asked_view (Err slip) = Err (slip.topic, why_view slip.why)
+asked_view (Err slip) = Err (slip.topic, flaw_view slip.flaw)
 
 abbrev pub line_view : ReadLine → SeenLine
 line_view line = record {

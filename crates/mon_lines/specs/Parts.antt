@@ -7,8 +7,8 @@ use Rattle.mon_line_parts.specs.Reading.{Reads, missing, unreadable, many, after
 use Rattle.mon_line_parts.specs.Values.{Named, count_of, sum_of}
 use Rattle.mon_lines.specs.declared.command.Compare.{Compare}
 use Rattle.mon_lines.specs.declared.command.Compare.TheVariants.{Equal, Other, Less, LessOrEqual, More, MoreOrEqual}
-use Rattle.mon_lines.specs.declared.command.Flag.{Flag}
-use Rattle.mon_lines.specs.declared.command.Flag.TheVariants as flag
+use Rattle.opcode_facts.specs.declared.flag.Flag.{Flag}
+use Rattle.opcode_facts.specs.declared.flag.Flag.TheVariants as flag
 use Rattle.mon_lines.specs.declared.command.Left.{Left}
 use Rattle.mon_lines.specs.declared.command.Left.TheVariants as left
 use Rattle.mon_lines.specs.declared.command.Register.{Register}

@@ -3,6 +3,7 @@
 use arrayvec::ArrayVec;
 use model::{Mnemonic, Setting};
 use mon_line_parts::Topic;
+use opcode_facts::Flag;
 
 /// A register whose value a test may look at.
 #[derive(Clone, Copy)]
@@ -13,17 +14,6 @@ pub enum Register {
     S,
     P,
     Pc,
-}
-
-/// A flag of P.
-#[derive(Clone, Copy)]
-pub enum Flag {
-    N,
-    V,
-    D,
-    I,
-    Z,
-    C,
 }
 
 /// What stands on the left side of a test.

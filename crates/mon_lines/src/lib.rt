@@ -3,12 +3,17 @@
 //! `read_line` is the one reader: a line to a `Command` or a `Slip`, with the names of the program
 //! and PC for its places. `ReadLine` has with it the decimal digits that a reader may mean as hex.
 //! `specs/Lines.antt` defines all three.
+//!
+//! `wholes` reads a part of a line from a text of its own, as the condition of a breakpoint:
+//! `specs/Wholes.antt`.
 #![tactic(auto)]
 
-pub use command::{Command, Compare, Flag, Left, Register, Stretch, Test, Undoing, WatchKind};
+pub use command::{Command, Compare, Left, Register, Stretch, Test, Undoing, WatchKind};
 pub use line::ReadLine;
 pub use read::read_line;
 pub use slip::Slip;
+pub use tests::{flag_of, register_of};
+pub use wholes::{read_bit, read_bytes, read_place, read_setting, read_tests, read_times};
 
 mod command;
 mod line;
@@ -16,3 +21,4 @@ mod read;
 mod slip;
 mod stretches;
 mod tests;
+mod wholes;

@@ -2,7 +2,7 @@
 
 ghost use Rattle.std.specs.Prelude.{◌≡◌, [], IfErr, IfOk};
 ghost use Rattle.std.specs.Option.{option_copied};
-ghost use Rattle.mon_line_parts.specs.Reading.{why_view};
+ghost use Rattle.mon_line_parts.specs.Reading.{flaw_view};
 ghost use Rattle.mon_lines.specs.Parts.{level_of, setting_by, setting_of, undoing_of, value_of};
 ghost use Rattle.mon_lines.specs.Lines.{assembled_from, break_from, bytes_watched_from};
 ghost use Rattle.mon_lines.specs.Lines.{command_view, decimal_address, deleted_from, displayed_from};
@@ -20,16 +20,16 @@ use crate::stretches::{ends_of, kind_of, shown_of, stretch_of, watched_register}
 use crate::tests::{flag_of, register_of, tests_of, times_of};
 use model::Setting;
 use mon_line_parts::{
-    Lack, Names, Places, Topic, Why, address_of, after, after_word, bit_of, byte_of, bytes_of,
+    Flaw, Lack, Names, Places, Topic, address_of, after, after_word, bit_of, byte_of, bytes_of,
     count_of, file_of, is_empty, is_next, is_word, number_in, past, skip, topic_of, word_of,
 };
 use optable::{Mnemonic, Profile, mnemonic_in};
 
 /// Reads `WHERE [if TESTS] [times N]`.
-fn break_at<'a>(names: &Names, pc: u16, text: &'a [u8]) -> Result<(Command<'a>, &'a [u8]), Why<'a>>
+fn break_at<'a>(names: &Names, pc: u16, text: &'a [u8]) -> Result<(Command<'a>, &'a [u8]), Flaw<'a>>
     ensures ok { IfOk result (λ p. break_from names.now pc text.now
         ≡ Ok (command_view p.0, p.1.now)) }
-    ensures err { IfErr result (λ why. break_from names.now pc text.now ≡ Err (why_view why)) }
+    ensures err { IfErr result (λ why. break_from names.now pc text.now ≡ Err (flaw_view why)) }
 {
     let (address, rest) = address_of(names, pc, text)?;
     let (tests, rest) = tests_of(names, pc, rest)?;
@@ -47,11 +47,11 @@ fn watched_bytes<'a>(
     names: &Names,
     pc: u16,
     text: &'a [u8],
-) -> Result<(Command<'a>, &'a [u8]), Why<'a>>
+) -> Result<(Command<'a>, &'a [u8]), Flaw<'a>>
     ensures ok { IfOk result (λ p. bytes_watched_from names.now pc text.now
         ≡ Ok (command_view p.0, p.1.now)) }
     ensures err { IfErr result
-        (λ why. bytes_watched_from names.now pc text.now ≡ Err (why_view why)) }
+        (λ why. bytes_watched_from names.now pc text.now ≡ Err (flaw_view why)) }
 {
     let (stretch, rest) = stretch_of(names, pc, text)?;
     let (kind, rest) = kind_of(rest);
@@ -59,10 +59,10 @@ fn watched_bytes<'a>(
 }
 
 /// Reads what is watched: a register, or bytes.
-fn watched<'a>(names: &Names, pc: u16, text: &'a [u8]) -> Result<(Command<'a>, &'a [u8]), Why<'a>>
+fn watched<'a>(names: &Names, pc: u16, text: &'a [u8]) -> Result<(Command<'a>, &'a [u8]), Flaw<'a>>
     ensures ok { IfOk result (λ p. watched_from names.now pc text.now
         ≡ Ok (command_view p.0, p.1.now)) }
-    ensures err { IfErr result (λ why. watched_from names.now pc text.now ≡ Err (why_view why)) }
+    ensures err { IfErr result (λ why. watched_from names.now pc text.now ≡ Err (flaw_view why)) }
 {
     match watched_register(word_of(text)) {
         Some(register) => Ok((Command::WatchRegister(register), after_word(text))),
@@ -71,10 +71,10 @@ fn watched<'a>(names: &Names, pc: u16, text: &'a [u8]) -> Result<(Command<'a>, &
 }
 
 /// Reads what is deleted: the watch of a register, or what stands at an address.
-fn deleted<'a>(names: &Names, pc: u16, text: &'a [u8]) -> Result<(Command<'a>, &'a [u8]), Why<'a>>
+fn deleted<'a>(names: &Names, pc: u16, text: &'a [u8]) -> Result<(Command<'a>, &'a [u8]), Flaw<'a>>
     ensures ok { IfOk result (λ p. deleted_from names.now pc text.now
         ≡ Ok (command_view p.0, p.1.now)) }
-    ensures err { IfErr result (λ why. deleted_from names.now pc text.now ≡ Err (why_view why)) }
+    ensures err { IfErr result (λ why. deleted_from names.now pc text.now ≡ Err (flaw_view why)) }
 {
     match watched_register(word_of(text)) {
         Some(register) => Ok((Command::DeleteRegister(register), after_word(text))),
@@ -86,15 +86,15 @@ fn deleted<'a>(names: &Names, pc: u16, text: &'a [u8]) -> Result<(Command<'a>, &
 }
 
 /// Reads the value of a register.
-fn value_of<'a>(
+pub fn value_of<'a>(
     names: &Names,
     pc: u16,
     register: Register,
     text: &'a [u8],
-) -> Result<(Setting, &'a [u8]), Why<'a>>
+) -> Result<(Setting, &'a [u8]), Flaw<'a>>
     ensures ok { IfOk result (λ p. value_of names.now pc register text.now ≡ Ok (p.0, p.1.now)) }
     ensures err { IfErr result
-        (λ why. value_of names.now pc register text.now ≡ Err (why_view why)) }
+        (λ why. value_of names.now pc register text.now ≡ Err (flaw_view why)) }
 {
     if let Register::Pc = register {
         let (address, rest) = address_of(names, pc, text)?;
@@ -112,25 +112,29 @@ fn value_of<'a>(
 }
 
 /// Reads `REGISTER VALUE`.
-fn setting_of<'a>(names: &Names, pc: u16, text: &'a [u8]) -> Result<(Setting, &'a [u8]), Why<'a>>
+fn setting_of<'a>(names: &Names, pc: u16, text: &'a [u8]) -> Result<(Setting, &'a [u8]), Flaw<'a>>
     ensures ok { IfOk result (λ p. setting_of names.now pc text.now ≡ Ok (p.0, p.1.now)) }
-    ensures err { IfErr result (λ why. setting_of names.now pc text.now ≡ Err (why_view why)) }
+    ensures err { IfErr result (λ why. setting_of names.now pc text.now ≡ Err (flaw_view why)) }
 {
     if is_empty(text) {
-        return Err(Why::Missing(Lack::Register));
+        return Err(Flaw::Missing(Lack::Register));
     }
     let word = word_of(text);
     match register_of(word) {
         Some(register) => value_of(names, pc, register, past(b'=', after_word(text))),
-        None => Err(Why::Unreadable(word)),
+        None => Err(Flaw::Unreadable(word)),
     }
 }
 
 /// Reads the address whose byte is shown at each stop, if something is left.
-fn displayed<'a>(names: &Names, pc: u16, text: &'a [u8]) -> Result<(Command<'a>, &'a [u8]), Why<'a>>
+fn displayed<'a>(
+    names: &Names,
+    pc: u16,
+    text: &'a [u8],
+) -> Result<(Command<'a>, &'a [u8]), Flaw<'a>>
     ensures ok { IfOk result (λ p. displayed_from names.now pc text.now
         ≡ Ok (command_view p.0, p.1.now)) }
-    ensures err { IfErr result (λ why. displayed_from names.now pc text.now ≡ Err (why_view why)) }
+    ensures err { IfErr result (λ why. displayed_from names.now pc text.now ≡ Err (flaw_view why)) }
 {
     if is_empty(text) {
         return Ok((Command::Display(None), text));
@@ -144,21 +148,21 @@ fn undisplayed<'a>(
     names: &Names,
     pc: u16,
     text: &'a [u8],
-) -> Result<(Command<'a>, &'a [u8]), Why<'a>>
+) -> Result<(Command<'a>, &'a [u8]), Flaw<'a>>
     ensures ok { IfOk result (λ p. undisplayed_from names.now pc text.now
         ≡ Ok (command_view p.0, p.1.now)) }
     ensures err { IfErr result
-        (λ why. undisplayed_from names.now pc text.now ≡ Err (why_view why)) }
+        (λ why. undisplayed_from names.now pc text.now ≡ Err (flaw_view why)) }
 {
     let (address, rest) = address_of(names, pc, text)?;
     Ok((Command::Undisplay(address), rest))
 }
 
 /// Reads `FLAG VALUE` or `REGISTER VALUE`.
-fn set<'a>(names: &Names, pc: u16, text: &'a [u8]) -> Result<(Command<'a>, &'a [u8]), Why<'a>>
+fn set<'a>(names: &Names, pc: u16, text: &'a [u8]) -> Result<(Command<'a>, &'a [u8]), Flaw<'a>>
     ensures ok { IfOk result (λ p. set_from names.now pc text.now
         ≡ Ok (command_view p.0, p.1.now)) }
-    ensures err { IfErr result (λ why. set_from names.now pc text.now ≡ Err (why_view why)) }
+    ensures err { IfErr result (λ why. set_from names.now pc text.now ≡ Err (flaw_view why)) }
 {
     match flag_of(word_of(text)) {
         Some(flag) => {
@@ -173,16 +177,16 @@ fn set<'a>(names: &Names, pc: u16, text: &'a [u8]) -> Result<(Command<'a>, &'a [
 }
 
 /// Reads `on` or `off`, or a 1 or a 0.
-fn level_of(text: &[u8]) -> Result<(bool, &[u8]), Why<'_>>
+fn level_of(text: &[u8]) -> Result<(bool, &[u8]), Flaw<'_>>
     ensures ok { IfOk result (λ p. level_of text.now ≡ Ok (p.0, p.1.now)) }
-    ensures err { IfErr result (λ why. level_of text.now ≡ Err (why_view why)) }
+    ensures err { IfErr result (λ why. level_of text.now ≡ Err (flaw_view why)) }
 {
     if is_word(b"on", text) || is_word(b"1", text) {
         Ok((true, after_word(text)))
     } else if is_word(b"off", text) || is_word(b"0", text) {
         Ok((false, after_word(text)))
     } else {
-        Err(Why::Missing(Lack::Level))
+        Err(Flaw::Missing(Lack::Level))
     }
 }
 
@@ -191,11 +195,11 @@ fn instructions<'a>(
     names: &Names,
     pc: u16,
     text: &'a [u8],
-) -> Result<(Command<'a>, &'a [u8]), Why<'a>>
+) -> Result<(Command<'a>, &'a [u8]), Flaw<'a>>
     ensures ok { IfOk result (λ p. instructions_from names.now pc text.now
         ≡ Ok (command_view p.0, p.1.now)) }
     ensures err { IfErr result
-        (λ why. instructions_from names.now pc text.now ≡ Err (why_view why)) }
+        (λ why. instructions_from names.now pc text.now ≡ Err (flaw_view why)) }
 {
     let (address, rest) = if is_empty(text) {
         (pc, text)
@@ -208,9 +212,9 @@ fn instructions<'a>(
 }
 
 /// Reads what follows `back`.
-fn undoing_of<'a>(names: &Names, text: &'a [u8]) -> Result<(Undoing, &'a [u8]), Why<'a>>
+fn undoing_of<'a>(names: &Names, text: &'a [u8]) -> Result<(Undoing, &'a [u8]), Flaw<'a>>
     ensures ok { IfOk result (λ p. undoing_of names.now text.now ≡ Ok (p.0, p.1.now)) }
-    ensures err { IfErr result (λ why. undoing_of names.now text.now ≡ Err (why_view why)) }
+    ensures err { IfErr result (λ why. undoing_of names.now text.now ≡ Err (flaw_view why)) }
 {
     if is_word(b"over", text) {
         return Ok((Undoing::Over, after_word(text)));
@@ -220,10 +224,10 @@ fn undoing_of<'a>(names: &Names, text: &'a [u8]) -> Result<(Undoing, &'a [u8]), 
 }
 
 /// Reads what follows `go` or `run`.
-fn going<'a>(names: &Names, pc: u16, text: &'a [u8]) -> Result<(Command<'a>, &'a [u8]), Why<'a>>
+fn going<'a>(names: &Names, pc: u16, text: &'a [u8]) -> Result<(Command<'a>, &'a [u8]), Flaw<'a>>
     ensures ok { IfOk result (λ p. going_from names.now pc text.now
         ≡ Ok (command_view p.0, p.1.now)) }
-    ensures err { IfErr result (λ why. going_from names.now pc text.now ≡ Err (why_view why)) }
+    ensures err { IfErr result (λ why. going_from names.now pc text.now ≡ Err (flaw_view why)) }
 {
     if is_word(b"until", text) {
         return until(names, pc, after_word(text));
@@ -233,34 +237,38 @@ fn going<'a>(names: &Names, pc: u16, text: &'a [u8]) -> Result<(Command<'a>, &'a
 }
 
 /// Reads the address to which a run goes.
-fn until<'a>(names: &Names, pc: u16, text: &'a [u8]) -> Result<(Command<'a>, &'a [u8]), Why<'a>>
+fn until<'a>(names: &Names, pc: u16, text: &'a [u8]) -> Result<(Command<'a>, &'a [u8]), Flaw<'a>>
     ensures ok { IfOk result (λ p. until_from names.now pc text.now
         ≡ Ok (command_view p.0, p.1.now)) }
-    ensures err { IfErr result (λ why. until_from names.now pc text.now ≡ Err (why_view why)) }
+    ensures err { IfErr result (λ why. until_from names.now pc text.now ≡ Err (flaw_view why)) }
 {
     let (address, rest) = address_of(names, pc, text)?;
     Ok((Command::Until(address), rest))
 }
 
 /// Reads `WHERE TEXT`.
-fn assembled<'a>(names: &Names, pc: u16, text: &'a [u8]) -> Result<(Command<'a>, &'a [u8]), Why<'a>>
+fn assembled<'a>(
+    names: &Names,
+    pc: u16,
+    text: &'a [u8],
+) -> Result<(Command<'a>, &'a [u8]), Flaw<'a>>
     ensures ok { IfOk result (λ p. assembled_from names.now pc text.now
         ≡ Ok (command_view p.0, p.1.now)) }
-    ensures err { IfErr result (λ why. assembled_from names.now pc text.now ≡ Err (why_view why)) }
+    ensures err { IfErr result (λ why. assembled_from names.now pc text.now ≡ Err (flaw_view why)) }
 {
     let (address, rest) = address_of(names, pc, text)?;
     if is_empty(rest) {
-        return Err(Why::Missing(Lack::Instruction));
+        return Err(Flaw::Missing(Lack::Instruction));
     }
     let (text, rest) = rest.split_at(rest.len());
     Ok((Command::Asm { address, text }, rest))
 }
 
 /// Reads `WHERE BYTES`.
-fn put<'a>(names: &Names, pc: u16, text: &'a [u8]) -> Result<(Command<'a>, &'a [u8]), Why<'a>>
+fn put<'a>(names: &Names, pc: u16, text: &'a [u8]) -> Result<(Command<'a>, &'a [u8]), Flaw<'a>>
     ensures ok { IfOk result (λ p. put_from names.now pc text.now
         ≡ Ok (command_view p.0, p.1.now)) }
-    ensures err { IfErr result (λ why. put_from names.now pc text.now ≡ Err (why_view why)) }
+    ensures err { IfErr result (λ why. put_from names.now pc text.now ≡ Err (flaw_view why)) }
 {
     let (address, rest) = address_of(names, pc, text)?;
     let (bytes, rest) = bytes_of(names, rest)?;
@@ -273,11 +281,11 @@ fn saved_in<'a>(
     pc: u16,
     file: &'a [u8],
     text: &'a [u8],
-) -> Result<(Command<'a>, &'a [u8]), Why<'a>>
+) -> Result<(Command<'a>, &'a [u8]), Flaw<'a>>
     ensures ok { IfOk result (λ p. saved_in names.now pc file.now text.now
         ≡ Ok (command_view p.0, p.1.now)) }
     ensures err { IfErr result
-        (λ why. saved_in names.now pc file.now text.now ≡ Err (why_view why)) }
+        (λ why. saved_in names.now pc file.now text.now ≡ Err (flaw_view why)) }
 {
     if is_empty(text) {
         let stretch = None;
@@ -289,26 +297,26 @@ fn saved_in<'a>(
 }
 
 /// Reads `FILE [WHERE WHERE]`.
-fn saved<'a>(names: &Names, pc: u16, text: &'a [u8]) -> Result<(Command<'a>, &'a [u8]), Why<'a>>
+fn saved<'a>(names: &Names, pc: u16, text: &'a [u8]) -> Result<(Command<'a>, &'a [u8]), Flaw<'a>>
     ensures ok { IfOk result (λ p. saved_from names.now pc text.now
         ≡ Ok (command_view p.0, p.1.now)) }
-    ensures err { IfErr result (λ why. saved_from names.now pc text.now ≡ Err (why_view why)) }
+    ensures err { IfErr result (λ why. saved_from names.now pc text.now ≡ Err (flaw_view why)) }
 {
     let (file, rest) = file_of(text);
     if is_empty(file) {
-        return Err(Why::Missing(Lack::File));
+        return Err(Flaw::Missing(Lack::File));
     }
     saved_in(names, pc, file, rest)
 }
 
 /// Reads `FILE`.
-fn paged(text: &[u8]) -> Result<(Command<'_>, &[u8]), Why<'_>>
+fn paged(text: &[u8]) -> Result<(Command<'_>, &[u8]), Flaw<'_>>
     ensures ok { IfOk result (λ p. paged_from text.now ≡ Ok (command_view p.0, p.1.now)) }
-    ensures err { IfErr result (λ why. paged_from text.now ≡ Err (why_view why)) }
+    ensures err { IfErr result (λ why. paged_from text.now ≡ Err (flaw_view why)) }
 {
     let (file, rest) = file_of(text);
     if is_empty(file) {
-        return Err(Why::Missing(Lack::File));
+        return Err(Flaw::Missing(Lack::File));
     }
     Ok((Command::Page(file), rest))
 }
@@ -318,25 +326,25 @@ fn helped_on<'a>(
     word: &'a [u8],
     rest: &'a [u8],
     mnemonic: Option<Mnemonic>,
-) -> Result<(Command<'a>, &'a [u8]), Why<'a>>
+) -> Result<(Command<'a>, &'a [u8]), Flaw<'a>>
     requires { rest.now ≡ [] }
     ensures ok { IfOk result (λ p. helped_on word.now mnemonic ≡ Ok (command_view p.0, p.1.now)) }
-    ensures err { IfErr result (λ why. helped_on word.now mnemonic ≡ Err (why_view why)) }
+    ensures err { IfErr result (λ why. helped_on word.now mnemonic ≡ Err (flaw_view why)) }
 {
     if let Some(mnemonic) = mnemonic {
         return Ok((Command::Forms(mnemonic), rest));
     }
     match topic_of(word) {
         (Some(topic), _) => Ok((Command::Help(Some(topic)), rest)),
-        (None, true) => Err(Why::Several(word)),
-        (None, false) => Err(Why::Unknown(word)),
+        (None, true) => Err(Flaw::Several(word)),
+        (None, false) => Err(Flaw::Unknown(word)),
     }
 }
 
 /// Reads what follows `help`.
-fn helped<'a>(text: &'a [u8]) -> Result<(Command<'a>, &'a [u8]), Why<'a>>
+fn helped<'a>(text: &'a [u8]) -> Result<(Command<'a>, &'a [u8]), Flaw<'a>>
     ensures ok { IfOk result (λ p. helped_from text.now ≡ Ok (command_view p.0, p.1.now)) }
-    ensures err { IfErr result (λ why. helped_from text.now ≡ Err (why_view why)) }
+    ensures err { IfErr result (λ why. helped_from text.now ≡ Err (flaw_view why)) }
 {
     if is_empty(text) {
         return Ok((Command::Help(None), text));
@@ -352,10 +360,10 @@ fn moving<'a>(
     names: &Names,
     pc: u16,
     text: &'a [u8],
-) -> Result<(Command<'a>, &'a [u8]), Why<'a>>
+) -> Result<(Command<'a>, &'a [u8]), Flaw<'a>>
     ensures ok { IfOk result (λ p. moving names.now pc text.now topic
         ≡ Ok (command_view p.0, p.1.now)) }
-    ensures err { IfErr result (λ why. moving names.now pc text.now topic ≡ Err (why_view why)) }
+    ensures err { IfErr result (λ why. moving names.now pc text.now topic ≡ Err (flaw_view why)) }
 {
     match topic {
         Topic::Step => {
@@ -391,10 +399,10 @@ fn seeing<'a>(
     names: &Names,
     pc: u16,
     text: &'a [u8],
-) -> Result<(Command<'a>, &'a [u8]), Why<'a>>
+) -> Result<(Command<'a>, &'a [u8]), Flaw<'a>>
     ensures ok { IfOk result (λ p. seeing names.now pc text.now topic
         ≡ Ok (command_view p.0, p.1.now)) }
-    ensures err { IfErr result (λ why. seeing names.now pc text.now topic ≡ Err (why_view why)) }
+    ensures err { IfErr result (λ why. seeing names.now pc text.now topic ≡ Err (flaw_view why)) }
 {
     match topic {
         Topic::Where => Ok((Command::Where, text)),
@@ -431,10 +439,10 @@ fn putting<'a>(
     names: &Names,
     pc: u16,
     text: &'a [u8],
-) -> Result<(Command<'a>, &'a [u8]), Why<'a>>
+) -> Result<(Command<'a>, &'a [u8]), Flaw<'a>>
     ensures ok { IfOk result (λ p. putting names.now pc text.now topic
         ≡ Ok (command_view p.0, p.1.now)) }
-    ensures err { IfErr result (λ why. putting names.now pc text.now topic ≡ Err (why_view why)) }
+    ensures err { IfErr result (λ why. putting names.now pc text.now topic ≡ Err (flaw_view why)) }
 {
     match topic {
         Topic::Set => set(names, pc, text),
@@ -518,7 +526,7 @@ fn line_about<'a>(
     ensures ok { IfOk result (λ command. whole_line topic (moving names.now pc text.now topic)
         ≡ Ok (command_view command)) }
     ensures err { IfErr result (λ slip. whole_line topic (moving names.now pc text.now topic)
-        ≡ Err (slip.topic, why_view slip.why)) }
+        ≡ Err (slip.topic, flaw_view slip.flaw)) }
 {
     match moving(topic, names, pc, text) {
         Ok((command, rest)) => {
@@ -527,13 +535,13 @@ fn line_about<'a>(
             } else {
                 Err(Slip {
                     topic: slip_about(topic),
-                    why: Why::Behind(rest),
+                    flaw: Flaw::Behind(rest),
                 })
             }
         }
-        Err(why) => Err(Slip {
+        Err(flaw) => Err(Slip {
             topic: slip_about(topic),
-            why,
+            flaw,
         }),
     }
 }
@@ -549,17 +557,17 @@ fn line_by<'a>(
     ensures ok { IfOk result (λ command. line_by names.now pc line.now word.now rest.now
         (topic_of word.now) ≡ Ok (command_view command)) }
     ensures err { IfErr result (λ slip. line_by names.now pc line.now word.now rest.now
-        (topic_of word.now) ≡ Err (slip.topic, why_view slip.why)) }
+        (topic_of word.now) ≡ Err (slip.topic, flaw_view slip.flaw)) }
 {
     match topic_of(word) {
         (Some(topic), _) => line_about(topic, names, pc, rest),
         (None, true) => Err(Slip {
             topic: None,
-            why: Why::Several(word),
+            flaw: Flaw::Several(word),
         }),
         (None, false) => Err(Slip {
             topic: None,
-            why: Why::Unknown(if is_empty(word) { line } else { word }),
+            flaw: Flaw::Unknown(if is_empty(word) { line } else { word }),
         }),
     }
 }
@@ -578,12 +586,12 @@ pub fn read_line<'a>(line: &'a [u8], places: &Places, pc: u16) -> Result<Command
     ensures ok { IfOk result (λ command. line_of places.now.names pc line.now
         ≡ Ok (command_view command)) }
     ensures err { IfErr result (λ slip. line_of places.now.names pc line.now
-        ≡ Err (slip.topic, why_view slip.why)) }
+        ≡ Err (slip.topic, flaw_view slip.flaw)) }
 {
     if is_long(line) {
         return Err(Slip {
             topic: None,
-            why: Why::Long,
+            flaw: Flaw::Long,
         });
     }
     let text = skip(line);

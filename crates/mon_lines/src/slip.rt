@@ -1,10 +1,10 @@
-//! What is missing or wrong in a line, and what the line is about.
+//! What is wrong in a line, and what the line is about.
 
-use mon_line_parts::{Topic, Why};
+use mon_line_parts::{Flaw, Topic};
 
-/// A slip in a line, and what the line is about.
+/// A line that asks for nothing that can be done: what it is about, and what is wrong in it.
 #[derive(Clone, Copy)]
 pub struct Slip<'a> {
     pub topic: Option<Topic>,
-    pub why: Why<'a>,
+    pub flaw: Flaw<'a>,
 }

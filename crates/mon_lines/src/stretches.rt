@@ -1,14 +1,14 @@
 //! Stretches of memory.
 
 ghost use Rattle.std.specs.Prelude.{◌≡◌, ◌≤◌, IfErr, IfOk};
-ghost use Rattle.mon_line_parts.specs.Reading.{and_then, why_view};
+ghost use Rattle.mon_line_parts.specs.Reading.{and_then, flaw_view};
 ghost use Rattle.mon_lines.specs.Parts.{by_count, counted_from, ends_of, from_to, kind_of, last_of};
 ghost use Rattle.mon_lines.specs.Parts.{past_points, second_of, shown_of, so_many_from, stretch_of};
 ghost use Rattle.mon_lines.specs.Parts.{watched_register};
 
 use crate::command::{Register, Stretch, WatchKind};
 use mon_line_parts::{
-    Lack, Names, Why, address_of, after, after_word, count_of, is_empty, is_next, is_same_word,
+    Flaw, Lack, Names, address_of, after, after_word, count_of, is_empty, is_next, is_same_word,
     is_word, past, word_of,
 };
 
@@ -24,12 +24,12 @@ fn so_many_from(first: u16, count: u32) -> Stretch
 }
 
 /// The addresses between two, the last of which must not be below the first.
-fn last_of(first: u16, last: u16, rest: &[u8]) -> Result<(Stretch, &[u8]), Why<'_>>
+fn last_of(first: u16, last: u16, rest: &[u8]) -> Result<(Stretch, &[u8]), Flaw<'_>>
     ensures ok { IfOk result (λ p. last_of first last rest.now ≡ Ok (p.0, p.1.now)) }
-    ensures err { IfErr result (λ why. last_of first last rest.now ≡ Err (why_view why)) }
+    ensures err { IfErr result (λ why. last_of first last rest.now ≡ Err (flaw_view why)) }
 {
     if last < first {
-        return Err(Why::Missing(Lack::LastAddress));
+        return Err(Flaw::Missing(Lack::LastAddress));
     }
     Ok((Stretch { first, last }, rest))
 }
@@ -40,16 +40,16 @@ pub fn stretch_of<'a>(
     names: &Names,
     pc: u16,
     text: &'a [u8],
-) -> Result<(Stretch, &'a [u8]), Why<'a>>
+) -> Result<(Stretch, &'a [u8]), Flaw<'a>>
     ensures ok { IfOk result (λ p. stretch_of names.now pc text.now ≡ Ok (p.0, p.1.now)) }
-    ensures err { IfErr result (λ why. stretch_of names.now pc text.now ≡ Err (why_view why)) }
+    ensures err { IfErr result (λ why. stretch_of names.now pc text.now ≡ Err (flaw_view why)) }
 {
     let (first, rest) = address_of(names, pc, text)?;
     if !is_next(b'.', rest) {
         return Ok((Stretch { first, last: first }, rest));
     }
     if !is_next(b'.', after(1, rest)) {
-        return Err(Why::Missing(Lack::Points));
+        return Err(Flaw::Missing(Lack::Points));
     }
     let (last, rest) = address_of(names, pc, after(1, after(1, rest)))?;
     last_of(first, last, rest)
@@ -68,9 +68,9 @@ fn past_points(text: &[u8]) -> &[u8]
 
 /// Reads `WHERE WHERE` or `WHERE..WHERE`.
 #[tactic(auto, unfolding(crate::specs::Parts::ends_of))]
-pub fn ends_of<'a>(names: &Names, pc: u16, text: &'a [u8]) -> Result<(Stretch, &'a [u8]), Why<'a>>
+pub fn ends_of<'a>(names: &Names, pc: u16, text: &'a [u8]) -> Result<(Stretch, &'a [u8]), Flaw<'a>>
     ensures ok { IfOk result (λ p. ends_of names.now pc text.now ≡ Ok (p.0, p.1.now)) }
-    ensures err { IfErr result (λ why. ends_of names.now pc text.now ≡ Err (why_view why)) }
+    ensures err { IfErr result (λ why. ends_of names.now pc text.now ≡ Err (flaw_view why)) }
 {
     let (first, rest) = address_of(names, pc, text)?;
     let (last, rest) = address_of(names, pc, past_points(rest))?;
@@ -113,9 +113,9 @@ pub fn kind_of(text: &[u8]) -> (WatchKind, &[u8])
 }
 
 /// Reads a count of addresses from one on, 64 if none is given.
-fn by_count<'a>(names: &Names, first: u16, text: &'a [u8]) -> Result<(Stretch, &'a [u8]), Why<'a>>
+fn by_count<'a>(names: &Names, first: u16, text: &'a [u8]) -> Result<(Stretch, &'a [u8]), Flaw<'a>>
     ensures ok { IfOk result (λ p. by_count names.now first text.now ≡ Ok (p.0, p.1.now)) }
-    ensures err { IfErr result (λ why. by_count names.now first text.now ≡ Err (why_view why)) }
+    ensures err { IfErr result (λ why. by_count names.now first text.now ≡ Err (flaw_view why)) }
 {
     let (count, rest) = count_of(names, text)?;
     Ok((so_many_from(first, count.unwrap_or(64)), rest))
@@ -128,10 +128,10 @@ fn second_of<'a>(
     pc: u16,
     first: u16,
     text: &'a [u8],
-) -> Result<(Stretch, &'a [u8]), Why<'a>>
+) -> Result<(Stretch, &'a [u8]), Flaw<'a>>
     ensures ok { IfOk result (λ p. second_of names.now pc first text.now ≡ Ok (p.0, p.1.now)) }
     ensures err { IfErr result
-        (λ why. second_of names.now pc first text.now ≡ Err (why_view why)) }
+        (λ why. second_of names.now pc first text.now ≡ Err (flaw_view why)) }
 {
     if word_of(text).len() == 4 {
         let (last, rest) = address_of(names, pc, text)?;
@@ -144,9 +144,9 @@ fn second_of<'a>(
 
 /// Reads `WHERE`, `WHERE N`, `WHERE..WHERE`, or two addresses of four hex digits.
 #[tactic(auto, unfolding(crate::specs::Parts::shown_of))]
-pub fn shown_of<'a>(names: &Names, pc: u16, text: &'a [u8]) -> Result<(Stretch, &'a [u8]), Why<'a>>
+pub fn shown_of<'a>(names: &Names, pc: u16, text: &'a [u8]) -> Result<(Stretch, &'a [u8]), Flaw<'a>>
     ensures ok { IfOk result (λ p. shown_of names.now pc text.now ≡ Ok (p.0, p.1.now)) }
-    ensures err { IfErr result (λ why. shown_of names.now pc text.now ≡ Err (why_view why)) }
+    ensures err { IfErr result (λ why. shown_of names.now pc text.now ≡ Err (flaw_view why)) }
 {
     let (range, rest) = stretch_of(names, pc, text)?;
     if range.first < range.last {

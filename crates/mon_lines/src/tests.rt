@@ -2,17 +2,18 @@
 
 ghost use Rattle.std.specs.Prelude.{◌≡◌, ◌≤◌, [], IfErr, IfOk};
 ghost use Rattle.std.specs.Str.{bytes_eq};
-ghost use Rattle.mon_line_parts.specs.Reading.{after_word, and_then, why_view, word_of};
+ghost use Rattle.mon_line_parts.specs.Reading.{after_word, and_then, flaw_view, word_of};
 ghost use Rattle.mon_lines.specs.Parts.{byte_left, comparison_of, flag_of, flag_or_byte, left_by};
 ghost use Rattle.mon_lines.specs.Parts.{left_of, register_of};
 ghost use Rattle.mon_lines.specs.Parts.{test_of, tests_of, tests_within, times_of, times_or, with_test};
 
-use crate::command::{Compare, Flag, Left, Register, Test};
+use crate::command::{Compare, Left, Register, Test};
 use arrayvec::ArrayVec;
 use mon_line_parts::{
-    Lack, Names, Why, address_of, after, after_word, count_of, is_next, is_same_word, is_word,
+    Flaw, Lack, Names, address_of, after, after_word, count_of, is_next, is_same_word, is_word,
     past, word_of, word_value,
 };
+use opcode_facts::Flag;
 
 fn is_text(word: &[u8], text: &[u8]) -> bool
     ensures { result ≡ bytes_eq word.now text.now }
@@ -70,12 +71,12 @@ pub fn flag_of(word: &[u8]) -> Option<Flag>
 
 /// Reads the left side of a test that begins with no register: a flag, or the address of a byte of
 /// memory.
-fn flag_or_byte<'a>(names: &Names, pc: u16, text: &'a [u8]) -> Result<(Left, &'a [u8]), Why<'a>>
+fn flag_or_byte<'a>(names: &Names, pc: u16, text: &'a [u8]) -> Result<(Left, &'a [u8]), Flaw<'a>>
     ensures ok { IfOk result (λ p. flag_or_byte names.now pc text.now (flag_of (word_of text.now))
         ≡ Ok (p.0, p.1.now)) }
     ensures err { IfErr result
         (λ why. flag_or_byte names.now pc text.now (flag_of (word_of text.now))
-        ≡ Err (why_view why)) }
+        ≡ Err (flaw_view why)) }
 {
     match flag_of(word_of(text)) {
         Some(flag) => Ok((Left::Flag(flag), after_word(text))),
@@ -87,9 +88,9 @@ fn flag_or_byte<'a>(names: &Names, pc: u16, text: &'a [u8]) -> Result<(Left, &'a
 }
 
 /// Reads the left side of a test: a register, a flag, or the address of a byte of memory.
-fn left_of<'a>(names: &Names, pc: u16, text: &'a [u8]) -> Result<(Left, &'a [u8]), Why<'a>>
+fn left_of<'a>(names: &Names, pc: u16, text: &'a [u8]) -> Result<(Left, &'a [u8]), Flaw<'a>>
     ensures ok { IfOk result (λ p. left_of names.now pc text.now ≡ Ok (p.0, p.1.now)) }
-    ensures err { IfErr result (λ why. left_of names.now pc text.now ≡ Err (why_view why)) }
+    ensures err { IfErr result (λ why. left_of names.now pc text.now ≡ Err (flaw_view why)) }
 {
     match register_of(word_of(text)) {
         Some(register) => Ok((Left::Register(register), after_word(text))),
@@ -99,9 +100,9 @@ fn left_of<'a>(names: &Names, pc: u16, text: &'a [u8]) -> Result<(Left, &'a [u8]
 
 /// Reads `=`, `==`, `<>`, `!=`, `<`, `<=`, `>` or `>=`.
 #[tactic(auto, unfolding(crate::specs::Parts::comparison_of))]
-fn comparison_of(text: &[u8]) -> Result<(Compare, &[u8]), Why<'_>>
+fn comparison_of(text: &[u8]) -> Result<(Compare, &[u8]), Flaw<'_>>
     ensures ok { IfOk result (λ p. comparison_of text.now ≡ Ok (p.0, p.1.now)) }
-    ensures err { IfErr result (λ why. comparison_of text.now ≡ Err (why_view why)) }
+    ensures err { IfErr result (λ why. comparison_of text.now ≡ Err (flaw_view why)) }
 {
     let rest = after(1, text);
     if is_next(b'=', text) {
@@ -123,15 +124,15 @@ fn comparison_of(text: &[u8]) -> Result<(Compare, &[u8]), Why<'_>>
             Ok((Compare::More, rest))
         }
     } else {
-        Err(Why::Missing(Lack::Comparison))
+        Err(Flaw::Missing(Lack::Comparison))
     }
 }
 
 /// Reads a test of a register, a flag or a byte of memory.
 #[tactic(auto, unfolding(crate::specs::Parts::test_of))]
-fn test_of<'a>(names: &Names, pc: u16, text: &'a [u8]) -> Result<(Test, &'a [u8]), Why<'a>>
+fn test_of<'a>(names: &Names, pc: u16, text: &'a [u8]) -> Result<(Test, &'a [u8]), Flaw<'a>>
     ensures ok { IfOk result (λ p. test_of names.now pc text.now ≡ Ok (p.0, p.1.now)) }
-    ensures err { IfErr result (λ why. test_of names.now pc text.now ≡ Err (why_view why)) }
+    ensures err { IfErr result (λ why. test_of names.now pc text.now ≡ Err (flaw_view why)) }
 {
     let (left, rest) = left_of(names, pc, text)?;
     let (compare, rest) = comparison_of(rest)?;
@@ -150,30 +151,30 @@ fn push_test<'a>(
     pc: u16,
     found: &mut ArrayVec<Test, 4>,
     text: &'a [u8],
-) -> Result<&'a [u8], Why<'a>>
+) -> Result<&'a [u8], Flaw<'a>>
     ensures ok { IfOk result (λ rest. and_then (test_of names.now pc text.now)
         (with_test found.old.items) ≡ Ok (found.new.items, rest.now)) }
     ensures err { IfErr result (λ why. and_then (test_of names.now pc text.now)
-        (with_test found.old.items) ≡ Err (why_view why)) }
+        (with_test found.old.items) ≡ Err (flaw_view why)) }
 {
     let (test, rest) = test_of(names, pc, text)?;
     match found.try_push(test) {
         Ok(()) => Ok(rest),
-        Err(_) => Err(Why::Many),
+        Err(_) => Err(Flaw::Many),
     }
 }
 
 /// Reads tests with `and` between them.
-fn tests_within<'a>(
+pub fn tests_within<'a>(
     names: &Names,
     pc: u16,
     found: &mut ArrayVec<Test, 4>,
     text: &'a [u8],
-) -> Result<&'a [u8], Why<'a>>
+) -> Result<&'a [u8], Flaw<'a>>
     ensures ok { IfOk result (λ rest. tests_within 5 names.now pc found.old.items text.now
         ≡ Ok (found.new.items, rest.now)) }
     ensures err { IfErr result (λ why. tests_within 5 names.now pc found.old.items text.now
-        ≡ Err (why_view why)) }
+        ≡ Err (flaw_view why)) }
 {
     let mut rest = text;
     for _ in 0..5u8 {
@@ -194,9 +195,9 @@ pub fn tests_of<'a>(
     names: &Names,
     pc: u16,
     text: &'a [u8],
-) -> Result<(ArrayVec<Test, 4>, &'a [u8]), Why<'a>>
+) -> Result<(ArrayVec<Test, 4>, &'a [u8]), Flaw<'a>>
     ensures ok { IfOk result (λ p. tests_of names.now pc text.now ≡ Ok (p.0.items, p.1.now)) }
-    ensures err { IfErr result (λ why. tests_of names.now pc text.now ≡ Err (why_view why)) }
+    ensures err { IfErr result (λ why. tests_of names.now pc text.now ≡ Err (flaw_view why)) }
 {
     let mut found = ArrayVec::new();
     if !is_word(b"if", text) {
@@ -207,15 +208,15 @@ pub fn tests_of<'a>(
 }
 
 /// Reads `times` and a count, if `times` comes next. Otherwise the count is 1.
-pub fn times_of<'a>(names: &Names, text: &'a [u8]) -> Result<(u32, &'a [u8]), Why<'a>>
+pub fn times_of<'a>(names: &Names, text: &'a [u8]) -> Result<(u32, &'a [u8]), Flaw<'a>>
     ensures ok { IfOk result (λ p. times_of names.now text.now ≡ Ok (p.0, p.1.now)) }
-    ensures err { IfErr result (λ why. times_of names.now text.now ≡ Err (why_view why)) }
+    ensures err { IfErr result (λ why. times_of names.now text.now ≡ Err (flaw_view why)) }
 {
     if !is_word(b"times", text) {
         return Ok((1, text));
     }
     match count_of(names, after_word(text))? {
         (Some(times), rest) => Ok((times, rest)),
-        (None, _) => Err(Why::Missing(Lack::Times)),
+        (None, _) => Err(Flaw::Missing(Lack::Times)),
     }
 }

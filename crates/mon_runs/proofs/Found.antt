@@ -8,7 +8,7 @@ use Rattle.model.specs.State.{State}
 use Rattle.model.specs.Session.{Session}
 use Rattle.model.specs.Back.{without_last}
 use Rattle.mon_runs.specs.Recall.{is_stop, recalled, one_more}
-use Rattle.mon_stops.specs.declared.stops.Stops.{Stops}
+use Rattle.mon_runs.specs.declared.stops.Stops.{Stops}
 
 pub none_more : (p : ℕ → Bool) (xs : List ℕ) (i : ℕ) → i < length xs
     → list_any p (take i xs) ≡ false → p (get_or xs i 0) ≡ false

@@ -5,3 +5,5 @@ pub mod Past
 pub mod Way
 pub mod Again
 pub mod Found
+pub mod StopsFound
+pub mod Added

@@ -8,9 +8,9 @@ use Rattle.mon_runs.specs.Looked.{Arrival, LookedRunsAreSteps, Place, after_stre
 use Rattle.mon_runs.specs.declared.ended.EndWhy.{EndWhy}
 use Rattle.mon_runs.specs.declared.ended.EndWhy.TheVariants as end_why
 use Rattle.mon_runs.specs.declared.looked.Goal.{Goal}
-use Rattle.mon_stops.specs.Stops.{Read, Write, has_access}
-use Rattle.mon_stops.specs.declared.breaks.Break.{Break}
-use Rattle.mon_stops.specs.declared.watches.Watch.{Watch}
+use Rattle.mon_runs.specs.Stops.{Read, Write, has_access}
+use Rattle.mon_runs.specs.declared.breaks.Break.{Break}
+use Rattle.mon_runs.specs.declared.watches.Watch.{Watch}
 
 -- An arrival so many steps later.
 pub later-none : (a : Arrival) → a ≡ later 0 a

@@ -1,18 +1,10 @@
--- When a step was the entry of an interrupt, and when a run ends. Source: mos65; the cycles and the
--- bytes that an entry pushes, MCS6500 manual, chapter 9.
-use Rattle.std.specs.Prelude.{ℕ, ◌+◌, ◌-◌, ◌%◌, ◌==◌, ◌&&◌, ◌||◌, Bool, true, false, if◌then◌else◌, List, Option, Some, None, slice_index, bit_and}
+-- When a run ends. Source: mos65.
+use Rattle.std.specs.Prelude.{ℕ, ◌==◌, ◌||◌, Bool, true, false, if◌then◌else◌, List, Option, Some, None}
 use Rattle.model.specs.State.{State}
 use Rattle.model.specs.declared.run_end.Why.{Why}
 use Rattle.model.specs.declared.run_end.Why.TheVariants as why
-use Rattle.mon_stops.specs.Stops.{after_visit, stops_at}
-use Rattle.mon_stops.specs.declared.breaks.Break.{Break}
-
--- A step took 7 cycles and pushed three bytes, the last of which has bit 4 clear, where the stack
--- pointer and the cycles before it were these. BRK does so too, but pushes P with that bit set.
-abbrev pub is_entry : ℕ → ℕ → State → Bool
-is_entry stack cycles after =
-    ((after.cycles - cycles) == 7) && (after.regs.s == (stack + 253) % 256)
-    && (bit_and (slice_index after.bus.memory (256 + (stack + 254) % 256)) 16 == 0)
+use Rattle.mon_runs.specs.Stops.{after_visit, stops_at}
+use Rattle.mon_runs.specs.declared.breaks.Break.{Break}
 
 -- Whether an address is the one that is run to.
 abbrev pub is_to : Option ℕ → ℕ → Bool

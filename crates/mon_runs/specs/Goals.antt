@@ -1,7 +1,7 @@
--- What a run is made for. Source: mos65; what JSR, RTS and RTI do, and their cycles, MCS6500 manual,
--- chapter 8 and appendix B.
-use Rattle.std.specs.Prelude.{ℕ, ◌+◌, ◌==◌, ◌&&◌, ◌||◌, Bool, nat_lt, slice_index, Result, Ok, Err}
+-- What a run is made for. Source: mos65; what JSR, RTS and RTI do, MCS6500 manual, chapter 8.
+use Rattle.std.specs.Prelude.{ℕ, ◌==◌, ◌&&◌, ◌||◌, Bool, not, nat_lt, slice_index, Result, Ok, Err}
 use Rattle.model.specs.State.{State}
+use Rattle.model.specs.Step.{entry_due}
 use Rattle.model.specs.Session.{Session}
 use Rattle.model.specs.Breakpoints.{break_cleared}
 use Rattle.model.specs.declared.session_fault.SessionFault.{SessionFault}
@@ -14,12 +14,12 @@ opcode_at_pc state = slice_index state.bus.memory state.regs.pc
 abbrev pub is_behind : ℕ → ℕ → State → State → Bool
 is_behind pc stack before after = (after.regs.pc == pc) && (after.regs.s == stack)
 
--- The step was an RTS or an RTI, which takes 6 cycles, and the stack pointer is now above what it
--- was. An interrupt that comes in place of the instruction takes 7 cycles.
+-- The step was an RTS or an RTI, and no interrupt entry in its place, and the stack pointer is now
+-- above what it was.
 abbrev pub has_left : ℕ → State → State → Bool
 has_left stack before after =
     (opcode_at_pc before == 0x60 || opcode_at_pc before == 0x40)
-    && (after.cycles == before.cycles + 6) && nat_lt stack after.regs.s
+    && not (entry_due before) && nat_lt stack after.regs.s
 
 -- ---- a breakpoint for one run
 

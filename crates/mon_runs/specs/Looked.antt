@@ -5,7 +5,8 @@ use Rattle.std.specs.Option.{option_map, option_or}
 use Rattle.model.specs.State.{State}
 use Rattle.model.specs.Session.{Session}
 use Rattle.model.specs.Run.{run_end, after_run, after_steps}
-use Rattle.mon_runs.specs.Ends.{is_entry, is_end, breaks_after}
+use Rattle.model.specs.Step.{entry_due}
+use Rattle.mon_runs.specs.Ends.{is_end, breaks_after}
 use Rattle.mon_runs.specs.Rests.{rest_between}
 use Rattle.mon_runs.specs.declared.ended.EndWhy.{EndWhy}
 use Rattle.mon_runs.specs.declared.ended.EndWhy.TheVariants as end_why
@@ -13,10 +14,10 @@ use Rattle.mon_runs.specs.declared.ended.Ended.{Ended}
 use Rattle.mon_runs.specs.declared.looked.Goal.{Goal}
 use Rattle.mon_runs.specs.declared.looked.Goal.TheVariants.{Behind, Left, Rest, Never}
 use Rattle.mon_runs.specs.declared.looked.Sight.{Sight}
-use Rattle.mon_stops.specs.Stops.{Read, Write, has_access, register_change}
-use Rattle.mon_stops.specs.declared.changes.RegisterChange.{RegisterChange}
-use Rattle.mon_stops.specs.declared.breaks.Break.{Break}
-use Rattle.mon_stops.specs.declared.watches.Watch.{Watch}
+use Rattle.mon_runs.specs.Stops.{Read, Write, has_access, register_change}
+use Rattle.mon_runs.specs.declared.changes.RegisterChange.{RegisterChange}
+use Rattle.mon_runs.specs.declared.breaks.Break.{Break}
+use Rattle.mon_runs.specs.declared.watches.Watch.{Watch}
 use Rattle.mon_runs.specs.Goals.{is_behind, has_left, opcode_at_pc}
 use Rattle.accesses.specs.Access.{access_here}
 use Rattle.cpu_step.specs.declared.access.Access.{Access}
@@ -57,9 +58,9 @@ watched watches access stack = option_or (if_read watches access.read)
     (option_or (if_stored watches access.store)
     (option_map end_why.Written (pushed_at watches stack 0 access.pushes)))
 
--- The same of the step from one state to another, in place of which no interrupt was entered.
-abbrev pub watched_between : List Watch → State → State → Option EndWhy
-watched_between watches before after = if is_entry before.regs.s before.cycles after then None
+-- The same of the step from a state, unless it is an interrupt entry.
+abbrev pub watched_from : List Watch → State → Option EndWhy
+watched_from watches before = if entry_due before then None
     else watched watches (access_here before) before.regs.s
 
 -- The change of a watched register by a step from one state to another. An interrupt that is entered
@@ -74,7 +75,7 @@ changed_between watches before after
 
 -- What is watched that a step has done: an access, or else a change of a register.
 abbrev pub seen_between : List Watch → State → State → Option EndWhy
-seen_between watches before after = option_or (watched_between watches before after)
+seen_between watches before after = option_or (watched_from watches before)
     (changed_between watches before after)
 
 abbrev pub if_met : Bool → Option EndWhy
@@ -99,7 +100,7 @@ abbrev pub sight_of : State → Sight
 sight_of state = record {
   regs = state.regs;
   opcode = opcode_at_pc state;
-  cycles = state.cycles;
+  is_entry = entry_due state;
   access = access_here state;
 }
 

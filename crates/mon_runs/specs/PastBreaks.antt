@@ -15,8 +15,8 @@ use Rattle.mon_runs.specs.Looked.{Arrival, Place, after_stretch, ended_or, looke
 use Rattle.mon_runs.specs.declared.ended.EndWhy.{EndWhy}
 use Rattle.mon_runs.specs.declared.ended.EndWhy.TheVariants as end_why
 use Rattle.mon_runs.specs.declared.looked.Goal.TheVariants.{Behind, Left, Rest, Never}
-use Rattle.mon_stops.specs.Stops.{is_change}
-use Rattle.mon_stops.specs.declared.watches.Watch.{Watch}
+use Rattle.mon_runs.specs.Stops.{is_change}
+use Rattle.mon_runs.specs.declared.watches.Watch.{Watch}
 
 -- ---- so many steps
 

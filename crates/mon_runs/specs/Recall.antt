@@ -7,9 +7,9 @@ use Rattle.model.specs.Session.{Session, with_state}
 use Rattle.model.specs.Back.{Accepts, back_of, states, without_last}
 use Rattle.model.specs.declared.event.Event.{Event}
 use Rattle.model.specs.declared.event.EventFault.{EventFault}
-use Rattle.mon_stops.specs.Stops.{register_change}
-use Rattle.mon_stops.specs.declared.stops.Stops.{Stops}
-use Rattle.mon_stops.specs.declared.watches.Watch.{Watch}
+use Rattle.mon_runs.specs.Stops.{register_change}
+use Rattle.mon_runs.specs.declared.stops.Stops.{Stops}
+use Rattle.mon_runs.specs.declared.watches.Watch.{Watch}
 
 -- ---- back to the last stop
 

@@ -1,7 +1,7 @@
 //! How a run ends.
 
+use crate::changes::RegisterChange;
 use debugger::Why;
-use mon_stops::RegisterChange;
 
 /// Why a run ends. Source: mos65.
 #[derive(Clone, Copy)]

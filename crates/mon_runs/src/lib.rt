@@ -1,7 +1,10 @@
 //! The runs that lines of `mon` ask for: a subroutine made as one step, or left; a run to an
 //! address, for some steps, or until something stops it; back over a subroutine, or to the last
-//! stop; and undone events made again.
+//! stop; and undone events made again. And what stops a run beyond the session's own breakpoints:
+//! tests and times of breaks, and watches for reads and writes and of registers.
 //!
+//! - `stops` holds the breaks (`breaks`) and the watches (`watches`). `specs/Stops.antt` says when
+//!   the tests of a break hold, and which register a step has changed.
 //! - `looked` makes single steps and looks at each (`specs/Looked.antt`), and `rests` says where a
 //!   program has nothing to do, or waits for input (`specs/Rests.antt`).
 //! - `stretches` makes so many steps, on past a break whose tests do not hold. `runs` makes the
@@ -13,18 +16,26 @@
 #![tactic(auto)]
 
 mod back;
+mod breaks;
+mod changes;
 mod ended;
 pub mod laws;
 mod looked;
 mod recall;
 mod rests;
 mod runs;
+mod stops;
 mod stretches;
+mod tests;
+mod watches;
 
 pub use back::back_over;
+pub use breaks::Break;
+pub use changes::RegisterChange;
 pub use debugger::{Event, RunEnd, Session, SessionFault, Why};
 pub use ended::{EndWhy, Ended};
-pub use looked::is_entry;
-pub use mon_stops::Stops;
+pub use mon_lines::WatchKind;
 pub use recall::{back_to_stop, make_again};
 pub use runs::{go, out, over, run, until};
+pub use stops::Stops;
+pub use watches::Watch;

@@ -3,18 +3,20 @@
 ghost use Rattle.std.specs.Prelude.{◌≡◌, ◌≤◌, ◌^◌};
 ghost use Rattle.model.specs.Run.{after_run, after_steps, run_end};
 ghost use Rattle.model.specs.State.{State};
-ghost use Rattle.mon_runs.specs.Ends.{breaks_after, is_end, is_entry, is_to};
+ghost use Rattle.mon_runs.specs.Ends.{breaks_after, is_end, is_to};
 ghost use Rattle.mon_runs.specs.Looked.{after_stretch, changed_between, end_between, goal_met};
 ghost use Rattle.mon_runs.specs.Looked.{if_changed, if_met, if_read, seen_between};
 ghost use Rattle.mon_runs.specs.Looked.{if_stored, looked_run, pushed_at, pushed_to, rest_of};
 ghost use Rattle.mon_runs.specs.Looked.{sight_of};
-ghost use Rattle.mon_runs.specs.Looked.{watched, watched_between, why_of_step};
+ghost use Rattle.mon_runs.specs.Looked.{watched, watched_from, why_of_step};
 
+use crate::changes::RegisterChange;
 use crate::ended::{EndWhy, Ended};
 use crate::rests::rest_since;
+use crate::stops::Stops;
 use accesses::{Access, access_here};
 use debugger::{Regs, Session, Why};
-use mon_stops::{RegisterChange, Stops, WatchKind};
+use mon_lines::WatchKind;
 
 /// The goal of a run of single steps.
 #[derive(Clone, Copy)]
@@ -34,7 +36,8 @@ pub enum Goal {
 struct Sight {
     regs: Regs,
     opcode: u8,
-    cycles: u64,
+    /// Whether the step is an interrupt entry.
+    is_entry: bool,
     access: Access,
 }
 
@@ -53,21 +56,9 @@ fn look(session: &Session) -> Sight
     Sight {
         regs,
         opcode: session.peek(regs.pc),
-        cycles: session.cycles(),
+        is_entry: session.entry_is_due(),
         access: access_here(session),
     }
-}
-
-/// Returns whether a step was the entry of an interrupt, where the stack pointer and the cycles
-/// before it were these. Such a step takes 7 cycles and pushes three bytes, as BRK alone does
-/// otherwise; but BRK pushes P with its bit 4 set.
-pub fn is_entry(session: &Session, stack: u8, cycles: u64) -> bool
-    ensures { result ≡ is_entry stack cycles session.now.current }
-{
-    let is_long = session.cycles().saturating_sub(cycles) == 7;
-    let is_pushed = session.regs().s == stack.wrapping_sub(3);
-    let pushed = session.peek(0x0100 + stack.wrapping_sub(2) as u16);
-    is_long && is_pushed && pushed & 0x10 == 0
 }
 
 /// Returns where a byte is pushed, if so many were pushed before it.
@@ -129,17 +120,13 @@ fn watched(stops: &Stops, access: Access, stack: u8) -> Option<EndWhy>
 }
 
 /// Returns whether a step meets a goal.
-fn is_met(goal: Goal, before: Sight, after: Regs, cycles: u64) -> bool
-    ensures { (s t : State) → before ≡ sight_of s → after ≡ t.regs → cycles ≡ t.cycles
-        → result ≡ goal_met goal s t }
+fn is_met(goal: Goal, before: Sight, after: Regs) -> bool
+    ensures { (s t : State) → before ≡ sight_of s → after ≡ t.regs → result ≡ goal_met goal s t }
 {
     match goal {
         Goal::Behind { pc, stack } => after.pc == pc && after.s == stack,
         Goal::Left { stack } => {
-            (before.opcode == 0x60 || before.opcode == 0x40)
-                && cycles >= before.cycles
-                && cycles - before.cycles == 6
-                && stack < after.s
+            (before.opcode == 0x60 || before.opcode == 0x40) && !before.is_entry && stack < after.s
         }
         Goal::Rest | Goal::Never => false,
     }
@@ -171,12 +158,12 @@ pub fn is_end(session: &Session, stops: &mut Stops, until: Option<u16>, why: Why
     }
 }
 
-/// Returns the access of a step that is watched, if one is and no interrupt was entered.
-fn watched_since(session: &Session, stops: &Stops, before: Sight) -> Option<EndWhy>
+/// Returns the access of a step that is watched, if one is and the step is no interrupt entry.
+fn watched_from(stops: &Stops, before: Sight) -> Option<EndWhy>
     ensures { (s : State) → before ≡ sight_of s → result
-        ≡ watched_between stops.now.watches.items s session.now.current }
+        ≡ watched_from stops.now.watches.items s }
 {
-    if is_entry(session, before.regs.s, before.cycles) {
+    if before.is_entry {
         None
     } else {
         watched(stops, before.access, before.regs.s)
@@ -206,7 +193,7 @@ fn seen_since(session: &Session, stops: &Stops, before: Sight) -> Option<EndWhy>
     ensures { (s : State) → before ≡ sight_of s → result
         ≡ seen_between stops.now.watches.items s session.now.current }
 {
-    match watched_since(session, stops, before) {
+    match watched_from(stops, before) {
         Some(why) => Some(why),
         None => changed_since(session, stops, before),
     }
@@ -238,7 +225,7 @@ fn end_of(session: &Session, stops: &Stops, goal: Goal, before: Sight) -> Option
     if let Some(why) = seen_since(session, stops, before) {
         return Some(why);
     }
-    match if_met(is_met(goal, before, session.regs(), session.cycles())) {
+    match if_met(is_met(goal, before, session.regs())) {
         Some(why) => Some(why),
         None => rest_of(session, goal, before),
     }

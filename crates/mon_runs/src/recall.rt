@@ -7,8 +7,8 @@ ghost use Rattle.model.specs.State.{State};
 ghost use Rattle.mon_runs.specs.Noted.{AreBytesAt};
 ghost use Rattle.mon_runs.specs.Recall.{differs_at, has_other_register, is_stop, last_stop, made_again};
 
+use crate::stops::Stops;
 use debugger::{Event, Regs, Session};
-use mon_stops::Stops;
 
 /// The most addresses that are watched on the way back.
 const MOST_WATCHED: usize = 256;

@@ -13,9 +13,9 @@ ghost use Rattle.mon_runs.specs.Runs.{HasMadeStates};
 
 use crate::ended::{EndWhy, Ended};
 use crate::looked::{Goal, lead};
+use crate::stops::Stops;
 use crate::stretches::run_on;
 use debugger::{Session, SessionFault, Why};
-use mon_stops::Stops;
 
 /// The opcode of JSR.
 const JSR: u8 = 0x20;

@@ -7,8 +7,8 @@ ghost use Rattle.mon_runs.specs.PastBreaks.{run_past, why_of_stretch};
 
 use crate::ended::{EndWhy, Ended};
 use crate::looked::is_end;
+use crate::stops::Stops;
 use debugger::{Session, Why};
-use mon_stops::Stops;
 
 /// How a stretch ended: how many steps it made, and why the run ends, if it does.
 #[derive(Clone, Copy)]

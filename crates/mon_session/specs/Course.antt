@@ -6,22 +6,22 @@ use Rattle.model.specs.Session.{Session, with_state}
 use Rattle.model.specs.declared.event.Event.{Event}
 use Rattle.model.specs.declared.event.EventFault.{EventFault}
 use Rattle.mon_session.specs.Events.{Kept, with_event}
-use Rattle.mon_session.specs.declared.desk.Desk.{Desk}
+use Rattle.mon_session.specs.declared.mon_state.MonState.{MonState}
 
 -- A session, with the events that were made and those that were undone.
 abbrev pub Course : Type 0
 Course = Session × Kept
 
-abbrev pub course_of : Desk → Course
-course_of desk = (desk.session, desk.events)
+abbrev pub course_of : MonState → Course
+course_of mon = (mon.session, mon.events)
 
 -- Only the text has changed.
-abbrev pub ShowsOnly : Desk → Desk → Type 0
+abbrev pub ShowsOnly : MonState → MonState → Type 0
 ShowsOnly old new = (new.session ≡ old.session) × (new.events ≡ old.events)
     × (new.stops ≡ old.stops) × (new.places ≡ old.places) × (new.displays ≡ old.displays)
 
 -- Breaks, watches, names, lines, and what is shown at each stop are what they were.
-abbrev pub KeepsStops : Desk → Desk → Type 0
+abbrev pub KeepsStops : MonState → MonState → Type 0
 KeepsStops old new = (new.stops ≡ old.stops) × (new.places ≡ old.places)
     × (new.displays ≡ old.displays)
 

@@ -1,10 +1,9 @@
 -- What a session says of its state and of an event. Source: mos65.
-use Rattle.std.specs.Prelude.{ℕ, ◌==◌, if◌then◌else◌, List, ◌++◌, Option, Result, Ok, Err, codes, decimal}
+use Rattle.std.specs.Prelude.{ℕ, ◌==◌, Bool, if◌then◌else◌, List, ◌++◌, Option, Result, Ok, Err, codes, decimal}
 use Rattle.model.specs.State.{State}
 use Rattle.model.specs.Event.{event_of}
 use Rattle.model.specs.declared.event.Event.{Event}
 use Rattle.model.specs.declared.event.EventFault.{EventFault}
-use Rattle.mon_runs.specs.Ends.{is_entry}
 use Rattle.mon_instructions.specs.Instructions.{next_line}
 use Rattle.mon_instructions.specs.Places.{place_text}
 use Rattle.mon_session.specs.Faults.{fault_text}
@@ -38,8 +37,7 @@ event_text names event course said
 abbrev pub entry_text : List Named → ℕ → List ℕ
 entry_text names pc = INTERRUPT.now ++ place_text names pc ++ codes "\n"
 
--- The row of a step, or that an interrupt was entered in its place, where the stack pointer and the
--- cycles before it were these.
-abbrev pub row_or_entry : ℕ → ℕ → State → List Named → List ℕ → List ℕ
-row_or_entry stack cycles after names row
-    = if is_entry stack cycles after then entry_text names after.regs.pc else row
+-- The row of a step, or that an interrupt was entered in its place.
+abbrev pub row_or_entry : Bool → State → List Named → List ℕ → List ℕ
+row_or_entry is_entry after names row
+    = if is_entry then entry_text names after.regs.pc else row

@@ -8,9 +8,9 @@ use Rattle.model.specs.declared.session_fault.SessionFault.{SessionFault}
 use Rattle.model.specs.declared.session_fault.SessionFault.TheVariants.{AlreadySet, PortAddress}
 use Rattle.mon_lines.specs.declared.command.Stretch.{Stretch}
 use Rattle.mon_lines.specs.declared.command.WatchKind.TheVariants.{Change}
-pub use Rattle.mon_stops.specs.Breaks.{is_set, or_same, with_break}
-use Rattle.mon_stops.specs.Stops.{changed, changes_of, first_with, has_access, without_first_with}
-use Rattle.mon_stops.specs.declared.watches.Watch.{Watch}
+pub use Rattle.mon_runs.specs.Breaks.{is_set, or_same, with_break}
+use Rattle.mon_runs.specs.Stops.{changed, changes_of, first_with, has_access, without_first_with}
+use Rattle.mon_runs.specs.declared.watches.Watch.{Watch}
 
 -- ---- watches of changes in the session
 

@@ -5,9 +5,9 @@ use Rattle.mon_settings.specs.declared.watches.Unwatched.{Unwatched}
 use Rattle.mon_settings.specs.declared.watches.Unwatched.TheVariants.{Port, Full, Wide}
 use Rattle.mon_lines.specs.declared.command.Register.{Register}
 use Rattle.mon_lines.specs.declared.command.Test.{Test}
-use Rattle.mon_stops.specs.declared.breaks.Break.{Break}
-use Rattle.mon_stops.specs.declared.watches.Watch.{Watch}
-use Rattle.mon_stops.specs.declared.watches.Watch.TheVariants as watching
+use Rattle.mon_runs.specs.declared.breaks.Break.{Break}
+use Rattle.mon_runs.specs.declared.watches.Watch.{Watch}
+use Rattle.mon_runs.specs.declared.watches.Watch.TheVariants as watching
 use Rattle.mon_instructions.specs.Places.{place_text}
 use Rattle.mon_texts.specs.Stops.{break_line, register_name, register_watch_line, watch_line}
 use Rattle.source_map.specs.Lines.{PlacesView, row_at}

@@ -16,19 +16,19 @@ use assembler::{Line, assemble_line_in};
 use model::AsmFaultKind;
 use mon_line_parts::Topic;
 use mon_runs::Event;
-use mon_session::Desk;
+use mon_session::MonState;
 use mon_texts::push_example;
 use std::alloc::{AllocError, Global};
 
 /// Puts an assembled line into memory, and shows it.
 #[tactic(auto, using(crate::proofs::Made::said))]
-fn put_line(desk: &mut Desk, address: u16, line: Line) -> Result<(), AllocError>
-    ensures course { course_of desk.new
-        ≡ happened (Patch address line.bytes line.count) (course_of desk.old) }
-    ensures stops { KeepsStops desk.old desk.new }
-    ensures text { OnOk result (desk.new.text.items ≡ desk.old.text.items
-        ++ patched_text desk.old.places address (Patch address line.bytes line.count)
-        (course_of desk.old)) }
+fn put_line(mon: &mut MonState, address: u16, line: Line) -> Result<(), AllocError>
+    ensures course { course_of mon.new
+        ≡ happened (Patch address line.bytes line.count) (course_of mon.old) }
+    ensures stops { KeepsStops mon.old mon.new }
+    ensures text { OnOk result (mon.new.text.items ≡ mon.old.text.items
+        ++ patched_text mon.old.places address (Patch address line.bytes line.count)
+        (course_of mon.old)) }
 {
     let bytes = line.bytes;
     let count = line.count;
@@ -37,64 +37,64 @@ fn put_line(desk: &mut Desk, address: u16, line: Line) -> Result<(), AllocError>
         bytes,
         count,
     };
-    if desk.happen(patch)? {
-        desk.show_row(address)?;
+    if mon.happen(patch)? {
+        mon.show_row(address)?;
     }
     Ok(())
 }
 
 /// Says the name of a fault, and an example of the line.
-fn say_fault(desk: &mut Desk, kind: AsmFaultKind) -> Result<(), AllocError>
-    ensures shows { ShowsOnly desk.old desk.new }
-    ensures text { OnOk result (desk.new.text.items ≡ desk.old.text.items
+fn say_fault(mon: &mut MonState, kind: AsmFaultKind) -> Result<(), AllocError>
+    ensures shows { ShowsOnly mon.old mon.new }
+    ensures text { OnOk result (mon.new.text.items ≡ mon.old.text.items
         ++ (source_fault_name kind ++ (example_text (Some Asm) ++ codes "\n"))) }
 {
-    desk.say(kind.name())?;
-    push_example(&mut desk.text, Some(Topic::Asm))?;
-    desk.say("\n")
+    mon.say(kind.name())?;
+    push_example(&mut mon.text, Some(Topic::Asm))?;
+    mon.say("\n")
 }
 
 /// Says why a text is not assembled.
-fn say_not_assembled(desk: &mut Desk, kind: AsmFaultKind) -> Result<(), AllocError>
-    ensures shows { ShowsOnly desk.old desk.new }
-    ensures text { OnOk result (desk.new.text.items ≡ desk.old.text.items
+fn say_not_assembled(mon: &mut MonState, kind: AsmFaultKind) -> Result<(), AllocError>
+    ensures shows { ShowsOnly mon.old mon.new }
+    ensures text { OnOk result (mon.new.text.items ≡ mon.old.text.items
         ++ not_assembled_text kind) }
 {
-    desk.say(NOT_ASSEMBLED)?;
-    say_fault(desk, kind)
+    mon.say(NOT_ASSEMBLED)?;
+    say_fault(mon, kind)
 }
 
 /// Says why a text is not assembled, unless memory ran out.
-fn refuse_line(desk: &mut Desk, kind: AsmFaultKind) -> Result<(), AllocError>
-    ensures shows { ShowsOnly desk.old desk.new }
+fn refuse_line(mon: &mut MonState, kind: AsmFaultKind) -> Result<(), AllocError>
+    ensures shows { ShowsOnly mon.old mon.new }
     ensures memory { kind ≡ AsmFaultKind.OutOfMemory → IsErr result }
-    ensures text { OnOk result (desk.new.text.items ≡ desk.old.text.items
+    ensures text { OnOk result (mon.new.text.items ≡ mon.old.text.items
         ++ not_assembled_text kind) }
 {
     match kind {
         AsmFaultKind::OutOfMemory => Err(AllocError),
-        kind => say_not_assembled(desk, kind),
+        kind => say_not_assembled(mon, kind),
     }
 }
 
 /// Assembles a text without names into memory.
 fn assemble_text(
-    desk: &mut Desk,
+    mon: &mut MonState,
     alloc: Global,
     address: u16,
     text: &[u8],
 ) -> Result<(), AllocError>
-    ensures course { OnOk result (course_of desk.new
-        ≡ assembled address text.now (course_of desk.old)) }
-    ensures memory { OnErr result (IsEither (course_of desk.new) (course_of desk.old)
-        (assembled address text.now (course_of desk.old))) }
-    ensures stops { KeepsStops desk.old desk.new }
-    ensures text { OnOk result (desk.new.text.items ≡ desk.old.text.items
-        ++ assembled_text desk.old.places address text.now (course_of desk.old)) }
+    ensures course { OnOk result (course_of mon.new
+        ≡ assembled address text.now (course_of mon.old)) }
+    ensures memory { OnErr result (IsEither (course_of mon.new) (course_of mon.old)
+        (assembled address text.now (course_of mon.old))) }
+    ensures stops { KeepsStops mon.old mon.new }
+    ensures text { OnOk result (mon.new.text.items ≡ mon.old.text.items
+        ++ assembled_text mon.old.places address text.now (course_of mon.old)) }
 {
-    match assemble_line_in(alloc, desk.session.profile(), address, text) {
-        Ok(line) => put_line(desk, address, line),
-        Err(fault) => refuse_line(desk, fault.kind),
+    match assemble_line_in(alloc, mon.session.profile(), address, text) {
+        Ok(line) => put_line(mon, address, line),
+        Err(fault) => refuse_line(mon, fault.kind),
     }
 }
 
@@ -102,17 +102,22 @@ fn assemble_text(
 /// stand for their addresses.
 ///
 /// Errors: `AllocError` if an allocation fails; the bytes may be in memory then.
-pub fn assemble(desk: &mut Desk, alloc: Global, address: u16, line: &[u8]) -> Result<(), AllocError>
-    ensures course { OnOk result (course_of desk.new ≡ assembled address
-        (without_names desk.old.places.names line.now) (course_of desk.old)) }
-    ensures memory { OnErr result (IsEither (course_of desk.new) (course_of desk.old)
-        (assembled address (without_names desk.old.places.names line.now)
-        (course_of desk.old))) }
-    ensures stops { KeepsStops desk.old desk.new }
-    ensures text { OnOk result (desk.new.text.items ≡ desk.old.text.items
-        ++ assembled_text desk.old.places address
-        (without_names desk.old.places.names line.now) (course_of desk.old)) }
+pub fn assemble(
+    mon: &mut MonState,
+    alloc: Global,
+    address: u16,
+    line: &[u8],
+) -> Result<(), AllocError>
+    ensures course { OnOk result (course_of mon.new ≡ assembled address
+        (without_names mon.old.places.names line.now) (course_of mon.old)) }
+    ensures memory { OnErr result (IsEither (course_of mon.new) (course_of mon.old)
+        (assembled address (without_names mon.old.places.names line.now)
+        (course_of mon.old))) }
+    ensures stops { KeepsStops mon.old mon.new }
+    ensures text { OnOk result (mon.new.text.items ≡ mon.old.text.items
+        ++ assembled_text mon.old.places address
+        (without_names mon.old.places.names line.now) (course_of mon.old)) }
 {
-    let text = without_names(alloc, line, &desk.places)?;
-    assemble_text(desk, alloc, address, &text)
+    let text = without_names(alloc, line, &mon.places)?;
+    assemble_text(mon, alloc, address, &text)
 }

@@ -10,27 +10,26 @@ ghost use Rattle.mon_session.specs.Course.{IsEither, KeepsStops, ShowsOnly, cour
 
 use crate::wording::NO_INSTRUCTION_BEGINS;
 use mon_instructions::push_place;
-use mon_runs::SessionFault;
-use mon_session::Desk;
+use mon_runs::{Break, SessionFault};
+use mon_session::MonState;
 use mon_session::wording::BREAKS_FULL;
-use mon_stops::Break;
 use mon_texts::push_break;
 use source_map::Places;
 use std::alloc::AllocError;
 
 /// Sets a break in the session, and returns whether it is set there. Nothing is changed if memory
 /// ran out.
-fn break_in_session(desk: &mut Desk, address: u16) -> Result<bool, AllocError>
-    ensures session { OnOk result (desk.new.session
-        ≡ or_same desk.old.session (break_set address desk.old.session)) }
+fn break_in_session(mon: &mut MonState, address: u16) -> Result<bool, AllocError>
+    ensures session { OnOk result (mon.new.session
+        ≡ or_same mon.old.session (break_set address mon.old.session)) }
     ensures set { IfOk result
-        (λ is_there. is_there ≡ is_set (break_set address desk.old.session)) }
-    ensures memory { OnErr result (desk.new.session ≡ desk.old.session) }
-    ensures events { desk.new.events ≡ desk.old.events }
-    ensures stops { KeepsStops desk.old desk.new }
-    ensures text { desk.new.text ≡ desk.old.text }
+        (λ is_there. is_there ≡ is_set (break_set address mon.old.session)) }
+    ensures memory { OnErr result (mon.new.session ≡ mon.old.session) }
+    ensures events { mon.new.events ≡ mon.old.events }
+    ensures stops { KeepsStops mon.old mon.new }
+    ensures text { mon.new.text ≡ mon.old.text }
 {
-    match desk.session.set_break(address) {
+    match mon.session.set_break(address) {
         Ok(()) | Err(SessionFault::AlreadySet) => Ok(true),
         Err(SessionFault::OutOfMemory) => Err(AllocError),
         Err(_) => Ok(false),
@@ -48,25 +47,25 @@ fn begins_instruction(places: &Places, address: u16) -> bool
 }
 
 /// Says that no instruction of the source begins at an address.
-fn say_none_begins(desk: &mut Desk, address: u16) -> Result<(), AllocError>
-    ensures shows { ShowsOnly desk.old desk.new }
+fn say_none_begins(mon: &mut MonState, address: u16) -> Result<(), AllocError>
+    ensures shows { ShowsOnly mon.old mon.new }
     ensures text { OnOk result
-        (desk.new.text.items ≡ desk.old.text.items ++ none_begins desk.old.places.names address) }
+        (mon.new.text.items ≡ mon.old.text.items ++ none_begins mon.old.places.names address) }
 {
-    desk.say(NO_INSTRUCTION_BEGINS)?;
-    push_place(&mut desk.text, &desk.places, address)?;
-    desk.say("\n")
+    mon.say(NO_INSTRUCTION_BEGINS)?;
+    push_place(&mut mon.text, &mon.places, address)?;
+    mon.say("\n")
 }
 
 /// Says where no instruction of the source begins, if the source has lines.
 #[tactic(auto, unfolding(crate::specs::StopTexts::lines_text))]
-fn say_lines(desk: &mut Desk, address: u16) -> Result<(), AllocError>
-    ensures shows { ShowsOnly desk.old desk.new }
+fn say_lines(mon: &mut MonState, address: u16) -> Result<(), AllocError>
+    ensures shows { ShowsOnly mon.old mon.new }
     ensures text { OnOk result
-        (desk.new.text.items ≡ desk.old.text.items ++ lines_text desk.old.places address) }
+        (mon.new.text.items ≡ mon.old.text.items ++ lines_text mon.old.places address) }
 {
-    if desk.places.has_lines() && !begins_instruction(&desk.places, address) {
-        return say_none_begins(desk, address);
+    if mon.places.has_lines() && !begins_instruction(&mon.places, address) {
+        return say_none_begins(mon, address);
     }
     Ok(())
 }
@@ -86,23 +85,23 @@ pub fn push_stop(text: &mut Vec<u8>, stop: &Break, places: &Places) -> Result<()
 }
 
 /// Notes a break, in place of one that stands there, and shows it.
-fn note_break(desk: &mut Desk, stop: Break) -> Result<(), AllocError>
-    ensures course { course_of desk.new ≡ course_of desk.old }
-    ensures breaks { OnOk result (desk.new.stops.breaks.items
-        ≡ with_break stop desk.old.stops.breaks.items) }
-    ensures memory { OnErr result (IsEither desk.new.stops.breaks.items
-        desk.old.stops.breaks.items (with_break stop desk.old.stops.breaks.items)) }
-    ensures watches { desk.new.stops.watches ≡ desk.old.stops.watches }
-    ensures changes { desk.new.stops.changes ≡ desk.old.stops.changes }
-    ensures places { desk.new.places ≡ desk.old.places }
-    ensures displays { desk.new.displays ≡ desk.old.displays }
-    ensures text { OnOk result (desk.new.text.items ≡ desk.old.text.items
-        ++ break_text desk.old.places.names stop ++ lines_text desk.old.places stop.address) }
+fn note_break(mon: &mut MonState, stop: Break) -> Result<(), AllocError>
+    ensures course { course_of mon.new ≡ course_of mon.old }
+    ensures breaks { OnOk result (mon.new.stops.breaks.items
+        ≡ with_break stop mon.old.stops.breaks.items) }
+    ensures memory { OnErr result (IsEither mon.new.stops.breaks.items
+        mon.old.stops.breaks.items (with_break stop mon.old.stops.breaks.items)) }
+    ensures watches { mon.new.stops.watches ≡ mon.old.stops.watches }
+    ensures changes { mon.new.stops.changes ≡ mon.old.stops.changes }
+    ensures places { mon.new.places ≡ mon.old.places }
+    ensures displays { mon.new.displays ≡ mon.old.displays }
+    ensures text { OnOk result (mon.new.text.items ≡ mon.old.text.items
+        ++ break_text mon.old.places.names stop ++ lines_text mon.old.places stop.address) }
 {
     let address = stop.address;
-    push_stop(&mut desk.text, &stop, &desk.places)?;
-    desk.stops.note_break(stop)?;
-    say_lines(desk, address)
+    push_stop(&mut mon.text, &stop, &mon.places)?;
+    mon.stops.note_break(stop)?;
+    say_lines(mon, address)
 }
 
 /// Sets a break, in place of one that stands there, and shows it. Nothing is changed if the session
@@ -110,29 +109,29 @@ fn note_break(desk: &mut Desk, stop: Break) -> Result<(), AllocError>
 ///
 /// Errors: `AllocError` if an allocation fails; the session or both the session and the stops may
 /// have the break then.
-pub fn set_break(desk: &mut Desk, stop: Break) -> Result<(), AllocError>
-    ensures session { OnOk result (desk.new.session
-        ≡ or_same desk.old.session (break_set stop.address desk.old.session)) }
-    ensures breaks { OnOk result (desk.new.stops.breaks.items
-        ≡ (if is_set (break_set stop.address desk.old.session)
-        then with_break stop desk.old.stops.breaks.items
-        else desk.old.stops.breaks.items)) }
-    ensures session_memory { OnErr result (IsEither desk.new.session desk.old.session
-        (or_same desk.old.session (break_set stop.address desk.old.session))) }
-    ensures breaks_memory { OnErr result (IsEither desk.new.stops.breaks.items
-        desk.old.stops.breaks.items (with_break stop desk.old.stops.breaks.items)) }
-    ensures watches { desk.new.stops.watches ≡ desk.old.stops.watches }
-    ensures changes { desk.new.stops.changes ≡ desk.old.stops.changes }
-    ensures events { desk.new.events ≡ desk.old.events }
-    ensures places { desk.new.places ≡ desk.old.places }
-    ensures displays { desk.new.displays ≡ desk.old.displays }
-    ensures text { OnOk result (desk.new.text.items ≡ desk.old.text.items
-        ++ set_text desk.old.places stop.address stop.tests.items stop.times
-        (is_set (break_set stop.address desk.old.session))) }
+pub fn set_break(mon: &mut MonState, stop: Break) -> Result<(), AllocError>
+    ensures session { OnOk result (mon.new.session
+        ≡ or_same mon.old.session (break_set stop.address mon.old.session)) }
+    ensures breaks { OnOk result (mon.new.stops.breaks.items
+        ≡ (if is_set (break_set stop.address mon.old.session)
+        then with_break stop mon.old.stops.breaks.items
+        else mon.old.stops.breaks.items)) }
+    ensures session_memory { OnErr result (IsEither mon.new.session mon.old.session
+        (or_same mon.old.session (break_set stop.address mon.old.session))) }
+    ensures breaks_memory { OnErr result (IsEither mon.new.stops.breaks.items
+        mon.old.stops.breaks.items (with_break stop mon.old.stops.breaks.items)) }
+    ensures watches { mon.new.stops.watches ≡ mon.old.stops.watches }
+    ensures changes { mon.new.stops.changes ≡ mon.old.stops.changes }
+    ensures events { mon.new.events ≡ mon.old.events }
+    ensures places { mon.new.places ≡ mon.old.places }
+    ensures displays { mon.new.displays ≡ mon.old.displays }
+    ensures text { OnOk result (mon.new.text.items ≡ mon.old.text.items
+        ++ set_text mon.old.places stop.address stop.tests.items stop.times
+        (is_set (break_set stop.address mon.old.session))) }
 {
-    if break_in_session(desk, stop.address)? {
-        note_break(desk, stop)
+    if break_in_session(mon, stop.address)? {
+        note_break(mon, stop)
     } else {
-        desk.say(BREAKS_FULL)
+        mon.say(BREAKS_FULL)
     }
 }

@@ -6,8 +6,8 @@ ghost use Rattle.mon_settings.specs.StopLines.{changes_left, stands_at, without_
 ghost use Rattle.mon_settings.specs.StopTexts.{break_text, deleted_text, list_text, stops_text};
 ghost use Rattle.mon_settings.specs.StopTexts.{register_deleted_text, watch_text};
 ghost use Rattle.mon_session.specs.Course.{ShowsOnly};
-ghost use Rattle.mon_stops.specs.Stops.{first_with, is_watched, without, without_first_with};
-ghost use Rattle.mon_stops.specs.Stops.{without_register};
+ghost use Rattle.mon_runs.specs.Stops.{first_with, is_watched, without, without_first_with};
+ghost use Rattle.mon_runs.specs.Stops.{without_register};
 
 use crate::breaks::push_stop;
 use crate::watches::{push_watched, unwatch_changes};
@@ -15,36 +15,36 @@ use crate::wording::{DELETED, NOT_WATCHED, NOTHING_AT, NOTHING_SET};
 use formatting::push_text;
 use mon_instructions::push_place;
 use mon_lines::Register;
-use mon_session::Desk;
-use mon_stops::{Break, Stops, Watch};
+use mon_runs::{Break, Stops, Watch};
+use mon_session::MonState;
 use mon_texts::push_register;
 use source_map::Places;
 use std::alloc::AllocError;
 
 /// Clears the break and the first watch at an address, and returns whether there was one.
-fn forget(desk: &mut Desk, address: u16) -> bool
-    ensures session { desk.new.session
-        ≡ without_stops address desk.old.stops.watches.items desk.old.session }
-    ensures breaks { desk.new.stops.breaks.items
-        ≡ without address desk.old.stops.breaks.items }
-    ensures watches { desk.new.stops.watches.items
-        ≡ without_first_with address desk.old.stops.watches.items }
-    ensures changes { desk.new.stops.changes.items
-        ≡ changes_left (without_first_with address desk.old.stops.watches.items)
-        desk.old.stops.changes.items
-        (first_with address desk.old.stops.watches.items) }
-    ensures events { desk.new.events ≡ desk.old.events }
-    ensures places { desk.new.places ≡ desk.old.places }
-    ensures displays { desk.new.displays ≡ desk.old.displays }
+fn forget(mon: &mut MonState, address: u16) -> bool
+    ensures session { mon.new.session
+        ≡ without_stops address mon.old.stops.watches.items mon.old.session }
+    ensures breaks { mon.new.stops.breaks.items
+        ≡ without address mon.old.stops.breaks.items }
+    ensures watches { mon.new.stops.watches.items
+        ≡ without_first_with address mon.old.stops.watches.items }
+    ensures changes { mon.new.stops.changes.items
+        ≡ changes_left (without_first_with address mon.old.stops.watches.items)
+        mon.old.stops.changes.items
+        (first_with address mon.old.stops.watches.items) }
+    ensures events { mon.new.events ≡ mon.old.events }
+    ensures places { mon.new.places ≡ mon.old.places }
+    ensures displays { mon.new.displays ≡ mon.old.displays }
     ensures stood { result
-        ≡ stands_at address desk.old.stops.watches.items desk.old.session }
-    ensures text { desk.new.text ≡ desk.old.text }
+        ≡ stands_at address mon.old.stops.watches.items mon.old.session }
+    ensures text { mon.new.text ≡ mon.old.text }
 {
-    let is_break = desk.session.clear_break(address).is_ok();
-    let _ = desk.stops.forget_break(address);
-    match desk.stops.forget_watch(address) {
+    let is_break = mon.session.clear_break(address).is_ok();
+    let _ = mon.stops.forget_break(address);
+    match mon.stops.forget_watch(address) {
         Some(watch) => {
-            unwatch_changes(desk, watch);
+            unwatch_changes(mon, watch);
             true
         }
         None => is_break,
@@ -52,39 +52,39 @@ fn forget(desk: &mut Desk, address: u16) -> bool
 }
 
 /// Says whether something stood at an address, where nothing stands now.
-fn say_deleted(desk: &mut Desk, address: u16, stood: bool) -> Result<(), AllocError>
-    ensures shows { ShowsOnly desk.old desk.new }
-    ensures text { OnOk result (desk.new.text.items ≡ desk.old.text.items
-        ++ deleted_text desk.old.places.names address stood) }
+fn say_deleted(mon: &mut MonState, address: u16, stood: bool) -> Result<(), AllocError>
+    ensures shows { ShowsOnly mon.old mon.new }
+    ensures text { OnOk result (mon.new.text.items ≡ mon.old.text.items
+        ++ deleted_text mon.old.places.names address stood) }
 {
-    desk.say(if stood { DELETED } else { NOTHING_AT })?;
-    push_place(&mut desk.text, &desk.places, address)?;
-    desk.say("\n")
+    mon.say(if stood { DELETED } else { NOTHING_AT })?;
+    push_place(&mut mon.text, &mon.places, address)?;
+    mon.say("\n")
 }
 
 /// Clears the break and the first watch at an address, and says so.
 ///
 /// Errors: `AllocError` if an allocation fails; both are cleared all the same.
-pub fn delete(desk: &mut Desk, address: u16) -> Result<(), AllocError>
-    ensures session { desk.new.session
-        ≡ without_stops address desk.old.stops.watches.items desk.old.session }
-    ensures breaks { desk.new.stops.breaks.items
-        ≡ without address desk.old.stops.breaks.items }
-    ensures watches { desk.new.stops.watches.items
-        ≡ without_first_with address desk.old.stops.watches.items }
-    ensures changes { desk.new.stops.changes.items
-        ≡ changes_left (without_first_with address desk.old.stops.watches.items)
-        desk.old.stops.changes.items
-        (first_with address desk.old.stops.watches.items) }
-    ensures events { desk.new.events ≡ desk.old.events }
-    ensures places { desk.new.places ≡ desk.old.places }
-    ensures displays { desk.new.displays ≡ desk.old.displays }
-    ensures text { OnOk result (desk.new.text.items ≡ desk.old.text.items
-        ++ deleted_text desk.old.places.names address
-        (stands_at address desk.old.stops.watches.items desk.old.session)) }
+pub fn delete(mon: &mut MonState, address: u16) -> Result<(), AllocError>
+    ensures session { mon.new.session
+        ≡ without_stops address mon.old.stops.watches.items mon.old.session }
+    ensures breaks { mon.new.stops.breaks.items
+        ≡ without address mon.old.stops.breaks.items }
+    ensures watches { mon.new.stops.watches.items
+        ≡ without_first_with address mon.old.stops.watches.items }
+    ensures changes { mon.new.stops.changes.items
+        ≡ changes_left (without_first_with address mon.old.stops.watches.items)
+        mon.old.stops.changes.items
+        (first_with address mon.old.stops.watches.items) }
+    ensures events { mon.new.events ≡ mon.old.events }
+    ensures places { mon.new.places ≡ mon.old.places }
+    ensures displays { mon.new.displays ≡ mon.old.displays }
+    ensures text { OnOk result (mon.new.text.items ≡ mon.old.text.items
+        ++ deleted_text mon.old.places.names address
+        (stands_at address mon.old.stops.watches.items mon.old.session)) }
 {
-    let stood = forget(desk, address);
-    say_deleted(desk, address, stood)
+    let stood = forget(mon, address);
+    say_deleted(mon, address, stood)
 }
 
 /// Appends that a register is not watched any more, or was not watched.
@@ -105,20 +105,20 @@ fn push_unwatched(text: &mut Vec<u8>, register: Register, stood: bool) -> Result
 /// Clears the first watch of a register, and says so.
 ///
 /// Errors: `AllocError` if an allocation fails; the watch is cleared all the same.
-pub fn delete_register(desk: &mut Desk, register: Register) -> Result<(), AllocError>
-    ensures watches { desk.new.stops.watches.items
-        ≡ without_register register desk.old.stops.watches.items }
-    ensures session { desk.new.session ≡ desk.old.session }
-    ensures breaks { desk.new.stops.breaks ≡ desk.old.stops.breaks }
-    ensures changes { desk.new.stops.changes ≡ desk.old.stops.changes }
-    ensures events { desk.new.events ≡ desk.old.events }
-    ensures places { desk.new.places ≡ desk.old.places }
-    ensures displays { desk.new.displays ≡ desk.old.displays }
-    ensures text { OnOk result (desk.new.text.items ≡ desk.old.text.items
-        ++ register_deleted_text register (is_watched register desk.old.stops.watches.items)) }
+pub fn delete_register(mon: &mut MonState, register: Register) -> Result<(), AllocError>
+    ensures watches { mon.new.stops.watches.items
+        ≡ without_register register mon.old.stops.watches.items }
+    ensures session { mon.new.session ≡ mon.old.session }
+    ensures breaks { mon.new.stops.breaks ≡ mon.old.stops.breaks }
+    ensures changes { mon.new.stops.changes ≡ mon.old.stops.changes }
+    ensures events { mon.new.events ≡ mon.old.events }
+    ensures places { mon.new.places ≡ mon.old.places }
+    ensures displays { mon.new.displays ≡ mon.old.displays }
+    ensures text { OnOk result (mon.new.text.items ≡ mon.old.text.items
+        ++ register_deleted_text register (is_watched register mon.old.stops.watches.items)) }
 {
-    let stood = desk.stops.forget_register(register);
-    push_unwatched(&mut desk.text, register, stood)
+    let stood = mon.stops.forget_register(register);
+    push_unwatched(&mut mon.text, register, stood)
 }
 
 /// Appends breaks, each on a line.
@@ -155,14 +155,14 @@ fn push_stops(text: &mut Vec<u8>, stops: &Stops, places: &Places) -> Result<(), 
 /// Shows breaks and watches.
 ///
 /// Errors: `AllocError` if an allocation fails.
-pub fn list(desk: &mut Desk) -> Result<(), AllocError>
-    ensures shows { ShowsOnly desk.old desk.new }
-    ensures text { OnOk result (desk.new.text.items ≡ desk.old.text.items
-        ++ list_text desk.old.places.names desk.old.stops.breaks.items
-        desk.old.stops.watches.items) }
+pub fn list(mon: &mut MonState) -> Result<(), AllocError>
+    ensures shows { ShowsOnly mon.old mon.new }
+    ensures text { OnOk result (mon.new.text.items ≡ mon.old.text.items
+        ++ list_text mon.old.places.names mon.old.stops.breaks.items
+        mon.old.stops.watches.items) }
 {
-    if desk.stops.breaks.is_empty() && desk.stops.watches.is_empty() {
-        return desk.say(NOTHING_SET);
+    if mon.stops.breaks.is_empty() && mon.stops.watches.is_empty() {
+        return mon.say(NOTHING_SET);
     }
-    push_stops(&mut desk.text, &desk.stops, &desk.places)
+    push_stops(&mut mon.text, &mon.stops, &mon.places)
 }

@@ -13,7 +13,7 @@ use crate::wording::{DELETED, DISPLAY, DISPLAYS_FULL, NOT_DISPLAYED, NOTHING_DIS
 use formatting::{push_address, push_byte, push_text};
 use mon_instructions::push_place;
 use mon_runs::Session;
-use mon_session::Desk;
+use mon_session::MonState;
 use source_map::Places;
 use std::alloc::AllocError;
 
@@ -97,33 +97,33 @@ fn push_displays(
 /// Shows the bytes that are shown at each stop, if there are some.
 ///
 /// Errors: `AllocError` if an allocation fails.
-pub fn show_displays(desk: &mut Desk) -> Result<(), AllocError>
-    ensures shows { ShowsOnly desk.old desk.new }
-    ensures text { OnOk result (desk.new.text.items ≡ desk.old.text.items
-        ++ displays_text desk.old.places.names desk.old.session.current
-        desk.old.displays.items) }
+pub fn show_displays(mon: &mut MonState) -> Result<(), AllocError>
+    ensures shows { ShowsOnly mon.old mon.new }
+    ensures text { OnOk result (mon.new.text.items ≡ mon.old.text.items
+        ++ displays_text mon.old.places.names mon.old.session.current
+        mon.old.displays.items) }
 {
     push_displays(
-        &mut desk.text,
-        &desk.session,
-        &desk.places,
-        desk.displays.as_slice(),
+        &mut mon.text,
+        &mon.session,
+        &mon.places,
+        mon.displays.as_slice(),
     )
 }
 
 /// Shows the bytes that are shown at each stop, or says that there are none.
 ///
 /// Errors: `AllocError` if an allocation fails.
-pub fn list_displays(desk: &mut Desk) -> Result<(), AllocError>
-    ensures shows { ShowsOnly desk.old desk.new }
-    ensures text { OnOk result (desk.new.text.items ≡ desk.old.text.items
-        ++ all_displays_text desk.old.places.names desk.old.session.current
-        desk.old.displays.items) }
+pub fn list_displays(mon: &mut MonState) -> Result<(), AllocError>
+    ensures shows { ShowsOnly mon.old mon.new }
+    ensures text { OnOk result (mon.new.text.items ≡ mon.old.text.items
+        ++ all_displays_text mon.old.places.names mon.old.session.current
+        mon.old.displays.items) }
 {
-    if desk.displays.is_empty() {
-        return desk.say(NOTHING_DISPLAYED);
+    if mon.displays.is_empty() {
+        return mon.say(NOTHING_DISPLAYED);
     }
-    show_displays(desk)
+    show_displays(mon)
 }
 
 /// Adds an address to those shown, unless it is one of them or 16 others are. Returns whether it is
@@ -147,22 +147,22 @@ fn add_display(displays: &mut Vec<u16>, address: u16) -> Result<bool, AllocError
 /// are shown.
 ///
 /// Errors: `AllocError` if an allocation fails; the byte may be shown at each stop then.
-pub fn display(desk: &mut Desk, address: u16) -> Result<(), AllocError>
+pub fn display(mon: &mut MonState, address: u16) -> Result<(), AllocError>
     ensures displays { OnOk result
-        (desk.new.displays.items ≡ with_display address desk.old.displays.items) }
-    ensures memory { OnErr result (IsEither desk.new.displays.items desk.old.displays.items
-        (with_display address desk.old.displays.items)) }
-    ensures course { course_of desk.new ≡ course_of desk.old }
-    ensures stops { desk.new.stops ≡ desk.old.stops }
-    ensures places { desk.new.places ≡ desk.old.places }
-    ensures text { OnOk result (desk.new.text.items ≡ desk.old.text.items
-        ++ display_set_text desk.old.places.names desk.old.session.current address
-        desk.old.displays.items) }
+        (mon.new.displays.items ≡ with_display address mon.old.displays.items) }
+    ensures memory { OnErr result (IsEither mon.new.displays.items mon.old.displays.items
+        (with_display address mon.old.displays.items)) }
+    ensures course { course_of mon.new ≡ course_of mon.old }
+    ensures stops { mon.new.stops ≡ mon.old.stops }
+    ensures places { mon.new.places ≡ mon.old.places }
+    ensures text { OnOk result (mon.new.text.items ≡ mon.old.text.items
+        ++ display_set_text mon.old.places.names mon.old.session.current address
+        mon.old.displays.items) }
 {
-    if add_display(&mut desk.displays, address)? {
-        show_displays(desk)
+    if add_display(&mut mon.displays, address)? {
+        show_displays(mon)
     } else {
-        desk.say(DISPLAYS_FULL)
+        mon.say(DISPLAYS_FULL)
     }
 }
 
@@ -181,35 +181,35 @@ fn remove_display(displays: &mut Vec<u16>, address: u16)
 }
 
 /// Says that an address is not shown any more, or was not.
-fn say_undisplayed(desk: &mut Desk, address: u16, stood: bool) -> Result<(), AllocError>
-    ensures shows { ShowsOnly desk.old desk.new }
-    ensures text { OnOk result (desk.new.text.items ≡ desk.old.text.items
-        ++ undisplayed_text desk.old.places.names address stood) }
+fn say_undisplayed(mon: &mut MonState, address: u16, stood: bool) -> Result<(), AllocError>
+    ensures shows { ShowsOnly mon.old mon.new }
+    ensures text { OnOk result (mon.new.text.items ≡ mon.old.text.items
+        ++ undisplayed_text mon.old.places.names address stood) }
 {
     if stood {
-        desk.say(DELETED)?;
-        push_place(&mut desk.text, &desk.places, address)?;
-        desk.say("\n")
+        mon.say(DELETED)?;
+        push_place(&mut mon.text, &mon.places, address)?;
+        mon.say("\n")
     } else {
-        push_place(&mut desk.text, &desk.places, address)?;
-        desk.say(NOT_DISPLAYED)
+        push_place(&mut mon.text, &mon.places, address)?;
+        mon.say(NOT_DISPLAYED)
     }
 }
 
 /// Shows the byte at an address no more, and says so.
 ///
 /// Errors: `AllocError` if an allocation fails; the byte is shown no more all the same.
-pub fn undisplay(desk: &mut Desk, address: u16) -> Result<(), AllocError>
-    ensures displays { desk.new.displays.items
-        ≡ without_display address desk.old.displays.items }
-    ensures course { course_of desk.new ≡ course_of desk.old }
-    ensures stops { desk.new.stops ≡ desk.old.stops }
-    ensures places { desk.new.places ≡ desk.old.places }
-    ensures text { OnOk result (desk.new.text.items ≡ desk.old.text.items
-        ++ undisplayed_text desk.old.places.names address
-        (is_displayed address desk.old.displays.items)) }
+pub fn undisplay(mon: &mut MonState, address: u16) -> Result<(), AllocError>
+    ensures displays { mon.new.displays.items
+        ≡ without_display address mon.old.displays.items }
+    ensures course { course_of mon.new ≡ course_of mon.old }
+    ensures stops { mon.new.stops ≡ mon.old.stops }
+    ensures places { mon.new.places ≡ mon.old.places }
+    ensures text { OnOk result (mon.new.text.items ≡ mon.old.text.items
+        ++ undisplayed_text mon.old.places.names address
+        (is_displayed address mon.old.displays.items)) }
 {
-    let stood = is_displayed(desk.displays.as_slice(), address);
-    remove_display(&mut desk.displays, address);
-    say_undisplayed(desk, address, stood)
+    let stood = is_displayed(mon.displays.as_slice(), address);
+    remove_display(&mut mon.displays, address);
+    say_undisplayed(mon, address, stood)
 }

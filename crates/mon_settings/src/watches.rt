@@ -9,13 +9,12 @@ ghost use Rattle.mon_settings.specs.StopLines.{unwatched, why_unchanged, why_uns
 ghost use Rattle.mon_settings.specs.StopLines.{with_changes, with_watch};
 ghost use Rattle.mon_settings.specs.StopTexts.{unwatched_text, watch_text, watched_text};
 ghost use Rattle.mon_session.specs.Course.{KeepsStops};
-ghost use Rattle.mon_stops.specs.Stops.{changed, new_changes};
+ghost use Rattle.mon_runs.specs.Stops.{changed, new_changes};
 
 use crate::wording::{PORT_UNWATCHED, WATCH_TOO_WIDE, WATCHES_FULL};
 use mon_lines::{Stretch, WatchKind};
-use mon_runs::SessionFault;
-use mon_session::Desk;
-use mon_stops::Watch;
+use mon_runs::{SessionFault, Watch};
+use mon_session::MonState;
 use mon_texts::{push_register_watch, push_watch};
 use source_map::Places;
 use std::alloc::AllocError;
@@ -47,17 +46,17 @@ fn words_of(why: Unwatched) -> &'static str
 
 /// Watches the changes of an address in the session. Returns why it cannot, if it cannot.
 /// Nothing is changed if memory ran out.
-fn watch_change(desk: &mut Desk, address: u16) -> Result<Option<Unwatched>, AllocError>
-    ensures session { OnOk result (desk.new.session
-        ≡ or_same desk.old.session (watch_set address desk.old.session)) }
+fn watch_change(mon: &mut MonState, address: u16) -> Result<Option<Unwatched>, AllocError>
+    ensures session { OnOk result (mon.new.session
+        ≡ or_same mon.old.session (watch_set address mon.old.session)) }
     ensures why { IfOk result
-        (λ why. why ≡ why_unset (watch_set address desk.old.session)) }
-    ensures memory { OnErr result (desk.new.session ≡ desk.old.session) }
-    ensures events { desk.new.events ≡ desk.old.events }
-    ensures stops { KeepsStops desk.old desk.new }
-    ensures text { desk.new.text ≡ desk.old.text }
+        (λ why. why ≡ why_unset (watch_set address mon.old.session)) }
+    ensures memory { OnErr result (mon.new.session ≡ mon.old.session) }
+    ensures events { mon.new.events ≡ mon.old.events }
+    ensures stops { KeepsStops mon.old mon.new }
+    ensures text { mon.new.text ≡ mon.old.text }
 {
-    match desk.session.set_watch(address) {
+    match mon.session.set_watch(address) {
         Ok(()) | Err(SessionFault::AlreadySet) => Ok(None),
         Err(SessionFault::OutOfMemory) => Err(AllocError),
         Err(SessionFault::PortAddress) => Ok(Some(Unwatched::Port)),
@@ -67,18 +66,18 @@ fn watch_change(desk: &mut Desk, address: u16) -> Result<Option<Unwatched>, Allo
 
 /// Watches `count` addresses from `first` on for changes in the session. Returns why it cannot,
 /// if it cannot; some addresses are watched then, as they are if memory ran out.
-fn watch_from(desk: &mut Desk, first: u16, count: u32) -> Result<Option<Unwatched>, AllocError>
+fn watch_from(mon: &mut MonState, first: u16, count: u32) -> Result<Option<Unwatched>, AllocError>
     requires { first + count ≤ 65536 }
-    ensures watched { IfOk result (λ why. all_watched first count desk.old.session
-        ≡ (desk.new.session, why)) }
+    ensures watched { IfOk result (λ why. all_watched first count mon.old.session
+        ≡ (mon.new.session, why)) }
     ensures memory { OnErr result ((n : ℕ)
-        × (desk.new.session ≡ (all_watched first n desk.old.session).0)) }
-    ensures events { desk.new.events ≡ desk.old.events }
-    ensures stops { KeepsStops desk.old desk.new }
-    ensures text { desk.new.text ≡ desk.old.text }
+        × (mon.new.session ≡ (all_watched first n mon.old.session).0)) }
+    ensures events { mon.new.events ≡ mon.old.events }
+    ensures stops { KeepsStops mon.old mon.new }
+    ensures text { mon.new.text ≡ mon.old.text }
 {
     for offset in 0..count {
-        if let Some(why) = watch_change(desk, (first as u32 + offset) as u16)? {
+        if let Some(why) = watch_change(mon, (first as u32 + offset) as u16)? {
             return Ok(Some(why));
         }
     }
@@ -87,78 +86,78 @@ fn watch_from(desk: &mut Desk, first: u16, count: u32) -> Result<Option<Unwatche
 
 /// Watches the changes of a stretch in the session, at most 256 bytes of it. Returns why it
 /// cannot, if it cannot; some bytes are watched then, as they are if memory ran out.
-fn watch_changes(desk: &mut Desk, stretch: Stretch) -> Result<Option<Unwatched>, AllocError>
-    ensures watched { IfOk result (λ why. stretch_watched stretch desk.old.session
-        ≡ (desk.new.session, why)) }
+fn watch_changes(mon: &mut MonState, stretch: Stretch) -> Result<Option<Unwatched>, AllocError>
+    ensures watched { IfOk result (λ why. stretch_watched stretch mon.old.session
+        ≡ (mon.new.session, why)) }
     ensures memory { OnErr result ((n : ℕ)
-        × (desk.new.session ≡ (all_watched stretch.first n desk.old.session).0)) }
-    ensures events { desk.new.events ≡ desk.old.events }
-    ensures stops { KeepsStops desk.old desk.new }
-    ensures text { desk.new.text ≡ desk.old.text }
+        × (mon.new.session ≡ (all_watched stretch.first n mon.old.session).0)) }
+    ensures events { mon.new.events ≡ mon.old.events }
+    ensures stops { KeepsStops mon.old mon.new }
+    ensures text { mon.new.text ≡ mon.old.text }
 {
     if stretch.last.saturating_sub(stretch.first) >= MOST_WATCHED {
         return Ok(Some(Unwatched::Wide));
     }
     let count = (stretch.last as u32 + 1).saturating_sub(stretch.first as u32);
-    watch_from(desk, stretch.first, count)
+    watch_from(mon, stretch.first, count)
 }
 
 /// Ends the watch of changes in the session at an address that no watch has.
-fn unwatch_at(desk: &mut Desk, address: u16)
-    ensures session { desk.new.session
-        ≡ unwatched desk.old.stops.watches.items address desk.old.session }
-    ensures events { desk.new.events ≡ desk.old.events }
-    ensures stops { KeepsStops desk.old desk.new }
-    ensures text { desk.new.text ≡ desk.old.text }
+fn unwatch_at(mon: &mut MonState, address: u16)
+    ensures session { mon.new.session
+        ≡ unwatched mon.old.stops.watches.items address mon.old.session }
+    ensures events { mon.new.events ≡ mon.old.events }
+    ensures stops { KeepsStops mon.old mon.new }
+    ensures text { mon.new.text ≡ mon.old.text }
 {
-    if !desk.stops.has_access(WatchKind::Change, address) {
-        let _ = desk.session.clear_watch(address);
+    if !mon.stops.has_access(WatchKind::Change, address) {
+        let _ = mon.session.clear_watch(address);
     }
 }
 
 /// Ends the watch for changes in the session at each of `count` addresses from `first` on that no
 /// watch has.
-fn unwatch_from(desk: &mut Desk, first: u16, count: u32)
+fn unwatch_from(mon: &mut MonState, first: u16, count: u32)
     requires { first + count ≤ 65536 }
-    ensures session { desk.new.session
-        ≡ all_unwatched desk.old.stops.watches.items first count desk.old.session }
-    ensures events { desk.new.events ≡ desk.old.events }
-    ensures stops { KeepsStops desk.old desk.new }
-    ensures text { desk.new.text ≡ desk.old.text }
+    ensures session { mon.new.session
+        ≡ all_unwatched mon.old.stops.watches.items first count mon.old.session }
+    ensures events { mon.new.events ≡ mon.old.events }
+    ensures stops { KeepsStops mon.old mon.new }
+    ensures text { mon.new.text ≡ mon.old.text }
 {
     for offset in 0..count {
-        unwatch_at(desk, (first as u32 + offset) as u16);
+        unwatch_at(mon, (first as u32 + offset) as u16);
     }
 }
 
 /// Ends the watch of changes in the session at each address of a stretch that no watch has.
-fn unwatch(desk: &mut Desk, stretch: Stretch)
-    ensures session { desk.new.session
-        ≡ stretch_unwatched desk.old.stops.watches.items stretch desk.old.session }
-    ensures events { desk.new.events ≡ desk.old.events }
-    ensures stops { KeepsStops desk.old desk.new }
-    ensures text { desk.new.text ≡ desk.old.text }
+fn unwatch(mon: &mut MonState, stretch: Stretch)
+    ensures session { mon.new.session
+        ≡ stretch_unwatched mon.old.stops.watches.items stretch mon.old.session }
+    ensures events { mon.new.events ≡ mon.old.events }
+    ensures stops { KeepsStops mon.old mon.new }
+    ensures text { mon.new.text ≡ mon.old.text }
 {
     let count = (stretch.last as u32 + 1).saturating_sub(stretch.first as u32);
-    unwatch_from(desk, stretch.first, count);
+    unwatch_from(mon, stretch.first, count);
 }
 
 /// Watches the changes of a stretch in the session, whole or not at all. Returns why it cannot, if
 /// it cannot. Some bytes are watched if memory ran out.
-fn watch_whole(desk: &mut Desk, stretch: Stretch) -> Result<Option<Unwatched>, AllocError>
-    ensures session { OnOk result (desk.new.session
-        ≡ with_changes (Some stretch) desk.old.stops.watches.items desk.old.session) }
+fn watch_whole(mon: &mut MonState, stretch: Stretch) -> Result<Option<Unwatched>, AllocError>
+    ensures session { OnOk result (mon.new.session
+        ≡ with_changes (Some stretch) mon.old.stops.watches.items mon.old.session) }
     ensures why { IfOk result
-        (λ why. why ≡ why_unchanged (Some stretch) desk.old.session) }
+        (λ why. why ≡ why_unchanged (Some stretch) mon.old.session) }
     ensures memory { OnErr result ((n : ℕ)
-        × (desk.new.session ≡ (all_watched stretch.first n desk.old.session).0)) }
-    ensures events { desk.new.events ≡ desk.old.events }
-    ensures stops { KeepsStops desk.old desk.new }
-    ensures text { desk.new.text ≡ desk.old.text }
+        × (mon.new.session ≡ (all_watched stretch.first n mon.old.session).0)) }
+    ensures events { mon.new.events ≡ mon.old.events }
+    ensures stops { KeepsStops mon.old mon.new }
+    ensures text { mon.new.text ≡ mon.old.text }
 {
-    match watch_changes(desk, stretch)? {
+    match watch_changes(mon, stretch)? {
         Some(why) => {
-            unwatch(desk, stretch);
+            unwatch(mon, stretch);
             Ok(Some(why))
         }
         None => Ok(None),
@@ -167,18 +166,18 @@ fn watch_whole(desk: &mut Desk, stretch: Stretch) -> Result<Option<Unwatched>, A
 
 /// Watches in the session what a watch has there: bytes whose changes are watched, whole or not at
 /// all. Returns why it cannot, if it cannot. Some bytes are watched if memory ran out.
-fn watch_in_session(desk: &mut Desk, watch: Watch) -> Result<Option<Unwatched>, AllocError>
-    ensures session { OnOk result (desk.new.session
-        ≡ with_watch watch desk.old.stops.watches.items desk.old.session) }
-    ensures why { IfOk result (λ why. why ≡ why_unwatched watch desk.old.session) }
+fn watch_in_session(mon: &mut MonState, watch: Watch) -> Result<Option<Unwatched>, AllocError>
+    ensures session { OnOk result (mon.new.session
+        ≡ with_watch watch mon.old.stops.watches.items mon.old.session) }
+    ensures why { IfOk result (λ why. why ≡ why_unwatched watch mon.old.session) }
     ensures memory { OnErr result ((first : ℕ) × (n : ℕ)
-        × (desk.new.session ≡ (all_watched first n desk.old.session).0)) }
-    ensures events { desk.new.events ≡ desk.old.events }
-    ensures stops { KeepsStops desk.old desk.new }
-    ensures text { desk.new.text ≡ desk.old.text }
+        × (mon.new.session ≡ (all_watched first n mon.old.session).0)) }
+    ensures events { mon.new.events ≡ mon.old.events }
+    ensures stops { KeepsStops mon.old mon.new }
+    ensures text { mon.new.text ≡ mon.old.text }
 {
     match watch.changed() {
-        Some(stretch) => watch_whole(desk, stretch),
+        Some(stretch) => watch_whole(mon, stretch),
         None => Ok(None),
     }
 }
@@ -187,29 +186,29 @@ fn watch_in_session(desk: &mut Desk, watch: Watch) -> Result<Option<Unwatched>, 
 ///
 /// Errors: `AllocError` if an allocation fails; some of its bytes may be watched in the session
 /// then.
-pub fn set_watch(desk: &mut Desk, watch: Watch) -> Result<(), AllocError>
-    ensures session { OnOk result (desk.new.session
-        ≡ with_watch watch desk.old.stops.watches.items desk.old.session) }
-    ensures watches { OnOk result (desk.new.stops.watches.items
-        ≡ (if can_watch watch desk.old.session
-        then desk.old.stops.watches.items ++ watch ∷ []
-        else desk.old.stops.watches.items)) }
-    ensures changes { OnOk result (desk.new.stops.changes.items
-        ≡ (if can_watch watch desk.old.session then desk.old.stops.changes.items
-        ++ new_changes desk.old.stops.watches.items watch
-        else desk.old.stops.changes.items)) }
-    ensures breaks { desk.new.stops.breaks ≡ desk.old.stops.breaks }
-    ensures events { desk.new.events ≡ desk.old.events }
-    ensures places { desk.new.places ≡ desk.old.places }
-    ensures displays { desk.new.displays ≡ desk.old.displays }
-    ensures text { OnOk result (desk.new.text.items ≡ desk.old.text.items
-        ++ watched_text desk.old.places.names watch (why_unwatched watch desk.old.session)) }
+pub fn set_watch(mon: &mut MonState, watch: Watch) -> Result<(), AllocError>
+    ensures session { OnOk result (mon.new.session
+        ≡ with_watch watch mon.old.stops.watches.items mon.old.session) }
+    ensures watches { OnOk result (mon.new.stops.watches.items
+        ≡ (if can_watch watch mon.old.session
+        then mon.old.stops.watches.items ++ watch ∷ []
+        else mon.old.stops.watches.items)) }
+    ensures changes { OnOk result (mon.new.stops.changes.items
+        ≡ (if can_watch watch mon.old.session then mon.old.stops.changes.items
+        ++ new_changes mon.old.stops.watches.items watch
+        else mon.old.stops.changes.items)) }
+    ensures breaks { mon.new.stops.breaks ≡ mon.old.stops.breaks }
+    ensures events { mon.new.events ≡ mon.old.events }
+    ensures places { mon.new.places ≡ mon.old.places }
+    ensures displays { mon.new.displays ≡ mon.old.displays }
+    ensures text { OnOk result (mon.new.text.items ≡ mon.old.text.items
+        ++ watched_text mon.old.places.names watch (why_unwatched watch mon.old.session)) }
 {
-    match watch_in_session(desk, watch)? {
-        Some(why) => desk.say(words_of(why)),
+    match watch_in_session(mon, watch)? {
+        Some(why) => mon.say(words_of(why)),
         None => {
-            desk.stops.note_watch(watch)?;
-            push_watched(&mut desk.text, watch, &desk.places)
+            mon.stops.note_watch(watch)?;
+            push_watched(&mut mon.text, watch, &mon.places)
         }
     }
 }
@@ -227,14 +226,14 @@ pub fn push_watched(text: &mut Vec<u8>, watch: Watch, places: &Places) -> Result
 
 /// Ends the watch of changes in the session at each address of a deleted watch for changes that no
 /// other watch has.
-pub fn unwatch_changes(desk: &mut Desk, watch: Watch)
-    ensures session { desk.new.session
-        ≡ if_unwatched desk.old.stops.watches.items desk.old.session (changed watch) }
-    ensures events { desk.new.events ≡ desk.old.events }
-    ensures stops { KeepsStops desk.old desk.new }
-    ensures text { desk.new.text ≡ desk.old.text }
+pub fn unwatch_changes(mon: &mut MonState, watch: Watch)
+    ensures session { mon.new.session
+        ≡ if_unwatched mon.old.stops.watches.items mon.old.session (changed watch) }
+    ensures events { mon.new.events ≡ mon.old.events }
+    ensures stops { KeepsStops mon.old mon.new }
+    ensures text { mon.new.text ≡ mon.old.text }
 {
     if let Some(stretch) = watch.changed() {
-        unwatch(desk, stretch);
+        unwatch(mon, stretch);
     }
 }

@@ -11,7 +11,7 @@ use Rattle.mon_lines.specs.declared.command.Undoing.TheVariants.{Events, Over}
 use Rattle.mon_runs.specs.Back.{back_over, gone_over, was_return}
 use Rattle.mon_session.specs.Events.{Kept, with_undone}
 use Rattle.mon_session.specs.Course.{Course}
-use Rattle.mon_stops.specs.declared.stops.Stops.{Stops}
+use Rattle.mon_runs.specs.declared.stops.Stops.{Stops}
 use Rattle.mon_steps.specs.BackLines.{remade, remade_one, undone}
 use Rattle.mon_steps.specs.BackLines.{undone_by, undone_by_watches, undone_over, undone_to_stop}
 use Rattle.mon_session.specs.Course.{IsEither}

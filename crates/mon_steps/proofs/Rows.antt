@@ -4,7 +4,7 @@ use Rattle.std.proofs.lemmas.Result.{IfOk-weaker}
 use Rattle.std.specs.Prelude.{⊤, OnOk}
 use Rattle.std.specs.declared.alloc.AllocError.{AllocError}
 use Rattle.source_map.specs.Lines.{PlacesView}
-use Rattle.mon_stops.specs.declared.watches.Watch.{Watch}
+use Rattle.mon_runs.specs.declared.watches.Watch.{Watch}
 use Rattle.mon_steps.specs.RunLines.{Stand, goes_on, ran}
 use Rattle.mon_steps.specs.RunTexts.{one_step_text, stepped_text}
 

@@ -1,8 +1,8 @@
 -- Steps one by one.
 use Rattle.std.proofs.Common.{◌≡◌, ℕ, ◌-◌, suc, Bool, true, false, cond, List, refl, sym, ap, ◌∙◌, arith}
 use Rattle.mon_steps.specs.RunLines.{KeepsWatches, Stand, goes_on, ran, stepped}
-use Rattle.mon_session.specs.declared.desk.Desk.{Desk}
-use Rattle.mon_stops.specs.declared.watches.Watch.{Watch}
+use Rattle.mon_session.specs.declared.mon_state.MonState.{MonState}
+use Rattle.mon_runs.specs.declared.watches.Watch.{Watch}
 
 first : (n : ℕ) (w : List Watch) (s t : Stand) (b : Bool) → t ≡ ran 1 w s → b ≡ goes_on w s
     → stepped (suc n) w s ≡ cond b (stepped n w t) t
@@ -37,8 +37,8 @@ pub steps-over : (left : ℕ) (w : List Watch) (s whole : Stand) → whole ≡ s
 unfolding stepped
 steps-over left w s whole h none = sym (h ∙ ap (λ j. stepped j w s) none)
 
-pub kept-none : (a : Desk) → KeepsWatches a a
+pub kept-none : (a : MonState) → KeepsWatches a a
 kept-none a = (refl, refl, refl, refl)
 
-pub kept-then : (a b c : Desk) → KeepsWatches a b → KeepsWatches b c → KeepsWatches a c
+pub kept-then : (a b c : MonState) → KeepsWatches a b → KeepsWatches b c → KeepsWatches a c
 kept-then a b c p q = (q.0 ∙ p.0, q.1 ∙ p.1, q.2 ∙ p.2, q.3 ∙ p.3)

@@ -10,7 +10,7 @@ use Rattle.mon_lines.specs.declared.command.Undoing.TheVariants.{Events, Over}
 use Rattle.mon_runs.specs.Back.{back_over}
 use Rattle.mon_session.specs.Events.{with_redone, with_undone}
 use Rattle.mon_session.specs.Course.{Course}
-use Rattle.mon_stops.specs.declared.stops.Stops.{Stops}
+use Rattle.mon_runs.specs.declared.stops.Stops.{Stops}
 
 -- ---- going back
 

@@ -2,6 +2,7 @@
 use Rattle.std.specs.Prelude.{ℕ, ◌==◌, zero, suc, min, nat_eq, nat_lt, Bool, false, if◌then◌else◌, List, [], ◌++◌, length, slice_get, Option, Some, None, Result, Ok, Err, codes}
 use Rattle.std.specs.List.{list_any}
 use Rattle.model.specs.State.{State}
+use Rattle.model.specs.Step.{entry_due}
 use Rattle.model.specs.Session.{Session}
 use Rattle.model.specs.Back.{back_of}
 use Rattle.model.specs.declared.event.Event.{Event}
@@ -15,7 +16,7 @@ use Rattle.mon_runs.specs.Back.{back_over}
 use Rattle.mon_instructions.specs.Made.{made_line}
 use Rattle.mon_instructions.specs.Places.{place_text}
 use Rattle.mon_runs.specs.Recall.{last_stop}
-use Rattle.mon_stops.specs.declared.stops.Stops.{Stops}
+use Rattle.mon_runs.specs.declared.stops.Stops.{Stops}
 use Rattle.source_map.specs.Lines.{PlacesView}
 use Rattle.source_map.specs.Names.{Named}
 use Rattle.mon_steps.specs.BackLines.{most_remade, remade, remade_one, undone}
@@ -27,38 +28,42 @@ none_held = NONE_HELD.now
 
 -- ---- back
 
+-- The row of the instruction that comes next, by its line of the source, and the state.
+abbrev pub arrived_text : State → PlacesView → List ℕ
+arrived_text state places
+    = made_line state places state.regs.pc ++ shown_text state places.names None
+
 -- How many events were undone, and the state before them.
-abbrev pub undone_text : ℕ → State → List Named → List ℕ
-undone_text count state names
-    = count_text count EVENT_UNDONE.now EVENTS_UNDONE.now
-    ++ shown_text state names None
+abbrev pub undone_text : ℕ → State → PlacesView → List ℕ
+undone_text count state places
+    = count_text count EVENT_UNDONE.now EVENTS_UNDONE.now ++ arrived_text state places
 
 -- How many events can be undone.
 abbrev pub only_text : ℕ → List ℕ
 only_text held = ONLY.now
     ++ count_text held EVENT_HELD.now EVENTS_HELD.now
 
-abbrev pub if_back_text : ℕ → List Named → Result Session SessionFault → List ℕ
-if_back_text held names (Ok s) = shown_text s.current names None
-if_back_text held names (Err fault) = only_text held
+abbrev pub if_back_text : ℕ → PlacesView → Result Session SessionFault → List ℕ
+if_back_text held places (Ok s) = arrived_text s.current places
+if_back_text held places (Err fault) = only_text held
 
 -- So many events are undone, or how many can be.
-abbrev pub back_text : ℕ → List Named → Course → List ℕ
-back_text count names course
-    = if_back_text (length course.0.earlier) names (back_of count course.0)
+abbrev pub back_text : ℕ → PlacesView → Course → List ℕ
+back_text count places course
+    = if_back_text (length course.0.earlier) places (back_of count course.0)
 
 -- One event is undone, or a whole subroutine.
-abbrev pub over_text : List Named → Course → List ℕ
-over_text names course
-    = let way = back_over course.0 in undone_text way.0 way.1.current names
+abbrev pub over_text : PlacesView → Course → List ℕ
+over_text places course
+    = let way = back_over course.0 in undone_text way.0 way.1.current places
 
-abbrev pub undoing_text : Undoing → List Named → Course → List ℕ
-undoing_text (Events count) names course = back_text count names course
-undoing_text Over names course = over_text names course
+abbrev pub undoing_text : Undoing → PlacesView → Course → List ℕ
+undoing_text (Events count) places course = back_text count places course
+undoing_text Over places course = over_text places course
 
-abbrev pub undo_text : Undoing → List Named → Course → List ℕ
-undo_text undoing names course = if length course.0.earlier == 0 then none_held
-    else undoing_text undoing names course
+abbrev pub undo_text : Undoing → PlacesView → Course → List ℕ
+undo_text undoing places course = if length course.0.earlier == 0 then none_held
+    else undoing_text undoing places course
 
 -- ---- back to a stop
 
@@ -80,17 +85,17 @@ way_text names s count held = if is_at_break s
     else if count == held then BACK_AT_OLDEST.now
     else BACK_BEFORE_CHANGE.now
 
-abbrev pub stop_text : Stops → List Named → Course → List ℕ
-stop_text stops names course =
+abbrev pub stop_text : Stops → PlacesView → Course → List ℕ
+stop_text stops places course =
     let found = last_stop stops course.0 in
-    way_text names found.1 found.0 (length course.0.earlier)
-    ++ (codes ", " ++ undone_text found.0 found.1.current names)
+    way_text places.names found.1 found.0 (length course.0.earlier)
+    ++ (codes ", " ++ undone_text found.0 found.1.current places)
 
-abbrev pub undo_to_stop_text : Stops → List Named → Course → List ℕ
-undo_to_stop_text stops names course = if nat_lt 256 (length stops.changes.items)
+abbrev pub undo_to_stop_text : Stops → PlacesView → Course → List ℕ
+undo_to_stop_text stops places course = if nat_lt 256 (length stops.changes.items)
     then TOO_MANY_WATCHED.now
     else if length course.0.earlier == 0 then none_held
-    else stop_text stops names course
+    else stop_text stops places course
 
 -- ---- again
 
@@ -132,7 +137,7 @@ remade_row (Some event) row = words_or row (event_words event)
 abbrev pub one_remade_text : PlacesView → Course → List ℕ
 one_remade_text places course =
     let before = course.0.current in
-    remade_row (slice_get course.1.undone 0) (row_or_entry before.regs.s before.cycles
+    remade_row (slice_get course.1.undone 0) (row_or_entry (entry_due before)
     (remade_one course).0.current places.names
     (made_line before places before.regs.pc))
 

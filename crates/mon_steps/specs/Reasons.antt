@@ -11,7 +11,7 @@ use Rattle.source_map.specs.Names.{Named}
 use Rattle.mon_session.specs.Faults.{fault_text}
 use Rattle.mon_instructions.specs.Places.{place_text}
 use Rattle.mon_texts.specs.Stops.{number_text, register_name}
-use Rattle.mon_stops.specs.declared.changes.RegisterChange.{RegisterChange}
+use Rattle.mon_runs.specs.declared.changes.RegisterChange.{RegisterChange}
 use Rattle.mon_texts.specs.declared.wording.TheConstants.{BREAK_AT}
 use Rattle.mon_steps.specs.declared.wording.TheConstants.{AFTER, AND_IS_NOW, DONE, IS_NOW, NO_HANDLER, NO_STOP, RETURNED, STEP, STEPS, STUCK, WAITS, WAS, WATCH, WATCHED_READ, WATCHED_WRITE}
 

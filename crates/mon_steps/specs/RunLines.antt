@@ -4,13 +4,13 @@ use Rattle.model.specs.Run.{after_steps}
 use Rattle.model.specs.declared.run_end.Why.TheVariants as why
 use Rattle.model.specs.declared.session_fault.SessionFault.{SessionFault}
 use Rattle.mon_session.specs.Course.{Course, course_of}
-use Rattle.mon_session.specs.declared.desk.Desk.{Desk}
+use Rattle.mon_session.specs.declared.mon_state.MonState.{MonState}
 use Rattle.mon_runs.specs.Looked.{Arrival, Place}
 use Rattle.mon_runs.specs.PastBreaks.{count_run, go_run, out_run, over_run, until_run}
 use Rattle.mon_runs.specs.declared.ended.EndWhy.{EndWhy}
 use Rattle.mon_runs.specs.declared.ended.EndWhy.TheVariants as end_why
-use Rattle.mon_stops.specs.declared.breaks.Break.{Break}
-use Rattle.mon_stops.specs.declared.watches.Watch.{Watch}
+use Rattle.mon_runs.specs.declared.breaks.Break.{Break}
+use Rattle.mon_runs.specs.declared.watches.Watch.{Watch}
 use Rattle.mon_runs.specs.Goals.{opcode_at_pc}
 use Rattle.mon_session.specs.Events.{with_steps}
 
@@ -35,17 +35,17 @@ HasRun before after = (runs : List ℕ) × AreRuns runs before after
 abbrev pub Stand : Type 0
 Stand = Course × List Break
 
-abbrev pub stand_of : Desk → Stand
-stand_of desk = (course_of desk, desk.stops.breaks.items)
+abbrev pub stand_of : MonState → Stand
+stand_of mon = (course_of mon, mon.stops.breaks.items)
 
 -- Watches, names, lines, and what is shown at each stop are what they were.
-abbrev pub KeepsWatches : Desk → Desk → Type 0
+abbrev pub KeepsWatches : MonState → MonState → Type 0
 KeepsWatches old new = (new.stops.watches ≡ old.stops.watches)
     × (new.stops.changes ≡ old.stops.changes) × (new.places ≡ old.places)
     × (new.displays ≡ old.displays)
 
-abbrev pub watches_of : Desk → List Watch
-watches_of desk = desk.stops.watches.items
+abbrev pub watches_of : MonState → List Watch
+watches_of mon = mon.stops.watches.items
 
 -- Where a run begins.
 abbrev pub start_of : Stand → Place

@@ -2,6 +2,7 @@
 use Rattle.std.specs.Prelude.{ℕ, ◌==◌, ◌&&◌, zero, suc, nat_le, nat_lt, Bool, false, if◌then◌else◌, List, [], ◌++◌, length, Option, Some, None, Result, Ok, Err, codes, decimal}
 use Rattle.model.specs.Session.{Session}
 use Rattle.model.specs.State.{State}
+use Rattle.model.specs.Step.{entry_due}
 use Rattle.model.specs.declared.event.EventFault.{EventFault}
 use Rattle.model.specs.declared.run_end.Why.TheVariants as why
 use Rattle.model.specs.declared.session_fault.SessionFault.{SessionFault}
@@ -11,7 +12,7 @@ use Rattle.mon_runs.specs.PastBreaks.{count_run, go_run, out_run, over_run, unti
 use Rattle.mon_runs.specs.declared.ended.EndWhy.{EndWhy}
 use Rattle.mon_runs.specs.declared.ended.EndWhy.TheVariants as end_why
 use Rattle.mon_runs.specs.declared.ended.Ended.{Ended}
-use Rattle.mon_stops.specs.declared.watches.Watch.{Watch}
+use Rattle.mon_runs.specs.declared.watches.Watch.{Watch}
 use Rattle.accesses.specs.Footprint.{stores_here}
 use Rattle.mon_instructions.specs.Made.{made_line, made_row}
 use Rattle.mon_instructions.specs.Places.{place_text}
@@ -109,10 +110,10 @@ abbrev pub behind_row : State → List Named → Ended → List ℕ
 behind_row after names end = if is_limit end.why then [] else end_line after names end
 
 -- The row of a step that was made, or the interrupt that was entered in its place, and what the
--- step met. The stack pointer and the cycles before it were these.
-abbrev pub made_text : ℕ → ℕ → State → List Named → Ended → List ℕ → List ℕ
-made_text stack cycles after names end row
-    = row_or_entry stack cycles after names row ++ behind_row after names end
+-- step met.
+abbrev pub made_text : Bool → State → List Named → Ended → List ℕ → List ℕ
+made_text is_entry after names end row
+    = row_or_entry is_entry after names row ++ behind_row after names end
 
 -- Why a step was rejected, if it was.
 abbrev pub fault_in : EndWhy → Option EventFault
@@ -134,9 +135,9 @@ if_made None names said = said
 if_made (Some fault) names said = rejected_text names fault
 
 -- A step that was made, or why it was rejected.
-abbrev pub step_text : ℕ → ℕ → State → List Named → Ended → List ℕ → List ℕ
-step_text stack cycles after names end row
-    = if_made (fault_in end.why) names (made_text stack cycles after names end row)
+abbrev pub step_text : Bool → State → List Named → Ended → List ℕ → List ℕ
+step_text is_entry after names end row
+    = if_made (fault_in end.why) names (made_text is_entry after names end row)
 
 -- The row of an instruction that was made, with what it has stored.
 unfoldable pub step_row : State → State → PlacesView → List ℕ
@@ -147,7 +148,7 @@ abbrev pub one_step_text : List Watch → PlacesView → Stand → List ℕ
 one_step_text watches places stand =
     let before = stand.0.0.current in
     let arrival = count_run 1 watches (start_of stand) in
-    step_text before.regs.s before.cycles arrival.1.0.current places.names arrival.0
+    step_text (entry_due before) arrival.1.0.current places.names arrival.0
     (step_row before arrival.1.0.current places)
 
 -- Up to n steps, to the first that is rejected or meets something.
@@ -188,15 +189,15 @@ some_steps_text count watches places stand = if nat_lt 20 count
 -- ---- a JSR as one step
 
 -- The row of a JSR, or the interrupt that was entered in its place, which is one step.
-abbrev pub call_row : ℕ → ℕ → ℕ → State → List Named → List ℕ → List ℕ
-call_row did stack cycles after names row = if did == 1
-    then row_or_entry stack cycles after names row else row
+abbrev pub call_row : ℕ → Bool → State → List Named → List ℕ → List ℕ
+call_row did is_entry after names row = if did == 1
+    then row_or_entry is_entry after names row else row
 
 unfoldable pub called_row : List Watch → PlacesView → Stand → List ℕ
 called_row watches places stand =
     let before = stand.0.0.current in
     let arrival = over_run watches (start_of stand) in
-    call_row arrival.0.did before.regs.s before.cycles arrival.1.0.current places.names
+    call_row arrival.0.did (entry_due before) arrival.1.0.current places.names
     (made_line before places before.regs.pc)
 
 abbrev pub call_text : List Watch → PlacesView → Stand → List ℕ

@@ -15,7 +15,7 @@ use crate::wording::{
     NONE_HELD, NOTHING_UNDONE, REGISTER_SET, RESET_MADE,
 };
 use mon_runs::{Event, make_again};
-use mon_session::Desk;
+use mon_session::MonState;
 use std::alloc::AllocError;
 use std::slice;
 
@@ -35,92 +35,91 @@ fn words_of(event: Event) -> Option<&'static str>
 }
 
 /// Makes the next event that was undone again, if there is one, and returns it.
-fn redo_one(desk: &mut Desk) -> Option<Event>
-    ensures event { result ≡ slice_get desk.old.events.undone 0 }
-    ensures course { course_of desk.new ≡ remade_one (course_of desk.old) }
-    ensures session { desk.new.session ≡ (remade_one (course_of desk.old)).0 }
-    ensures stops { KeepsStops desk.old desk.new }
-    ensures text { desk.new.text ≡ desk.old.text }
+fn redo_one(mon: &mut MonState) -> Option<Event>
+    ensures event { result ≡ slice_get mon.old.events.undone 0 }
+    ensures course { course_of mon.new ≡ remade_one (course_of mon.old) }
+    ensures session { mon.new.session ≡ (remade_one (course_of mon.old)).0 }
+    ensures stops { KeepsStops mon.old mon.new }
+    ensures text { mon.new.text ≡ mon.old.text }
 {
-    let event = desk.events.next()?;
-    let _ = make_again(&mut desk.session, slice::from_ref(&event));
+    let event = mon.events.next()?;
+    let _ = make_again(&mut mon.session, slice::from_ref(&event));
     Some(event)
 }
 
 /// Makes `count` undone events again.
-fn redo_some(desk: &mut Desk, count: u32)
-    ensures course { course_of desk.new ≡ remade count (course_of desk.old) }
-    ensures stops { KeepsStops desk.old desk.new }
-    ensures text { desk.new.text ≡ desk.old.text }
+fn redo_some(mon: &mut MonState, count: u32)
+    ensures course { course_of mon.new ≡ remade count (course_of mon.old) }
+    ensures stops { KeepsStops mon.old mon.new }
+    ensures text { mon.new.text ≡ mon.old.text }
 {
     for _ in 0..count {
-        let _ = redo_one(desk);
+        let _ = redo_one(mon);
     }
 }
 
 /// Says that `most` events were made again, and shows the state and the cycles since `cycles`.
-fn tell_again(desk: &mut Desk, most: u32, cycles: u64) -> Result<(), AllocError>
-    ensures shows { ShowsOnly desk.old desk.new }
-    ensures text { OnOk result (desk.new.text.items ≡ desk.old.text.items
-        ++ made_again_text most desk.old.session.current desk.old.places.names cycles) }
+fn tell_again(mon: &mut MonState, most: u32, cycles: u64) -> Result<(), AllocError>
+    ensures shows { ShowsOnly mon.old mon.new }
+    ensures text { OnOk result (mon.new.text.items ≡ mon.old.text.items
+        ++ made_again_text most mon.old.session.current mon.old.places.names cycles) }
 {
     if most == 0 {
-        return desk.say(NOTHING_UNDONE);
+        return mon.say(NOTHING_UNDONE);
     }
-    desk.count(most as u64, EVENT_REMADE, EVENTS_REMADE)?;
-    desk.show(Some(cycles))
+    mon.count(most as u64, EVENT_REMADE, EVENTS_REMADE)?;
+    mon.show(Some(cycles))
 }
 
 /// Makes `most` undone events again, and says so.
-fn redo_most(desk: &mut Desk, most: u32) -> Result<(), AllocError>
-    ensures course { course_of desk.new ≡ remade most (course_of desk.old) }
-    ensures stops { KeepsStops desk.old desk.new }
-    ensures text { OnOk result (desk.new.text.items ≡ desk.old.text.items
-        ++ again_text most desk.old.places.names (course_of desk.old)) }
+fn redo_most(mon: &mut MonState, most: u32) -> Result<(), AllocError>
+    ensures course { course_of mon.new ≡ remade most (course_of mon.old) }
+    ensures stops { KeepsStops mon.old mon.new }
+    ensures text { OnOk result (mon.new.text.items ≡ mon.old.text.items
+        ++ again_text most mon.old.places.names (course_of mon.old)) }
 {
-    let cycles = desk.session.cycles();
-    redo_some(desk, most);
-    tell_again(desk, most, cycles)
+    let cycles = mon.session.cycles();
+    redo_some(mon, most);
+    tell_again(mon, most, cycles)
 }
 
 /// Makes `count` undone events again, or all, and says how many those are.
 ///
 /// Errors: `AllocError` if an allocation fails; the events are made all the same.
-pub fn redo(desk: &mut Desk, count: Option<u32>) -> Result<(), AllocError>
-    ensures course { course_of desk.new ≡ remade (most_remade count desk.old.events.undone)
-        (course_of desk.old) }
-    ensures stops { KeepsStops desk.old desk.new }
-    ensures text { OnOk result (desk.new.text.items ≡ desk.old.text.items
-        ++ redo_text count desk.old.places.names (course_of desk.old)) }
+pub fn redo(mon: &mut MonState, count: Option<u32>) -> Result<(), AllocError>
+    ensures course { course_of mon.new ≡ remade (most_remade count mon.old.events.undone)
+        (course_of mon.old) }
+    ensures stops { KeepsStops mon.old mon.new }
+    ensures text { OnOk result (mon.new.text.items ≡ mon.old.text.items
+        ++ redo_text count mon.old.places.names (course_of mon.old)) }
 {
-    let most = count.unwrap_or(u32::MAX).min(desk.events.undone());
-    redo_most(desk, most)
+    let most = count.unwrap_or(u32::MAX).min(mon.events.undone());
+    redo_most(mon, most)
 }
 
-/// Says which event was made again. Its row stands in the text from the byte `length` on. `stack`
-/// and `cycles` are the stack pointer and the cycle count before it.
+/// Says which event was made again. Its row stands in the text from the byte `length` on.
+/// `is_entry` says whether the event is an interrupt entry, if it is a step.
 fn tell_remade(
-    desk: &mut Desk,
+    mon: &mut MonState,
     event: Option<Event>,
     length: usize,
-    stack: u8,
-    cycles: u64,
+    is_entry: bool,
 ) -> Result<(), AllocError>
-    ensures shows { ShowsOnly desk.old desk.new }
-    ensures text { OnOk result (desk.new.text.items ≡ take length desk.old.text.items
-        ++ remade_row event (row_or_entry stack cycles desk.old.session.current
-        desk.old.places.names (drop length desk.old.text.items))) }
+    ensures shows { ShowsOnly mon.old mon.new }
+    ensures text { OnOk result (mon.new.text.items ≡ take length mon.old.text.items
+        ++ remade_row event (row_or_entry is_entry mon.old.session.current
+        mon.old.places.names (drop length mon.old.text.items))) }
 {
     match event {
         Some(event) => match words_of(event) {
             Some(words) => {
-                desk.text.truncate(length);
-                desk.say(words)
+                mon.text.truncate(length);
+                mon.say(words)
             }
-            None => desk.tell_entry(length, stack, cycles),
+            None => mon.tell_entry(length, is_entry),
         },
         None => {
-            desk.text.truncate(length);
+            mon.text.truncate(length);
             Ok(())
         }
     }
@@ -128,33 +127,32 @@ fn tell_remade(
 
 /// Makes the next event that was undone again, if there is one, and shows it. If memory ran out, it
 /// may be made or not.
-fn redo_shown(desk: &mut Desk) -> Result<(), AllocError>
-    ensures course { OnOk result (course_of desk.new ≡ remade_one (course_of desk.old)) }
-    ensures memory { OnErr result (IsEither (course_of desk.new) (course_of desk.old)
-        (remade_one (course_of desk.old))) }
-    ensures stops { KeepsStops desk.old desk.new }
-    ensures text { OnOk result (desk.new.text.items ≡ desk.old.text.items
-        ++ one_remade_text desk.old.places (course_of desk.old)) }
+fn redo_shown(mon: &mut MonState) -> Result<(), AllocError>
+    ensures course { OnOk result (course_of mon.new ≡ remade_one (course_of mon.old)) }
+    ensures memory { OnErr result (IsEither (course_of mon.new) (course_of mon.old)
+        (remade_one (course_of mon.old))) }
+    ensures stops { KeepsStops mon.old mon.new }
+    ensures text { OnOk result (mon.new.text.items ≡ mon.old.text.items
+        ++ one_remade_text mon.old.places (course_of mon.old)) }
 {
-    let regs = desk.session.regs();
-    let cycles = desk.session.cycles();
-    let length = desk.text.len();
-    desk.show_next()?;
-    let event = redo_one(desk);
-    tell_remade(desk, event, length, regs.s, cycles)
+    let is_entry = mon.session.entry_is_due();
+    let length = mon.text.len();
+    mon.show_next()?;
+    let event = redo_one(mon);
+    tell_remade(mon, event, length, is_entry)
 }
 
 /// Makes `count` undone events again, and shows each.
-fn redo_each_shown(desk: &mut Desk, count: u32) -> Result<(), AllocError>
-    ensures course { OnOk result (course_of desk.new ≡ remade count (course_of desk.old)) }
+fn redo_each_shown(mon: &mut MonState, count: u32) -> Result<(), AllocError>
+    ensures course { OnOk result (course_of mon.new ≡ remade count (course_of mon.old)) }
     ensures memory { OnErr result ((n : ℕ)
-        × (course_of desk.new ≡ remade n (course_of desk.old))) }
-    ensures stops { KeepsStops desk.old desk.new }
-    ensures text { OnOk result (desk.new.text.items ≡ desk.old.text.items
-        ++ remade_text count desk.old.places (course_of desk.old)) }
+        × (course_of mon.new ≡ remade n (course_of mon.old))) }
+    ensures stops { KeepsStops mon.old mon.new }
+    ensures text { OnOk result (mon.new.text.items ≡ mon.old.text.items
+        ++ remade_text count mon.old.places (course_of mon.old)) }
 {
     for _ in 0..count {
-        redo_shown(desk)?;
+        redo_shown(mon)?;
     }
     Ok(())
 }
@@ -162,20 +160,20 @@ fn redo_each_shown(desk: &mut Desk, count: u32) -> Result<(), AllocError>
 /// Shows the last `count` events, or all that are held: undoes them, and makes them again.
 ///
 /// Errors: `AllocError` if an allocation fails; only some of them may be made again then.
-pub fn show_history(desk: &mut Desk, count: u32) -> Result<(), AllocError>
+pub fn show_history(mon: &mut MonState, count: u32) -> Result<(), AllocError>
     ensures course { OnOk result
-        (course_of desk.new ≡ history_shown count (course_of desk.old)) }
+        (course_of mon.new ≡ history_shown count (course_of mon.old)) }
     ensures memory { OnErr result
-        (IsPartlyShown count (course_of desk.old) (course_of desk.new)) }
-    ensures stops { KeepsStops desk.old desk.new }
-    ensures text { OnOk result (desk.new.text.items ≡ desk.old.text.items
-        ++ history_text count desk.old.places (course_of desk.old)) }
+        (IsPartlyShown count (course_of mon.old) (course_of mon.new)) }
+    ensures stops { KeepsStops mon.old mon.new }
+    ensures text { OnOk result (mon.new.text.items ≡ mon.old.text.items
+        ++ history_text count mon.old.places (course_of mon.old)) }
 {
-    let count = count.min(desk.session.held());
+    let count = count.min(mon.session.held());
     if count == 0 {
-        return desk.say(NONE_HELD);
+        return mon.say(NONE_HELD);
     }
-    let _ = go_back(desk, count);
-    redo_each_shown(desk, count)?;
-    desk.show(None)
+    let _ = go_back(mon, count);
+    redo_each_shown(mon, count)?;
+    mon.show(None)
 }

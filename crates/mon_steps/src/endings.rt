@@ -12,7 +12,7 @@ use crate::wording::HERE;
 use formatting::push_text;
 use mon_instructions::push_place;
 use mon_runs::{EndWhy, Ended, Why};
-use mon_session::Desk;
+use mon_session::MonState;
 use source_map::Places;
 use std::alloc::AllocError;
 
@@ -25,43 +25,43 @@ pub struct Begun {
 
 impl Begun {
     /// Notes the current state.
-    pub fn at(desk: &Desk) -> Begun
-        ensures { result ≡ begun_of desk.now.session.current }
+    pub fn at(mon: &MonState) -> Begun
+        ensures { result ≡ begun_of mon.now.session.current }
     {
         Begun {
-            cycles: desk.session.cycles(),
-            output: desk.session.output_len(),
+            cycles: mon.session.cycles(),
+            output: mon.session.output_len(),
         }
     }
 }
 
 /// Says how a run has ended.
-pub fn tell_end(desk: &mut Desk, end: Ended) -> Result<(), AllocError>
-    ensures shows { ShowsOnly desk.old desk.new }
-    ensures text { OnOk result (desk.new.text.items ≡ desk.old.text.items
-        ++ end_line desk.old.session.current desk.old.places.names end) }
+pub fn tell_end(mon: &mut MonState, end: Ended) -> Result<(), AllocError>
+    ensures shows { ShowsOnly mon.old mon.new }
+    ensures text { OnOk result (mon.new.text.items ≡ mon.old.text.items
+        ++ end_line mon.old.session.current mon.old.places.names end) }
 {
-    push_end(&mut desk.text, &desk.session, &desk.places, end)
+    push_end(&mut mon.text, &mon.session, &mon.places, end)
 }
 
 /// Shows what the program put out since a run began, and the state.
-pub fn show_since(desk: &mut Desk, begun: Begun) -> Result<(), AllocError>
-    ensures shows { ShowsOnly desk.old desk.new }
-    ensures text { OnOk result (desk.new.text.items ≡ desk.old.text.items
-        ++ since_text desk.old.session.current desk.old.places.names begun) }
+pub fn show_since(mon: &mut MonState, begun: Begun) -> Result<(), AllocError>
+    ensures shows { ShowsOnly mon.old mon.new }
+    ensures text { OnOk result (mon.new.text.items ≡ mon.old.text.items
+        ++ since_text mon.old.session.current mon.old.places.names begun) }
 {
-    desk.show_output(begun.output)?;
-    desk.show(Some(begun.cycles))
+    mon.show_output(begun.output)?;
+    mon.show(Some(begun.cycles))
 }
 
 /// Says how a run has ended, and shows where.
-pub fn show_end(desk: &mut Desk, end: Ended, begun: Begun) -> Result<(), AllocError>
-    ensures shows { ShowsOnly desk.old desk.new }
-    ensures text { OnOk result (desk.new.text.items ≡ desk.old.text.items
-        ++ shown_end_text desk.old.session.current desk.old.places.names end begun) }
+pub fn show_end(mon: &mut MonState, end: Ended, begun: Begun) -> Result<(), AllocError>
+    ensures shows { ShowsOnly mon.old mon.new }
+    ensures text { OnOk result (mon.new.text.items ≡ mon.old.text.items
+        ++ shown_end_text mon.old.session.current mon.old.places.names end begun) }
 {
-    tell_end(desk, end)?;
-    show_since(desk, begun)
+    tell_end(mon, end)?;
+    show_since(mon, begun)
 }
 
 /// Returns whether a run ended at a break at an address.
@@ -89,29 +89,29 @@ fn push_place_after(
 }
 
 /// Says that a run came to the address that was asked for.
-fn say_here(desk: &mut Desk, address: u16, did: u64) -> Result<(), AllocError>
-    ensures shows { ShowsOnly desk.old desk.new }
-    ensures text { OnOk result (desk.new.text.items ≡ desk.old.text.items
-        ++ here_text desk.old.places.names address did) }
+fn say_here(mon: &mut MonState, address: u16, did: u64) -> Result<(), AllocError>
+    ensures shows { ShowsOnly mon.old mon.new }
+    ensures text { OnOk result (mon.new.text.items ≡ mon.old.text.items
+        ++ here_text mon.old.places.names address did) }
 {
-    push_text(&mut desk.text, HERE)?;
-    push_place_after(&mut desk.text, &desk.places, address, did)
+    push_text(&mut mon.text, HERE)?;
+    push_place_after(&mut mon.text, &mon.places, address, did)
 }
 
 /// Says how a run to an address has ended, and shows where.
 pub fn show_end_at(
-    desk: &mut Desk,
+    mon: &mut MonState,
     end: Ended,
     address: u16,
     begun: Begun,
 ) -> Result<(), AllocError>
-    ensures shows { ShowsOnly desk.old desk.new }
-    ensures text { OnOk result (desk.new.text.items ≡ desk.old.text.items
-        ++ shown_end_at_text address desk.old.session.current desk.old.places.names end begun) }
+    ensures shows { ShowsOnly mon.old mon.new }
+    ensures text { OnOk result (mon.new.text.items ≡ mon.old.text.items
+        ++ shown_end_at_text address mon.old.session.current mon.old.places.names end begun) }
 {
     if !is_there(end.why, address) {
-        return show_end(desk, end, begun);
+        return show_end(mon, end, begun);
     }
-    say_here(desk, address, end.did)?;
-    show_since(desk, begun)
+    say_here(mon, address, end.did)?;
+    show_since(mon, begun)
 }

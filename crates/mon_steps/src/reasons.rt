@@ -12,9 +12,8 @@ use crate::wording::{
 };
 use formatting::{push_byte, push_count, push_text};
 use mon_instructions::push_place;
-use mon_runs::{EndWhy, Ended, Session, Why};
+use mon_runs::{EndWhy, Ended, RegisterChange, Session, Why};
 use mon_session::push_fault;
-use mon_stops::RegisterChange;
 use mon_texts::wording::BREAK_AT;
 use mon_texts::{push_number, push_register};
 use source_map::Places;

@@ -18,7 +18,7 @@ use accesses::stores_here;
 use formatting::push_count;
 use model::EventFault;
 use mon_runs::{EndWhy, Ended, Why};
-use mon_session::Desk;
+use mon_session::MonState;
 use std::alloc::AllocError;
 
 /// The most steps that `step` shows one by one.
@@ -35,36 +35,35 @@ fn is_limit(why: EndWhy) -> bool
 }
 
 /// Says what a step met behind its row, if it met something. Returns whether the steps go on.
-fn tell_met(desk: &mut Desk, end: Ended) -> Result<bool, AllocError>
-    ensures shows { ShowsOnly desk.old desk.new }
+fn tell_met(mon: &mut MonState, end: Ended) -> Result<bool, AllocError>
+    ensures shows { ShowsOnly mon.old mon.new }
     ensures on { IfOk result (λ is_on. is_on ≡ is_limit end.why) }
-    ensures text { OnOk result (desk.new.text.items ≡ desk.old.text.items
-        ++ behind_row desk.old.session.current desk.old.places.names end) }
+    ensures text { OnOk result (mon.new.text.items ≡ mon.old.text.items
+        ++ behind_row mon.old.session.current mon.old.places.names end) }
 {
     if is_limit(end.why) {
         return Ok(true);
     }
-    tell_end(desk, end)?;
+    tell_end(mon, end)?;
     Ok(false)
 }
 
-/// Says what a step did and met. Its row stands in the text from the byte `length` on. `stack` and
-/// `cycles` are the stack pointer and the cycle count before it. Returns whether the steps go on.
+/// Says what a step did and met. Its row stands in the text from the byte `length` on. Returns
+/// whether the steps go on.
 fn tell_made(
-    desk: &mut Desk,
+    mon: &mut MonState,
     end: Ended,
     length: usize,
-    stack: u8,
-    cycles: u64,
+    is_entry: bool,
 ) -> Result<bool, AllocError>
-    ensures shows { ShowsOnly desk.old desk.new }
+    ensures shows { ShowsOnly mon.old mon.new }
     ensures on { IfOk result (λ is_on. is_on ≡ is_limit end.why) }
-    ensures text { OnOk result (desk.new.text.items ≡ take length desk.old.text.items
-        ++ made_text stack cycles desk.old.session.current desk.old.places.names end
-        (drop length desk.old.text.items)) }
+    ensures text { OnOk result (mon.new.text.items ≡ take length mon.old.text.items
+        ++ made_text is_entry mon.old.session.current mon.old.places.names end
+        (drop length mon.old.text.items)) }
 {
-    desk.tell_entry(length, stack, cycles)?;
-    tell_met(desk, end)
+    mon.tell_entry(length, is_entry)?;
+    tell_met(mon, end)
 }
 
 /// Returns why a step was rejected, if it was.
@@ -78,81 +77,79 @@ fn fault_in(why: EndWhy) -> Option<EventFault>
 }
 
 /// Says what a step did, or why it was rejected. Its row stands in the text from the byte `length`
-/// on. `stack` and `cycles` are the stack pointer and the cycle count before it. Returns whether
-/// the steps go on.
+/// on. `is_entry` says whether the step is an interrupt entry, if it was made. Returns whether the
+/// steps go on.
 fn tell_step(
-    desk: &mut Desk,
+    mon: &mut MonState,
     end: Ended,
     length: usize,
-    stack: u8,
-    cycles: u64,
+    is_entry: bool,
 ) -> Result<bool, AllocError>
-    ensures shows { ShowsOnly desk.old desk.new }
+    ensures shows { ShowsOnly mon.old mon.new }
     ensures on { IfOk result (λ is_on. is_on ≡ is_limit end.why) }
-    ensures text { OnOk result (desk.new.text.items ≡ take length desk.old.text.items
-        ++ step_text stack cycles desk.old.session.current desk.old.places.names end
-        (drop length desk.old.text.items)) }
+    ensures text { OnOk result (mon.new.text.items ≡ take length mon.old.text.items
+        ++ step_text is_entry mon.old.session.current mon.old.places.names end
+        (drop length mon.old.text.items)) }
 {
     match fault_in(end.why) {
         Some(fault) => {
-            desk.text.truncate(length);
-            desk.reject(fault)?;
+            mon.text.truncate(length);
+            mon.reject(fault)?;
             Ok(false)
         }
-        None => tell_made(desk, end, length, stack, cycles),
+        None => tell_made(mon, end, length, is_entry),
     }
 }
 
 /// Makes one step, and shows its row.
 #[tactic(auto, unfolding(crate::specs::RunTexts::step_row))]
-fn step_with_row(desk: &mut Desk) -> Result<Ended, AllocError>
-    ensures course { HasRun (course_of desk.old) (course_of desk.new) }
+fn step_with_row(mon: &mut MonState) -> Result<Ended, AllocError>
+    ensures course { HasRun (course_of mon.old) (course_of mon.new) }
     ensures stand { OnOk result
-        (stand_of desk.new ≡ ran 1 (watches_of desk.old) (stand_of desk.old)) }
+        (stand_of mon.new ≡ ran 1 (watches_of mon.old) (stand_of mon.old)) }
     ensures end { IfOk result (λ end. end
-        ≡ (count_run 1 (watches_of desk.old) (start_of (stand_of desk.old))).0) }
-    ensures session { OnOk result (desk.new.session
-        ≡ (count_run 1 (watches_of desk.old) (start_of (stand_of desk.old))).1.0) }
-    ensures watches { KeepsWatches desk.old desk.new }
-    ensures text { OnOk result (desk.new.text.items ≡ desk.old.text.items
-        ++ step_row desk.old.session.current desk.new.session.current desk.old.places) }
+        ≡ (count_run 1 (watches_of mon.old) (start_of (stand_of mon.old))).0) }
+    ensures session { OnOk result (mon.new.session
+        ≡ (count_run 1 (watches_of mon.old) (start_of (stand_of mon.old))).1.0) }
+    ensures watches { KeepsWatches mon.old mon.new }
+    ensures text { OnOk result (mon.new.text.items ≡ mon.old.text.items
+        ++ step_row mon.old.session.current mon.new.session.current mon.old.places) }
 {
-    let stores = stores_here(&desk.session);
-    desk.begin_row()?;
-    let end = make_steps(desk, 1);
-    desk.end_row(stores.as_slice())?;
+    let stores = stores_here(&mon.session);
+    mon.begin_row()?;
+    let end = make_steps(mon, 1);
+    mon.end_row(stores.as_slice())?;
     Ok(end)
 }
 
 /// Makes one step and shows it. Returns whether the steps go on.
-fn show_step(desk: &mut Desk) -> Result<bool, AllocError>
-    ensures course { HasRun (course_of desk.old) (course_of desk.new) }
+fn show_step(mon: &mut MonState) -> Result<bool, AllocError>
+    ensures course { HasRun (course_of mon.old) (course_of mon.new) }
     ensures stand { OnOk result
-        (stand_of desk.new ≡ ran 1 (watches_of desk.old) (stand_of desk.old)) }
+        (stand_of mon.new ≡ ran 1 (watches_of mon.old) (stand_of mon.old)) }
     ensures on { IfOk result
-        (λ is_on. is_on ≡ goes_on (watches_of desk.old) (stand_of desk.old)) }
-    ensures watches { KeepsWatches desk.old desk.new }
-    ensures text { OnOk result (desk.new.text.items ≡ desk.old.text.items
-        ++ one_step_text (watches_of desk.old) desk.old.places (stand_of desk.old)) }
+        (λ is_on. is_on ≡ goes_on (watches_of mon.old) (stand_of mon.old)) }
+    ensures watches { KeepsWatches mon.old mon.new }
+    ensures text { OnOk result (mon.new.text.items ≡ mon.old.text.items
+        ++ one_step_text (watches_of mon.old) mon.old.places (stand_of mon.old)) }
 {
-    let before = desk.session.regs();
-    let cycles = desk.session.cycles();
-    let length = desk.text.len();
-    let end = step_with_row(desk)?;
-    tell_step(desk, end, length, before.s, cycles)
+    let is_entry = mon.session.entry_is_due();
+    let length = mon.text.len();
+    let end = step_with_row(mon)?;
+    tell_step(mon, end, length, is_entry)
 }
 
 /// Makes `count` steps, or those up to a stop, and shows each.
-fn show_steps(desk: &mut Desk, count: u32) -> Result<(), AllocError>
-    ensures course { HasRun (course_of desk.old) (course_of desk.new) }
+fn show_steps(mon: &mut MonState, count: u32) -> Result<(), AllocError>
+    ensures course { HasRun (course_of mon.old) (course_of mon.new) }
     ensures stand { OnOk result
-        (stand_of desk.new ≡ stepped count (watches_of desk.old) (stand_of desk.old)) }
-    ensures watches { KeepsWatches desk.old desk.new }
-    ensures text { OnOk result (desk.new.text.items ≡ desk.old.text.items
-        ++ stepped_text count (watches_of desk.old) desk.old.places (stand_of desk.old)) }
+        (stand_of mon.new ≡ stepped count (watches_of mon.old) (stand_of mon.old)) }
+    ensures watches { KeepsWatches mon.old mon.new }
+    ensures text { OnOk result (mon.new.text.items ≡ mon.old.text.items
+        ++ stepped_text count (watches_of mon.old) mon.old.places (stand_of mon.old)) }
 {
     for _ in 0..count {
-        if !show_step(desk)? {
+        if !show_step(mon)? {
             return Ok(());
         }
     }
@@ -160,154 +157,147 @@ fn show_steps(desk: &mut Desk, count: u32) -> Result<(), AllocError>
 }
 
 /// Makes `count` steps, or those up to a stop, shows each, and then the state.
-fn few_steps(desk: &mut Desk, count: u32) -> Result<(), AllocError>
-    ensures course { HasRun (course_of desk.old) (course_of desk.new) }
+fn few_steps(mon: &mut MonState, count: u32) -> Result<(), AllocError>
+    ensures course { HasRun (course_of mon.old) (course_of mon.new) }
     ensures stand { OnOk result
-        (stand_of desk.new ≡ stepped count (watches_of desk.old) (stand_of desk.old)) }
-    ensures watches { KeepsWatches desk.old desk.new }
-    ensures text { OnOk result (desk.new.text.items ≡ desk.old.text.items
-        ++ few_steps_text count (watches_of desk.old) desk.old.places (stand_of desk.old)) }
+        (stand_of mon.new ≡ stepped count (watches_of mon.old) (stand_of mon.old)) }
+    ensures watches { KeepsWatches mon.old mon.new }
+    ensures text { OnOk result (mon.new.text.items ≡ mon.old.text.items
+        ++ few_steps_text count (watches_of mon.old) mon.old.places (stand_of mon.old)) }
 {
-    let begun = Begun::at(desk);
-    show_steps(desk, count)?;
-    show_since(desk, begun)
+    let begun = Begun::at(mon);
+    show_steps(mon, count)?;
+    show_since(mon, begun)
 }
 
 /// Says which line shows steps that were made, if they are still held.
-fn tell_history(desk: &mut Desk, did: u64) -> Result<(), AllocError>
-    ensures shows { ShowsOnly desk.old desk.new }
-    ensures text { OnOk result (desk.new.text.items ≡ desk.old.text.items
-        ++ shows_them_text did (length desk.old.session.earlier)) }
+fn tell_history(mon: &mut MonState, did: u64) -> Result<(), AllocError>
+    ensures shows { ShowsOnly mon.old mon.new }
+    ensures text { OnOk result (mon.new.text.items ≡ mon.old.text.items
+        ++ shows_them_text did (length mon.old.session.earlier)) }
 {
-    if did > 0 && did <= desk.session.held() as u64 {
-        desk.say(HISTORY)?;
-        push_count(&mut desk.text, did)?;
-        desk.say(SHOWS_THEM)?;
+    if did > 0 && did <= mon.session.held() as u64 {
+        mon.say(HISTORY)?;
+        push_count(&mut mon.text, did)?;
+        mon.say(SHOWS_THEM)?;
     }
     Ok(())
 }
 
 /// Says how steps ended, and which line shows them.
-fn tell_many(desk: &mut Desk, end: Ended) -> Result<(), AllocError>
-    ensures shows { ShowsOnly desk.old desk.new }
-    ensures text { OnOk result (desk.new.text.items ≡ desk.old.text.items
-        ++ many_end_text desk.old.session desk.old.places.names end) }
+fn tell_many(mon: &mut MonState, end: Ended) -> Result<(), AllocError>
+    ensures shows { ShowsOnly mon.old mon.new }
+    ensures text { OnOk result (mon.new.text.items ≡ mon.old.text.items
+        ++ many_end_text mon.old.session mon.old.places.names end) }
 {
-    tell_end(desk, end)?;
-    tell_history(desk, end.did)
+    tell_end(mon, end)?;
+    tell_history(mon, end.did)
 }
 
 /// Says how steps ended, which line shows them, and shows the state.
-fn show_many(desk: &mut Desk, end: Ended, begun: Begun) -> Result<(), AllocError>
-    ensures shows { ShowsOnly desk.old desk.new }
-    ensures text { OnOk result (desk.new.text.items ≡ desk.old.text.items
-        ++ many_shown_text desk.old.session desk.old.places.names end begun) }
+fn show_many(mon: &mut MonState, end: Ended, begun: Begun) -> Result<(), AllocError>
+    ensures shows { ShowsOnly mon.old mon.new }
+    ensures text { OnOk result (mon.new.text.items ≡ mon.old.text.items
+        ++ many_shown_text mon.old.session mon.old.places.names end begun) }
 {
-    tell_many(desk, end)?;
-    show_since(desk, begun)
+    tell_many(mon, end)?;
+    show_since(mon, begun)
 }
 
 /// Makes `count` steps, or those up to a stop, and says how they ended.
-fn many_steps(desk: &mut Desk, count: u32) -> Result<(), AllocError>
-    ensures course { HasRun (course_of desk.old) (course_of desk.new) }
-    ensures stand { stand_of desk.new ≡ ran count (watches_of desk.old) (stand_of desk.old) }
-    ensures watches { KeepsWatches desk.old desk.new }
-    ensures text { OnOk result (desk.new.text.items ≡ desk.old.text.items
-        ++ many_steps_text count (watches_of desk.old) desk.old.places.names
-        (stand_of desk.old)) }
+fn many_steps(mon: &mut MonState, count: u32) -> Result<(), AllocError>
+    ensures course { HasRun (course_of mon.old) (course_of mon.new) }
+    ensures stand { stand_of mon.new ≡ ran count (watches_of mon.old) (stand_of mon.old) }
+    ensures watches { KeepsWatches mon.old mon.new }
+    ensures text { OnOk result (mon.new.text.items ≡ mon.old.text.items
+        ++ many_steps_text count (watches_of mon.old) mon.old.places.names
+        (stand_of mon.old)) }
 {
-    let begun = Begun::at(desk);
-    let end = make_steps(desk, count);
-    show_many(desk, end, begun)
+    let begun = Begun::at(mon);
+    let end = make_steps(mon, count);
+    show_many(mon, end, begun)
 }
 
 /// Makes steps, and shows each if they are few. Says how they ended.
 ///
 /// Errors: `AllocError` if an allocation fails; some of the steps may be made then.
-pub fn steps(desk: &mut Desk, count: u32) -> Result<(), AllocError>
-    ensures course { HasRun (course_of desk.old) (course_of desk.new) }
+pub fn steps(mon: &mut MonState, count: u32) -> Result<(), AllocError>
+    ensures course { HasRun (course_of mon.old) (course_of mon.new) }
     ensures stand { OnOk result
-        (stand_of desk.new ≡ some_steps count (watches_of desk.old) (stand_of desk.old)) }
-    ensures watches { KeepsWatches desk.old desk.new }
-    ensures text { OnOk result (desk.new.text.items ≡ desk.old.text.items
-        ++ some_steps_text count (watches_of desk.old) desk.old.places (stand_of desk.old)) }
+        (stand_of mon.new ≡ some_steps count (watches_of mon.old) (stand_of mon.old)) }
+    ensures watches { KeepsWatches mon.old mon.new }
+    ensures text { OnOk result (mon.new.text.items ≡ mon.old.text.items
+        ++ some_steps_text count (watches_of mon.old) mon.old.places (stand_of mon.old)) }
 {
     if count > MOST_SHOWN {
-        return many_steps(desk, count);
+        return many_steps(mon, count);
     }
-    few_steps(desk, count)
+    few_steps(mon, count)
 }
 
 /// Says that the first step of a JSR was the entry of an interrupt, in place of the row from
 /// `length` on, if it was the only one and was one.
-fn tell_call(
-    desk: &mut Desk,
-    did: u64,
-    length: usize,
-    stack: u8,
-    cycles: u64,
-) -> Result<(), AllocError>
-    ensures shows { ShowsOnly desk.old desk.new }
-    ensures text { OnOk result (desk.new.text.items ≡ take length desk.old.text.items
-        ++ call_row did stack cycles desk.old.session.current desk.old.places.names
-        (drop length desk.old.text.items)) }
+fn tell_call(mon: &mut MonState, did: u64, length: usize, is_entry: bool) -> Result<(), AllocError>
+    ensures shows { ShowsOnly mon.old mon.new }
+    ensures text { OnOk result (mon.new.text.items ≡ take length mon.old.text.items
+        ++ call_row did is_entry mon.old.session.current mon.old.places.names
+        (drop length mon.old.text.items)) }
 {
     if did == 1 {
-        return desk.tell_entry(length, stack, cycles);
+        return mon.tell_entry(length, is_entry);
     }
     Ok(())
 }
 
 /// Makes a JSR as one step, and shows its row.
 #[tactic(auto, unfolding(crate::specs::RunTexts::called_row))]
-fn call_with_row(desk: &mut Desk) -> Result<Ended, AllocError>
-    ensures course { HasRun (course_of desk.old) (course_of desk.new) }
+fn call_with_row(mon: &mut MonState) -> Result<Ended, AllocError>
+    ensures course { HasRun (course_of mon.old) (course_of mon.new) }
     ensures stand { OnOk result
-        (stand_of desk.new ≡ called (watches_of desk.old) (stand_of desk.old)) }
+        (stand_of mon.new ≡ called (watches_of mon.old) (stand_of mon.old)) }
     ensures end { IfOk result (λ end. end
-        ≡ (over_run (watches_of desk.old) (start_of (stand_of desk.old))).0) }
-    ensures session { OnOk result (desk.new.session
-        ≡ (over_run (watches_of desk.old) (start_of (stand_of desk.old))).1.0) }
-    ensures watches { KeepsWatches desk.old desk.new }
-    ensures text { OnOk result (desk.new.text.items ≡ desk.old.text.items
-        ++ called_row (watches_of desk.old) desk.old.places (stand_of desk.old)) }
+        ≡ (over_run (watches_of mon.old) (start_of (stand_of mon.old))).0) }
+    ensures session { OnOk result (mon.new.session
+        ≡ (over_run (watches_of mon.old) (start_of (stand_of mon.old))).1.0) }
+    ensures watches { KeepsWatches mon.old mon.new }
+    ensures text { OnOk result (mon.new.text.items ≡ mon.old.text.items
+        ++ called_row (watches_of mon.old) mon.old.places (stand_of mon.old)) }
 {
-    let before = desk.session.regs();
-    let cycles = desk.session.cycles();
-    let length = desk.text.len();
-    desk.show_next()?;
-    let end = make_call(desk);
-    tell_call(desk, end.did, length, before.s, cycles)?;
+    let is_entry = mon.session.entry_is_due();
+    let length = mon.text.len();
+    mon.show_next()?;
+    let end = make_call(mon);
+    tell_call(mon, end.did, length, is_entry)?;
     Ok(end)
 }
 
 /// Makes a JSR as one step, shows it, and says how it ended.
-fn show_call(desk: &mut Desk) -> Result<(), AllocError>
-    ensures course { HasRun (course_of desk.old) (course_of desk.new) }
+fn show_call(mon: &mut MonState) -> Result<(), AllocError>
+    ensures course { HasRun (course_of mon.old) (course_of mon.new) }
     ensures stand { OnOk result
-        (stand_of desk.new ≡ called (watches_of desk.old) (stand_of desk.old)) }
-    ensures watches { KeepsWatches desk.old desk.new }
-    ensures text { OnOk result (desk.new.text.items ≡ desk.old.text.items
-        ++ call_text (watches_of desk.old) desk.old.places (stand_of desk.old)) }
+        (stand_of mon.new ≡ called (watches_of mon.old) (stand_of mon.old)) }
+    ensures watches { KeepsWatches mon.old mon.new }
+    ensures text { OnOk result (mon.new.text.items ≡ mon.old.text.items
+        ++ call_text (watches_of mon.old) mon.old.places (stand_of mon.old)) }
 {
-    let begun = Begun::at(desk);
-    let end = call_with_row(desk)?;
-    show_end(desk, end, begun)
+    let begun = Begun::at(mon);
+    let end = call_with_row(mon)?;
+    show_end(mon, end, begun)
 }
 
 /// Makes one step, or a JSR as one step, shows it, and says how it ended.
 ///
 /// Errors: `AllocError` if an allocation fails, before the steps or after them.
-pub fn step_over(desk: &mut Desk) -> Result<(), AllocError>
-    ensures course { HasRun (course_of desk.old) (course_of desk.new) }
+pub fn step_over(mon: &mut MonState) -> Result<(), AllocError>
+    ensures course { HasRun (course_of mon.old) (course_of mon.new) }
     ensures stand { OnOk result
-        (stand_of desk.new ≡ stepped_over (watches_of desk.old) (stand_of desk.old)) }
-    ensures watches { KeepsWatches desk.old desk.new }
-    ensures text { OnOk result (desk.new.text.items ≡ desk.old.text.items
-        ++ over_text (watches_of desk.old) desk.old.places (stand_of desk.old)) }
+        (stand_of mon.new ≡ stepped_over (watches_of mon.old) (stand_of mon.old)) }
+    ensures watches { KeepsWatches mon.old mon.new }
+    ensures text { OnOk result (mon.new.text.items ≡ mon.old.text.items
+        ++ over_text (watches_of mon.old) mon.old.places (stand_of mon.old)) }
 {
-    if desk.session.peek(desk.session.regs().pc) != JSR {
-        return few_steps(desk, 1);
+    if mon.session.peek(mon.session.regs().pc) != JSR {
+        return few_steps(mon, 1);
     }
-    show_call(desk)
+    show_call(mon)
 }

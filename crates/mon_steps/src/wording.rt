@@ -3,7 +3,7 @@
 // How a run has ended.
 pub const STUCK: &str = "nothing is left to do: the instruction jumps to itself";
 
-pub const NO_HANDLER: &str = "BRK comes next, and nothing stands at FFFE";
+pub const NO_HANDLER: &str = "BRK comes next, and it has no handler at FFFE";
 
 pub const WAITS: &str = "the program waits for input: type \"TEXT\"";
 
@@ -40,15 +40,15 @@ pub const SHOWS_THEM: &str = " shows them\n";
 // Back.
 pub const NONE_HELD: &str = "nothing can be undone: no step was made yet, or its history is gone\n";
 
-pub const EVENT_UNDONE: &str = " event undone\n";
+pub const EVENT_UNDONE: &str = " step or change undone\n";
 
-pub const EVENTS_UNDONE: &str = " events undone\n";
+pub const EVENTS_UNDONE: &str = " steps and changes undone\n";
 
 pub const ONLY: &str = "only ";
 
-pub const EVENT_HELD: &str = " event can be undone\n";
+pub const EVENT_HELD: &str = " step or change can be undone\n";
 
-pub const EVENTS_HELD: &str = " events can be undone\n";
+pub const EVENTS_HELD: &str = " steps and changes can be undone\n";
 
 pub const BACK_AT_BREAK: &str = "back at the break at ";
 
@@ -59,11 +59,11 @@ pub const BACK_BEFORE_CHANGE: &str = "back before a change at a watch";
 pub const TOO_MANY_WATCHED: &str = "more than 256 bytes are watched\n";
 
 // Events made again.
-pub const NOTHING_UNDONE: &str = "there is nothing to make again\n";
+pub const NOTHING_UNDONE: &str = "there is nothing to redo\n";
 
-pub const EVENT_REMADE: &str = " event made again\n";
+pub const EVENT_REMADE: &str = " step or change redone\n";
 
-pub const EVENTS_REMADE: &str = " events made again\n";
+pub const EVENTS_REMADE: &str = " steps and changes redone\n";
 
 pub const REGISTER_SET: &str = "      (a register was set)\n";
 

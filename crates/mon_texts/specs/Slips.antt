@@ -3,7 +3,7 @@ use Rattle.std.specs.Prelude.{ℕ, if◌then◌else◌, List, [], ◌∷◌, ◌
 use Rattle.std.specs.List.{flat_map}
 use Rattle.std.specs.Str.{byte}
 use Rattle.model.specs.Token.{is_printable}
-use Rattle.mon_line_parts.specs.Reading.{SeenWhy, unknown, several, missing, unreadable, behind, no_name, range, many, long}
+use Rattle.mon_line_parts.specs.Reading.{SeenFlaw, unknown, several, missing, unreadable, behind, no_name, range, many, long}
 use Rattle.mon_line_parts.specs.Topics.{TopicWord, begins_with, words}
 use Rattle.mon_line_parts.specs.declared.slip.Lack.{Lack}
 use Rattle.mon_line_parts.specs.declared.slip.Lack.TheVariants as lacking
@@ -51,7 +51,7 @@ abbrev pub candidates : List ℕ → List TopicWord → List ℕ
 candidates piece rows = flat_map (λ row. candidate piece row.0) rows
 
 -- Why a line cannot be read.
-unfoldable pub slip_text : SeenWhy → List ℕ
+unfoldable pub slip_text : SeenFlaw → List ℕ
 slip_text (unknown word) = quoted_and word NO_WORD.now
 slip_text (several word)
     = quoted_and word SEVERAL_WORDS.now ++ candidates word words

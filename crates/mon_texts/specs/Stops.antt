@@ -4,8 +4,6 @@ use Rattle.std.specs.List.{flat_map}
 use Rattle.model.specs.Text.{hex_address, hex_byte}
 use Rattle.mon_lines.specs.declared.command.Compare.{Compare}
 use Rattle.mon_lines.specs.declared.command.Compare.TheVariants.{Equal, Other, Less, LessOrEqual, More, MoreOrEqual}
-use Rattle.mon_lines.specs.declared.command.Flag.{Flag}
-use Rattle.mon_lines.specs.declared.command.Flag.TheVariants as flag
 use Rattle.mon_lines.specs.declared.command.Left.{Left}
 use Rattle.mon_lines.specs.declared.command.Left.TheVariants as left
 use Rattle.mon_lines.specs.declared.command.Register.{Register}
@@ -16,6 +14,7 @@ use Rattle.mon_lines.specs.declared.command.WatchKind.{WatchKind}
 use Rattle.mon_lines.specs.declared.command.WatchKind.TheVariants.{Change, Read, Write}
 use Rattle.source_map.specs.Names.{Named, name_at}
 use Rattle.mon_instructions.specs.Places.{place_text}
+use Rattle.opcode_facts.specs.Flag.{flag_letter}
 use Rattle.mon_texts.specs.declared.wording.TheConstants.{AND, BREAK_AT, IF, READS, TIMES, TO, WATCH_AT, WATCH_OF, WRITES}
 
 -- ---- tests
@@ -27,14 +26,6 @@ register_name Y = codes "Y"
 register_name S = codes "S"
 register_name P = codes "P"
 register_name Pc = codes "PC"
-
-abbrev pub flag_name : Flag → List ℕ
-flag_name flag.N = codes "N"
-flag_name flag.V = codes "V"
-flag_name flag.D = codes "D"
-flag_name flag.I = codes "I"
-flag_name flag.Z = codes "Z"
-flag_name flag.C = codes "C"
 
 -- How a line writes a comparison with a number in hex.
 abbrev pub sign : Compare → List ℕ
@@ -52,7 +43,7 @@ name_or_digits address None = 36 ∷ hex_address address
 
 abbrev pub left_text : List Named → Left → List ℕ
 left_text names (left.Register register) = register_name register
-left_text names (left.Flag flag) = flag_name flag
+left_text names (left.Flag flag) = flag_letter flag
 left_text names (left.Byte address) = name_or_digits address (name_at names address)
 
 -- A number in hex, with two digits if they are enough.

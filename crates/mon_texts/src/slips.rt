@@ -2,7 +2,7 @@
 
 ghost use Rattle.std.specs.Prelude.{◌≡◌, ◌++◌, OnOk, codes, map};
 ghost use Rattle.std.specs.List.{flat_map};
-ghost use Rattle.mon_line_parts.specs.Reading.{why_view};
+ghost use Rattle.mon_line_parts.specs.Reading.{flaw_view};
 ghost use Rattle.mon_texts.specs.Help.{example_text};
 ghost use Rattle.mon_line_parts.specs.Topics.{row_view, words};
 ghost use Rattle.mon_texts.specs.Slips.{candidate, candidates};
@@ -17,7 +17,7 @@ use crate::wording::{
     UNREADABLE,
 };
 use formatting::{push_count, push_text};
-use mon_line_parts::{Lack, Topic, Why, all_words, begins_with};
+use mon_line_parts::{Flaw, Lack, Topic, all_words, begins_with};
 use mon_lines::Slip;
 use std::alloc::AllocError;
 
@@ -140,19 +140,19 @@ fn push_range(text: &mut Vec<u8>, least: u32, most: u32) -> Result<(), AllocErro
 
 /// Appends why a line cannot be read.
 #[tactic(auto, unfolding(crate::specs::Slips::slip_text))]
-fn push_why(text: &mut Vec<u8>, why: Why<'_>) -> Result<(), AllocError>
-    ensures { OnOk result (text.new.items ≡ text.old.items ++ slip_text (why_view why.entry)) }
+fn push_flaw(text: &mut Vec<u8>, flaw: Flaw<'_>) -> Result<(), AllocError>
+    ensures { OnOk result (text.new.items ≡ text.old.items ++ slip_text (flaw_view flaw.entry)) }
 {
-    match why {
-        Why::Unknown(word) => push_quoted_and(text, word, NO_WORD),
-        Why::Several(word) => push_several(text, word),
-        Why::Missing(what) => push_missing(text, what),
-        Why::Unreadable(piece) => push_quoted_and(text, piece, UNREADABLE),
-        Why::Behind(piece) => push_quoted_and(text, piece, LEFT_OVER),
-        Why::NoName(word) => push_quoted_and(text, word, NO_NAME),
-        Why::Range { least, most } => push_range(text, least, most),
-        Why::Many => push_text(text, TOO_MANY),
-        Why::Long => push_text(text, LINE_TOO_LONG),
+    match flaw {
+        Flaw::Unknown(word) => push_quoted_and(text, word, NO_WORD),
+        Flaw::Several(word) => push_several(text, word),
+        Flaw::Missing(what) => push_missing(text, what),
+        Flaw::Unreadable(piece) => push_quoted_and(text, piece, UNREADABLE),
+        Flaw::Behind(piece) => push_quoted_and(text, piece, LEFT_OVER),
+        Flaw::NoName(word) => push_quoted_and(text, word, NO_NAME),
+        Flaw::Range { least, most } => push_range(text, least, most),
+        Flaw::Many => push_text(text, TOO_MANY),
+        Flaw::Long => push_text(text, LINE_TOO_LONG),
     }
 }
 
@@ -161,9 +161,9 @@ fn push_why(text: &mut Vec<u8>, why: Why<'_>) -> Result<(), AllocError>
 /// Errors: `AllocError` if an allocation fails.
 pub fn push_slip(text: &mut Vec<u8>, slip: Slip<'_>) -> Result<(), AllocError>
     ensures ok { OnOk result (text.new.items ≡ text.old.items
-        ++ slip_text (why_view slip.entry.why) ++ example_text slip.entry.topic ++ codes "\n") }
+        ++ slip_text (flaw_view slip.entry.flaw) ++ example_text slip.entry.topic ++ codes "\n") }
 {
-    push_why(text, slip.why)?;
+    push_flaw(text, slip.flaw)?;
     push_example(text, slip.topic)?;
     push_text(text, "\n")
 }

@@ -3,7 +3,7 @@
 ghost use Rattle.std.specs.Prelude.{◌≡◌, ◌++◌, OnOk};
 ghost use Rattle.std.specs.List.{flat_map};
 ghost use Rattle.source_map.specs.Names.{name_at};
-ghost use Rattle.mon_texts.specs.Stops.{break_line, flag_name, further_test, kind_text, last_text};
+ghost use Rattle.mon_texts.specs.Stops.{break_line, further_test, kind_text, last_text};
 ghost use Rattle.mon_texts.specs.Stops.{left_text, name_or_digits, number_text, register_name};
 ghost use Rattle.mon_texts.specs.Stops.{register_watch_line, sign, test_text, tests_text};
 ghost use Rattle.mon_texts.specs.Stops.{times_text, watch_line};
@@ -11,7 +11,7 @@ ghost use Rattle.mon_texts.specs.Stops.{times_text, watch_line};
 use crate::wording::{AND, BREAK_AT, IF, READS, TIMES, TO, WATCH_AT, WATCH_OF, WRITES};
 use formatting::{push_address, push_byte, push_count, push_text};
 use mon_instructions::push_place;
-use mon_lines::{Compare, Flag, Left, Register, Stretch, Test, WatchKind};
+use mon_lines::{Compare, Left, Register, Stretch, Test, WatchKind};
 use source_map::Places;
 use std::alloc::AllocError;
 
@@ -36,20 +36,6 @@ pub fn push_register(text: &mut Vec<u8>, register: Register) -> Result<(), Alloc
     ensures { OnOk result (text.new.items ≡ text.old.items ++ register_name register) }
 {
     push_text(text, name_of(register))
-}
-
-/// The letter of a flag.
-fn letter_of(flag: Flag) -> &'static str
-    ensures { result.now ≡ flag_name flag }
-{
-    match flag {
-        Flag::N => "N",
-        Flag::V => "V",
-        Flag::D => "D",
-        Flag::I => "I",
-        Flag::Z => "Z",
-        Flag::C => "C",
-    }
 }
 
 /// How a line writes a comparison.
@@ -86,7 +72,7 @@ fn push_left(text: &mut Vec<u8>, places: &Places, left: Left) -> Result<(), Allo
 {
     match left {
         Left::Register(register) => push_register(text, register),
-        Left::Flag(flag) => push_text(text, letter_of(flag)),
+        Left::Flag(flag) => push_text(text, flag.letter()),
         Left::Byte(address) => push_byte_at(text, places, address),
     }
 }

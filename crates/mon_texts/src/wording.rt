@@ -1,6 +1,10 @@
 //! The words of what `mon` shows, each once. Definitions in `specs` name them.
 
 // Help.
+pub const MORE_WORDS: &str = "more words: out rback redo where history list delete display \
+undisplay\n  regs flags find stack set put asm type screen irq nmi reset save page\n  \
+reload help\nhelp WORD shows one of them, help help all.\n";
+
 pub const ADDRESS_FORMS: &str = "WHERE is a name, NAME+5, $0200, or four hex digits as 0200.\n";
 
 pub const EMPTY_LINE: &str = "An empty line steps. Words may be shortened.\n";

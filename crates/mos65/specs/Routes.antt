@@ -1,11 +1,11 @@
 -- Which call serves the words of the program. Source: mos65.
 use Rattle.std.specs.Prelude.{Bool, true, false, List, [], ◌∷◌, ◌==◌, ◌||◌, bytes_eq, codes, if◌then◌else◌}
 use Rattle.std.specs.List.{starts_with}
-use Rattle.asm_files.specs.Asked.{asks_for_files}
+use Rattle.word_asm.specs.Asked.{asks_for_files}
 use Rattle.clap.specs.Words.{Text}
 use Rattle.mos65.specs.declared.routes.Route.{Route}
 use Rattle.mos65.specs.declared.routes.Route.TheVariants as to
-use Rattle.strict_debug.specs.Strict.{is_strict}
+use Rattle.word_debug.specs.Strict.{is_strict}
 
 -- A word is among others.
 abbrev pub has : Text → List Text → Bool

@@ -4,21 +4,21 @@ ghost use Rattle.std.specs.Prelude.{◌≡◌, ◌≤◌};
 
 use arguments::{WordsFault, flag, refused_words};
 use arguments_play::{mon_command, run_command, trace_command};
-use asm_files::asm_files_command;
-use checking::check_command;
 use clap::error::ErrorKind;
 use clap::{Command, Error};
-use dap::dap_command;
-use dis_source::dis_source_command;
 use image_files::with_image_options;
-use image_words::convert_command;
-use lsp::lsp_command;
-use page_words::page_command;
 use std::alloc::Global;
 use std::io::Write;
-use strict_debug::strict_debug_command;
-use t65::test_command;
 use tape_words::{cmp_command, info_command, mend_command};
+use word_asm::asm_files_command;
+use word_check::check_command;
+use word_convert::convert_command;
+use word_dap::dap_command;
+use word_debug::strict_debug_command;
+use word_dis::dis_source_command;
+use word_lsp::lsp_command;
+use word_page::page_command;
+use word_test::test_command;
 
 /// The version of the program, as the file VERSION has it. A release has its commit in place of the
 /// words in brackets (`tools/release`).
@@ -29,8 +29,8 @@ const STATUSES: &str =
     "Exit status: 0 done, 1 bad source or tape (check: a fault, cmp: a difference, test: a failed row),
 2 bad words or map, 3 out of memory, 4 reading or writing failed,
 5 debug --strict: a reply told of a fault,
-10 run, trace: the limit of steps, 11 a fault of the program, 12 the console is full,
-13 run, trace: nothing stands where the program runs
+10 run, trace, page: the limit of steps, 11 a fault of the program, 12 the console is full,
+13 run, trace, page: nothing stands where the program runs
 
 mos65 help WORD shows the options of a word, and an example";
 

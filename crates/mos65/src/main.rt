@@ -7,25 +7,25 @@ mod routes;
 
 use crate::command_line::tell_whole;
 use crate::routes::{Route, route_of};
-use asm_files::asm_files;
-use checking::check;
-use dap::dap;
-use dis_source::dis_source;
-use image_words::{convert, debug_image, dis_image};
-use lsp::lsp;
-use mon::mon;
-use page_words::page;
 use program::{process_words, program, unreadable_words, words_of};
-use running::{Interruptible, open_requests, run_program};
 use standard_streams::{Retrying, take_closed};
 use std::io;
 use std::process::ExitCode;
-use strict_debug::{strict_debug, strict_debug_image};
-use t65::test;
-use tape_compare::tape_cmp;
-use tape_info::tape_info;
-use tape_mend::tape_mend;
-use tracing::trace_program;
+use word_asm::asm_files;
+use word_check::check;
+use word_cmp::tape_cmp;
+use word_convert::{convert, debug_image, dis_image};
+use word_dap::dap;
+use word_debug::{strict_debug, strict_debug_image};
+use word_dis::dis_source;
+use word_info::tape_info;
+use word_lsp::lsp;
+use word_mend::tape_mend;
+use word_mon::mon;
+use word_page::page;
+use word_run::{Interruptible, open_requests, run_program};
+use word_test::test;
+use word_trace::trace_program;
 
 /// Serves `debug --strict`, and returns the exit status.
 fn debug_strictly(rt: &HostRuntime, words: &[&str]) -> u8 {

@@ -5,8 +5,8 @@ ghost use Rattle.arguments.specs.Words.{texts};
 ghost use Rattle.mos65.specs.Routes.{added, asks_for_help, asks_for_image, asm_route, debug_route};
 ghost use Rattle.mos65.specs.Routes.{dis_route, find, has, names_image, route_of, session_route};
 
-use asm_files::asks_for_files;
-use strict_debug::is_strict;
+use word_asm::asks_for_files;
+use word_debug::is_strict;
 
 /// A call that serves words.
 #[derive(Clone, Copy, Debug, PartialEq, Eq)]

@@ -1,4 +1,5 @@
 mod Begun
+mod Cleaned
 mod Recorded
 mod Refused
 mod RunsOfOne

@@ -2,6 +2,7 @@
 -- and what stands in the slot.
 use Rattle.std.proofs.Common.{◌≡◌, ℕ, ◌+◌, ◌<◌, List, length, Option, Some, None, Result, Ok, Err, ap, arith, refl, subst, sym, ◌⊎◌, inl, inr}
 use Rattle.assembler.specs.Assembly.{AssemblyView, out_of_memory}
+use Rattle.clean_source.specs.Cleaned.{cleaned}
 use Rattle.model.specs.FaultNames.{source_fault_number}
 use Rattle.model.specs.Session.{Session}
 use Rattle.model.specs.Source.{Denotes, HasFault}
@@ -10,9 +11,8 @@ use Rattle.model.specs.Tape.{FirstFault, TapeDenotes}
 use Rattle.model.specs.TapeFault.{tape_fault_number}
 use Rattle.model.specs.TapeFault.{out_of_memory as no_memory}
 use Rattle.model.specs.declared.source_fault.AsmFault.{AsmFault}
-use Rattle.model.specs.declared.source_fault.AsmFaultKind.TheVariants.{TooLarge}
 use Rattle.model.specs.declared.tape.TapeFault.{TapeFault}
-use Rattle.mos65_c.specs.Answers.{AnswersSource, AnswersStart, AnswersTape, IsAssembly, Tells, no_fault, source_fault, tape_fault}
+use Rattle.mos65_c.specs.Answers.{AnswersSource, AnswersStart, AnswersTape, IsAssembly, Tells, no_fault, source_fault, tape_fault, too_large}
 use Rattle.mos65_c.specs.declared.names.Fault.{Fault}
 
 -- A part answered a value, so it answered no fault.
@@ -29,14 +29,11 @@ made a = Ok a
 abbrev failed : AsmFault → Result AssemblyView AsmFault
 failed fault = Err fault
 
-abbrev too_large : AsmFault
-too_large = record { line = 0; kind = TooLarge }
-
 -- ---- a source
 
 assembled_here : (map : Map) (source : List ℕ) (a : AssemblyView)
-    → IsAssembly map source a
-    → ((f : AsmFault) → HasFault map source f → (made a ≡ Err f) ⊎ (made a ≡ Err out_of_memory))
+    → IsAssembly map (cleaned source) a
+    → ((f : AsmFault) → HasFault map (cleaned source) f → (made a ≡ Err f) ⊎ (made a ≡ Err out_of_memory))
     → (1048576 < length source → made a ≡ Err too_large)
     → AnswersSource map source 0 no_fault (Some a)
 assembled_here map source a is faulty large = record {
@@ -51,7 +48,7 @@ assembled_here map source a is faulty large = record {
 
 -- The assembly was made, and memory for its slot was refused.
 unheld_here : (map : Map) (source : List ℕ) (a : AssemblyView)
-    → ((f : AsmFault) → HasFault map source f → (made a ≡ Err f) ⊎ (made a ≡ Err out_of_memory))
+    → ((f : AsmFault) → HasFault map (cleaned source) f → (made a ≡ Err f) ⊎ (made a ≡ Err out_of_memory))
     → (1048576 < length source → made a ≡ Err too_large)
     → AnswersSource map source 3 no_fault None
 unheld_here map source a faulty large = record {
@@ -97,9 +94,9 @@ beside_3 number e = omega arith
 
 source_refused_here : (map : Map) (source : List ℕ) (refusal : AsmFault) (number : ℕ)
     → number ≡ source_fault_number refusal.kind
-    → ((refusal ≡ out_of_memory) ⊎ HasFault map source refusal)
-    → ((image : List (Option ℕ)) → Denotes map source image → refusal ≡ out_of_memory)
-    → ((f : AsmFault) → HasFault map source f → (failed refusal ≡ Err f) ⊎ (failed refusal ≡ Err out_of_memory))
+    → ((refusal ≡ out_of_memory) ⊎ HasFault map (cleaned source) refusal)
+    → ((image : List (Option ℕ)) → Denotes map (cleaned source) image → refusal ≡ out_of_memory)
+    → ((f : AsmFault) → HasFault map (cleaned source) f → (failed refusal ≡ Err f) ⊎ (failed refusal ≡ Err out_of_memory))
     → (1048576 < length source → failed refusal ≡ Err too_large)
     → AnswersSource map source (300 + number) (source_told refusal number) None
 source_refused_here map source refusal number is either only faulty large = record {
@@ -123,8 +120,8 @@ named_source own map is source status fault told same now then stands answers =
 
 pub assembled : (own map : Map) → own ≡ map → (source : List ℕ) (a : AssemblyView)
     (fault : Fault) → fault ≡ no_fault → (now : Option AssemblyView) → now ≡ Some a
-    → IsAssembly own source a
-    → ((f : AsmFault) → HasFault own source f → (made a ≡ Err f) ⊎ (made a ≡ Err out_of_memory))
+    → IsAssembly own (cleaned source) a
+    → ((f : AsmFault) → HasFault own (cleaned source) f → (made a ≡ Err f) ⊎ (made a ≡ Err out_of_memory))
     → (1048576 < length source → made a ≡ Err too_large)
     → AnswersSource map source 0 fault now
 assembled own map is source a fault same now stands right faulty large =
@@ -132,7 +129,7 @@ assembled own map is source a fault same now stands right faulty large =
 
 pub unheld : (own map : Map) → own ≡ map → (source : List ℕ) (a : AssemblyView)
     (fault : Fault) → fault ≡ no_fault → (now : Option AssemblyView) → now ≡ None
-    → ((f : AsmFault) → HasFault own source f → (made a ≡ Err f) ⊎ (made a ≡ Err out_of_memory))
+    → ((f : AsmFault) → HasFault own (cleaned source) f → (made a ≡ Err f) ⊎ (made a ≡ Err out_of_memory))
     → (1048576 < length source → made a ≡ Err too_large)
     → AnswersSource map source 3 fault now
 unheld own map is source a fault same now stands faulty large =
@@ -141,9 +138,9 @@ unheld own map is source a fault same now stands faulty large =
 pub source_refused : (own map : Map) → own ≡ map → (source : List ℕ) (refusal : AsmFault)
     (now : Option AssemblyView) → now ≡ None → (number : ℕ)
     → number ≡ source_fault_number refusal.kind
-    → ((refusal ≡ out_of_memory) ⊎ HasFault own source refusal)
-    → ((image : List (Option ℕ)) → Denotes own source image → refusal ≡ out_of_memory)
-    → ((f : AsmFault) → HasFault own source f → (failed refusal ≡ Err f) ⊎ (failed refusal ≡ Err out_of_memory))
+    → ((refusal ≡ out_of_memory) ⊎ HasFault own (cleaned source) refusal)
+    → ((image : List (Option ℕ)) → Denotes own (cleaned source) image → refusal ≡ out_of_memory)
+    → ((f : AsmFault) → HasFault own (cleaned source) f → (failed refusal ≡ Err f) ⊎ (failed refusal ≡ Err out_of_memory))
     → (1048576 < length source → failed refusal ≡ Err too_large)
     → AnswersSource map source (300 + number) (source_told refusal number) now
 source_refused own map is source refusal now stands number counts either only faulty large =

@@ -1,5 +1,5 @@
 -- What a status says of a session or an assembly before a call and after it. Source: mos65.
-use Rattle.std.specs.Prelude.{ℕ, ℤ, ◌≡◌, ◌≢◌, ◌+◌, ◌-◌, ◌<◌, ◌≤◌, ◌⊎◌, ◌++◌, false, true, List, length, drop, Option, Some, None, Result, IsOk, Ok, Err}
+use Rattle.std.specs.Prelude.{ℕ, ℤ, ◌≡◌, ◌≢◌, ◌+◌, ◌-◌, ◌<◌, ◌≤◌, ◌⊎◌, ◌++◌, false, true, List, length, drop, Option, Some, None, Result, IfErr, IfOk, IsOk, Ok, Err}
 use Rattle.model.specs.State.{State, Map, has_port_byte}
 use Rattle.model.specs.Event.{event_of, start}
 use Rattle.model.specs.FaultNames.{event_fault_number, session_fault_number, source_fault_number}
@@ -17,8 +17,9 @@ use Rattle.model.specs.declared.session_fault.SessionFault.{SessionFault}
 use Rattle.model.specs.declared.source_fault.AsmFault.{AsmFault}
 use Rattle.model.specs.declared.source_fault.AsmFaultKind.TheVariants.{TooLarge}
 use Rattle.model.specs.declared.tape.TapeFault.{TapeFault}
-use Rattle.assembler.specs.Assembly.{AssemblyView, listing_of, out_of_memory}
+use Rattle.assembler.specs.Assembly.{AssemblyView, IsImageOrMemory, listing_of, out_of_memory}
 use Rattle.assembler.specs.Lines.{LineView}
+use Rattle.clean_source.specs.Cleaned.{cleaned}
 use Rattle.mos65_c.specs.declared.config.Config.{Config}
 use Rattle.mos65_c.specs.declared.ending.Called.{Called}
 use Rattle.mos65_c.specs.declared.ending.Ending.{Ending}
@@ -120,32 +121,44 @@ tape_fault f = record { status = 400 + tape_fault_number f.kind; line = 0; offse
 abbrev pub Tells : Fault → ℕ → Fault → Type 0
 Tells told status fault = (status ≡ told.status) × (fault ≡ told)
 
--- What an assembly of a source is: its image is what the source denotes, and its listing and its
--- names are the source's.
-pub record IsAssembly (map : Map) (source : List ℕ) (x : AssemblyView) : Type 0 where
-  pub image : Denotes map source x.image
-  pub listed : IsListing map source (listing_of x)
+-- What an assembly of a text is: its image is what the text denotes, and its listing and its names
+-- are the text's.
+pub record IsAssembly (map : Map) (text : List ℕ) (x : AssemblyView) : Type 0 where
+  pub image : Denotes map text x.image
+  pub listed : IsListing map text (listing_of x)
   pub names : (placed : List PlacedLine) (all : Context)
-      → IsLaidOut (first_context map.profile) (read_lines map.profile source) placed all
+      → IsLaidOut (first_context map.profile) (read_lines map.profile text) placed all
       → x.names ≡ all.names
 
--- A source assembled for a configuration that nothing refuses. 0: the assembly is the source's. 3:
--- memory was refused. Else a fault is told: the source's, or 399, which is that memory was refused.
--- A source that is too large is told so in any case.
+abbrev pub too_large : AsmFault
+too_large = record { line = 0; kind = TooLarge }
+
+-- What comes of a text: its assembly, or its fault, unless memory was refused.
+pub record AssemblesText (map : Map) (text : List ℕ) (result : Result AssemblyView AsmFault) : Type 0
+  where
+    pub ok : IfOk result (IsAssembly map text)
+    pub only : (image : List (Option ℕ)) → Denotes map text image → IsImageOrMemory result image
+    pub refused : IfErr result (λ f. (f ≡ out_of_memory) ⊎ HasFault map text f)
+    pub faulty : (f : AsmFault) → HasFault map text f
+        → (result ≡ Err f) ⊎ (result ≡ Err out_of_memory)
+
+-- A source assembled for a configuration that nothing refuses. What is assembled is the text that is
+-- read in its place (`cleaned`). 0: the assembly is that text's. 3: memory was refused. Else a fault
+-- is told: the text's, or 399, which is that memory was refused. A source that is too large is told
+-- so in any case.
 pub record AnswersSource (map : Map) (source : List ℕ) (status : ℕ) (fault : Fault)
     (now : Option AssemblyView) : Type 0 where
   pub ok : status ≡ 0
-      → (fault ≡ no_fault) × (x : AssemblyView) × (now ≡ Some x) × IsAssembly map source x
+      → (fault ≡ no_fault) × (x : AssemblyView) × (now ≡ Some x) × IsAssembly map (cleaned source) x
   pub same : status ≢ 0 → now ≡ None
   pub memory : status ≡ 3 → fault ≡ no_fault
   pub refused : status ≢ 0 → status ≢ 3 → (f : AsmFault)
-      × ((f ≡ out_of_memory) ⊎ HasFault map source f) × Tells (source_fault f) status fault
-  pub right : (image : List (Option ℕ)) → Denotes map source image
+      × ((f ≡ out_of_memory) ⊎ HasFault map (cleaned source) f) × Tells (source_fault f) status fault
+  pub right : (image : List (Option ℕ)) → Denotes map (cleaned source) image
       → status ≢ 0 → status ≢ 3 → Tells (source_fault out_of_memory) status fault
-  pub faulty : (f : AsmFault) → HasFault map source f
+  pub faulty : (f : AsmFault) → HasFault map (cleaned source) f
       → Tells (source_fault f) status fault ⊎ Tells (source_fault out_of_memory) status fault
-  pub large : 1048576 < length source
-      → Tells (source_fault (record { line = 0; kind = TooLarge })) status fault
+  pub large : 1048576 < length source → Tells (source_fault too_large) status fault
 
 -- A closed machine opened with a tape, under a map. The machine starts with the tape's image, and
 -- no fault is told; or a fault is told: the text's first one, or 409, which is that memory was

@@ -1,22 +1,49 @@
 //! Sources assembled.
 
-ghost use Rattle.std.specs.Prelude.{◌≡◌, ◌≢◌, length, None, Some, take};
+ghost use Rattle.std.specs.Prelude.{◌≡◌, ◌≢◌, ◌<◌, Err, length, None, Some, take};
 ghost use Rattle.assembler.specs.Assembly.{AssemblyView, listing_of};
+ghost use Rattle.clean_source.specs.Cleaned.{cleaned};
 ghost use Rattle.model.specs.TapeText.{tape_text};
-ghost use Rattle.mos65_c.specs.Answers.{AnswersSource, no_fault, written};
+ghost use Rattle.mos65_c.specs.Answers.{AnswersSource, AssemblesText, no_fault, too_large, written};
 ghost use Rattle.mos65_c.specs.Status.{config_map, config_status};
 
 use crate::config::{Config, map_of};
 use crate::machine::{CLOSED, MISUSE, Mos65Assembly, OUT_OF_MEMORY};
 use crate::names::Fault;
 use crate::texts::tell;
-use assembler::assemble;
+use assembler::{Assembly, assemble};
+use bus::MapSpec;
+use clean_source::clean_source;
+use model::{AsmFault, AsmFaultKind};
 use papertape::write_tape;
 use slot::AssemblySlot;
 use std::alloc::Global;
 
-/// Assembles a source for a configuration's map; where the source is refused, its fault and its
-/// line are told.
+/// The most bytes that a source has (mos65).
+const SOURCE_SIZE: usize = 1_048_576;
+
+/// Assembles the text that is read in the place of a source, as `clean_source` says.
+///
+/// Errors: the text's fault, or `OutOfMemory` if an allocation fails. A source that is too large is
+/// refused for that in any case.
+fn assembled(alloc: Global, source: &[u8], map: &MapSpec) -> Result<Assembly, AsmFault>
+    ensures text { AssemblesText map.now (cleaned source.now) result }
+    ensures large { 1048576 < length source.now → result ≡ Err too_large }
+{
+    if source.len() > SOURCE_SIZE {
+        return assemble(alloc, source, map);
+    }
+    match clean_source(alloc, source) {
+        Ok(text) => assemble(alloc, &text, map),
+        Err(_) => Err(AsmFault {
+            line: 0,
+            kind: AsmFaultKind::OutOfMemory,
+        }),
+    }
+}
+
+/// Assembles the text that is read in the place of a source, as `clean_source` says, for a
+/// configuration's map; where that text is refused, its fault and its line are told.
 #[unsafe(no_mangle)]
 pub extern "C" fn mos65_assemble(
     alloc: Global,
@@ -42,7 +69,7 @@ pub extern "C" fn mos65_assemble(
         Ok(map) => map,
         Err(status) => return status,
     };
-    match assemble(alloc, source, &map) {
+    match assembled(alloc, source, &map) {
         Ok(made) => match Box::new(alloc, made) {
             Ok(boxed) => {
                 *assembly = Mos65Assembly {

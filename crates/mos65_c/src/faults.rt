@@ -1,6 +1,8 @@
-//! All faults of a source at once, as text, and all warnings.
+//! All faults of a source at once, as text, and all warnings. They are those of the text that is
+//! read in its place, as `clean_source` says.
 
 ghost use Rattle.std.specs.Prelude.{◌≡◌, ◌≢◌, IfOk, length, List, take, ℕ};
+ghost use Rattle.clean_source.specs.Cleaned.{cleaned};
 ghost use Rattle.fault_notes.specs.Blocks.{IsToldText};
 ghost use Rattle.model.specs.AllFaults.{faults_of};
 ghost use Rattle.mos65_c.specs.Answers.{written};
@@ -12,19 +14,29 @@ use crate::config::{Config, map_of};
 use crate::machine::OUT_OF_MEMORY;
 use crate::texts::tell;
 use bus::MapSpec;
+use clean_source::clean_source;
 use fault_notes::faults_text;
 use source_faults::source_faults;
 use std::alloc::{AllocError, Global};
 use warning_notes::warnings_text;
 use warnings::source_warnings;
 
-/// Returns the text of all faults of a source on a map, under the name of its file.
-fn text_of(alloc: Global, name: &[u8], source: &[u8], map: &MapSpec) -> Result<Vec<u8>, AllocError>
-    ensures { IfOk result (λ text. IsToldText name.now source.now map.now.profile
-        (faults_of map.now source.now) text.items) }
+/// Returns the text of all faults of a text on a map, under the name of its file.
+fn text_of(alloc: Global, name: &[u8], text: &[u8], map: &MapSpec) -> Result<Vec<u8>, AllocError>
+    ensures { IfOk result (λ told. IsToldText name.now text.now map.now.profile
+        (faults_of map.now text.now) told.items) }
 {
-    let faults = source_faults(alloc, source, map)?;
-    faults_text(alloc, name, source, map, &faults)
+    let faults = source_faults(alloc, text, map)?;
+    faults_text(alloc, name, text, map, &faults)
+}
+
+/// Returns the text of all faults of a source on a map, under the name of its file.
+fn told_of(alloc: Global, name: &[u8], source: &[u8], map: &MapSpec) -> Result<Vec<u8>, AllocError>
+    ensures { IfOk result (λ told. IsToldText name.now (cleaned source.now) map.now.profile
+        (faults_of map.now (cleaned source.now)) told.items) }
+{
+    let text = clean_source(alloc, source)?;
+    text_of(alloc, name, &text, map)
 }
 
 /// Writes the beginning of the text of all faults of a source for which `out` has room, under the
@@ -39,8 +51,8 @@ pub extern "C" fn mos65_faults(
     count: &mut usize,
 ) -> u32
     ensures told { config_status config.now ≡ 0 → result ≢ 3 → (result ≡ 0) × (text : List ℕ)
-        × IsToldText name.now source.now (config_map config.now).profile
-        (faults_of (config_map config.now) source.now) text
+        × IsToldText name.now (cleaned source.now) (config_map config.now).profile
+        (faults_of (config_map config.now) (cleaned source.now)) text
         × (count.new ≡ length text) × (out.new ≡ written (take (length out.old) text) out.old) }
     ensures config { config_status config.now ≢ 0 → result ≡ config_status config.now }
     ensures refused { result ≢ 0 → (out.new ≡ out.old) × (count.new ≡ count.old) }
@@ -49,7 +61,7 @@ pub extern "C" fn mos65_faults(
         Ok(map) => map,
         Err(status) => return status,
     };
-    match text_of(alloc, name, source, &map) {
+    match told_of(alloc, name, source, &map) {
         Ok(text) => {
             tell(&text, out, count);
             0
@@ -58,18 +70,32 @@ pub extern "C" fn mos65_faults(
     }
 }
 
-/// Returns the text of all warnings of a source on a map, under the name of its file.
+/// Returns the text of all warnings of a text on a map, under the name of its file.
 fn warned_text(
+    alloc: Global,
+    name: &[u8],
+    text: &[u8],
+    map: &MapSpec,
+) -> Result<Vec<u8>, AllocError>
+    ensures { IfOk result
+        (λ told. IsWarnedText name.now text.now (warnings_of map.now text.now) told.items) }
+{
+    let warnings = source_warnings(alloc, text, map)?;
+    warnings_text(alloc, name, text, &warnings)
+}
+
+/// Returns the text of all warnings of a source on a map, under the name of its file.
+fn warned_of(
     alloc: Global,
     name: &[u8],
     source: &[u8],
     map: &MapSpec,
 ) -> Result<Vec<u8>, AllocError>
-    ensures { IfOk result
-        (λ text. IsWarnedText name.now source.now (warnings_of map.now source.now) text.items) }
+    ensures { IfOk result (λ told. IsWarnedText name.now (cleaned source.now)
+        (warnings_of map.now (cleaned source.now)) told.items) }
 {
-    let warnings = source_warnings(alloc, source, map)?;
-    warnings_text(alloc, name, source, &warnings)
+    let text = clean_source(alloc, source)?;
+    warned_text(alloc, name, &text, map)
 }
 
 /// Writes the beginning of the text of all warnings of a source for which `out` has room, under the
@@ -85,7 +111,8 @@ pub extern "C" fn mos65_warnings(
     count: &mut usize,
 ) -> u32
     ensures told { config_status config.now ≡ 0 → result ≢ 3 → (result ≡ 0) × (text : List ℕ)
-        × IsWarnedText name.now source.now (warnings_of (config_map config.now) source.now) text
+        × IsWarnedText name.now (cleaned source.now)
+        (warnings_of (config_map config.now) (cleaned source.now)) text
         × (count.new ≡ length text) × (out.new ≡ written (take (length out.old) text) out.old) }
     ensures config { config_status config.now ≢ 0 → result ≡ config_status config.now }
     ensures refused { result ≢ 0 → (out.new ≡ out.old) × (count.new ≡ count.old) }
@@ -94,7 +121,7 @@ pub extern "C" fn mos65_warnings(
         Ok(map) => map,
         Err(status) => return status,
     };
-    match warned_text(alloc, name, source, &map) {
+    match warned_of(alloc, name, source, &map) {
         Ok(text) => {
             tell(&text, out, count);
             0

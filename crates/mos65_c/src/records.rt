@@ -1,6 +1,6 @@
 //! A run as the data of a page: the state that it starts from, and the records of its steps.
 
-ghost use Rattle.std.specs.Prelude.{◌≡◌, ◌≢◌, ◌≤◌, ◌+◌, ◌*◌, ◌++◌, [], IfOk, false, length, List};
+ghost use Rattle.std.specs.Prelude.{◌≡◌, ◌≢◌, ◌≤◌, ◌+◌, ◌*◌, ◌++◌, [], IfOk, length, List};
 ghost use Rattle.std.specs.Prelude.{None, OnErr, OnOk, Some, take, ℕ};
 ghost use Rattle.model.specs.Run.{after_run, after_steps, run_end};
 ghost use Rattle.model.specs.Session.{Session as SessionView};
@@ -19,20 +19,16 @@ use page_data::{look_ahead, push_start, push_step};
 use std::alloc::{AllocError, Global};
 
 /// Writes the beginning of a machine's state, as the data of a page begins, for which `out` has
-/// room, and tells how long the whole is. `irq` is the level of the machine's IRQ line, `given` all
-/// input that was handed in, and no NMI is pending.
+/// room, and tells how long the whole is.
 #[unsafe(no_mangle)]
 pub extern "C" fn mos65_record_start(
     alloc: Global,
     m: &mut Mos65,
-    irq: bool,
-    given: &[u8],
     out: &mut [u8],
     count: &mut usize,
 ) -> u32
     ensures live { (s : SessionView) → m.old.slot.session ≡ Some s → result ≢ 3 → result ≡ 0 }
     ensures told { (s : SessionView) → m.old.slot.session ≡ Some s → result ≢ 3
-        → irq ≡ s.current.irq → s.current.nmi ≡ false → given.now ≡ s.current.bus.given
         → (count.new ≡ length (start_bytes s.current))
         × (out.new ≡ written (take (length out.old) (start_bytes s.current)) out.old) }
     // What is written of a state is read as this state, whatever comes after it.
@@ -47,7 +43,7 @@ pub extern "C" fn mos65_record_start(
         return CLOSED;
     }
     let mut written = Vec::new(alloc);
-    match push_start(&mut written, m.slot.inside(), irq, false, given) {
+    match push_start(&mut written, m.slot.inside()) {
         Ok(()) => {
             tell(&written, out, count);
             0
@@ -70,12 +66,12 @@ fn record_one(
     ensures told { OnOk result ((start : State)
         → IsRecorded start records.old.items session.old.current
         → IsRecorded start records.new.items session.new.current) }
-    ensures short { IfOk result (λ end. session.old.current.nmi ≡ false
-        → length records.new.items ≤ length records.old.items + 26 * end.did) }
+    ensures short { IfOk result
+        (λ end. length records.new.items ≤ length records.old.items + 26 * end.did) }
 {
     // For the proof: that the registers and the memory are in range.
     session.is_state();
-    let ahead = look_ahead(session, false);
+    let ahead = look_ahead(session);
     let end = session.run(1);
     if end.did == 0 {
         return Ok(end);
@@ -106,10 +102,9 @@ fn record_run(
     requires { records.old.items ≡ [] }
     ensures end { IfOk result (λ end. end ≡ run_end limit session.old) }
     ensures after { OnOk result (session.new ≡ after_run limit session.old) }
-    ensures told { OnOk result (session.old.current.nmi ≡ false
-        → IsRecorded session.old.current records.new.items session.new.current) }
-    ensures short { IfOk result (λ end. session.old.current.nmi ≡ false
-        → length records.new.items ≤ 26 * end.did) }
+    ensures told { OnOk result (IsRecorded session.old.current records.new.items
+        session.new.current) }
+    ensures short { IfOk result (λ end. length records.new.items ≤ 26 * end.did) }
     // The machine is at a state of this run.
     ensures err { OnErr result ((k : ℕ) × (k ≤ (run_end limit session.old).did)
         × (session.new ≡ after_steps k session.old)) }
@@ -130,7 +125,7 @@ fn record_run(
 }
 
 /// Runs as `mos65_run` does, writes the beginning of the records of the steps for which `out` has
-/// room, and tells how long all records are. No NMI may be pending.
+/// room, and tells how long all records are.
 ///
 /// Where memory is refused, the steps until then were made.
 #[unsafe(no_mangle)]
@@ -148,13 +143,12 @@ pub extern "C" fn mos65_record_run(
     // Decoded, and applied from the machine's state, the records give exactly the states of these
     // steps, one after another; applied backwards from the last, they give the same in reverse.
     ensures told { (s : SessionView) → m.old.slot.session ≡ Some s → result ≢ 3
-        → s.current.nmi ≡ false → (records : List ℕ)
-        × IsRecorded s.current records (after_run limit s).current
+        → (records : List ℕ) × IsRecorded s.current records (after_run limit s).current
         × (count.new ≡ length records)
         × (out.new ≡ written (take (length out.old) records) out.old) }
     // A record has 26 bytes at most.
     ensures short { (s : SessionView) → m.old.slot.session ≡ Some s → result ≢ 3
-        → s.current.nmi ≡ false → count.new ≤ 26 * ending.new.did }
+        → count.new ≤ 26 * ending.new.did }
     // The machine is at a state of this run.
     ensures memory { (s : SessionView) → m.old.slot.session ≡ Some s → result ≡ 3 → (k : ℕ)
         × (k ≤ (run_end limit s).did) × (m.new.slot.session ≡ Some (after_steps k s)) }

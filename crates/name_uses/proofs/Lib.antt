@@ -3,3 +3,6 @@ pub mod Steps
 pub mod Named
 pub mod PickedSteps
 mod FaultySteps
+pub mod Bytes
+pub mod Images
+pub mod Uses

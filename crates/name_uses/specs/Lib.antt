@@ -5,3 +5,4 @@ pub mod Views
 pub mod Picked
 pub mod Places
 pub mod Faulty
+pub mod Renaming

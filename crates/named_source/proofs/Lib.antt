@@ -5,3 +5,5 @@ pub mod Flags
 pub mod Lines
 pub mod Maps
 pub mod Chosen
+pub mod Answered
+pub mod LabelledDenoted

@@ -6,16 +6,17 @@ ghost use Rattle.model.specs.State.{Map, has_port_byte};
 ghost use Rattle.named_source.specs.NamedText.{IsNamedText};
 
 use crate::checked::is_right;
+use crate::labelled::flagged_text;
 use crate::names::{flag_named, table_of};
 use crate::renaming::{Naming, renamed};
 use assembler::Assembly;
 use bus::Image;
 use model::Profile;
-use round_trips::{flagged_text, flags_of};
 use source_forms::Mark;
+use source_writer::flags_of;
 use std::alloc::{AllocError, Global};
 
-/// Writes the source of an image in a profile as `round_trips::labelled_text` does, with the names
+/// Writes the source of an image in a profile as `labelled_text` does, with the names
 /// that a source defines. Where the image has a byte at a name's address, the line there gets a
 /// label, and the name stands in place of it; an address within a line of code is `NAME+1` or
 /// `NAME+2`, and a name for it is left out. Where the image has nothing, the name is defined before

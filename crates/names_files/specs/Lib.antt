@@ -1,2 +1,5 @@
+pub mod ImageNames
+pub mod Labels
+pub mod Meanings
 pub mod NamesFile
 pub mod Views

@@ -1,149 +1,180 @@
--- What a file of names says as a source. Source: mos65, for the forms in which other tools write
--- their names: `al C:0200 .loop` (the monitor of VICE), `al 000200 .loop` (ld65 -Ln) and
--- `loop = $0200` (64tass -l).
-use Rattle.std.specs.Prelude.{ℕ, ◌+◌, ◌==◌, ◌&&◌, ◌||◌, nat_lt, Bool, true, false, if◌then◌else◌, List, [], ◌∷◌, ◌++◌, codes, length, drop, take, position, Option, Some, None, Result, Ok, Err}
-use Rattle.std.specs.List.{list_all, list_any, starts_with}
-use Rattle.std.specs.Option.{unwrap_or}
-use Rattle.std.specs.Str.{byte, bytes_eq}
-use Rattle.model.specs.SourceLine.{Line, labelled, definition, read_line}
+-- What a file of names says as a source. Source: mos65.
+use Rattle.std.specs.Prelude.{ℕ, ◌+◌, ◌==◌, ◌&&◌, ◌||◌, nat_lt, not, Bool, true, false, if◌then◌else◌, ℤ, List, [], ◌∷◌, ◌++◌, codes, decimal, length, Option, Some, None}
+use Rattle.std.specs.List.{list_all}
+use Rattle.std.specs.Option.{option_or}
+use Rattle.std.specs.Ordering.{int_eq}
+use Rattle.model.specs.Names.{Definitions, number_in}
 use Rattle.model.specs.TextLines.{lines_of}
 use Rattle.model.specs.declared.instruction.Profile.{Profile}
-use Rattle.model.specs.declared.source_fault.AsmFaultKind.{AsmFaultKind}
+use Rattle.names_files.specs.Labels.{Label, begins, definition_text}
+use Rattle.names_files.specs.Meanings.{Meaning, other, stands, named, kept, left_out, unknown, label_in, label_meaning, unlabelled}
+use Rattle.names_files.specs.declared.form.Form.{Form}
+use Rattle.names_files.specs.declared.form.Form.TheVariants as form
 
--- ---- a line `al ADDRESS .NAME`
+-- ---- some lines
 
--- The digits of an address, and a name.
-pub record Label : Type 0 where
-  pub digits : List ℕ
-  pub name : List ℕ
+-- What was made of some lines: a source of as many lines; the names that it gives; those that cannot
+-- stand in it; how many lines were left out, and their names, as they are shown, with how many these
+-- are; whether a line had a form that is known; and whether a line stands in a source alone.
+pub record Taken : Type 0 where
+  pub source : List ℕ
+  pub names : Definitions
+  pub others : Definitions
+  pub left_out : ℕ
+  pub shown : List ℕ
+  pub told : ℕ
+  pub is_known : Bool
+  pub is_source : Bool
 
--- A text begins with another.
-abbrev pub begins : List ℕ → List ℕ → Bool
-begins text front = starts_with (λ a b. a == b) text front
+abbrev pub nothing_taken : Taken
+nothing_taken = record {
+  source = [];
+  names = [];
+  others = [];
+  left_out = 0;
+  shown = [];
+  told = 0;
+  is_known = false;
+  is_source = false;
+}
 
--- `C:` before an address names the memory of the processor.
-abbrev pub behind_bank : List ℕ → List ℕ
-behind_bank text = if begins text (codes "C:") then drop 2 text else text
+-- A line that defines nothing becomes an empty one.
+abbrev pub with_empty : Taken → Taken
+with_empty taken = record taken { source = taken.source ++ codes "\n" }
 
--- A name begins behind ` .`, if that stands at the first blank.
-abbrev pub parted : List ℕ → Option ℕ → Option Label
-parted text None = None
-parted text (Some at) = if begins (drop at text) (codes " .")
-    then Some (record { digits = take at text; name = drop 2 (drop at text) }) else None
+abbrev pub with_statement : Taken → Taken
+with_statement taken = record (with_empty taken) { is_source = true }
 
-abbrev pub label_in : List ℕ → Option Label
-label_in text = parted text (position (λ b. b == byte " ") text)
+abbrev pub with_unknown : Taken → Taken
+with_unknown taken = record (with_empty taken) { left_out = taken.left_out + 1 }
 
-unfoldable pub label_of : List ℕ → Option Label
-label_of line = if begins line (codes "al ") then label_in (behind_bank (drop 3 line)) else None
+-- A byte can be shown: it is no blank and no control character.
+abbrev pub is_shown_byte : ℕ → Bool
+is_shown_byte b = nat_lt 32 b && nat_lt b 127
 
--- The same as a line of a source.
-abbrev pub definition_text : Label → List ℕ
-definition_text label = label.name ++ codes "=$" ++ label.digits
+-- A name is shown if it has a few such bytes, and not many were shown before it.
+abbrev pub is_told : List ℕ → List ℕ → Bool
+is_told shown name = nat_lt (length shown) 64 && nat_lt (length name) 64
+    && list_all is_shown_byte name
 
--- ---- what becomes of a line
+abbrev pub comma : List ℕ → List ℕ
+comma shown = if length shown == 0 then [] else codes ", "
 
--- It stays as it is; it gives a name; or it is left out.
-pub data Meaning : Type 0 where
-  other : Meaning
-  named : List ℕ → Meaning
-  left_out : Meaning
+abbrev pub with_told : List ℕ → Taken → Taken
+with_told name taken = if is_told taken.shown name
+    then record taken { shown = taken.shown ++ comma taken.shown ++ name; told = taken.told + 1 }
+    else taken
 
--- A line that was read is the definition of a name.
-abbrev pub is_definition : List ℕ → Result Line AsmFaultKind → Bool
-is_definition name (Ok (definition found value)) = bytes_eq found name
-is_definition name (Ok (labelled label statement)) = false
-is_definition name (Err fault) = false
+abbrev pub with_left_out : List ℕ → Taken → Taken
+with_left_out name taken
+    = with_told name (record (with_unknown taken) { is_known = true })
 
--- A label gives its name if that can stand in a source.
-abbrev pub label_meaning : Profile → Label → Meaning
-label_meaning profile label
-    = if is_definition label.name (read_line profile (definition_text label)) then named label.name
-    else left_out
+abbrev pub with_name : List ℕ → List ℕ → ℤ → Taken → Taken
+with_name text name number taken = record taken {
+  source = taken.source ++ text ++ codes "\n";
+  names = taken.names ++ (name, number) ∷ [];
+  is_known = true;
+}
 
-abbrev pub is_blank : ℕ → Bool
-is_blank b = b == 32 || b == 9
+-- A name that was given before is not given again; it is left out if it had another number.
+abbrev pub with_given : Option ℤ → List ℕ → List ℕ → ℤ → Taken → Taken
+with_given None text name number taken = with_name text name number taken
+with_given (Some old) text name number taken
+    = if int_eq old number then with_empty taken else with_left_out name taken
 
--- How many bytes come before the first blank.
-abbrev pub word_length : List ℕ → ℕ
-word_length text = unwrap_or (position is_blank text) (length text)
+-- A name that cannot stand in the source is left out of it, and stands beside it with its number. It
+-- is not given again.
+abbrev pub with_other : List ℕ → ℤ → Taken → Taken
+with_other name number taken = record (with_left_out name taken) {
+  others = taken.others ++ (name, number) ∷ [];
+}
 
--- A text is some bytes that are no blanks, and blanks behind them.
-abbrev pub is_one_word : List ℕ → Bool
-is_one_word text = nat_lt 0 (word_length text) && list_all is_blank (drop (word_length text) text)
+abbrev pub with_kept : Option ℤ → List ℕ → ℤ → Taken → Taken
+with_kept None name number taken = with_other name number taken
+with_kept (Some old) name number taken
+    = if int_eq old number then with_empty taken else with_left_out name taken
 
--- The word that a text is, without the blanks behind it.
-abbrev pub word_in : List ℕ → Option (List ℕ)
-word_in text = if is_one_word text then Some (take (word_length text) text) else None
+-- The number that a name was given before.
+abbrev pub given_before : Taken → List ℕ → Option ℤ
+given_before taken name = option_or (number_in taken.names name) (number_in taken.others name)
 
-abbrev pub word_before : List ℕ → Option ℕ → Option (List ℕ)
-word_before line None = None
-word_before line (Some at) = word_in (take at line)
+abbrev pub with_meaning : List ℕ → Meaning → Taken → Taken
+with_meaning text other taken = with_empty taken
+with_meaning text stands taken = with_statement taken
+with_meaning text unknown taken = with_unknown taken
+with_meaning text (kept name number) taken
+    = with_kept (given_before taken name) name number taken
+with_meaning text (left_out name) taken = with_left_out name taken
+with_meaning text (named name number) taken
+    = with_given (number_in taken.names name) text name number taken
 
--- The word in front of the first `=`, if nothing else stands there.
-abbrev pub equation_word : List ℕ → Option (List ℕ)
-equation_word line = word_before line (position (λ b. b == byte "=") line)
+abbrev pub with_one : Form → Profile → Option Label → List ℕ → Taken → Taken
+with_one form profile (Some label) line taken
+    = with_meaning (definition_text label) (label_meaning profile taken.names label) taken
+with_one form profile None line taken
+    = with_meaning line (unlabelled form profile taken.names line) taken
 
--- A name can stand in a source.
-abbrev pub can_stand : Profile → List ℕ → Bool
-can_stand profile name = is_definition name (read_line profile (name ++ codes "=0"))
+-- A label becomes a definition, and each other line that gives a name stays as it is.
+unfoldable pub one_line_more : Form → Profile → List ℕ → Taken → Taken
+one_line_more form profile line taken = with_one form profile (label_in form line) line taken
 
-abbrev pub faulty_meaning : Profile → Option (List ℕ) → Meaning
-faulty_meaning profile None = other
-faulty_meaning profile (Some name) = if can_stand profile name then other else left_out
-
--- A line of a source gives the name that it defines.
-abbrev pub line_meaning : Line → Meaning
-line_meaning (labelled None statement) = other
-line_meaning (labelled (Some name) statement) = named name
-line_meaning (definition name value) = named name
-
--- A line that has a fault is left out if it begins with `WORD =`, and the word is no name that can
--- stand in a source.
-abbrev pub read_meaning : Profile → List ℕ → Result Line AsmFaultKind → Meaning
-read_meaning profile line (Ok read) = line_meaning read
-read_meaning profile line (Err fault) = faulty_meaning profile (equation_word line)
+unfoldable pub more_lines : Form → Profile → List (List ℕ) → Taken → Taken
+more_lines form profile [] taken = taken
+more_lines form profile (line ∷ lines) taken
+    = more_lines form profile lines (one_line_more form profile line taken)
 
 -- ---- a file
 
--- What was made of some lines: a source of as many lines, the names that it gives, and how many
--- lines were left out.
-pub record Taken : Type 0 where
-  pub source : List ℕ
-  pub names : List (List ℕ)
-  pub left_out : ℕ
+-- The form of a file, which its first bytes tell.
+unfoldable pub form_of : List ℕ → Form
+form_of file = if begins file (codes "version\tmajor=") then form.Debug
+    else if begins file (codes "--- Symbol List") then form.Table else form.Plain
 
--- One line more. A line that is left out becomes an empty one.
-abbrev pub with_line : List ℕ → List (List ℕ) → ℕ → Taken → Taken
-with_line text names count taken = record {
-  source = taken.source ++ text ++ codes "\n";
-  names = taken.names ++ names;
-  left_out = taken.left_out + count;
+-- A source that gives the names of a file; the names that cannot stand in it; what is said of lines
+-- that were left out, or nothing; and whether no line is a name in a form that is known.
+pub record Names : Type 0 where
+  pub source : List ℕ
+  pub others : Definitions
+  pub left_out : List ℕ
+  pub is_unknown : Bool
+
+-- What is left out and not shown is two points.
+abbrev pub points : Taken → List ℕ
+points taken = if nat_lt taken.told taken.left_out then codes ", .." else []
+
+abbrev pub shown_part : Taken → List ℕ
+shown_part taken = if length taken.shown == 0 then []
+    else codes ": " ++ taken.shown ++ points taken
+
+-- How many lines were left out, and their names, as in `4: LDA, one, _main, ..`.
+abbrev pub left_text : Taken → List ℕ
+left_text taken = if taken.left_out == 0 then []
+    else decimal taken.left_out ++ shown_part taken
+
+-- Lines in no form are fewer than all that are left out if a line had one.
+abbrev pub is_unknown : Form → Taken → Bool
+is_unknown form.Plain taken = not taken.is_known && nat_lt 0 taken.left_out
+is_unknown form.Debug taken = false
+is_unknown form.Table taken = false
+
+abbrev pub table_names : Form → Taken → Names
+table_names form taken = record {
+  source = taken.source;
+  others = taken.others;
+  left_out = left_text taken;
+  is_unknown = is_unknown form taken;
 }
 
--- A name that was given before is not given again.
-abbrev pub with_meaning : List ℕ → Meaning → Taken → Taken
-with_meaning text other taken = with_line text [] 0 taken
-with_meaning text left_out taken = with_line [] [] 1 taken
-with_meaning text (named name) taken = if list_any (λ n. bytes_eq n name) taken.names
-    then with_line [] [] 1 taken else with_line text (name ∷ []) 0 taken
+-- A source gives its names as it stands.
+abbrev pub source_names : List ℕ → Names
+source_names file = record { source = file; others = []; left_out = []; is_unknown = false }
 
-abbrev pub with_one : Profile → Option Label → List ℕ → Taken → Taken
-with_one profile (Some label) line taken
-    = with_meaning (definition_text label) (label_meaning profile label) taken
-with_one profile None line taken
-    = with_meaning line (read_meaning profile line (read_line profile line)) taken
-
--- A label becomes a definition, and each other line stays as it is.
-unfoldable pub one_line_more : Profile → List ℕ → Taken → Taken
-one_line_more profile line taken = with_one profile (label_of line) line taken
-
-unfoldable pub more_lines : Profile → List (List ℕ) → Taken → Taken
-more_lines profile [] taken = taken
-more_lines profile (line ∷ lines) taken
-    = more_lines profile lines (one_line_more profile line taken)
+-- A file with a line that stands in a source alone is one, and so is one that is too large.
+abbrev pub names_of : Form → List ℕ → Taken → Names
+names_of form file taken = if taken.is_source || nat_lt 1048576 (length file)
+    then source_names file else table_names form taken
 
 -- What a file of names says.
-unfoldable pub names_file : Profile → List ℕ → Taken
-names_file profile file
-    = more_lines profile (lines_of file) (record { source = []; names = []; left_out = 0 })
+unfoldable pub names_file : Profile → List ℕ → Names
+names_file profile file = names_of (form_of file) file
+    (more_lines (form_of file) profile (lines_of file) nothing_taken)

@@ -1,17 +1,68 @@
-//! Lines `al ADDRESS .NAME`.
+//! Lines in which other tools write a name and its address.
 
-ghost use Rattle.std.specs.Prelude.{◌≡◌, ◌==◌, ◌++◌, IfOk, OnOk, option_map, position};
+ghost use Rattle.std.specs.Prelude.{◌≡◌, ◌≤◌, ◌==◌, ◌++◌, IfOk, length, option_map, position};
+ghost use Rattle.std.specs.List.{prefix_len};
 ghost use Rattle.std.specs.Str.{byte};
-ghost use Rattle.names_files.specs.NamesFile.{behind_bank, definition_text, label_in, label_of};
+ghost use Rattle.names_files.specs.Labels.{before, behind_bank, behind_key, debug_label};
+ghost use Rattle.names_files.specs.Labels.{definition_text, field, front_word, is_blank};
+ghost use Rattle.names_files.specs.Labels.{is_row_end, label_in, label_of, row_in, row_label, skip};
+ghost use Rattle.names_files.specs.Labels.{word_length};
 ghost use Rattle.names_files.specs.Views.{label_view};
 
 use std::alloc::{AllocError, Global};
 
-/// The address and the name of a label, as they are written.
+/// The hex digits of an address, and a name.
 #[derive(Clone, Copy)]
 pub struct Label<'a> {
     pub digits: &'a [u8],
     pub name: &'a [u8],
+}
+
+/// Returns whether a byte is a blank.
+pub fn is_blank(byte: u8) -> bool
+    ensures { result ≡ is_blank byte }
+{
+    byte == b' ' || byte == b'\t'
+}
+
+/// Returns the index of the first blank.
+fn first_blank(text: &[u8]) -> Option<usize>
+    ensures { result ≡ position is_blank text.now }
+{
+    text.iter().position(|byte| is_blank(*byte))
+}
+
+/// Returns how many bytes come before the first blank.
+fn word_length(text: &[u8]) -> usize
+    ensures length { result ≡ word_length text.now }
+    ensures within { result ≤ length text.now }
+{
+    match first_blank(text) {
+        Some(at) => at,
+        None => text.len(),
+    }
+}
+
+/// Returns the bytes before the first blank.
+pub fn front_word(text: &[u8]) -> &[u8]
+    ensures { result.now ≡ front_word text.now }
+{
+    &text[..word_length(text)]
+}
+
+/// Counts the blanks at the front.
+fn blanks(text: &[u8]) -> usize
+    ensures counted { result ≡ prefix_len is_blank text.now }
+    ensures inside { result ≤ length text.now }
+{
+    text.iter().take_while(|byte| is_blank(**byte)).count()
+}
+
+/// Returns a text without the blanks at its front.
+pub fn skip(text: &[u8]) -> &[u8]
+    ensures { result.now ≡ skip text.now }
+{
+    &text[blanks(text)..]
 }
 
 /// Returns what stands behind the name of a memory, if there is one.
@@ -46,8 +97,8 @@ fn label_in(text: &[u8]) -> Option<Label<'_>>
     }
 }
 
-/// Returns the label that a line gives, if it has the form of one.
-#[tactic(auto, unfolding(crate::specs::NamesFile::label_of))]
+/// Returns the label that a line `al ADDRESS .NAME` gives.
+#[tactic(auto, unfolding(crate::specs::Labels::label_of))]
 pub fn label_of(line: &[u8]) -> Option<Label<'_>>
     ensures { option_map label_view result ≡ label_of line.now }
 {
@@ -56,6 +107,95 @@ pub fn label_of(line: &[u8]) -> Option<Label<'_>>
     } else {
         None
     }
+}
+
+/// Returns what stands behind the first place of a key.
+fn behind_key<'a>(key: &[u8], text: &'a [u8]) -> Option<&'a [u8]>
+    ensures { option_map (λ t. t.now) result ≡ behind_key key.now text.now }
+{
+    let mut rest = text;
+    while !rest.is_empty() {
+        if rest.starts_with(key) {
+            let (_, behind) = rest.split_at(key.len());
+            return Some(behind);
+        }
+        let (_, behind) = rest.split_at(1);
+        rest = behind;
+    }
+    None
+}
+
+/// Returns the index of the first byte that is this.
+fn byte_at(end: u8, text: &[u8]) -> Option<usize>
+    ensures { result ≡ position (λ b. b == end) text.now }
+{
+    text.iter().position(|byte| *byte == end)
+}
+
+/// Returns the bytes before the first one that is this: all if none is.
+fn before(end: u8, text: &[u8]) -> &[u8]
+    ensures { result.now ≡ before end text.now }
+{
+    match byte_at(end, text) {
+        Some(at) => &text[..at],
+        None => text,
+    }
+}
+
+/// Returns the field that begins behind a key.
+fn field<'a>(key: &[u8], end: u8, line: &'a [u8]) -> Option<&'a [u8]>
+    ensures { option_map (λ t. t.now) result ≡ field key.now end line.now }
+{
+    match behind_key(key, line) {
+        Some(text) => Some(before(end, text)),
+        None => None,
+    }
+}
+
+/// Returns the symbol that a line of a debug file gives, if it has a value.
+#[tactic(auto, unfolding(crate::specs::Labels::debug_label))]
+pub fn debug_label(line: &[u8]) -> Option<Label<'_>>
+    ensures { option_map label_view result ≡ debug_label line.now }
+{
+    if !line.starts_with(b"sym\t") {
+        return None;
+    }
+    match (
+        field(b",name=\"", b'"', line),
+        field(b",val=0x", b',', line),
+    ) {
+        (Some(name), Some(digits)) => Some(Label { digits, name }),
+        _ => None,
+    }
+}
+
+/// Returns whether a row of a table may end with a text.
+fn is_row_end(text: &[u8]) -> bool
+    ensures { result ≡ is_row_end text.now }
+{
+    text.is_empty() || text.starts_with(b"(")
+}
+
+/// Returns the label of a row, from its name and what is behind it.
+fn row_in<'a>(name: &'a [u8], text: &'a [u8]) -> Option<Label<'a>>
+    ensures { option_map label_view result ≡ row_in name.now text.now }
+{
+    let length = word_length(text);
+    if is_row_end(skip(&text[length..])) {
+        let digits = front_word(text);
+        Some(Label { digits, name })
+    } else {
+        None
+    }
+}
+
+/// Returns the label that a row of DASM's table gives.
+#[tactic(auto, unfolding(crate::specs::Labels::row_label))]
+pub fn row_label(line: &[u8]) -> Option<Label<'_>>
+    ensures { option_map label_view result ≡ row_label line.now }
+{
+    let length = word_length(line);
+    row_in(front_word(line), skip(&line[length..]))
 }
 
 /// Returns a label as a line of a source.

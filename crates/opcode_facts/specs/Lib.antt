@@ -1,2 +1,4 @@
 pub mod Changed
+pub mod Flag
+pub mod Forms
 pub mod Letters

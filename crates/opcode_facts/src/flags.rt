@@ -3,6 +3,7 @@
 ghost use Rattle.std.specs.Prelude.{◌≡◌, ◌++◌, OnOk};
 ghost use Rattle.opcode_facts.specs.Letters.{flag_text, flags_text, is_any};
 
+use crate::flag::Flag;
 use model::Flags;
 use std::alloc::AllocError;
 
@@ -14,12 +15,12 @@ pub fn is_any(flags: Flags) -> bool
 }
 
 /// Appends the letter of a flag behind a blank, if it is set.
-fn push_flag(text: &mut Vec<u8>, is_set: bool, letter: u8) -> Result<(), AllocError>
-    ensures { OnOk result (text.new.items ≡ text.old.items ++ flag_text is_set letter) }
+fn push_flag(text: &mut Vec<u8>, flags: Flags, flag: Flag) -> Result<(), AllocError>
+    ensures { OnOk result (text.new.items ≡ text.old.items ++ flag_text flags flag) }
 {
-    if is_set {
+    if flag.of(flags) {
         text.push(b' ')?;
-        text.push(letter)?;
+        text.extend_from_slice(flag.letter().as_bytes())?;
     }
     Ok(())
 }
@@ -30,10 +31,10 @@ fn push_flag(text: &mut Vec<u8>, is_set: bool, letter: u8) -> Result<(), AllocEr
 pub fn push_flags(text: &mut Vec<u8>, flags: Flags) -> Result<(), AllocError>
     ensures { OnOk result (text.new.items ≡ text.old.items ++ flags_text flags) }
 {
-    push_flag(text, flags.n, b'N')?;
-    push_flag(text, flags.v, b'V')?;
-    push_flag(text, flags.d, b'D')?;
-    push_flag(text, flags.i, b'I')?;
-    push_flag(text, flags.z, b'Z')?;
-    push_flag(text, flags.c, b'C')
+    push_flag(text, flags, Flag::N)?;
+    push_flag(text, flags, Flag::V)?;
+    push_flag(text, flags, Flag::D)?;
+    push_flag(text, flags, Flag::I)?;
+    push_flag(text, flags, Flag::Z)?;
+    push_flag(text, flags, Flag::C)
 }

@@ -1,18 +1,15 @@
 -- The change between two states leads from the first to the second, and back.
 use Rattle.std.proofs.Common.{◌≡◌, ◌∙◌, ℕ, ◌+◌, ◌-◌, ◌%◌, ◌^◌, ◌<◌, ◌≤◌, Bool, true, false, cond, List, [], ◌∷◌, ◌++◌, length, take, Option, Some, None, Ok, Err, refl, sym, ap, subst, arith, length-append}
-use Rattle.std.specs.Prelude.{◌==◌, ◌&&◌, nat_lt, not, bit_xor, slice_get, slice_index}
+use Rattle.std.specs.Prelude.{◌==◌, ◌&&◌, ◌||◌, nat_lt, not, bit_xor, slice_get, slice_index}
 use Rattle.std.specs.Option.{option_to_list}
-use Rattle.std.proofs.lemmas.Bool.{eq-eqb, false≢true}
 use Rattle.std.proofs.lemmas.Bool.Decides.{nat_tests}
 use Rattle.std.proofs.lemmas.List.{length-map, take_at}
 use Rattle.model.specs.Arithmetic.{bit}
 use Rattle.model.specs.Effect.{flags_of_byte, operation_of, status}
 use Rattle.model.specs.Operand.{address_at, address_in_page, effective_address, jump_target}
 use Rattle.model.specs.State.{Bus, IsState, State}
-use Rattle.model.specs.Step.{attempt, interrupt_entry, irq_asked, most_cycles, step}
+use Rattle.model.specs.Step.{attempt, entry_due, interrupt_entry, irq_asked, most_cycles, step}
 use Rattle.model.specs.declared.instruction.EffectiveAddress.{EffectiveAddress}
-use Rattle.model.specs.declared.instruction.Mnemonic.{Mnemonic}
-use Rattle.model.specs.declared.instruction.Mnemonic.TheVariants.{Brk}
 use Rattle.model.specs.declared.instruction.Mode.{Mode}
 use Rattle.model.specs.declared.instruction.Mode.TheVariants.{Imp, Acc, Imm, Zp, ZpX, ZpY, Abs, AbsX, AbsY, IndX, IndY, Ind, Rel, IndZ}
 use Rattle.model.specs.declared.instruction.Profile.{Profile}
@@ -23,16 +20,14 @@ use Rattle.model.specs.declared.operation.Operation.TheVariants as operation
 use Rattle.model.specs.declared.event.EventFault.TheVariants.{CyclesFull}
 use Rattle.model.specs.declared.registers.Regs.{Regs}
 use Rattle.cpu_step.specs.Access.{access_by, access_here, access_of, row_here}
-use Rattle.cpu_step.specs.PlainSteps.{is_break, is_brk}
 use Rattle.cpu_step.specs.Stored.{below, stored_at, stores_by, stores_here}
 use Rattle.accesses.specs.Footprint.{pointer_and_operand, pointer_in, reads_by, reads_here, reads_of}
-use Rattle.accesses.specs.Moments.{entered, entry_stores, moment_of, pushed_break, step_stores, stored_by}
-use Rattle.accesses.proofs.Entries.{no_entry}
-use Rattle.law_states.proofs.Numbers.{byte_small}
+use Rattle.accesses.specs.Moments.{entered, entry_stores, moment_of, step_stores, stored_by}
+use Rattle.accesses.proofs.Entries.{entered_is}
 use Rattle.page_data.specs.Changes.{back, flipped, forth, without_last}
 use Rattle.page_data.specs.Format.{IsSmall}
 use Rattle.page_data.specs.Steps.{change_of, read_by, step_reads, vector_reads, with_input}
-use Rattle.page_data.proofs.Effects.{InRange, Steps, attempted_steps, cycles_entered, entry_steps, s_entered}
+use Rattle.page_data.proofs.Effects.{InRange, Steps, attempted_steps, entry_steps}
 use Rattle.page_data.proofs.Memory.{AreApart, Outside, flipped_back, flipped_is}
 use Rattle.page_data.proofs.Xor.{flags_again, flip_again, flip_back, xor_again, xor_back}
 
@@ -122,73 +117,29 @@ leads_back given s t h =
       cycles = cycles i;
     }
 
--- ---- where a step stores
-
-brk_is : (m : Mnemonic) → is_brk m ≡ true → operation_of m ≡ operation.Break
-unfolding operation_of
-brk_is Brk e = refl
-brk_is m e = absurd (false≢true e)
-
-break_stores : (row : Option Row) (s : State) → is_break row ≡ true → stores_by (access_by row s) s.regs.s ≡ entry_stores s.regs.s
-unfolding stores_by access_of
-break_stores None s e = absurd (false≢true e)
-break_stores (Some row) s e =
-    ap (λ op. stores_by (access_of op row.mode (effective_address s.bus s.regs row.mode).address) s.regs.s) (brk_is row.mnemonic e)
-
-breaks_alike : (s : State) → is_break (row_here s) ≡ true → stores_here s ≡ entry_stores s.regs.s
-unfolding stores_here access_here
-breaks_alike s e = break_stores (row_here s) s e
-
-either_way : (b : Bool) (s : ℕ) (stores : List ℕ) → stores ≡ entry_stores s → stored_by b s stores ≡ entry_stores s
-either_way true s stores e = refl
-either_way false s stores e = e
-
--- an entry is told by S and the cycles
-told_entry : (s t : State) → is_break (row_here s) ≡ false → t.regs.s ≡ (s.regs.s + 253) % 256 → t.cycles ≡ s.cycles + 7 → s.cycles ≤ most_cycles → entered (moment_of s) t ≡ true
-told_entry s t other sp cycles room =
-    let low : (t.regs.s == (s.regs.s + 253) % 256) ≡ true = eq-eqb _ _ sp in
-    let late : (t.cycles == (s.cycles + 7) % 2 ^ 64) ≡ true = eq-eqb _ _ (omega (arith, cycles, room)) in
-    ap (λ b. b && (t.cycles == (s.cycles + 7) % 2 ^ 64) && not (is_break (row_here s) && pushed_break t)) low
-    ∙ ap (λ b. b && not (is_break (row_here s) && pushed_break t)) late
-    ∙ ap (λ b. not (b && pushed_break t)) other
-
-entry_at : (b : Bool) (s t : State) → is_break (row_here s) ≡ b → t.regs.s ≡ (s.regs.s + 253) % 256 → t.cycles ≡ s.cycles + 7 → s.cycles ≤ most_cycles → entry_stores s.regs.s ≡ step_stores s t
-entry_at true s t is sp cycles room = sym (either_way (entered (moment_of s) t) s.regs.s (stores_here s) (breaks_alike s is))
-entry_at false s t is sp cycles room = sym (ap (λ e. stored_by e s.regs.s (stores_here s)) (told_entry s t is sp cycles room))
-
-instruction_at : (b : Bool) (s t : State) → is_break (row_here s) ≡ b → InRange s → attempt (row_here s) s ≡ Ok t → stores_here s ≡ step_stores s t
-instruction_at true s t is h made = breaks_alike s is ∙ sym (either_way (entered (moment_of s) t) s.regs.s (stores_here s) (breaks_alike s is))
-instruction_at false s t is h made =
-    sym (ap (λ e. stored_by e s.regs.s (stores_here s)) (no_entry s t (byte_small s.bus.memory s.regs.pc h.memory) h.s h.cycles is made))
-
 -- ---- a step
 
-step_by : (s t : State) (full nmi irq : Bool) → InRange s → nat_lt most_cycles s.cycles ≡ full → s.nmi ≡ nmi
+-- where it has stored, by whether an entry was due
+step_by : (s t : State) (full nmi irq : Bool) → InRange s → s.nmi ≡ nmi
     → cond full (Err CyclesFull) (cond nmi (Ok (interrupt_entry (record s { nmi = false }) 0xFFFA)) (cond irq (Ok (interrupt_entry s 0xFFFE)) (attempt (row_here s) s))) ≡ Ok t
-    → Steps (step_stores s t) s t
-step_by s t true nmi irq h full is made = cc
-step_by s t false true irq h full is made =
+    → Steps (stored_by (nmi || irq) s.regs.s (stores_here s)) s t
+step_by s t true nmi irq h is made = cc
+step_by s t false true irq h is made =
     let none : State = record s { nmi = false } in
     let same : interrupt_entry none 0xFFFA ≡ t = cc in
-    let room : s.cycles ≤ most_cycles = grind (arith, nat_tests) in
-    let sp : t.regs.s ≡ (s.regs.s + 253) % 256 = ap (λ (x : State). x.regs.s) (sym same) ∙ s_entered none 0xFFFA h.s in
-    let cycles : t.cycles ≡ s.cycles + 7 = ap (λ (x : State). x.cycles) (sym same) ∙ cycles_entered none 0xFFFA in
     let entry = entry_steps none 0xFFFA h.s refl in
     let whole : Steps (entry_stores s.regs.s) s (interrupt_entry none 0xFFFA) = record { bus = entry.bus; irq = entry.irq; nmi = entry.nmi; from = entry.from; to = entry.to } in
-    subst (λ (at : List ℕ). Steps at s t) (entry_at (is_break (row_here s)) s t refl sp cycles room) (subst (λ (x : State). Steps (entry_stores s.regs.s) s x) same whole)
-step_by s t false false true h full is made =
+    subst (λ (x : State). Steps (entry_stores s.regs.s) s x) same whole
+step_by s t false false true h is made =
     let same : interrupt_entry s 0xFFFE ≡ t = cc in
-    let room : s.cycles ≤ most_cycles = grind (arith, nat_tests) in
-    let sp : t.regs.s ≡ (s.regs.s + 253) % 256 = ap (λ (x : State). x.regs.s) (sym same) ∙ s_entered s 0xFFFE h.s in
-    let cycles : t.cycles ≡ s.cycles + 7 = ap (λ (x : State). x.cycles) (sym same) ∙ cycles_entered s 0xFFFE in
-    let entry = entry_steps s 0xFFFE h.s is in
-    subst (λ (at : List ℕ). Steps at s t) (entry_at (is_break (row_here s)) s t refl sp cycles room) (subst (λ (x : State). Steps (entry_stores s.regs.s) s x) same entry)
-step_by s t false false false h full is made =
-    subst (λ (at : List ℕ). Steps at s t) (instruction_at (is_break (row_here s)) s t refl h made) (attempted_steps s t h is made)
+    subst (λ (x : State). Steps (entry_stores s.regs.s) s x) same (entry_steps s 0xFFFE h.s is)
+step_by s t false false false h is made = attempted_steps s t h is made
 
 steps : (s t : State) → InRange s → step s ≡ Ok t → Steps (step_stores s t) s t
 unfolding step
-steps s t h made = step_by s t (nat_lt most_cycles s.cycles) s.nmi (irq_asked s && not s.regs.flags.i) h refl refl made
+steps s t h made =
+    let all : Steps (stored_by (entry_due s) s.regs.s (stores_here s)) s t = step_by s t (nat_lt most_cycles s.cycles) s.nmi (irq_asked s && not s.regs.flags.i) h refl made in
+    subst (λ (b : Bool). Steps (stored_by b s.regs.s (stores_here s)) s t) (sym (entered_is s t all.bus.given)) all
 
 -- ---- where input was handed in before
 
@@ -360,8 +311,3 @@ step_small given s t h few made =
       stores = omega (arith, length-map (step_stores s t) pair, few_stored s t);
       given = few;
     }
-
-pub step_quiet : (s t : State) → IsState s → step s ≡ Ok t → t.nmi ≡ false
-step_quiet s t h made =
-    let sound : InRange s = record { memory = h.bus.memory; s = h.regs.s; cycles = h.cycles } in
-    (steps s t sound made).nmi

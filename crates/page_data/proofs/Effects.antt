@@ -336,12 +336,3 @@ unfolding interrupt_entry
 entry_steps s vector small none =
     let h = sequence_moves s s.regs.pc false vector small in
     record { bus = h.bus; irq = h.irq; nmi = h.nmi ∙ none; from = omega (arith, h.from); to = omega (arith, h.to) }
-
--- what an entry makes of S, and how many cycles it takes
-pub s_entered : (s : State) (vector : ℕ) → s.regs.s < 256 → (interrupt_entry s vector).regs.s ≡ (s.regs.s + 253) % 256
-unfolding interrupt_entry interrupt_sequence after_push
-s_entered s vector small = omega (arith, small)
-
-pub cycles_entered : (s : State) (vector : ℕ) → (interrupt_entry s vector).cycles ≡ s.cycles + 7
-unfolding interrupt_entry interrupt_sequence after_push
-cycles_entered s vector = refl

@@ -32,15 +32,14 @@ change_is given ahead s t h =
     let cells = λ (b : Bool). ap (λ (pushes : List (ℕ × ℕ)). cells_after t.bus.memory (stored_cells b pushes ahead.stores.items)) h.pushes
     ∙ ap (λ (stores : List (ℕ × ℕ)). cells_after t.bus.memory (stored_cells b (cells_of s.bus.memory (entry_stores s.regs.s)) stores)) h.stores
     ∙ stored_are b s t in
-    let reads = ap (λ (b : Bool). read_by b ahead.is_nmi ahead.reads.items) entry
-    ∙ ap (λ (b : Bool). read_by (entered (moment_of s) t) b ahead.reads.items) h.nmi
+    let reads = ap (λ (m : Moment). read_by (entered m t) m.nmi ahead.reads.items) moment
     ∙ ap (read_by (entered (moment_of s) t) s.nmi) h.reads in
     let stores = ap (λ (b : Bool). cells_after t.bus.memory (stored_cells b ahead.pushes.items ahead.stores.items)) entry ∙ cells (entered (moment_of s) t) in
     let cycles = ap (λ (m : Moment). m.cycles) moment in
     let out = ap (slice_get t.bus.out) h.shown in
-    let takes = ap (λ (n : ℕ). nat_lt n t.bus.taken) h.taken in
-    let control = ap (λ (b : Bool). flipped b t.bus.control) h.control in
-    let nmi = h.nmi in
+    let takes = ap (λ (m : Moment). nat_lt m.taken t.bus.taken) moment in
+    let control = ap (λ (m : Moment). flipped m.control t.bus.control) moment in
+    let nmi = ap (λ (m : Moment). m.nmi) moment in
     λ i. record {
       cycles = t.cycles - cycles i;
       a = bit_xor (regs i).a t.regs.a;
@@ -93,7 +92,7 @@ on_ok (Ok x) P Q h f = f h
 on_ok (Err e) P Q h f = tt
 
 pub record_pushed : (given : List ℕ) (ahead : Ahead) (t : State) (old a b c d e f eight : List ℕ) (x : ℕ) → a ≡ old ++ x ∷ [] → x ≡ head (change_from given ahead t) → eight ≡ eight_of (change_from given ahead t)
-    → b ≡ a ++ marks eight ∷ without_zeros eight → c ≡ b ++ flat_map word (read_by (entered ahead.moment t) ahead.is_nmi ahead.reads.items)
+    → b ≡ a ++ marks eight ∷ without_zeros eight → c ≡ b ++ flat_map word (read_by (entered ahead.moment t) ahead.moment.nmi ahead.reads.items)
     → d ≡ c ++ flat_map cell (cells_after t.bus.memory (stored_cells (entered ahead.moment t) ahead.pushes.items ahead.stores.items))
     → e ≡ d ++ option_to_list (slice_get t.bus.out ahead.shown) → f ≡ e ++ counted given → f ≡ old ++ bytes_of (change_from given ahead t)
 unfolding change_by bytes_of

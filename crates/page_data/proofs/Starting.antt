@@ -185,14 +185,15 @@ start_joined old a b c d e f g memory regs cycles taken out given lines ea eb ec
     ∙ ap (λ (l : List ℕ). l ++ x4) eb ∙ append_assoc a regs x4
     ∙ ap (λ (l : List ℕ). l ++ x5) ea ∙ append_assoc old memory x5
 
-pub start_pushed : (s : State) (irq nmi : Bool) (handed old a b c d e f g : List ℕ) (control : Bool) (taken : ℕ) → control ≡ s.bus.control → taken ≡ s.bus.taken → irq ≡ s.irq → nmi ≡ s.nmi → handed ≡ s.bus.given
-    → a ≡ old ++ pages 256 s.bus.memory → b ≡ a ++ registers_of s → c ≡ b ++ number s.cycles → d ≡ c ++ signals_by false false control irq nmi false false ∷ [] → e ≡ d ++ number taken → f ≡ e ++ listed s.bus.out → g ≡ f ++ listed handed
+pub start_pushed : (s : State) (old a b c d e f g : List ℕ) (taken : ℕ) → taken ≡ s.bus.taken
+    → a ≡ old ++ pages 256 s.bus.memory → b ≡ a ++ registers_of s → c ≡ b ++ number s.cycles → d ≡ c ++ lines_of s ∷ [] → e ≡ d ++ number taken → f ≡ e ++ listed s.bus.out → g ≡ f ++ listed s.bus.given
     → g ≡ old ++ start_bytes s
 unfolding start_bytes
-start_pushed s irq nmi handed old a b c d e f g control taken is_control is_taken is_irq is_nmi is_given ea eb ec ed ee ef eg =
+start_pushed s old a b c d e f g taken is_taken ea eb ec ed ee ef eg =
     let memory = pages 256 s.bus.memory in
     let regs = registers_of s in
     let cycles = number s.cycles in
     let out = listed s.bus.out in
-    start_joined old a b c d e f g memory regs cycles (number taken) out (listed handed) (signals_by false false control irq nmi false false) ea eb ec ed ee ef eg
-    ∙ (λ i. old ++ (memory ++ (regs ++ (cycles ++ signals_by false false (is_control i) (is_irq i) (is_nmi i) false false ∷ (number (is_taken i) ++ (out ++ listed (is_given i)))))))
+    let given = listed s.bus.given in
+    start_joined old a b c d e f g memory regs cycles (number taken) out given (lines_of s) ea eb ec ed ee ef eg
+    ∙ ap (λ (n : ℕ). old ++ (memory ++ (regs ++ (cycles ++ lines_of s ∷ (number n ++ (out ++ given)))))) is_taken

@@ -15,12 +15,11 @@ use Rattle.model.specs.declared.event.Event.TheVariants as event
 use Rattle.model.specs.declared.event.EventFault.{EventFault}
 use Rattle.model.specs.declared.event.EventFault.TheVariants.{BadLength, CyclesFull, InputFull, PastEnd, PortAddress}
 use Rattle.page_data.specs.Changes.{Tells, back, flipped, forth}
-use Rattle.page_data.specs.Events.{AreAsked, IsBefore, TellsOf, asked_after, change_told, event_change, handed_by, if_led, is_reset, is_step, led_by, patched_by, patched_from}
+use Rattle.page_data.specs.Events.{IsBefore, change_told, event_change, handed_by, if_led, is_reset, is_step, led_by, patched_by, patched_from}
 use Rattle.page_data.specs.Format.{IsSmall, bytes_of, cell, counted, eight as eight_of, head, marks, without_zeros}
 use Rattle.page_data.specs.Steps.{IsAhead, cells_after, with_input}
 use Rattle.page_data.specs.declared.ahead.Ahead.{Ahead}
 use Rattle.page_data.specs.declared.event.Before.{Before}
-use Rattle.page_data.specs.declared.event.Interrupts.{Interrupts}
 use Rattle.page_data.proofs.Between.{cut, flags_back, flags_forth, step_differs}
 use Rattle.page_data.proofs.Memory.{AreApart, Outside, cells_are, flipped_back, flipped_is}
 use Rattle.page_data.proofs.Pushing.{parts_joined}
@@ -326,15 +325,15 @@ event_small e s t h =
 
 -- ---- the record of an event
 
-change_same : (e : Event) (before : Before) (asked later : Interrupts) (s t : State) → IsBefore before e s → AreAsked asked s → AreAsked later t → change_told e before asked later t ≡ event_change e s t
+change_same : (e : Event) (before : Before) (s t : State) → IsBefore before e s → change_told e before t ≡ event_change e s t
 unfolding change_told event_change
-change_same e before asked later s t h prior next =
+change_same e before s t h =
     let regs = h.regs in
     let cycles = h.cycles in
     let control = ap (λ (b : Bool). flipped b t.bus.control) h.control in
     let cells = ap (cells_after t.bus.memory) h.cells ∙ cells_are s.bus.memory t.bus.memory (patched_by e) in
-    let irq : flipped asked.irq later.irq ≡ flipped s.irq t.irq = λ i. flipped (prior.irq i) (next.irq i) in
-    let nmi : flipped asked.nmi later.nmi ≡ flipped s.nmi t.nmi = λ i. flipped (prior.nmi i) (next.nmi i) in
+    let irq = ap (λ (b : Bool). flipped b t.irq) h.irq in
+    let nmi = ap (λ (b : Bool). flipped b t.nmi) h.nmi in
     λ i. record {
       cycles = t.cycles - cycles i;
       a = bit_xor (regs i).a t.regs.a;
@@ -354,44 +353,6 @@ change_same e before asked later s t h prior next =
       entry = is_reset e;
     }
 
-patch_asked : (address : ℕ) (bytes : List ℕ) (count : ℕ) (asked : Interrupts) (s t : State) → event_of s (event.Patch address bytes count) ≡ Ok t → AreAsked asked s → AreAsked asked t
-unfolding event_of patch_of
-patch_asked address bytes count asked s t made h =
-    let put = take count bytes in
-    let by = patch_by (nat_lt 3 count) ((length put == 0) || nat_lt 3 (length put)) (nat_lt 65536 (address + length put)) (meets_port s.bus.map address put) s t (bus_with_patch address put s.bus) made in
-    record { irq = h.irq ∙ ap (λ (x : State). x.irq) by.2; nmi = h.nmi ∙ ap (λ (x : State). x.nmi) by.2 }
-
-input_asked : (byte : ℕ) (asked : Interrupts) (s t : State) → event_of s (event.Input byte) ≡ Ok t → AreAsked asked s → AreAsked asked t
-unfolding event_of input_of
-input_asked byte asked s t made h =
-    let same = input_by _ s t (record s { bus = record s.bus { given = s.bus.given ++ byte ∷ [] } }) made in
-    record { irq = h.irq ∙ ap (λ (x : State). x.irq) same; nmi = h.nmi ∙ ap (λ (x : State). x.nmi) same }
-
--- what is asked for after an event
-step_asked : (asked : Interrupts) (s t : State) → IsState s → event_of s event.Step ≡ Ok t → AreAsked asked s → AreAsked (asked_after event.Step asked) t
-unfolding event_of
-step_asked asked s t sound made h =
-    let differs = step_differs [] s t sound (ap step (no_input s) ∙ made) in
-    record { irq = h.irq ∙ sym differs.irq; nmi = sym differs.nmi }
-
-pub later_asked : (e : Event) (asked : Interrupts) (s t : State) → IsState s → event_of s e ≡ Ok t → AreAsked asked s → AreAsked (asked_after e asked) t
-unfolding event_of reset_of reset_state
-later_asked event.Step asked s t sound made h = step_asked asked s t sound made h
-later_asked event.Reset asked s t sound made h =
-    let same = reset_by (nat_lt most_cycles s.cycles) s t made in
-    record { irq = h.irq ∙ ap (λ (x : State). x.irq) same; nmi = ap (λ (x : State). x.nmi) same }
-later_asked (event.Irq level) asked s t sound made h =
-    let same : (record s { irq = level }) ≡ t = cc in
-    record { irq = ap (λ (x : State). x.irq) same; nmi = h.nmi ∙ ap (λ (x : State). x.nmi) same }
-later_asked event.Nmi asked s t sound made h =
-    let same : (record s { nmi = true }) ≡ t = cc in
-    record { irq = h.irq ∙ ap (λ (x : State). x.irq) same; nmi = ap (λ (x : State). x.nmi) same }
-later_asked (event.Set setting) asked s t sound made h =
-    let same : (record s { regs = set_to setting s.regs }) ≡ t = cc in
-    record { irq = h.irq ∙ ap (λ (x : State). x.irq) same; nmi = h.nmi ∙ ap (λ (x : State). x.nmi) same }
-later_asked (event.Patch address bytes count) asked s t sound made h = patch_asked address bytes count asked s t made h
-later_asked (event.Input byte) asked s t sound made h = input_asked byte asked s t made h
-
 -- ---- a session
 
 kept_all : (history : ℕ) (states : List State) (s : State) → length states < history → keep_last history (states ++ s ∷ []) ≡ states ++ s ∷ []
@@ -399,30 +360,29 @@ kept_all history states s room =
     let none : length (states ++ s ∷ []) - history ≡ 0 = omega (arith, room, length-append states (s ∷ [])) in
     ap (λ (k : ℕ). drop k (states ++ s ∷ [])) none
 
-pub held_told : (start t : State) (s : Session) (bytes : List ℕ) (asked : Interrupts) → length s.earlier < s.history → Tells start bytes (s.earlier ++ s.current ∷ []) t → AreAsked asked t → TellsOf start bytes asked (with_state s t)
-held_told start t s bytes asked room told h = record {
-  told = subst (λ (states : List State). Tells start bytes states t) (sym (kept_all s.history s.earlier s.current room)) told;
-  known = h;
-}
+-- the states that a session holds after one more, with the current one
+abbrev ToldTo : State → List ℕ → Session → Type 0
+ToldTo start bytes s = Tells start bytes s.earlier s.current
 
-pub other_told : (e : Event) (before : Before) (asked : Interrupts) (s : Session) (t start : State) (old new : List ℕ) → is_step e ≡ false → IsState s.current → event_of s.current e ≡ Ok t → IsBefore before e s.current
-    → new ≡ old ++ bytes_of (change_told e before asked (asked_after e asked) t) → length s.earlier < s.history → TellsOf start old asked s → TellsOf start new (asked_after e asked) (with_state s t)
-other_told e before asked s t start old new not_step sound made known grown room h =
+held_told : (start t : State) (s : Session) (bytes : List ℕ) → length s.earlier < s.history → Tells start bytes (s.earlier ++ s.current ∷ []) t → ToldTo start bytes (with_state s t)
+held_told start t s bytes room told = subst (λ (states : List State). Tells start bytes states t) (sym (kept_all s.history s.earlier s.current room)) told
+
+pub other_told : (e : Event) (before : Before) (s : Session) (t start : State) (old new : List ℕ) → is_step e ≡ false → event_of s.current e ≡ Ok t → IsBefore before e s.current
+    → new ≡ old ++ bytes_of (change_told e before t) → length s.earlier < s.history → ToldTo start old s → ToldTo start new (with_state s t)
+other_told e before s t start old new not_step made known grown room h =
     let turns = event_turns e s.current t not_step made in
-    let later = later_asked e asked s.current t sound made h.known in
     let change = event_change e s.current t in
-    let whole : new ≡ old ++ bytes_of change = grown ∙ ap (λ c. old ++ bytes_of c) (change_same e before asked (asked_after e asked) s.current t known h.known later) in
-    let told = told_more start s.current t old s.earlier change (event_small e s.current t turns) (event_forth e s.current t turns) (event_back e s.current t turns) h.told in
-    held_told start t s new (asked_after e asked) room (subst (λ (l : List ℕ). Tells start l (s.earlier ++ s.current ∷ []) t) (sym whole) told.0) later
+    let whole : new ≡ old ++ bytes_of change = grown ∙ ap (λ c. old ++ bytes_of c) (change_same e before s.current t known) in
+    let told = told_more start s.current t old s.earlier change (event_small e s.current t turns) (event_forth e s.current t turns) (event_back e s.current t turns) h in
+    held_told start t s new room (subst (λ (l : List ℕ). Tells start l (s.earlier ++ s.current ∷ []) t) (sym whole) told.0)
 
-pub other_recorded : (e : Event) (before : Before) (asked later : Interrupts) (s new : Session) (start : State) (bytes more : List ℕ) → later ≡ asked_after e asked → is_step e ≡ false → IsState s.current
+pub other_recorded : (e : Event) (before : Before) (s new : Session) (start : State) (bytes more : List ℕ) → is_step e ≡ false
     → (t : State) × (event_of s.current e ≡ Ok t) × (new ≡ with_state s t) → IsBefore before e s.current
-    → more ≡ bytes ++ bytes_of (change_told e before asked later new.current) → length s.earlier < s.history → TellsOf start bytes asked s → TellsOf start more later new
-other_recorded e before asked later s new start bytes more is not_step sound made known grown room h =
+    → more ≡ bytes ++ bytes_of (change_told e before new.current) → length s.earlier < s.history → Tells start bytes s.earlier s.current → Tells start more new.earlier new.current
+other_recorded e before s new start bytes more not_step made known grown room h =
     let now : new.current ≡ made.0 = ap (λ (u : Session). u.current) made.2 in
-    let whole : more ≡ bytes ++ bytes_of (change_told e before asked (asked_after e asked) made.0) = grown ∙ (λ i. bytes ++ bytes_of (change_told e before asked (is i) (now i))) in
-    let told : TellsOf start more (asked_after e asked) (with_state s made.0) = other_told e before asked s made.0 start bytes more not_step sound made.1 known whole room h in
-    subst (λ (u : Session). TellsOf start more later u) (sym made.2) (subst (λ (x : Interrupts). TellsOf start more x (with_state s made.0)) (sym is) told)
+    let whole : more ≡ bytes ++ bytes_of (change_told e before made.0) = grown ∙ ap (λ (t : State). bytes ++ bytes_of (change_told e before t)) now in
+    subst (λ (u : Session). ToldTo start more u) (sym made.2) (other_told e before s made.0 start bytes more not_step made.1 known whole room h)
 
 -- ---- a step
 
@@ -439,26 +399,21 @@ step_made : (s t : State) → event_of s event.Step ≡ Ok t → step (with_inpu
 unfolding event_of
 step_made s t made = ap step (no_input s) ∙ made
 
-step_told : (asked later : Interrupts) (ahead : Ahead) (s new : Session) (start : State) (bytes more : List ℕ) → later ≡ asked_after event.Step asked → IsState s.current
-    → (t : State) × (event_of s.current event.Step ≡ Ok t) × (new ≡ with_state s t) → (asked.nmi ≡ s.current.nmi → IsAhead ahead s.current)
-    → (IsAhead ahead s.current → step (with_input [] s.current) ≡ Ok new.current → Tells start bytes s.earlier s.current → Tells start more (s.earlier ++ s.current ∷ []) new.current)
-    → length s.earlier < s.history → TellsOf start bytes asked s → TellsOf start more later new
-step_told asked later ahead s new start bytes more is sound made looks tells room h =
+step_told : (s new : Session) (start : State) (more : List ℕ) → (t : State) × (event_of s.current event.Step ≡ Ok t) × (new ≡ with_state s t)
+    → (step (with_input [] s.current) ≡ Ok new.current → Tells start more (s.earlier ++ s.current ∷ []) new.current)
+    → length s.earlier < s.history → Tells start more new.earlier new.current
+step_told s new start more made tells room =
     let now : new.current ≡ made.0 = ap (λ (u : Session). u.current) made.2 in
     let stepped : step (with_input [] s.current) ≡ Ok new.current = step_made s.current made.0 made.1 ∙ sym (ap (λ (x : State). Ok x) now) in
-    let all : Tells start more (s.earlier ++ s.current ∷ []) made.0 = subst (λ (t : State). Tells start more (s.earlier ++ s.current ∷ []) t) now (tells (looks h.known.nmi) stepped h.told) in
-    let next : AreAsked (asked_after event.Step asked) made.0 = step_asked asked s.current made.0 sound made.1 h.known in
-    subst (λ (u : Session). TellsOf start more later u) (sym made.2)
-    (subst (λ (x : Interrupts). TellsOf start more x (with_state s made.0)) (sym is) (held_told start made.0 s more (asked_after event.Step asked) room all next))
+    let all : Tells start more (s.earlier ++ s.current ∷ []) made.0 = subst (λ (t : State). Tells start more (s.earlier ++ s.current ∷ []) t) now (tells stepped) in
+    subst (λ (u : Session). ToldTo start more u) (sym made.2) (held_told start made.0 s more room all)
 
-pub step_recorded : (e : Event) (asked later : Interrupts) (ahead : Ahead) (s new : Session) (start : State) (bytes more : List ℕ) → is_step e ≡ true → later ≡ asked_after e asked → IsState s.current
-    → (t : State) × (event_of s.current e ≡ Ok t) × (new ≡ with_state s t) → (asked.nmi ≡ s.current.nmi → IsAhead ahead s.current)
-    → (IsAhead ahead s.current → step (with_input [] s.current) ≡ Ok new.current → Tells start bytes s.earlier s.current → Tells start more (s.earlier ++ s.current ∷ []) new.current)
-    → length s.earlier < s.history → TellsOf start bytes asked s → TellsOf start more later new
-step_recorded e asked later ahead s new start bytes more is same sound made looks tells room h =
+pub step_recorded : (e : Event) (s new : Session) (start : State) (more : List ℕ) → is_step e ≡ true → (t : State) × (event_of s.current e ≡ Ok t) × (new ≡ with_state s t)
+    → (step (with_input [] s.current) ≡ Ok new.current → Tells start more (s.earlier ++ s.current ∷ []) new.current)
+    → length s.earlier < s.history → Tells start more new.earlier new.current
+step_recorded e s new start more is made tells room =
     let one = step_is e is in
-    step_told asked later ahead s new start bytes more (subst (λ (x : Event). later ≡ asked_after x asked) one same) sound
-    (made.0, subst (λ (x : Event). event_of s.current x ≡ Ok made.0) one made.1, made.2) looks tells room h
+    step_told s new start more (made.0, subst (λ (x : Event). event_of s.current x ≡ Ok made.0) one made.1, made.2) tells room
 
 -- ---- an event of a session
 
@@ -470,11 +425,11 @@ refused_led e s new fault h = h.1 ∙ sym (ap (if_led s) h.0)
 
 -- ---- a record, part by part
 
-pub event_pushed : (e : Event) (before : Before) (asked later : Interrupts) (t : State) (old a b c d eight : List ℕ) (x : ℕ) → a ≡ old ++ x ∷ [] → x ≡ head (change_told e before asked later t) → eight ≡ eight_of (change_told e before asked later t)
-    → b ≡ a ++ marks eight ∷ without_zeros eight → c ≡ b ++ flat_map cell (cells_after t.bus.memory before.cells.items) → d ≡ c ++ counted (handed_by e) → d ≡ old ++ bytes_of (change_told e before asked later t)
+pub event_pushed : (e : Event) (before : Before) (t : State) (old a b c d eight : List ℕ) (x : ℕ) → a ≡ old ++ x ∷ [] → x ≡ head (change_told e before t) → eight ≡ eight_of (change_told e before t)
+    → b ≡ a ++ marks eight ∷ without_zeros eight → c ≡ b ++ flat_map cell (cells_after t.bus.memory before.cells.items) → d ≡ c ++ counted (handed_by e) → d ≡ old ++ bytes_of (change_told e before t)
 unfolding change_told bytes_of
-event_pushed e before asked later t old a b c d eight x ea first changed eb ec ed =
-    let change = change_told e before asked later t in
+event_pushed e before t old a b c d eight x ea first changed eb ec ed =
+    let change = change_told e before t in
     let stores = flat_map cell (cells_after t.bus.memory before.cells.items) in
     let given = counted (handed_by e) in
     parts_joined old a b b c c d x (marks eight) (without_zeros eight) [] stores [] given ea eb (sym (append-nil b)) ec (sym (append-nil c)) ed

@@ -17,24 +17,6 @@ use Rattle.page_data.specs.Format.{Change}
 use Rattle.page_data.specs.Start.{start_at, start_bytes}
 use Rattle.page_data.specs.Steps.{cells_after, cells_between, cells_of}
 use Rattle.page_data.specs.declared.event.Before.{Before}
-use Rattle.page_data.specs.declared.event.Interrupts.{Interrupts}
-
--- ---- what a session does not tell
-
--- The level of the IRQ line, and whether an NMI is pending.
-pub record AreAsked (asked : Interrupts) (s : State) : Type 0 where
-  pub irq : asked.irq ≡ s.irq
-  pub nmi : asked.nmi ≡ s.nmi
-
--- The same after an event that was accepted: no NMI is pending after a step and a reset.
-abbrev pub asked_after : Event → Interrupts → Interrupts
-asked_after Step asked = record asked { nmi = false }
-asked_after Reset asked = record asked { nmi = false }
-asked_after (Irq level) asked = record asked { irq = level }
-asked_after Nmi asked = record asked { nmi = true }
-asked_after (Set setting) asked = asked
-asked_after (Patch address bytes count) asked = asked
-asked_after (Input byte) asked = asked
 
 -- ---- the change of an event that is no step
 
@@ -85,11 +67,13 @@ pub record IsBefore (before : Before) (event : Event) (s : State) : Type 0 where
   pub regs : before.regs ≡ s.regs
   pub cycles : before.cycles ≡ s.cycles
   pub control : before.control ≡ s.bus.control
+  pub irq : before.irq ≡ s.irq
+  pub nmi : before.nmi ≡ s.nmi
   pub cells : before.cells.items ≡ cells_of s.bus.memory (patched_by event)
 
--- The same change from what was known before it, and from what is asked for before and after it.
-unfoldable pub change_told : Event → Before → Interrupts → Interrupts → State → Change
-change_told event before asked later t = record {
+-- The same change from what was known before it.
+unfoldable pub change_told : Event → Before → State → Change
+change_told event before t = record {
   cycles = t.cycles - before.cycles;
   a = bit_xor before.regs.a t.regs.a;
   x = bit_xor before.regs.x t.regs.x;
@@ -102,8 +86,8 @@ change_told event before asked later t = record {
   out = None;
   takes = false;
   control = flipped before.control t.bus.control;
-  irq = flipped asked.irq later.irq;
-  nmi = flipped asked.nmi later.nmi;
+  irq = flipped before.irq t.irq;
+  nmi = flipped before.nmi t.nmi;
   given = handed_by event;
   entry = is_reset event;
 }
@@ -117,13 +101,6 @@ if_led s (Err fault) = s
 
 abbrev pub led_by : Event → Session → Session
 led_by event s = if_led s (event_of s.current event)
-
--- Some bytes tell of all states that a session holds, from a start on: decoded, and applied forwards,
--- they give these states, one after another, and applied backwards the same in reverse.
-pub record TellsOf (start : State) (bytes : List ℕ) (asked : Interrupts) (s : Session) : Type 0
-  where
-    pub told : Tells start bytes s.earlier s.current
-    pub known : AreAsked asked s.current
 
 -- Some bytes are the data of a session from a state on: read, they give this state, and then the
 -- records that tell of all states that the session holds.

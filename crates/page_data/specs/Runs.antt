@@ -1,5 +1,5 @@
 -- The records of a run of steps. Source: mos65.
-use Rattle.std.specs.Prelude.{◌≡◌, ℕ, false, List, [], ◌∷◌, Ok}
+use Rattle.std.specs.Prelude.{◌≡◌, ℕ, List, [], ◌∷◌, Ok}
 use Rattle.model.specs.State.{State}
 use Rattle.model.specs.Step.{step}
 use Rattle.page_data.specs.Changes.{Tells}
@@ -15,4 +15,3 @@ pub record IsRecorded (start : State) (bytes : List ℕ) (now : State) : Type 0 
   pub earlier : List State
   pub steps : AreSteps earlier now
   pub told : Tells start bytes earlier now
-  pub quiet : now.nmi ≡ false

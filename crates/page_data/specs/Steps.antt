@@ -59,9 +59,6 @@ cells_of memory addresses = map (λ a. (a, slice_index memory a)) addresses
 -- What is known of a state before its next step.
 pub record IsAhead (ahead : Ahead) (s : State) : Type 0 where
   pub moment : ahead.moment ≡ moment_of s
-  pub nmi : ahead.is_nmi ≡ s.nmi
-  pub control : ahead.control ≡ s.bus.control
-  pub taken : ahead.taken ≡ s.bus.taken
   pub shown : ahead.shown ≡ length s.bus.out
   pub reads : ahead.reads.items ≡ reads_here s
   pub stores : ahead.stores.items ≡ cells_of s.bus.memory (stores_here s)
@@ -86,13 +83,13 @@ change_by entry given ahead t = record {
   s = bit_xor ahead.moment.regs.s t.regs.s;
   p = bit_xor (status false ahead.moment.regs.flags) (status false t.regs.flags);
   pc = bit_xor ahead.moment.regs.pc t.regs.pc;
-  reads = read_by entry ahead.is_nmi ahead.reads.items;
+  reads = read_by entry ahead.moment.nmi ahead.reads.items;
   stores = cells_after t.bus.memory (stored_cells entry ahead.pushes.items ahead.stores.items);
   out = slice_get t.bus.out ahead.shown;
-  takes = nat_lt ahead.taken t.bus.taken;
-  control = flipped ahead.control t.bus.control;
+  takes = nat_lt ahead.moment.taken t.bus.taken;
+  control = flipped ahead.moment.control t.bus.control;
   irq = false;
-  nmi = ahead.is_nmi;
+  nmi = ahead.moment.nmi;
   given = given;
   entry = entry;
 }

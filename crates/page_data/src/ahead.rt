@@ -17,12 +17,6 @@ pub type Cells = ArrayVec<(u16, u8), 3>;
 #[derive(Drop)]
 pub struct Ahead {
     pub moment: Moment,
-    /// Whether an NMI is pending.
-    pub is_nmi: bool,
-    /// The port's control byte.
-    pub control: bool,
-    /// How many bytes of input were taken.
-    pub taken: u32,
     /// How many bytes were put out.
     pub shown: u32,
     /// What the instruction reads.
@@ -45,17 +39,13 @@ pub fn cells_of(session: &Session, addresses: &Addresses) -> Cells
     cells
 }
 
-/// Returns what is known of the next step. A session does not tell whether an NMI is pending, so
-/// its caller says it.
-pub fn look_ahead(session: &Session, is_nmi: bool) -> Ahead
-    ensures { is_nmi ≡ session.now.current.nmi → IsAhead result session.now.current }
+/// Returns what is known of the next step.
+pub fn look_ahead(session: &Session) -> Ahead
+    ensures { IsAhead result session.now.current }
 {
     let moment = moment_of(session);
     Ahead {
         moment,
-        is_nmi,
-        control: session.bus().control(),
-        taken: session.bus().taken(),
         shown: session.output_len(),
         reads: reads_here(session),
         stores: cells_of(session, &stores_here(session)),

@@ -2,7 +2,8 @@
 
 ghost use Rattle.std.specs.Prelude.{◌≡◌, ◌<◌, ◌≤◌, ◌++◌, OnOk, false, length, true};
 ghost use Rattle.model.specs.State.{State};
-ghost use Rattle.page_data.specs.Events.{IsBefore, TellsOf, asked_after, change_told};
+ghost use Rattle.page_data.specs.Changes.{Tells};
+ghost use Rattle.page_data.specs.Events.{IsBefore, change_told};
 ghost use Rattle.page_data.specs.Events.{handed_by, is_reset, is_step, led_by, patched_by};
 ghost use Rattle.page_data.specs.Events.{patched_from};
 ghost use Rattle.page_data.specs.Format.{bytes_of, counted, eight, head, is_any};
@@ -15,36 +16,18 @@ use debugger::Session;
 use model::{Event, Regs};
 use std::alloc::{AllocError, Global};
 
-/// What a session does not tell of its interrupts.
-#[derive(Clone, Copy, Debug, PartialEq, Eq)]
-pub struct Interrupts {
-    /// The level of the IRQ line.
-    pub irq: bool,
-    /// Whether an NMI is pending.
-    pub nmi: bool,
-}
-
 /// What is known of a state before an event that is no step.
 #[derive(Drop)]
 pub struct Before {
     regs: Regs,
     cycles: u64,
     control: bool,
+    /// The level of the IRQ line.
+    irq: bool,
+    /// Whether an NMI is pending.
+    nmi: bool,
     /// Where the event may put bytes, with those that are there.
     cells: Cells,
-}
-
-/// Returns what is asked for after an event that was accepted.
-fn asked_after(event: Event, asked: Interrupts) -> Interrupts
-    ensures { result ≡ asked_after event asked }
-{
-    let Interrupts { irq, nmi } = asked;
-    match event {
-        Event::Step | Event::Reset => Interrupts { irq, nmi: false },
-        Event::Irq(level) => Interrupts { irq: level, nmi },
-        Event::Nmi => Interrupts { irq, nmi: true },
-        Event::Set(_) | Event::Patch { .. } | Event::Input(_) => asked,
-    }
 }
 
 /// Returns whether an event is a step.
@@ -102,6 +85,8 @@ fn look_before(session: &Session, event: Event) -> Before
         regs: session.regs(),
         cycles: session.cycles(),
         control: session.bus().control(),
+        irq: session.irq(),
+        nmi: session.nmi_is_pending(),
         cells: cells_of(session, &patched_by(event)),
     }
 }
@@ -132,8 +117,7 @@ fn hands_in(event: Event) -> bool
 #[tactic(auto, unfolding(crate::specs::Events::change_told))]
 fn event_head(before: &Before, session: &Session) -> u8
     requires { length before.now.cells.items ≤ 3 }
-    ensures { (event : Event) (asked later : Interrupts) → result
-        ≡ head (change_told event before.now asked later session.now.current) }
+    ensures { (event : Event) → result ≡ head (change_told event before.now session.now.current) }
 {
     let cycles = session.cycles().saturating_sub(before.cycles);
     (cycles % 16) as u8 + 64 * before.cells.len() as u8
@@ -141,21 +125,15 @@ fn event_head(before: &Before, session: &Session) -> u8
 
 /// Returns the eight bytes of the record of an event.
 #[tactic(auto, unfolding(crate::specs::Events::change_told))]
-fn event_changed(
-    event: Event,
-    before: &Before,
-    asked: Interrupts,
-    later: Interrupts,
-    session: &Session,
-) -> [u8; 8]
-    ensures { result ≡ eight (change_told event before.now asked later session.now.current) }
+fn event_changed(event: Event, before: &Before, session: &Session) -> [u8; 8]
+    ensures { result ≡ eight (change_told event before.now session.now.current) }
 {
     let signals = signals(
         false,
         false,
         flipped(before.control, session.bus().control()),
-        flipped(asked.irq, later.irq),
-        flipped(asked.nmi, later.nmi),
+        flipped(before.irq, session.irq()),
+        flipped(before.nmi, session.nmi_is_pending()),
         hands_in(event),
         is_reset(event),
     );
@@ -167,16 +145,14 @@ fn push_event(
     written: &mut Vec<u8>,
     event: Event,
     before: &Before,
-    asked: Interrupts,
-    later: Interrupts,
     session: &Session,
 ) -> Result<(), AllocError>
     requires { length before.now.cells.items ≤ 3 }
     ensures { OnOk result (written.new.items ≡ written.old.items
-        ++ bytes_of (change_told event before.now asked later session.now.current)) }
+        ++ bytes_of (change_told event before.now session.now.current)) }
 {
     written.push(event_head(before, session))?;
-    push_eight(written, event_changed(event, before, asked, later, session))?;
+    push_eight(written, event_changed(event, before, session))?;
     push_cells(written, before.cells.as_slice(), session)?;
     push_handed(written, event)
 }
@@ -186,24 +162,17 @@ fn record_other(
     written: &mut Vec<u8>,
     session: &mut Session,
     event: Event,
-    asked: &mut Interrupts,
 ) -> Result<(), AllocError>
     requires { is_step event ≡ false }
     ensures led { session.new ≡ led_by event session.old }
     ensures told { OnOk result ((start : State)
         → length session.old.earlier < session.old.history
-        → TellsOf start written.old.items asked.old session.old
-        → TellsOf start written.new.items asked.new session.new) }
+        → Tells start written.old.items session.old.earlier session.old.current
+        → Tells start written.new.items session.new.earlier session.new.current) }
 {
-    // For the proof: that the registers and the memory are in range.
-    session.is_state();
     let before = look_before(session, event);
     match session.event(event) {
-        Ok(()) => {
-            let earlier = *asked;
-            *asked = asked_after(event, earlier);
-            push_event(written, event, &before, earlier, *asked, session)
-        }
+        Ok(()) => push_event(written, event, &before, session),
         Err(_) => Ok(()),
     }
 }
@@ -214,30 +183,24 @@ fn record_step(
     written: &mut Vec<u8>,
     session: &mut Session,
     event: Event,
-    asked: &mut Interrupts,
 ) -> Result<(), AllocError>
     requires { is_step event ≡ true }
     ensures led { session.new ≡ led_by event session.old }
     ensures told { OnOk result ((start : State)
         → length session.old.earlier < session.old.history
-        → TellsOf start written.old.items asked.old session.old
-        → TellsOf start written.new.items asked.new session.new) }
+        → Tells start written.old.items session.old.earlier session.old.current
+        → Tells start written.new.items session.new.earlier session.new.current) }
 {
     // For the proof: that the registers and the memory are in range.
     session.is_state();
-    let ahead = look_ahead(session, asked.nmi);
+    let ahead = look_ahead(session);
     match session.event(event) {
-        Ok(()) => {
-            *asked = asked_after(event, *asked);
-            push_step(alloc, written, &ahead, &[], session)
-        }
+        Ok(()) => push_step(alloc, written, &ahead, &[], session),
         Err(_) => Ok(()),
     }
 }
 
 /// Makes an event, and appends its record if it is accepted.
-///
-/// `asked` is what is asked for before the event, and then what is asked for after it.
 ///
 /// Errors: `AllocError` if an allocation fails; the event is made all the same.
 pub fn record_event(
@@ -245,18 +208,17 @@ pub fn record_event(
     written: &mut Vec<u8>,
     session: &mut Session,
     event: Event,
-    asked: &mut Interrupts,
 ) -> Result<(), AllocError>
     ensures led { session.new ≡ led_by event session.old }
     // If the records told of all states that the session holds, they tell of them then, as long as
     // the session drops none: decoded, they lead from the start through these states, and back.
     ensures told { OnOk result ((start : State)
         → length session.old.earlier < session.old.history
-        → TellsOf start written.old.items asked.old session.old
-        → TellsOf start written.new.items asked.new session.new) }
+        → Tells start written.old.items session.old.earlier session.old.current
+        → Tells start written.new.items session.new.earlier session.new.current) }
 {
     if is_step(event) {
-        return record_step(alloc, written, session, event, asked);
+        return record_step(alloc, written, session, event);
     }
-    record_other(written, session, event, asked)
+    record_other(written, session, event)
 }

@@ -10,8 +10,7 @@
 #![tactic(auto)]
 
 pub use ahead::{Ahead, look_ahead};
-pub use event::{Interrupts, record_event};
-pub use run::record_steps;
+pub use event::record_event;
 pub use start::push_start;
 pub use step::push_step;
 pub use stream::{SendFault, send_groups, send_rest};
@@ -20,7 +19,6 @@ pub use text::{push_base64, push_escaped};
 mod ahead;
 mod event;
 mod marks;
-mod run;
 mod start;
 mod step;
 mod stream;

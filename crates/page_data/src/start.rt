@@ -1,9 +1,8 @@
 //! The state that a run starts from.
 
-ghost use Rattle.std.specs.Prelude.{◌≡◌, ◌*◌, ◌<◌, ◌++◌, [], ◌∷◌, List, ℕ, OnOk, drop, false};
+ghost use Rattle.std.specs.Prelude.{◌≡◌, ◌*◌, ◌<◌, ◌++◌, [], ◌∷◌, List, ℕ, OnOk, drop};
 ghost use Rattle.std.specs.Prelude.{length, slice_index, take};
-ghost use Rattle.page_data.specs.Format.{signals_by};
-ghost use Rattle.page_data.specs.Start.{is_blank, listed, number, page, pages};
+ghost use Rattle.page_data.specs.Start.{is_blank, lines_of, listed, number, page, pages};
 ghost use Rattle.page_data.specs.Start.{registers_of, start_at, start_bytes};
 
 use crate::step::signals;
@@ -67,14 +66,6 @@ fn push_number(written: &mut Vec<u8>, count: u64) -> Result<(), AllocError>
     written.extend_from_slice(&count.to_le_bytes())
 }
 
-/// Appends bytes with their count before them.
-fn push_listed(written: &mut Vec<u8>, bytes: &[u8]) -> Result<(), AllocError>
-    ensures { OnOk result (written.new.items ≡ written.old.items ++ listed bytes.now) }
-{
-    push_number(written, bytes.len() as u64)?;
-    written.extend_from_slice(bytes)
-}
-
 /// Returns a byte that the output has.
 fn output_byte(session: &Session, index: u32) -> u8
     requires { index < length session.now.current.bus.out }
@@ -113,29 +104,51 @@ fn push_registers(written: &mut Vec<u8>, session: &Session) -> Result<(), AllocE
     ])
 }
 
-/// Appends the signals of a state.
-fn push_lines(written: &mut Vec<u8>, control: bool, irq: bool, nmi: bool) -> Result<(), AllocError>
-    ensures { OnOk result (written.new.items ≡ written.old.items
-        ++ signals_by false false control irq nmi false false ∷ []) }
+/// Returns the signals of a state.
+fn lines_of(session: &Session) -> u8
+    ensures { result ≡ lines_of session.now.current }
 {
-    written.push(signals(false, false, control, irq, nmi, false, false))?;
+    let control = session.bus().control();
+    let irq = session.irq();
+    let nmi = session.nmi_is_pending();
+    signals(false, false, control, irq, nmi, false, false)
+}
+
+/// Appends the signals of a state.
+fn push_lines(written: &mut Vec<u8>, session: &Session) -> Result<(), AllocError>
+    ensures { OnOk result (written.new.items ≡ written.old.items
+        ++ lines_of session.now.current ∷ []) }
+{
+    written.push(lines_of(session))?;
     Ok(())
 }
 
-/// Appends the start of a run: the current state of a session. A session tells neither the levels
-/// of its interrupt lines nor the input that was handed in, so its caller says them.
+/// Returns a byte of the input that was handed in.
+fn input_byte(session: &Session, index: u32) -> u8
+    requires { index < length session.now.current.bus.given }
+    ensures { result ≡ slice_index session.now.current.bus.given index }
+{
+    session.input_at(index).unwrap_or(0)
+}
+
+/// Appends the input that was handed in, with its count before it.
+fn push_input(written: &mut Vec<u8>, session: &Session) -> Result<(), AllocError>
+    ensures { OnOk result (written.new.items ≡ written.old.items
+        ++ listed session.now.current.bus.given) }
+{
+    push_number(written, session.input_len() as u64)?;
+    for index in 0..session.input_len() {
+        written.push(input_byte(session, index))?;
+    }
+    Ok(())
+}
+
+/// Appends the start of a run: the current state of a session.
 ///
 /// Errors: `AllocError` if an allocation fails; a beginning of it may have been appended.
-pub fn push_start(
-    written: &mut Vec<u8>,
-    session: &Session,
-    irq: bool,
-    nmi: bool,
-    given: &[u8],
-) -> Result<(), AllocError>
-    ensures ok { OnOk result (irq ≡ session.now.current.irq → nmi ≡ session.now.current.nmi
-        → given.now ≡ session.now.current.bus.given
-        → written.new.items ≡ written.old.items ++ start_bytes session.now.current) }
+pub fn push_start(written: &mut Vec<u8>, session: &Session) -> Result<(), AllocError>
+    ensures ok { OnOk result (written.new.items ≡ written.old.items
+        ++ start_bytes session.now.current) }
     // What is written of a state is read as this state, whatever comes after it.
     ensures told { OnOk result ((rest : List ℕ) → start_at session.now.current.bus.map
         (start_bytes session.now.current ++ rest) ≡ (session.now.current, rest)) }
@@ -145,8 +158,8 @@ pub fn push_start(
     push_pages(written, session)?;
     push_registers(written, session)?;
     push_number(written, session.cycles())?;
-    push_lines(written, session.bus().control(), irq, nmi)?;
+    push_lines(written, session)?;
     push_number(written, session.bus().taken() as u64)?;
     push_output(written, session)?;
-    push_listed(written, given)
+    push_input(written, session)
 }

@@ -137,11 +137,11 @@ impl Ahead {
     /// Appends what the step has read.
     fn push_reads(&self, written: &mut Vec<u8>, is_entry: bool) -> Result<(), AllocError>
         ensures { OnOk result (written.new.items ≡ written.old.items
-            ++ flat_map word (read_by is_entry self.now.is_nmi self.now.reads.items)) }
+            ++ flat_map word (read_by is_entry self.now.moment.nmi self.now.reads.items)) }
     {
         if !is_entry {
             push_words(written, self.reads.as_slice())
-        } else if self.is_nmi {
+        } else if self.moment.nmi {
             push_words(written, &[0xfffa, 0xfffb])
         } else {
             push_words(written, &[0xfffe, 0xffff])
@@ -150,7 +150,8 @@ impl Ahead {
 
     /// Returns how many addresses the step has read.
     fn read_count(&self, is_entry: bool) -> u8
-        ensures value { result ≡ length (read_by is_entry self.now.is_nmi self.now.reads.items) }
+        ensures value { result
+            ≡ length (read_by is_entry self.now.moment.nmi self.now.reads.items) }
         ensures within { result ≤ 3 }
     {
         if is_entry { 2 } else { self.reads.len() as u8 }
@@ -172,16 +173,16 @@ impl Ahead {
 
 /// Returns whether a step has taken a byte of input.
 fn takes(ahead: &Ahead, session: &Session) -> bool
-    ensures { result ≡ nat_lt ahead.now.taken session.now.current.bus.taken }
+    ensures { result ≡ nat_lt ahead.now.moment.taken session.now.current.bus.taken }
 {
-    ahead.taken < session.bus().taken()
+    ahead.moment.taken < session.bus().taken()
 }
 
 /// Returns whether a step has flipped the control byte.
 fn flips_control(ahead: &Ahead, session: &Session) -> bool
-    ensures { result ≡ flipped ahead.now.control session.now.current.bus.control }
+    ensures { result ≡ flipped ahead.now.moment.control session.now.current.bus.control }
 {
-    flipped(ahead.control, session.bus().control())
+    flipped(ahead.moment.control, session.bus().control())
 }
 
 /// Returns the byte that a step has put out, if it has put out one.
@@ -220,7 +221,7 @@ fn changed(ahead: &Ahead, given: &[u8], session: &Session, is_entry: bool) -> [u
         takes(ahead, session),
         flips_control(ahead, session),
         false,
-        ahead.is_nmi,
+        ahead.moment.nmi,
         is_any(given),
         is_entry,
     );

@@ -3,3 +3,5 @@ pub mod Stepping
 pub mod Recording
 pub mod Sending
 pub mod Whole
+pub mod Cells
+pub mod LoadedBytes

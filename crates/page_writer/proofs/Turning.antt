@@ -17,9 +17,7 @@ use Rattle.console.specs.Turns.{Known, play_at, turn_to}
 use Rattle.console.specs.declared.ending.Ending.{Ending}
 use Rattle.console.specs.declared.memo.Memo.{Memo}
 use Rattle.console.proofs.Lines.{given-then}
-use Rattle.page_data.specs.Changes.{forth}
-use Rattle.page_data.specs.Steps.{change_of, with_input}
-use Rattle.page_data.proofs.Between.{leads_forth, step_differs}
+use Rattle.page_data.specs.Steps.{with_input}
 
 -- ---- a line is a front of the input
 
@@ -139,12 +137,3 @@ turn_step s t k after told sound turn =
     ap step (sym (ap (λ (l : List ℕ). with_input l s.current) is))
     ∙ ap step (sym (input_given s line (omega (arith, room, few))))
     ∙ turn_steps p t (ap (λ (x : Turn). x.ending) turn) (ap (λ (x : Turn). x.play.session) turn)
-
--- no NMI is pending after a step, if none was before
-quiet_by : (given : List ℕ) (s t : State) → s.nmi ≡ false → (forth (change_of given s t) s).nmi ≡ false
-unfolding forth change_of
-quiet_by given s t quiet = rw quiet refl
-
-pub quiet_after : (given : List ℕ) (s t : State) → IsState s → step (with_input given s) ≡ Ok t → s.nmi ≡ false → t.nmi ≡ false
-quiet_after given s t sound made quiet =
-    sym (ap (λ (x : State). x.nmi) (leads_forth given s t (step_differs given s t sound made))) ∙ quiet_by given s t quiet

@@ -1,5 +1,5 @@
 -- A run that has ended, and the page around it.
-use Rattle.std.proofs.Common.{◌≡◌, ◌∙◌, ℕ, false, List, [], ◌++◌, length, Option, nat_lt, le-ltb, ap, arith}
+use Rattle.std.proofs.Common.{◌≡◌, ◌∙◌, ℕ, List, ◌++◌, Option, ap}
 use Rattle.std.proofs.KnownBytes.{Appends-trans}
 use Rattle.std.specs.Io.KnownBytes.{Appends}
 use Rattle.console.specs.Playing.{played}
@@ -8,7 +8,6 @@ use Rattle.console.specs.Written.{RanAs}
 use Rattle.console.specs.declared.ending.Ending.{Ending}
 use Rattle.console.proofs.Turning.{ran_as}
 use Rattle.model.specs.Session.{Session}
-use Rattle.model.specs.State.{Bus, input_waits}
 
 -- A run over all of the input.
 pub ran_whole : (until : Option ℕ) (limit : ℕ) (s t : Session) (first memo : Known) (input told left : List ℕ) (steps : ℕ) (why : Ending) → input ≡ told ++ left
@@ -20,6 +19,3 @@ ran_whole until limit s t first memo input told left steps why all ran =
 pub three_parts : (a b c d : Option (List ℕ)) (first second third : List ℕ) → Appends a b first → Appends b c second → Appends c d third → Appends a d (first ++ (second ++ third))
 three_parts a b c d first second third one two three =
     Appends-trans a b d first (second ++ third) one (Appends-trans b c d second third two three)
-
-pub none_waits : (bus : Bus) → bus.given ≡ [] → input_waits bus ≡ false
-none_waits bus none = ap (λ (l : List ℕ). nat_lt bus.taken (length l)) none ∙ le-ltb bus.taken 0 (omega arith)

@@ -1,5 +1,5 @@
 -- The data of a run, and how they are written. Source: mos65.
-use Rattle.std.specs.Prelude.{◌≡◌, ℕ, true, false, List, [], ◌++◌, map, Option}
+use Rattle.std.specs.Prelude.{◌≡◌, ℕ, true, List, ◌++◌, map, Option}
 use Rattle.base64.specs.Engines.{standard}
 use Rattle.base64.specs.GeneralPurpose.{encode_of}
 use Rattle.model.specs.State.{State}
@@ -10,12 +10,6 @@ use Rattle.page_data.specs.Sent.{IsSent}
 use Rattle.page_data.specs.Start.{start_at, start_bytes}
 use Rattle.page_data.specs.Steps.{change_of}
 use Rattle.page_writer.specs.Steps.{Made, last_of}
-
--- No interrupt is asked for, and no input was handed in.
-pub record IsQuiet (state : State) : Type 0 where
-  pub irq : state.irq ≡ false
-  pub nmi : state.nmi ≡ false
-  pub given : state.bus.given ≡ []
 
 -- Some bytes are the records of steps from a start on. Decoded, they give the change of each step,
 -- with the addresses that it has read and stored at. These changes lead from the start through the

@@ -1,5 +1,5 @@
 -- A turn of a run, and the record of its step. Source: mos65.
-use Rattle.std.specs.Prelude.{◌≡◌, ◌<◌, ◌^◌, ℕ, false, List, ◌++◌, length, Option, Some, None, Ok}
+use Rattle.std.specs.Prelude.{◌≡◌, ◌<◌, ◌^◌, ℕ, List, ◌++◌, length, Option, Some, None, Ok}
 use Rattle.console.specs.Turns.{EndsOnce, EndsWith, TurnsTo, known}
 use Rattle.console.specs.declared.ending.Ending.{Ending}
 use Rattle.console.specs.declared.turn.Player.{Player}
@@ -15,7 +15,6 @@ pub record IsMade (given : List ℕ) (s t : State) (old new : List ℕ) : Type 0
   pub sound : IsState s
   pub few : length given < 2 ^ 64
   pub made : step (with_input given s) ≡ Ok t
-  pub quiet : t.nmi ≡ false
   pub pushed : new ≡ old ++ bytes_of (change_of given s t)
 
 -- A turn that ends the run makes no step, and nothing is appended.

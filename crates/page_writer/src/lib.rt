@@ -1,4 +1,5 @@
-//! A run as a page, written while it is made.
+//! A run as a page, written while it is made, and what a page has besides: facts of a program, its
+//! source, and the viewer.
 //!
 //! `write_page` writes the template of a viewer with what is told of a program between its parts:
 //! facts, the source, the run, and how it ended. The run is that of `console`, and its data are
@@ -6,12 +7,26 @@
 //! step, one after another (`specs/Data.antt`). The records go to the writer as they come, so
 //! memory does not grow with the steps. `page_of` makes a page of data that were recorded before.
 //! Nothing between the parts ends a script or begins markup.
+//!
+//! `facts_of` and `source_of` make what is told of a program (`specs/Facts.antt`), `push_opening`
+//! adds what a page shows when it is opened, and `viewer` is the template between whose parts it
+//! stands.
 #![tactic(auto)]
 
+mod facts;
+mod names;
+mod opcodes;
+mod opening;
 mod page;
+mod pieces;
 mod run;
+mod stretches;
+mod template;
 mod turn;
 mod wording;
 
+pub use facts::{Program, facts_of, source_of};
+pub use opening::{Note, Opening, push_opening};
 pub use page::{Template, Texts, page_of, write_page};
 pub use page_data::SendFault;
+pub use template::viewer;

@@ -7,7 +7,7 @@ ghost use Rattle.base64.specs.GeneralPurpose.{encode_of};
 ghost use Rattle.console.specs.Playing.{begun, played};
 ghost use Rattle.console.specs.Written.{RanAs};
 ghost use Rattle.page_data.specs.Safe.{escaped, is_safe_text};
-ghost use Rattle.page_writer.specs.Data.{IsDataOf, IsQuiet};
+ghost use Rattle.page_writer.specs.Data.{IsDataOf};
 ghost use Rattle.page_writer.specs.Page.{AreSafe, end_text, front_text, page_text, part_text};
 ghost use Rattle.page_writer.specs.Page.{why_fact, why_words};
 ghost use Rattle.page_writer.specs.Steps.{steps_of};
@@ -167,8 +167,7 @@ fn put_end<W: Write>(
 /// Runs a program, and writes a page that shows its run.
 ///
 /// The run is `console::play`'s, with `input` for its input: it ends where that does, after at most
-/// `limit` steps. The session is at a start: no interrupt is asked for, and no input was handed in.
-/// Memory does not grow with the steps.
+/// `limit` steps. Memory does not grow with the steps.
 ///
 /// Errors: `OutOfMemory` if an allocation fails, `Write` if a write fails. A beginning of the page
 /// may have been written.
@@ -185,7 +184,6 @@ pub fn write_page<W: Write>(
     input: &[u8],
     writer: &mut W,
 ) -> Result<Played, SendFault>
-    requires { IsQuiet session.old.current }
     // What was written is the parts of the template, and between them the facts, the source, the
     // data of the run and how it ended. The run is the definition's over the input. Read again, its
     // data give the states of exactly its steps, one after another, forwards and back. Nothing

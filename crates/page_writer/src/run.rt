@@ -1,15 +1,14 @@
 //! The records of a run, on their way to a writer.
 
-ghost use Rattle.std.specs.Prelude.{◌≡◌, ◌<◌, ◌++◌, [], ℕ, List, IfOk, OnOk, false, get_or, true};
+ghost use Rattle.std.specs.Prelude.{◌≡◌, ◌<◌, ◌++◌, ℕ, List, IfOk, OnOk, false, get_or, true};
 ghost use Rattle.std.specs.Io.KnownBytes.{Appends};
 ghost use Rattle.base64.specs.Engines.{standard};
 ghost use Rattle.base64.specs.GeneralPurpose.{encode_of};
 ghost use Rattle.console.specs.Playing.{begun, is_at, played};
 ghost use Rattle.console.specs.Written.{RanAs};
-ghost use Rattle.model.specs.State.{input_waits};
 ghost use Rattle.page_data.specs.Safe.{is_safe_text};
 ghost use Rattle.page_data.specs.Start.{start_at, start_bytes};
-ghost use Rattle.page_writer.specs.Data.{AreRecords, IsDataOf, IsQuiet, IsSentSafely};
+ghost use Rattle.page_writer.specs.Data.{AreRecords, IsDataOf, IsSentSafely};
 ghost use Rattle.page_writer.specs.Steps.{steps_of};
 
 use crate::turn::record_turn;
@@ -65,8 +64,6 @@ fn record_run<W: Write>(
     pending: &mut Vec<u8>,
     writer: &mut W,
 ) -> Result<Played, SendFault>
-    requires idle { input_waits session.old.current.bus ≡ false }
-    requires quiet { session.old.current.nmi ≡ false }
     ensures { IfOk result (λ end. (left : List ℕ) × (records : List ℕ)
         × RanAs (played until limit (begun session.old written input.now)) end session.new left
         × AreRecords session.old.current
@@ -96,17 +93,15 @@ fn record_run<W: Write>(
     })
 }
 
-/// Returns the bytes of the state that a run starts from: no interrupt is asked for, and no input
-/// was handed in.
+/// Returns the bytes of the state that a run starts from.
 fn start_of(alloc: Global, session: &Session) -> Result<Vec<u8>, SendFault>
-    requires { IsQuiet session.now.current }
     ensures bytes { IfOk result (λ bytes. bytes.items ≡ start_bytes session.now.current) }
     ensures told { IfOk result (λ bytes. (rest : List ℕ)
         → start_at session.now.current.bus.map (start_bytes session.now.current ++ rest)
         ≡ (session.now.current, rest)) }
 {
     let mut bytes = Vec::new(alloc);
-    match push_start(&mut bytes, session, false, false, &[]) {
+    match push_start(&mut bytes, session) {
         Ok(()) => Ok(bytes),
         Err(_) => Err(SendFault::OutOfMemory),
     }
@@ -125,7 +120,6 @@ pub fn write_run<W: Write>(
     input: &[u8],
     writer: &mut W,
 ) -> Result<Played, SendFault>
-    requires { IsQuiet session.old.current }
     ensures { IfOk result (λ end. (left : List ℕ) × (bytes : List ℕ)
         × RanAs (played until limit (begun session.old written input.now)) end session.new left
         × IsDataOf session.old.current

@@ -1,6 +1,6 @@
 //! A turn of a run, and the record of its step.
 
-ghost use Rattle.std.specs.Prelude.{◌≡◌, ◌<◌, ◌^◌, ◌++◌, ℕ, List, IfOk, OnOk, false, length};
+ghost use Rattle.std.specs.Prelude.{◌≡◌, ◌<◌, ◌^◌, ◌++◌, ℕ, List, IfOk, OnOk, length};
 ghost use Rattle.console.specs.Taking.{Waits};
 ghost use Rattle.page_writer.specs.Turns.{RecordsTurn};
 
@@ -30,15 +30,14 @@ pub fn record_turn(
     input: &mut &[u8],
     pending: &mut Vec<u8>,
 ) -> Result<Option<Ending>, SendFault>
-    requires waits { Waits session.old.current player.old.waiting }
-    requires quiet { session.old.current.nmi ≡ false }
+    requires { Waits session.old.current player.old.waiting }
     ensures ok { IfOk result (λ ending. RecordsTurn ending session.old player.old input.old.now
         input.new.now session.new player.new pending.old.items pending.new.items) }
     ensures waits { OnOk result (Waits session.new.current player.new.waiting) }
 {
     // For the proof: that the registers and the memory are in range.
     session.is_state();
-    let ahead = look_ahead(session, false);
+    let ahead = look_ahead(session);
     let before = *input;
     match take_turn(session, player, input, &mut io::sink()) {
         Ok(None) => {}

@@ -2,3 +2,4 @@ pub mod Ends
 pub mod Lines
 pub mod Listings
 pub mod Transcripts
+mod Found

@@ -4,7 +4,7 @@ use Rattle.clap.specs.Words.{IsAmong, Text, kind_of}
 use Rattle.arguments.specs.FaultLines.{IsTold, IsToldOfWords}
 use Rattle.arguments.specs.Words.{IsStatusOf}
 use Rattle.arguments.specs.declared.refusal.Refusal.TheVariants as refusal
-use Rattle.arguments_core.specs.Refused.{IsRightRefusal, IsTaken}
+use Rattle.program.specs.Refused.{IsRightRefusal, IsTaken}
 use Rattle.arguments.specs.declared.fault.WordsFault.{WordsFault}
 use Rattle.arguments.specs.declared.fault.WordsFault.TheVariants.{Help, Usage, Value, Wrong, OutOfMemory}
 

@@ -13,7 +13,7 @@ use Rattle.program.specs.Runs.{RunsDebug, Streams, map_asked}
 use Rattle.program.specs.Streams.{IsServed, IsStatus}
 use Rattle.arguments.specs.declared.refusal.Refusal.{Refusal}
 use Rattle.arguments.specs.declared.refusal.Refusal.TheVariants.{Words, Map, Source, Tape, Session, OutOfMemory, Read, Write, WriteFile}
-use Rattle.arguments_core.specs.Asked.{Asked, DebugAsked, debug}
+use Rattle.program.specs.Asked.{Asked, DebugAsked, debug}
 
 -- Words ask for one thing.
 pub one_debug : (a : Option Asked) (x y : DebugAsked) → a ≡ Some (debug x) → a ≡ Some (debug y) → x ≡ y

@@ -3,3 +3,7 @@ pub mod Runs
 pub mod Streams
 pub mod Texts
 pub mod Named
+pub mod Asked
+pub mod CommandLine
+pub mod Refused
+pub mod Views

@@ -2,7 +2,7 @@
 use Rattle.std.specs.Prelude.{⊤, ◌≡◌, ◌⊎◌, ℕ, true, false, List, Option, Result, None, IfSome}
 use Rattle.std.specs.Io.KnownBytes.{Appends}
 use Rattle.arguments.specs.declared.refusal.Refusal.{Refusal}
-use Rattle.arguments_core.specs.Asked.{AsmAsked, DebugAsked, DisAsked}
+use Rattle.program.specs.Asked.{AsmAsked, DebugAsked, DisAsked}
 use Rattle.model.specs.Event.{start}
 use Rattle.model.specs.Session.{new_session}
 use Rattle.model.specs.State.{Map, is_map}

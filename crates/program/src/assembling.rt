@@ -12,8 +12,8 @@ ghost use Rattle.model.specs.declared.source_fault.AsmFault.{AsmFault};
 ghost use Rattle.program.specs.Refusals.{EndsAsm};
 ghost use Rattle.program.specs.Texts.{IsAsked};
 
+use crate::asked::AsmWords;
 use arguments::{Refusal, check_outputs, check_source, map_of, read_source, write_file};
-use arguments_core::AsmWords;
 use assembler::{Assembly, assemble};
 use bus::MapSpec;
 use law_sources::{each_source_has_one_meaning, one_assignment};

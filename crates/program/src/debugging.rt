@@ -5,8 +5,8 @@ ghost use Rattle.model.specs.declared.bus_fault.BusFault.TheVariants.{BadMap};
 ghost use Rattle.program.specs.Refusals.{EndsDebug, of_engine};
 ghost use Rattle.program.specs.Streams.{IsServed};
 
+use crate::asked::DebugWords;
 use arguments::{ReadFault, Refusal, map_of, read_source};
-use arguments_core::DebugWords;
 use engine::{EngineFault, debug_source, debug_tape_from};
 use standard_streams::Retrying;
 use std::fs::File;

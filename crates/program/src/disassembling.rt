@@ -14,8 +14,8 @@ ghost use Rattle.program.specs.Refusals.{EndsDis};
 ghost use Rattle.program.specs.Streams.{IsListed};
 ghost use Rattle.program.specs.Texts.{ReadsText};
 
+use crate::asked::DisWords;
 use arguments::Refusal;
-use arguments_core::DisWords;
 use disasm::disassembly;
 use model::{Profile, TAPE_OUT_OF_MEMORY};
 use papertape::{TapeReadFault, read_tape_from};

@@ -2,14 +2,14 @@
 
 ghost use Rattle.std.specs.Prelude.{◌≡◌, ◌≤◌, MatchResult};
 ghost use Rattle.arguments.specs.Statuses.{status_of};
-ghost use Rattle.arguments_core.specs.Views.{debug_view};
+ghost use Rattle.program.specs.Views.{debug_view};
 ghost use Rattle.model.specs.Writers.{AppendsFront};
 ghost use Rattle.program.specs.Named.{IsToldOfSession, is_of_stream, session_line};
 ghost use Rattle.program.specs.Runs.{RunsDebug};
 
+use crate::asked::DebugWords;
 use crate::debugging::debug;
 use arguments::{ReadFault, Refusal, refuse, refuse_file};
-use arguments_core::DebugWords;
 use std::io::{Read, Write};
 use std::rt::Files;
 

@@ -3,16 +3,17 @@ ghost use Rattle.std.specs.Prelude.{◌≡◌, ◌≤◌, ◌⊎◌, Some, None}
 ghost use Rattle.std.specs.IoError.{error_kind};
 ghost use Rattle.arguments.specs.FaultLines.{IsTold};
 ghost use Rattle.arguments.specs.Words.{Refuses, texts};
-ghost use Rattle.arguments_core.specs.Asked.{AsmAsked, DebugAsked, DisAsked, asked, asm, debug, dis};
-ghost use Rattle.arguments_core.specs.CommandLine.{mos65};
-ghost use Rattle.arguments_core.specs.Refused.{IsTaken};
+ghost use Rattle.program.specs.Asked.{AsmAsked, DebugAsked, DisAsked, asked, asm, debug, dis};
+ghost use Rattle.program.specs.CommandLine.{mos65};
+ghost use Rattle.program.specs.Refused.{IsTaken};
 ghost use Rattle.program.specs.Runs.{RunsAsm, RunsDebug, RunsDis};
 
+use crate::asked::Words;
 use crate::assembling::asm;
 use crate::debugging::debug;
 use crate::disassembling::dis;
+use crate::read::read_words;
 use arguments::{Refusal, finish, refuse, refused_words};
-use arguments_core::{Words, read_words};
 use std::io;
 use std::io::{ErrorKind, Read, Write};
 use std::rt::Files;

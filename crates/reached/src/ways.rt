@@ -1,7 +1,6 @@
 //! Where control goes from an instruction.
 
 ghost use Rattle.std.specs.Prelude.{◌≡◌, ◌+◌, ◌%◌, length, slice_index};
-ghost use Rattle.model.specs.InstructionText.{target_of};
 ghost use Rattle.source_forms.specs.Rows.{stretch};
 ghost use Rattle.reached.specs.Reached.{called_tail, comes_after, fits, goes_on, instruction_len};
 ghost use Rattle.reached.specs.Reached.{jumps, no_way, odd_len, odd_ways, target_by, ways_at};
@@ -9,7 +8,7 @@ ghost use Rattle.reached.specs.Reached.{ways_from};
 
 use crate::inline::{Inline, Tail, behind, tail_at};
 use model::{Mnemonic, Mode, Profile, Row};
-use optable::decode_in;
+use optable::{branch_target, decode_in};
 use source_forms::{Mark, Undocumented, undocumented_in};
 use source_writer::stretch::{Bytes, stretch};
 
@@ -41,19 +40,6 @@ fn jumps(mnemonic: Mnemonic) -> bool
         Mnemonic::Jmp | Mnemonic::Jsr => true,
         _ => false,
     }
-}
-
-/// The target of a branch at an address, by its second byte.
-fn branch_target(address: u16, second: u8) -> u16
-    ensures { result ≡ target_of address second }
-{
-    let next = address as u32 + 2;
-    let distance = if second < 128 {
-        second as u32
-    } else {
-        second as u32 + 65280
-    };
-    ((next + distance) % 65536) as u16
 }
 
 /// The address that an instruction names and to which it can take control.

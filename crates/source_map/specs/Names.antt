@@ -5,6 +5,7 @@ use Rattle.std.specs.Option.{option_map, option_or}
 use Rattle.std.specs.Borrow.{Bor}
 use Rattle.std.specs.Str.{bytes_eq, str_eq_ignore_ascii_case}
 use Rattle.model.specs.Image.{cell_at}
+use Rattle.model.specs.Names.{Definitions}
 use Rattle.assembler.specs.Assembly.{AssemblyView}
 use Rattle.source_map.specs.declared.names.Name.{Name}
 
@@ -46,6 +47,21 @@ names_of image numbers = flat_map (λ d. name_of image d.0.0 d.0.1 d.1) numbers
 -- The names whose numbers are addresses, in the order of their definition.
 abbrev pub names_in : AssemblyView → List Named
 names_in assembly = names_of assembly.image (named_numbers assembly)
+
+-- ---- the names of an image
+
+-- The name of a number that is an address; nothing is known of the byte there.
+abbrev pub other_name : List ℕ → ℤ → List Named
+other_name text (pos n) = if nat_le n 65535 then record {
+  text = text;
+  address = n;
+  is_label = false;
+  has_byte = false;
+} ∷ [] else []
+other_name text (negsuc n) = []
+
+abbrev pub other_names : Definitions → List Named
+other_names names = flat_map (λ d. other_name d.0 d.1) names
 
 -- ---- an address by its name
 

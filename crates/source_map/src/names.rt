@@ -7,12 +7,13 @@ ghost use Rattle.source_map.specs.Names.{Near, Named, address_of, first_address,
 ghost use Rattle.source_map.specs.Names.{has_letters, has_text, is_kind, is_label_at, is_name_at};
 ghost use Rattle.source_map.specs.Names.{is_nearer, name_at, name_near, name_of, named};
 ghost use Rattle.source_map.specs.Names.{named_numbers, names_in, names_of, near_view, nearer};
-ghost use Rattle.source_map.specs.Names.{nearest_from};
+ghost use Rattle.source_map.specs.Names.{nearest_from, other_name, other_names};
 
 use assembler::Assembly;
 use memory_map::Image;
 use std::alloc::{AllocError, Global};
 use std::marker::Model;
+use symbols::Symbols;
 
 /// A name with its address.
 #[derive(Drop)]
@@ -234,6 +235,47 @@ impl Names {
     {
         for index in 0..assembly.symbol_count() {
             self.add_at(alloc, assembly, index)?;
+        }
+        Ok(())
+    }
+
+    /// Appends the name of a number of an image, if the number is an address.
+    fn add_other(&mut self, alloc: Global, text: &[u8], number: i32) -> Result<(), AllocError>
+        ensures ok { OnOk result (self.new ≡ self.old ++ other_name text.now number) }
+        ensures err { OnErr result (self.new ≡ self.old) }
+    {
+        if number >= 0 && number <= 65535 {
+            self.push(alloc, text, number as u16, false, false)?;
+        }
+        Ok(())
+    }
+
+    /// Appends the name of an index among names of an image, if its number is an address.
+    fn add_other_at(
+        &mut self,
+        alloc: Global,
+        names: &Symbols,
+        index: usize,
+    ) -> Result<(), AllocError>
+        ensures ok { OnOk result (self.new
+            ≡ self.old ++ other_names (option_to_list (slice_get names.now index))) }
+        ensures err { OnErr result (self.new ≡ self.old) }
+    {
+        match names.symbol(index) {
+            Some((text, number)) => self.add_other(alloc, text, number),
+            None => Ok(()),
+        }
+    }
+
+    /// Appends names of an image whose numbers are addresses: some of the first of them if memory
+    /// ran out.
+    pub fn append_others(&mut self, alloc: Global, names: &Symbols) -> Result<(), AllocError>
+        ensures ok { OnOk result (self.new ≡ self.old ++ other_names names.now) }
+        ensures err { OnErr result ((count : ℕ)
+            × (self.new ≡ self.old ++ other_names (take count names.now))) }
+    {
+        for index in 0..names.count() {
+            self.add_other_at(alloc, names, index)?;
         }
         Ok(())
     }

@@ -4,7 +4,7 @@ ghost use Rattle.std.specs.Prelude.{◌≡◌, ◌++◌, [], ℕ, IfOk, OnErr, O
 ghost use Rattle.std.specs.Option.{option_copied};
 ghost use Rattle.source_map.specs.Lines.{data_left, is_data_at, items_of, left_in, line_at};
 ghost use Rattle.source_map.specs.Lines.{places_of, row_at, text_of};
-ghost use Rattle.source_map.specs.Names.{named_numbers, names_in, names_of};
+ghost use Rattle.source_map.specs.Names.{named_numbers, names_in, names_of, other_names};
 
 use crate::names::Names;
 use crate::rows::{Row, rows_of};
@@ -12,6 +12,7 @@ use crate::texts::texts_of;
 use assembler::Assembly;
 use std::alloc::{AllocError, Global};
 use std::marker::Model;
+use symbols::Symbols;
 
 /// What stands where: names, and the lines of the source file, if the program has one.
 #[derive(Drop)]
@@ -125,6 +126,16 @@ impl Places {
         })) }
     {
         self.names.append(alloc, assembly)
+    }
+
+    /// Appends names of an image: some of the first of them if memory ran out.
+    pub fn add_others(&mut self, alloc: Global, names: &Symbols) -> Result<(), AllocError>
+        ensures ok { OnOk result (self.new ≡ record self.old
+            { names = self.old.names ++ other_names names.now }) }
+        ensures err { OnErr result ((count : ℕ) × (self.new ≡ record self.old
+            { names = self.old.names ++ other_names (take count names.now) })) }
+    {
+        self.names.append_others(alloc, names)
     }
 
     /// Returns the names.

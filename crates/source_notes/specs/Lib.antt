@@ -4,5 +4,6 @@ pub mod Classes
 pub mod Lines
 pub mod Operands
 pub mod Places
+pub mod RightWord
 pub mod Shown
 pub mod Words

@@ -1,101 +1,126 @@
 //! Words of other assemblers and other processors, and what to write here.
 
+/// What to write in place of a word of another assembler or processor.
+#[derive(Clone, Copy)]
+pub enum Hint {
+    /// This word.
+    Word(&'static [u8]),
+    /// What these words say.
+    Words(&'static [u8]),
+}
+
+impl Hint {
+    /// Returns what is said of the hint: what stands before its words, and these.
+    pub fn parts(self) -> (&'static [u8], &'static [u8]) {
+        match self {
+            Hint::Word(word) => (b"write ", word),
+            Hint::Words(words) => (b"", words),
+        }
+    }
+}
+
 /// What to write, and the words in place of which it is written: in capitals, without a point, with
 /// a blank between two.
-type Row = (&'static str, &'static [u8]);
+type Row = (Hint, &'static [u8]);
 
 /// The words that give a name its value, which stands before them.
 const EQUALS: &[u8] = b"EQU EQ SET ASSIGN DEF EQUATE";
 
 /// What to write in place of directives of other assemblers.
 const DIRECTIVES: [Row; 18] = [
-    ("write *= and the address", b"ORG BA PC ALIGN RORG"),
     (
-        "write NAME = and the value",
+        Hint::Words(b"write *= and the address"),
+        b"ORG BA PC ALIGN RORG",
+    ),
+    (
+        Hint::Words(b"write NAME = and the value"),
         b"EQU EQ SET ASSIGN DEF DEFINE EQUATE",
     ),
     (
-        "write .BYTE",
+        Hint::Word(b".BYTE"),
         b"BYTE BYT DB DCB DC DFB DEFB FCB HEX CHAR BY",
     ),
     (
-        "write .BYTE \"...\"",
-        b"TEXT ASCII ASC STR STRING FCC DEFM SCRU SCREEN PET",
+        Hint::Words(b"write .BYTE \"...\""),
+        b"TEXT ASCII ASC STR STRING FCC DEFM SCRU SCREEN PET TX RAW SCR SCRXOR",
     ),
-    ("write .BYTE \"...\",0", b"ASCIIZ ASCIZ NULL"),
-    ("write .WORD", b"WORD WOR DW DA DEFW ADDR WO DFW INT"),
-    ("write .DBYTE", b"DBYTE DBYT DDB FDB DBY"),
+    (Hint::Words(b"write .BYTE \"...\",0"), b"ASCIIZ ASCIZ NULL"),
     (
-        "write .RES and how many bytes",
+        Hint::Word(b".WORD"),
+        b"WORD WOR DW DA DEFW ADDR WO DFW INT LE16",
+    ),
+    (Hint::Word(b".DBYTE"), b"DBYTE DBYT DDB FDB DBY BE16"),
+    (
+        Hint::Words(b"write .RES and how many bytes"),
         b"RES DS DEFS RMB BLOCK FILL SKIP SPACE BLKB DSB",
     ),
-    ("write .END", b"END"),
+    (Hint::Word(b".END"), b"END"),
     (
-        "leave the line out: profile N is the 6502, --profile C the 65C02",
+        Hint::Words(b"leave the line out: --profile says which instructions there are"),
         b"PROCESSOR CPU SETCPU P02 PC02 CHIP",
     ),
     (
-        "no other file is read: put its lines here",
-        b"INCLUDE INC INCBIN BINARY INCSRC ICL INSERT",
+        Hint::Words(b"no other file is read: put its lines here"),
+        b"INCLUDE INC INCBIN BINARY INCSRC ICL INSERT SRC SOURCE BIN",
     ),
     (
-        "there are no macros: write the lines, or a subroutine",
+        Hint::Words(b"there are no macros: write the lines, or a subroutine"),
         b"MACRO MAC ENDM ENDMACRO ENDMAC MEND",
     ),
     (
-        "there are no conditions: leave lines out, or let them in",
+        Hint::Words(b"there are no conditions: leave lines out, or let them in"),
         b"IF IFDEF IFNDEF ELSE ELSEIF ELIF ENDIF FI EIF",
     ),
     (
-        "there are no repetitions: write each line",
-        b"REPEAT REPT REPEND ENDREP ENDR FOR NEXT REP",
+        Hint::Words(b"there are no repetitions: write each line"),
+        b"REPEAT REPT REPEND ENDREP ENDR FOR NEXT REP DO WHILE UNTIL",
     ),
     (
-        "there are no segments: *= says where lines stand",
-        b"SEGMENT SEG SECTION CODE DATA BSS ZEROPAGE RODATA",
+        Hint::Words(b"there are no segments: *= says where lines stand"),
+        b"SEGMENT SEG SECTION CODE DATA BSS ZEROPAGE RODATA PSEUDOPC REALPC",
     ),
     (
-        "there are no scopes: each label is a name of its own",
-        b"PROC ENDPROC PEND SCOPE ENDSCOPE SUBROUTINE LOCAL BEND",
+        Hint::Words(b"there are no scopes: each label is a name of its own"),
+        b"PROC ENDPROC PEND SCOPE ENDSCOPE SUBROUTINE LOCAL BEND ZONE ZN SUBZONE SZ",
     ),
     (
-        "leave the line out: a source is one file",
+        Hint::Words(b"leave the line out: a source is one file"),
         b"EXPORT IMPORT GLOBAL GLOBL EXTERN PUBLIC XDEF XREF",
     ),
     (
-        "leave the line out",
-        b"LIST NOLIST TITLE PAGE OPT TTL NAM FEATURE",
+        Hint::Words(b"leave the line out"),
+        b"LIST NOLIST TITLE PAGE OPT TTL NAM FEATURE TO SL INITMEM CONVTAB CT WARN ERROR SERIOUS",
     ),
 ];
 
 /// What to write in place of mnemonics of other processors.
 const OPERATIONS: [Row; 20] = [
-    ("write PHA", b"PUSH PSH PSHA"),
-    ("write PLA", b"POP PULL PULA"),
-    ("write JSR", b"CALL BSR GOSUB"),
-    ("write RTS", b"RET RETURN"),
-    ("write RTI", b"RETI IRET"),
-    ("write JMP", b"JUMP JP GOTO BR"),
+    (Hint::Word(b"PHA"), b"PUSH PSH PSHA"),
+    (Hint::Word(b"PLA"), b"POP PULL PULA"),
+    (Hint::Word(b"JSR"), b"CALL BSR GOSUB"),
+    (Hint::Word(b"RTS"), b"RET RETURN"),
+    (Hint::Word(b"RTI"), b"RETI IRET"),
+    (Hint::Word(b"JMP"), b"JUMP JP GOTO BR"),
     (
-        "write BRK, or a jump to itself",
+        Hint::Words(b"write BRK, or a jump to itself"),
         b"HALT HLT STOP STP WAI EXIT",
     ),
     (
-        "write LDA, and STA to store it",
+        Hint::Words(b"write LDA, and STA to store it"),
         b"MOV MOVE MVI LD LOAD LDAA",
     ),
-    ("write STA", b"ST STORE STAA"),
-    ("write CLC, then ADC", b"ADD ADDA"),
-    ("write SEC, then SBC", b"SUB SUBA"),
-    ("write EOR", b"XOR EORA"),
-    ("write ORA", b"OR"),
-    ("write EOR #$FF", b"NOT CPL COM"),
-    ("write ASL A", b"SHL SLA LSL"),
-    ("write LSR A", b"SHR SRL"),
-    ("write BEQ", b"JZ JE BZ"),
-    ("write BNE", b"JNZ JNE BNZ"),
-    ("write BCC", b"JNC BLT BLO JB"),
-    ("write BCS", b"JC BGE BHS JAE"),
+    (Hint::Word(b"STA"), b"ST STORE STAA"),
+    (Hint::Words(b"write CLC, then ADC"), b"ADD ADDA"),
+    (Hint::Words(b"write SEC, then SBC"), b"SUB SUBA"),
+    (Hint::Word(b"EOR"), b"XOR EORA"),
+    (Hint::Word(b"ORA"), b"OR"),
+    (Hint::Words(b"write EOR #$FF"), b"NOT CPL COM"),
+    (Hint::Words(b"write ASL A"), b"SHL SLA LSL"),
+    (Hint::Words(b"write LSR A"), b"SHR SRL"),
+    (Hint::Word(b"BEQ"), b"JZ JE BZ"),
+    (Hint::Word(b"BNE"), b"JNZ JNE BNZ"),
+    (Hint::Word(b"BCC"), b"JNC BLT BLO JB"),
+    (Hint::Word(b"BCS"), b"JC BGE BHS JAE"),
 ];
 
 /// Returns a word without the point before it.
@@ -124,21 +149,21 @@ pub fn defines_next(text: &[u8]) -> bool {
 }
 
 /// Returns what the row of a word says, if one of some rows has it.
-fn hint_in(rows: &[Row], text: &[u8]) -> Option<&'static str> {
+fn hint_in(rows: &[Row], text: &[u8]) -> Option<Hint> {
     for (hint, words) in rows {
         if is_one_of(words, without_point(text)) {
-            return Some(hint);
+            return Some(*hint);
         }
     }
     None
 }
 
 /// Returns what to write in place of a directive of another assembler, if it is known.
-pub fn directive_hint(text: &[u8]) -> Option<&'static str> {
+pub fn directive_hint(text: &[u8]) -> Option<Hint> {
     hint_in(&DIRECTIVES, text)
 }
 
 /// Returns what to write in place of a mnemonic of another processor, if it is known.
-pub fn operation_hint(text: &[u8]) -> Option<&'static str> {
+pub fn operation_hint(text: &[u8]) -> Option<Hint> {
     hint_in(&OPERATIONS, text)
 }

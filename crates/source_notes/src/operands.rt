@@ -44,7 +44,7 @@ pub fn operand_of<'t, 'a>(tokens: &'t [Token<'a>]) -> &'t [Token<'a>]
 /// are none.
 fn about(line: &[u8], tokens: &[Token<'_>], words: Vec<u8>) -> Note
     ensures { let place = meant_by line.now tokens.now in
-        result ≡ record { start = place.0; width = place.1; words = words } }
+        result ≡ record { start = place.0; width = place.1; words = words; right = None } }
 {
     match (tokens.first(), tokens.last()) {
         (Some(first), Some(last)) => {
@@ -58,7 +58,7 @@ fn about(line: &[u8], tokens: &[Token<'_>], words: Vec<u8>) -> Note
 /// Returns a note about the operand of a line, or about all of it where it has none.
 pub fn about_operand(line: &[u8], tokens: &[Token<'_>], words: Vec<u8>) -> Note
     ensures { let place = operand_place line.now tokens.now in
-        result ≡ record { start = place.0; width = place.1; words = words } }
+        result ≡ record { start = place.0; width = place.1; words = words; right = None } }
 {
     let operand = operand_of(tokens);
     if operand.is_empty() {

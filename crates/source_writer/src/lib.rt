@@ -19,5 +19,4 @@ mod table;
 
 pub use flags::flags_of;
 pub use labelled::{write_flagged_source, write_labelled_source};
-pub use rows::{push_byte, push_numbers, push_origin};
 pub use source_forms::Mark;

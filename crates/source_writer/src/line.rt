@@ -9,7 +9,7 @@ ghost use Rattle.source_forms.specs.Rows.{ended, opened};
 
 use crate::operand::{push_instruction, push_label, push_place};
 use crate::piece::Piece;
-use crate::{push_numbers, push_origin};
+use crate::rows::{push_numbers, push_origin};
 use model::Profile;
 use std::alloc::AllocError;
 

@@ -6,11 +6,10 @@ ghost use Rattle.model.specs.InstructionText.{byte_text, has_row, word_text};
 ghost use Rattle.source_forms.specs.Pieces.{direct_front, direct_text, label_text, labelled_text};
 ghost use Rattle.source_forms.specs.Pieces.{operand_refers, place_text, reach_at};
 
-use crate::piece::target;
-use crate::push_byte;
+use crate::rows::push_byte;
 use formatting::digits_of_address;
 use model::{Mnemonic, Mode, Profile, Row};
-use optable::{encode_in, letters_of};
+use optable::{branch_target, encode_in, letters_of};
 use std::alloc::AllocError;
 
 /// Appends the label of an address.
@@ -210,7 +209,7 @@ pub fn push_instruction(
         Mode::AbsX => push_direct(out, profile, table, m, Mode::ZpX, word, b",X"),
         Mode::AbsY => push_direct(out, profile, table, m, Mode::ZpY, word, b",Y"),
         Mode::Ind => push_around(out, table, m, b" (", word, b")"),
-        Mode::Rel => push_around(out, table, m, b" ", target(address, second), b""),
+        Mode::Rel => push_around(out, table, m, b" ", branch_target(address, second), b""),
         _ => push_other(out, profile, table, row, address, second, third),
     }
 }

@@ -2,7 +2,6 @@
 
 ghost use Rattle.std.specs.Prelude.{◌≡◌, ℕ, ◌+◌, ◌<◌, ◌≤◌, [], ◌∷◌, length, Some, slice_index};
 ghost use Rattle.model.specs.Image.{cell_at};
-ghost use Rattle.model.specs.InstructionText.{target_of};
 ghost use Rattle.model.specs.OpcodeTable.{row_at};
 ghost use Rattle.source_forms.specs.Rows.{kind_of, mark_at, stretch};
 ghost use Rattle.source_forms.specs.Pieces.{address_piece, begins_line, code_piece, data_piece};
@@ -16,7 +15,7 @@ use crate::Mark;
 use crate::note::{Note, instruction_note, run_note};
 use crate::stretch::{Bytes, first_bytes, kind_of, mark_at, stretch};
 use model::{Mode, Profile, Row};
-use optable::decode_in;
+use optable::{branch_target, decode_in};
 use source_forms::undocumented_in;
 
 /// What stands in a line: an instruction with the two bytes after its opcode, the word of an
@@ -311,19 +310,6 @@ pub fn piece_at(
     }
 }
 
-/// Returns the target of a branch at an address, by its second byte.
-pub fn target(address: u16, second: u8) -> u16
-    ensures { result ≡ target_of address second }
-{
-    let next = address as u32 + 2;
-    let distance = if second < 128 {
-        second as u32
-    } else {
-        second as u32 + 65280
-    };
-    ((next + distance) % 65536) as u16
-}
-
 /// The address that an operand refers to.
 fn operand_refers(address: u16, mode: Mode, second: u8, third: u8) -> Option<u16>
     ensures { result ≡ operand_refers address mode second third }
@@ -332,7 +318,7 @@ fn operand_refers(address: u16, mode: Mode, second: u8, third: u8) -> Option<u16
         Mode::Abs | Mode::AbsX | Mode::AbsY | Mode::Ind => {
             Some(second as u16 + 256 * third as u16)
         }
-        Mode::Rel => Some(target(address, second)),
+        Mode::Rel => Some(branch_target(address, second)),
         Mode::Imp | Mode::Acc | Mode::Imm | Mode::Zp | Mode::ZpX => None,
         Mode::ZpY | Mode::IndX | Mode::IndY | Mode::IndZ => None,
     }

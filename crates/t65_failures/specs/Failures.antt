@@ -15,7 +15,7 @@ use Rattle.t65_reader.specs.RowText.{SeenCall, SeenRow}
 use Rattle.t65_reader.specs.declared.row.Item.{Item}
 use Rattle.t65_reader.specs.declared.row.Part.{Part}
 use Rattle.t65_reader.specs.declared.row.Part.TheVariants.{Test, Setup, Teardown}
-use Rattle.t65_reader.specs.declared.row.Place.{Place}
+use Rattle.t65_reader.specs.declared.row.Target.{Target}
 use Rattle.t65_reader.specs.declared.row.Range.{Range}
 use Rattle.t65_reader.specs.declared.row.Ranges.{Ranges}
 use Rattle.t65_reader.specs.declared.row.Request.{Request}
@@ -119,7 +119,7 @@ request_text (Some request) before = arrival_by request.signal before
 
 -- ---- what was expected, and what came
 
-abbrev pub came_text : Place → Option ℕ → List ℕ
+abbrev pub came_text : Target → Option ℕ → List ℕ
 came_text place None = NOTHING_CAME.now
 came_text place (Some number) = CAME.now ++ number_text place number
 

@@ -1,10 +1,9 @@
 -- Places, values and rows as text. Source: mos65.
 use Rattle.std.specs.Prelude.{ℕ, ◌-◌, ◌^◌, true, false, List, [], ◌∷◌, ◌++◌, codes, decimal, encode_utf8}
 use Rattle.std.specs.Fmt.{digits, format_spec, padded_integral}
-use Rattle.t65_reader.specs.declared.row.Flag.{Flag}
-use Rattle.t65_reader.specs.declared.row.Flag.TheVariants as flag
-use Rattle.t65_reader.specs.declared.row.Place.{Place}
-use Rattle.t65_reader.specs.declared.row.Place.TheVariants as place
+use Rattle.opcode_facts.specs.Flag.{flag_letter}
+use Rattle.t65_reader.specs.declared.row.Target.{Target}
+use Rattle.t65_reader.specs.declared.row.Target.TheVariants as place
 use Rattle.t65_reader.specs.declared.row.Range.{Range}
 use Rattle.t65_reader.specs.declared.row.Register.{Register}
 use Rattle.t65_reader.specs.declared.row.Register.TheVariants as register
@@ -34,18 +33,10 @@ register_name register.Y = codes "Y"
 register_name register.S = codes "S"
 register_name register.P = codes "P"
 
-abbrev pub flag_name : Flag → List ℕ
-flag_name flag.N = codes "N"
-flag_name flag.V = codes "V"
-flag_name flag.D = codes "D"
-flag_name flag.I = codes "I"
-flag_name flag.Z = codes "Z"
-flag_name flag.C = codes "C"
-
 -- A place as a row names it.
-abbrev pub place_text : Place → List ℕ
+abbrev pub place_text : Target → List ℕ
 place_text (place.Register register) = register_name register
-place_text (place.Flag flag) = flag_name flag
+place_text (place.Flag flag) = flag_letter flag
 place_text (place.Byte address) = codes "[" ++ hex_of 4 address ++ codes "]"
 place_text (place.Word address) = codes "[" ++ hex_of 4 address ++ codes "].w"
 place_text place.Input = INPUT.now
@@ -60,7 +51,7 @@ relation_sign Below = 60
 relation_sign Above = 62
 
 -- A number as a row would write it for a place.
-abbrev pub number_text : Place → ℕ → List ℕ
+abbrev pub number_text : Target → ℕ → List ℕ
 number_text place.Cycles number = decimal number
 number_text place.OutputCount number = decimal number
 number_text (place.Flag flag) number = decimal number

@@ -30,7 +30,7 @@ use bus::{Image, MapSpec};
 use debugger::{EventFault, Regs, Session, Why};
 use source_map::Places;
 use std::alloc::{AllocError, Global};
-use t65_reader::{Call, Item, Part, Place, Range, Ranges, Request, Row, Signal};
+use t65_reader::{Call, Item, Part, Range, Ranges, Request, Row, Signal, Target};
 use t65_runner::{
     CallEnd, CallStart, HISTORY, Values, all_hold, call_start, came, compares, given_one,
     number_of, run_called,
@@ -288,7 +288,7 @@ fn push_request(
 }
 
 /// Appends what came in a place.
-fn push_came(text: &mut String, place: Place, found: Option<u64>) -> Result<(), AllocError>
+fn push_came(text: &mut String, place: Target, found: Option<u64>) -> Result<(), AllocError>
     ensures { OnOk result (string_bytes text.new
         ≡ string_bytes text.old ++ came_text place found) }
 {

@@ -1,13 +1,13 @@
 //! Places, values and rows as text.
 
 ghost use Rattle.std.specs.Prelude.{◌≡◌, ◌++◌, ◌∷◌, [], OnOk, map, string_bytes};
-ghost use Rattle.t65_failures.specs.Texts.{flag_name, named_address, named_byte, named_count};
+ghost use Rattle.t65_failures.specs.Texts.{named_address, named_byte, named_count};
 ghost use Rattle.t65_failures.specs.Texts.{number_text, place_text, register_name, relation_sign, value_text};
 ghost use Rattle.t65_values.specs.Visible.{visible};
 
 use crate::wording::{CYCLES, INPUT, OUTPUT_BYTE, OUTPUT_COUNT};
 use std::alloc::AllocError;
-use t65_reader::{Flag, Place, Range, Register, Relation};
+use t65_reader::{Range, Register, Relation, Target};
 use t65_values::push_visible;
 
 /// Appends bytes, with a `?` for each that is no visible character of ASCII.
@@ -33,32 +33,19 @@ fn register_name(register: Register) -> &'static str
     }
 }
 
-fn flag_name(flag: Flag) -> &'static str
-    ensures { result.now ≡ flag_name flag }
-{
-    match flag {
-        Flag::N => "N",
-        Flag::V => "V",
-        Flag::D => "D",
-        Flag::I => "I",
-        Flag::Z => "Z",
-        Flag::C => "C",
-    }
-}
-
 /// Appends a place as a row names it.
-pub fn push_place(text: &mut String, place: Place) -> Result<(), AllocError>
+pub fn push_place(text: &mut String, place: Target) -> Result<(), AllocError>
     ensures { OnOk result (string_bytes text.new ≡ string_bytes text.old ++ place_text place) }
 {
     match place {
-        Place::Register(register) => text.push_str(register_name(register)),
-        Place::Flag(flag) => text.push_str(flag_name(flag)),
-        Place::Byte(address) => write!(text, "[{address:04X}]"),
-        Place::Word(address) => write!(text, "[{address:04X}].w"),
-        Place::Input => text.push_str(INPUT),
-        Place::Output(index) => write!(text, "{}{index}", OUTPUT_BYTE),
-        Place::OutputCount => text.push_str(OUTPUT_COUNT),
-        Place::Cycles => text.push_str(CYCLES),
+        Target::Register(register) => text.push_str(register_name(register)),
+        Target::Flag(flag) => text.push_str(flag.letter()),
+        Target::Byte(address) => write!(text, "[{address:04X}]"),
+        Target::Word(address) => write!(text, "[{address:04X}].w"),
+        Target::Input => text.push_str(INPUT),
+        Target::Output(index) => write!(text, "{}{index}", OUTPUT_BYTE),
+        Target::OutputCount => text.push_str(OUTPUT_COUNT),
+        Target::Cycles => text.push_str(CYCLES),
     }
 }
 
@@ -75,14 +62,14 @@ pub fn push_relation(text: &mut String, relation: Relation) -> Result<(), AllocE
 }
 
 /// Appends a number as a row would write it for a place.
-pub fn push_number(text: &mut String, place: Place, number: u64) -> Result<(), AllocError>
+pub fn push_number(text: &mut String, place: Target, number: u64) -> Result<(), AllocError>
     ensures { OnOk result (string_bytes text.new
         ≡ string_bytes text.old ++ number_text place number) }
 {
     match place {
-        Place::Cycles | Place::OutputCount | Place::Flag(_) => write!(text, "{number}"),
-        Place::Word(_) => write!(text, "{number:04X}"),
-        Place::Register(_) | Place::Byte(_) | Place::Input | Place::Output(_) => {
+        Target::Cycles | Target::OutputCount | Target::Flag(_) => write!(text, "{number}"),
+        Target::Word(_) => write!(text, "{number:04X}"),
+        Target::Register(_) | Target::Byte(_) | Target::Input | Target::Output(_) => {
             write!(text, "{number:02X}")
         }
     }

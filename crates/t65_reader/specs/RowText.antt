@@ -22,12 +22,12 @@ use Rattle.t65_reader.specs.declared.row.Choice.{Choice}
 use Rattle.t65_reader.specs.declared.row.Choice.TheVariants.{All, Random}
 use Rattle.t65_reader.specs.declared.row.Entry.{Entry}
 use Rattle.t65_reader.specs.declared.row.Entry.TheVariants.{Subroutine, Interrupt}
-use Rattle.t65_reader.specs.declared.row.Flag.TheVariants as flag
+use Rattle.opcode_facts.specs.declared.flag.Flag.TheVariants as flag
 use Rattle.t65_reader.specs.declared.row.Item.{Item}
 use Rattle.t65_reader.specs.declared.row.Part.{Part}
 use Rattle.t65_reader.specs.declared.row.Part.TheVariants.{Test, Setup, Teardown}
-use Rattle.t65_reader.specs.declared.row.Place.{Place}
-use Rattle.t65_reader.specs.declared.row.Place.TheVariants as place
+use Rattle.t65_reader.specs.declared.row.Target.{Target}
+use Rattle.t65_reader.specs.declared.row.Target.TheVariants as place
 use Rattle.t65_reader.specs.declared.row.Range.{Range}
 use Rattle.t65_reader.specs.declared.row.Ranges.{Ranges}
 use Rattle.t65_reader.specs.declared.row.Register.TheVariants as register
@@ -45,10 +45,10 @@ use Rattle.t65_values.specs.ValueText.{Reads, address_of, after_sign, after_word
 abbrev pub just : Atom → Value
 just atom = record { first = atom; second = None; third = None }
 
-abbrev pub item : Place → Relation → Value → Item
+abbrev pub item : Target → Relation → Value → Item
 item place relation value = record { place = place; relation = relation; value = value }
 
-abbrev pub equals : Place → Value → Item
+abbrev pub equals : Target → Value → Item
 equals place value = item place Equal value
 
 -- The bytes between two `"`, if they close.
@@ -61,7 +61,7 @@ string_of text =
     else Err (fault_at Syntax text)
 
 -- The places of registers, flags and cycles by their words.
-unfoldable pub place_of : List ℕ → Option Place
+unfoldable pub place_of : List ℕ → Option Target
 place_of word =
     if bytes_eq word (codes "A") then Some (place.Register register.A)
     else if bytes_eq word (codes "X") then Some (place.Register register.X)
@@ -90,20 +90,20 @@ relation_at [] = None
 relation_at (sign ∷ text) = relation_of sign
 
 -- Cycles are counted, so their number is decimal.
-abbrev pub base_of : Place → Base
+abbrev pub base_of : Target → Base
 base_of place.Cycles = Decimal
 base_of place = Hex
 
 -- Whether a side of a row may say so: what is given is set, and so is input alone; cycles and
 -- output are only looked at.
-unfoldable pub fits : Side → Place → Relation → Bool
+unfoldable pub fits : Side → Target → Relation → Bool
 fits Given place.Cycles relation = false
 fits Given place Equal = true
 fits Given place relation = false
 fits Wanted place relation = true
 
 -- Where the bytes of a string stand.
-abbrev pub place_in : StringPlace → ℕ → Place
+abbrev pub place_in : StringPlace → ℕ → Target
 place_in InMemory index = place.Byte index
 place_in InInput index = place.Input
 place_in InOutput index = place.Output index
@@ -131,11 +131,11 @@ within_addresses text at index bytes rest = if nat_le (index + length bytes) 655
 unfoldable pub string_at : StringPlace → ℕ → List ℕ → Items
 string_at at index text = and_then (string_of text) (within_addresses text at index)
 
-abbrev pub one_item : Place → Relation → Value → List ℕ → Items
+abbrev pub one_item : Target → Relation → Value → List ℕ → Items
 one_item place relation value rest = Ok (item place relation value ∷ [], rest)
 
 -- A place and what it is given or compared with.
-abbrev pub item_by : Definitions → Letters → Side → Place → List ℕ → Option Relation → Items
+abbrev pub item_by : Definitions → Letters → Side → Target → List ℕ → Option Relation → Items
 item_by names letters side place text None = Err (fault_at Syntax text)
 item_by names letters side place text (Some relation) = if fits side place relation
     then and_then (value_of names letters (base_of place) (skip_blanks (drop 1 text))) (one_item place relation)
@@ -167,11 +167,11 @@ bracket_item names letters side text = and_then (address_of names text) (λ addr
     after_bracket names letters side address (after_sign (byte "]") rest))
 
 -- A place alone is given the value of its letter, or compared with it.
-abbrev pub letter_item : Place → List ℕ → Option Atom → Items
+abbrev pub letter_item : Target → List ℕ → Option Atom → Items
 letter_item place text (Some atom) = Ok (equals place (just atom) ∷ [], text)
 letter_item place text None = Err (fault_at Syntax text)
 
-abbrev pub place_item : Definitions → Letters → Side → List ℕ → Option Place → Items
+abbrev pub place_item : Definitions → Letters → Side → List ℕ → Option Target → Items
 place_item names letters side text None = Err (fault_at Syntax text)
 place_item names letters side text (Some place) =
     if is_some (relation_at (after_word text))

@@ -13,8 +13,9 @@ ghost use Rattle.t65_reader.specs.RowText.{string_word, word_item};
 ghost use Rattle.t65_values.specs.ValueText.{fault_at, letter_in, word_of};
 ghost use Rattle.t65_reader.specs.declared.row.Item.{Item as SeenItem};
 
-use crate::row::{Flag, Item, Place, Register, Relation};
+use crate::row::{Item, Register, Relation, Target};
 use assembler::Assembly;
+use opcode_facts::Flag;
 use std::alloc::Global;
 use t65_values::{
     Atom, Base, Letters, RowFault, RowFaultKind, Value, address_of, after, after_sign, after_word,
@@ -46,45 +47,45 @@ fn just(atom: Atom) -> Value
     }
 }
 
-fn place_in(at: StringPlace, index: u16) -> Place
+fn place_in(at: StringPlace, index: u16) -> Target
     ensures { result ≡ place_in at index }
 {
     match at {
-        StringPlace::InMemory => Place::Byte(index),
-        StringPlace::InInput => Place::Input,
-        StringPlace::InOutput => Place::Output(index),
+        StringPlace::InMemory => Target::Byte(index),
+        StringPlace::InInput => Target::Input,
+        StringPlace::InOutput => Target::Output(index),
     }
 }
 
 /// The place of a register, a flag or the cycles by its word.
 #[tactic(auto, unfolding(crate::specs::RowText::place_of))]
-fn place_of(word: &[u8]) -> Option<Place>
+fn place_of(word: &[u8]) -> Option<Target>
     ensures { result ≡ place_of word.now }
 {
     if is_text(word, b"A") {
-        Some(Place::Register(Register::A))
+        Some(Target::Register(Register::A))
     } else if is_text(word, b"X") {
-        Some(Place::Register(Register::X))
+        Some(Target::Register(Register::X))
     } else if is_text(word, b"Y") {
-        Some(Place::Register(Register::Y))
+        Some(Target::Register(Register::Y))
     } else if is_text(word, b"S") {
-        Some(Place::Register(Register::S))
+        Some(Target::Register(Register::S))
     } else if is_text(word, b"P") {
-        Some(Place::Register(Register::P))
+        Some(Target::Register(Register::P))
     } else if is_text(word, b"N") {
-        Some(Place::Flag(Flag::N))
+        Some(Target::Flag(Flag::N))
     } else if is_text(word, b"V") {
-        Some(Place::Flag(Flag::V))
+        Some(Target::Flag(Flag::V))
     } else if is_text(word, b"D") {
-        Some(Place::Flag(Flag::D))
+        Some(Target::Flag(Flag::D))
     } else if is_text(word, b"I") {
-        Some(Place::Flag(Flag::I))
+        Some(Target::Flag(Flag::I))
     } else if is_text(word, b"Z") {
-        Some(Place::Flag(Flag::Z))
+        Some(Target::Flag(Flag::Z))
     } else if is_text(word, b"C") {
-        Some(Place::Flag(Flag::C))
+        Some(Target::Flag(Flag::C))
     } else if is_text(word, b"cycles") {
-        Some(Place::Cycles)
+        Some(Target::Cycles)
     } else {
         None
     }
@@ -103,23 +104,23 @@ fn relation_at(text: &[u8]) -> Option<Relation>
     }
 }
 
-fn base_of(place: Place) -> Base
+fn base_of(place: Target) -> Base
     ensures { result ≡ base_of place }
 {
     match place {
-        Place::Cycles => Base::Decimal,
+        Target::Cycles => Base::Decimal,
         _ => Base::Hex,
     }
 }
 
 /// Whether a side of a row may say so.
 #[tactic(auto, unfolding(crate::specs::RowText::fits))]
-fn fits(side: Side, place: Place, relation: Relation) -> bool
+fn fits(side: Side, place: Target, relation: Relation) -> bool
     ensures { result ≡ fits side place relation }
 {
     match (side, place, relation) {
         (Side::Wanted, _, _) => true,
-        (Side::Given, Place::Cycles, _) => false,
+        (Side::Given, Target::Cycles, _) => false,
         (Side::Given, _, Relation::Equal) => true,
         (Side::Given, _, _) => false,
     }
@@ -211,7 +212,7 @@ fn push_count(found: &mut Vec<Item>, at: StringPlace, bytes: &[u8]) -> Result<()
         StringPlace::InOutput => push(
             found,
             Item {
-                place: Place::OutputCount,
+                place: Target::OutputCount,
                 relation: Relation::Equal,
                 value: just(Atom::Number(bytes.len() as u32)),
             },
@@ -248,7 +249,7 @@ fn item_by<'a>(
     names: &Assembly,
     letters: Letters,
     side: Side,
-    place: Place,
+    place: Target,
     text: &'a [u8],
 ) -> Result<&'a [u8], RowFault>
     ensures ok { IfOk result (λ rest. before found.old.items
@@ -295,7 +296,7 @@ fn word_item<'a>(
             names,
             letters,
             side,
-            Place::Word(address),
+            Target::Word(address),
             after_word(text),
         )
     } else {
@@ -324,7 +325,7 @@ fn memory_item<'a>(
     } else if is_next(b'=', text) && is_next(b'"', after(1, text)) {
         string_at(found, StringPlace::InMemory, address, after(1, text))
     } else {
-        item_by(found, names, letters, side, Place::Byte(address), text)
+        item_by(found, names, letters, side, Target::Byte(address), text)
     }
 }
 

@@ -11,9 +11,8 @@ mod text;
 
 pub use assembler::Assembly;
 pub use item::string_of;
-pub use line::read_row;
 pub use row::{
-    Call, Choice, Entry, Flag, Item, MOST_STEPS, Part, Place, Range, Ranges, Register, Relation,
-    Request, Row, Signal,
+    Call, Choice, Entry, Item, MOST_STEPS, Part, Range, Ranges, Register, Relation, Request, Row,
+    Signal, Target,
 };
 pub use text::{fault_of, read_rows};

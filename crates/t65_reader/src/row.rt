@@ -2,6 +2,7 @@
 
 ghost use Rattle.std.specs.Prelude.{◌≡◌};
 
+use opcode_facts::Flag;
 use t65_values::Value;
 
 /// A register of 8 bits. P is the status register: N V 1 B D I Z C from bit 7 down, B as 0.
@@ -14,20 +15,9 @@ pub enum Register {
     P,
 }
 
-/// A flag of the status register.
-#[derive(Clone, Copy)]
-pub enum Flag {
-    N,
-    V,
-    D,
-    I,
-    Z,
-    C,
-}
-
 /// What a row sets before its call, or looks at after it.
 #[derive(Clone, Copy)]
-pub enum Place {
+pub enum Target {
     /// A register.
     Register(Register),
     /// A flag, 0 or 1.
@@ -57,7 +47,7 @@ pub enum Relation {
 /// A place and the value that it is given, or with which it is compared.
 #[derive(Clone, Copy)]
 pub struct Item {
-    pub place: Place,
+    pub place: Target,
     pub relation: Relation,
     pub value: Value,
 }

@@ -14,26 +14,24 @@ use Rattle.model.specs.declared.event.Event.TheVariants as event
 use Rattle.model.specs.declared.event.EventFault.{EventFault}
 use Rattle.model.specs.declared.event.Setting.{Setting}
 use Rattle.model.specs.declared.event.Setting.TheVariants as setting
-use Rattle.model.specs.declared.registers.Flags.{Flags}
 use Rattle.model.specs.declared.registers.Regs.{Regs}
 use Rattle.model.specs.declared.run_end.RunEnd.{RunEnd}
 use Rattle.model.specs.declared.run_end.Why.{Why}
 use Rattle.model.specs.declared.run_end.Why.TheVariants.{Break}
 use Rattle.model.specs.declared.session_fault.SessionFault.{SessionFault}
+use Rattle.opcode_facts.specs.Flag.{has_flag, with_flag}
 use Rattle.rig.specs.Subroutine.{byte_patched, call_of, return_address}
 use Rattle.t65_reader.specs.RowText.{SeenCall, SeenRow, row_seen}
 use Rattle.t65_values.specs.declared.expression.Atom.{Atom}
 use Rattle.t65_values.specs.declared.expression.Atom.TheVariants.{Number, First, Second, Third, Fourth}
 use Rattle.t65_reader.specs.declared.row.Entry.{Entry}
 use Rattle.t65_reader.specs.declared.row.Entry.TheVariants.{Subroutine, Interrupt}
-use Rattle.t65_reader.specs.declared.row.Flag.{Flag}
-use Rattle.t65_reader.specs.declared.row.Flag.TheVariants.{N, V, D, I, Z, C}
 use Rattle.t65_reader.specs.declared.row.Item.{Item}
 use Rattle.t65_values.specs.declared.expression.Operation.{Operation}
 use Rattle.t65_values.specs.declared.expression.Operation.TheVariants.{Add, Subtract, Multiply, Divide, Remainder, And, Or, ExclusiveOr}
 use Rattle.t65_values.specs.declared.expression.Operator.{Operator}
-use Rattle.t65_reader.specs.declared.row.Place.{Place}
-use Rattle.t65_reader.specs.declared.row.Place.TheVariants.{Register as InRegister, Flag as InFlag, Byte, Word, Input, Output, OutputCount, Cycles}
+use Rattle.t65_reader.specs.declared.row.Target.{Target}
+use Rattle.t65_reader.specs.declared.row.Target.TheVariants.{Register as InRegister, Flag as InFlag, Byte, Word, Input, Output, OutputCount, Cycles}
 use Rattle.t65_reader.specs.declared.row.Register.{Register}
 use Rattle.t65_reader.specs.declared.row.Register.TheVariants.{A, X, Y, S, P}
 use Rattle.t65_reader.specs.declared.row.Relation.{Relation}
@@ -82,14 +80,6 @@ number_of values value
 
 -- ---- what is given
 
-abbrev pub with_flag : Flag → Bool → Flags → Flags
-with_flag N value flags = record flags { n = value }
-with_flag V value flags = record flags { v = value }
-with_flag D value flags = record flags { d = value }
-with_flag I value flags = record flags { i = value }
-with_flag Z value flags = record flags { z = value }
-with_flag C value flags = record flags { c = value }
-
 abbrev pub setting_of : Register → ℕ → Setting
 setting_of A number = setting.A number
 setting_of X number = setting.X number
@@ -101,7 +91,7 @@ abbrev pub if_byte : ℕ → Event → Option Event
 if_byte number event = if nat_lt number 256 then Some event else None
 
 -- The event that gives a place of a byte or less a value. A byte is below 256, a flag below 2.
-unfoldable pub giving_byte : Regs → Place → ℕ → Option Event
+unfoldable pub giving_byte : Regs → Target → ℕ → Option Event
 giving_byte regs (InRegister register) number
     = if_byte number (event.Set (setting_of register number))
 giving_byte regs (InFlag flag) number = if nat_lt number 2
@@ -119,7 +109,7 @@ giving_word address number = if nat_lt number 65536
     then Some (event.Patch address (number % 256 ∷ number / 256 ∷ 0 ∷ []) 2) else None
 
 -- The event that gives a place a value.
-unfoldable pub giving : Regs → Place → ℕ → Option Event
+unfoldable pub giving : Regs → Target → ℕ → Option Event
 giving regs (Word address) number = giving_word address number
 giving regs place number = giving_byte regs place number
 
@@ -145,14 +135,6 @@ given_all values (item ∷ items) s = if_given (given_one values item s) (given_
 
 -- ---- what came
 
-abbrev pub flag_of : Flag → Flags → Bool
-flag_of N flags = flags.n
-flag_of V flags = flags.v
-flag_of D flags = flags.d
-flag_of I flags = flags.i
-flag_of Z flags = flags.z
-flag_of C flags = flags.c
-
 abbrev pub register_of : Register → Regs → ℕ
 register_of A regs = regs.a
 register_of X regs = regs.x
@@ -166,9 +148,9 @@ word_at memory address
     = slice_index memory address + 256 * slice_index memory ((address + 1) % 65536)
 
 -- What is in a place after a call, which began in another state.
-unfoldable pub came : State → State → Place → Option ℕ
+unfoldable pub came : State → State → Target → Option ℕ
 came before after (InRegister register) = Some (register_of register after.regs)
-came before after (InFlag flag) = Some (bit (flag_of flag after.regs.flags))
+came before after (InFlag flag) = Some (bit (has_flag flag after.regs.flags))
 came before after (Byte address) = Some (slice_index after.bus.memory address)
 came before after (Word address) = Some (word_at after.bus.memory address)
 came before after Input = None

@@ -21,10 +21,8 @@ mod requests;
 pub use around::{Around, has_test, rows_of};
 pub use bench::{first_failed, run_called};
 pub use counting::count_test;
-pub use going_back::{HISTORY, restore};
-pub use passes::{
-    CallStart, all_hold, call_start, came, compares, given_all, given_one, number_of,
-};
+pub use going_back::HISTORY;
+pub use passes::{CallStart, all_hold, call_start, came, compares, given_one, number_of};
 pub use range_values::Values;
 pub use requests::{Awaited, CallEnd, arrive};
 pub use t65_reader::Row;

@@ -7,14 +7,14 @@ ghost use Rattle.model.specs.Arithmetic.{bit};
 ghost use Rattle.model.specs.Effect.{status};
 ghost use Rattle.model.specs.State.{State};
 ghost use Rattle.t65_runner.specs.Start.{IsSince};
-ghost use Rattle.t65_runner.specs.Passes.{atom_number, came, compares, flag_of, given_all, given_one};
+ghost use Rattle.t65_runner.specs.Passes.{atom_number, came, compares, given_all, given_one};
 ghost use Rattle.t65_runner.specs.Passes.{giving, giving_byte, giving_word, if_byte, item_holds, joined};
 ghost use Rattle.t65_runner.specs.Passes.{number_of, operate, word_at};
-ghost use Rattle.t65_runner.specs.Passes.{register_of, setting_of, with_flag};
+ghost use Rattle.t65_runner.specs.Passes.{register_of, setting_of};
 
 use crate::range_values::Values;
-use debugger::{Event, Flags, Regs, Session, Setting};
-use t65_reader::{Flag, Item, Place, Register, Relation};
+use debugger::{Event, Regs, Session, Setting};
+use t65_reader::{Item, Register, Relation, Target};
 use t65_values::{Atom, Operation, Operator, Value};
 
 /// What a call is compared with: the state in which it began.
@@ -70,19 +70,6 @@ pub fn number_of(values: Values, value: Value) -> u32
     joined(values, joined(values, first, value.second), value.third)
 }
 
-fn with_flag(flag: Flag, value: bool, flags: Flags) -> Flags
-    ensures { result ≡ with_flag flag value flags }
-{
-    match flag {
-        Flag::N => Flags { n: value, ..flags },
-        Flag::V => Flags { v: value, ..flags },
-        Flag::D => Flags { d: value, ..flags },
-        Flag::I => Flags { i: value, ..flags },
-        Flag::Z => Flags { z: value, ..flags },
-        Flag::C => Flags { c: value, ..flags },
-    }
-}
-
 fn setting_of(register: Register, byte: u8) -> Setting
     ensures { result ≡ setting_of register byte }
 {
@@ -98,7 +85,7 @@ fn setting_of(register: Register, byte: u8) -> Setting
 /// Returns the event that gives a place of a byte or less a value, or `None` where the place cannot
 /// have it.
 #[tactic(auto, unfolding(crate::specs::Passes::giving_byte))]
-fn giving_byte(regs: Regs, place: Place, number: u32) -> Option<Event>
+fn giving_byte(regs: Regs, place: Target, number: u32) -> Option<Event>
     ensures { result ≡ giving_byte regs place number }
 {
     if number > 255 {
@@ -106,21 +93,21 @@ fn giving_byte(regs: Regs, place: Place, number: u32) -> Option<Event>
     }
     let byte = number as u8;
     match place {
-        Place::Register(register) => Some(Event::Set(setting_of(register, byte))),
-        Place::Flag(flag) => {
+        Target::Register(register) => Some(Event::Set(setting_of(register, byte))),
+        Target::Flag(flag) => {
             if byte > 1 {
                 return None;
             }
-            let flags = with_flag(flag, byte == 1, regs.flags);
+            let flags = flag.with(byte == 1, regs.flags);
             Some(Event::Set(Setting::P(flags.to_byte(false))))
         }
-        Place::Byte(address) => Some(Event::Patch {
+        Target::Byte(address) => Some(Event::Patch {
             address,
             bytes: [byte, 0, 0],
             count: 1,
         }),
-        Place::Input => Some(Event::Input(byte)),
-        Place::Word(_) | Place::Output(_) | Place::OutputCount | Place::Cycles => None,
+        Target::Input => Some(Event::Input(byte)),
+        Target::Word(_) | Target::Output(_) | Target::OutputCount | Target::Cycles => None,
     }
 }
 
@@ -141,11 +128,11 @@ fn giving_word(address: u16, number: u32) -> Option<Event>
 
 /// Returns the event that gives a place a value, or `None` where the place cannot have it.
 #[tactic(auto, unfolding(crate::specs::Passes::giving))]
-pub fn giving(regs: Regs, place: Place, number: u32) -> Option<Event>
+pub fn giving(regs: Regs, place: Target, number: u32) -> Option<Event>
     ensures { result ≡ giving regs place number }
 {
     match place {
-        Place::Word(address) => giving_word(address, number),
+        Target::Word(address) => giving_word(address, number),
         _ => giving_byte(regs, place, number),
     }
 }
@@ -162,19 +149,6 @@ pub fn given_one(session: &mut Session, values: Values, item: Item) -> bool
     match giving(session.regs(), item.place, number_of(values, item.value)) {
         Some(event) => session.event(event).is_ok(),
         None => false,
-    }
-}
-
-fn flag_of(flag: Flag, flags: Flags) -> bool
-    ensures { result ≡ flag_of flag flags }
-{
-    match flag {
-        Flag::N => flags.n,
-        Flag::V => flags.v,
-        Flag::D => flags.d,
-        Flag::I => flags.i,
-        Flag::Z => flags.z,
-        Flag::C => flags.c,
     }
 }
 
@@ -218,25 +192,25 @@ fn word_at(session: &Session, address: u16) -> u64
 
 /// Returns what is in a place after a call, or `None` where nothing is.
 #[tactic(auto, unfolding(crate::specs::Passes::came))]
-pub fn came(session: &Session, before: CallStart, place: Place) -> Option<u64>
+pub fn came(session: &Session, before: CallStart, place: Target) -> Option<u64>
     requires { before.output_count ≤ 65536 }
     ensures { (state : State) → before.output_count ≡ length state.bus.out
         → before.cycles ≡ state.cycles → result ≡ came state session.now.current place }
 {
     match place {
-        Place::Register(register) => Some(register_of(register, session.regs()) as u64),
-        Place::Flag(flag) => Some(flag_of(flag, session.regs().flags) as u64),
-        Place::Byte(address) => Some(session.peek(address) as u64),
-        Place::Word(address) => Some(word_at(session, address)),
-        Place::Input => None,
-        Place::Output(index) => {
+        Target::Register(register) => Some(register_of(register, session.regs()) as u64),
+        Target::Flag(flag) => Some(flag.of(session.regs().flags) as u64),
+        Target::Byte(address) => Some(session.peek(address) as u64),
+        Target::Word(address) => Some(word_at(session, address)),
+        Target::Input => None,
+        Target::Output(index) => {
             let byte = session.output_at(before.output_count + index as u32)?;
             Some(byte as u64)
         }
-        Place::OutputCount => {
+        Target::OutputCount => {
             Some(session.output_len().saturating_sub(before.output_count) as u64)
         }
-        Place::Cycles => Some(session.cycles().saturating_sub(before.cycles)),
+        Target::Cycles => Some(session.cycles().saturating_sub(before.cycles)),
     }
 }
 

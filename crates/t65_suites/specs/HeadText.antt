@@ -2,6 +2,7 @@
 use Rattle.std.specs.Prelude.{ℕ, ◌+◌, ◌-◌, ◌==◌, ◌&&◌, nat_lt, Bool, not, if◌then◌else◌, List, [], ◌∷◌, length, take, drop, codes, Option, Some, None, Result, Ok, Err}
 use Rattle.std.specs.Str.{byte, bytes_eq}
 use Rattle.std.specs.List.{prefix_len}
+use Rattle.memory_map.specs.declared.port.TheConstants.{DEFAULT_PORT}
 use Rattle.model.specs.declared.instruction.Profile.{Profile}
 use Rattle.model.specs.declared.instruction.Profile.TheVariants as profile
 use Rattle.t65_values.specs.ValueText.{Reads, after_sign, after_word, and_then, ends, fault_at, is_next, number_of, skip_blanks, word_of}
@@ -67,9 +68,10 @@ option_of head text =
     then then_read (after_sign (byte "=") (after_word text)) (rom_of head)
     else Err (fault_at Syntax text)
 
--- A machine of profile N without ROM, with the port at $F000.
+-- A machine of profile N without ROM, with the port where it is if nothing is said.
 abbrev pub plain_head : List ℕ → SeenHead
-plain_head source = record { source = source; profile = profile.N; rom = None; port = Some 61440 }
+plain_head source
+    = record { source = source; profile = profile.N; rom = None; port = Some DEFAULT_PORT }
 
 -- What was read is all of a line.
 abbrev pub then_ends : Reads SeenHead → Result SeenHead RowFault

@@ -10,6 +10,7 @@ ghost use Rattle.t65_suites.specs.HeadText.{rom_of, then_read};
 ghost use Rattle.t65_values.specs.ValueText.{after_sign, after_word, word_of};
 
 use line_parts::next_line;
+use memory_map::DEFAULT_PORT;
 use model::Profile;
 use t65_reader::{fault_of, string_of};
 use t65_values::{
@@ -164,7 +165,7 @@ fn head_of(text: &[u8]) -> Result<Head<'_>, RowFault>
         source,
         profile: Profile::N,
         rom: None,
-        port: Some(0xf000),
+        port: Some(DEFAULT_PORT),
     };
     options_of(plain, rest)
 }

@@ -20,7 +20,7 @@ mod wording;
 
 pub use fault::{FileFault, TestFault, is_memory};
 pub use fault_words::{remarks_of, title_of};
-pub use head::{Head, Opened, read_head};
+pub use head::{Head, Opened};
 pub use prepared::{Prepared, prepare};
 pub use replaced::replaced_by;
 pub use suites::{Reading, Suite, suites_of};

@@ -11,13 +11,27 @@ ghost use Rattle.t65_suites.specs.Prepared.{path_of};
 use crate::fault::TestFault;
 use crate::suites::Suite;
 use arguments::{ReadFault, Refusal, read_most};
+use clean_source::unmarked;
 use std::alloc::{AllocError, Global};
 use std::rt::Files;
 
 /// The most bytes of a file of rows. Source: mos65.
 const LARGEST: u64 = 1_048_576;
 
-/// Returns the bytes of a file of rows.
+/// Returns a text without the byte-order marks at its start.
+///
+/// Errors: `OutOfMemory` if an allocation fails.
+fn without_mark(alloc: Global, text: &[u8]) -> Result<Vec<u8>, TestFault>
+    ensures shorter { IfOk result (λ rest. vec_len rest ≤ length text.now) }
+    ensures refused { IfErr result EndsAnyTest }
+{
+    match Vec::from_slice(alloc, unmarked(text)) {
+        Ok(rest) => Ok(rest),
+        Err(_) => Err(TestFault::Refused(Refusal::OutOfMemory)),
+    }
+}
+
+/// Returns the bytes of a file of rows, without a byte-order mark at its start.
 ///
 /// Errors: `TooLarge` if it has more than 1,048,576; `Read` if it cannot be read; `OutOfMemory` if
 /// an allocation fails.
@@ -29,7 +43,7 @@ pub fn read_rows_text<H: Files + AllocGlobal>(rt: &H, path: &str) -> Result<Vec<
     if text.len() > LARGEST as usize {
         return Err(TestFault::TooLarge);
     }
-    Ok(text)
+    without_mark(rt.alloc(), &text)
 }
 
 /// Returns where the name of the file begins in its path: after the last `/`, if there is one.

@@ -116,7 +116,7 @@ fn names_for<H: Files + AllocGlobal>(
             Err(fault) => Err(NamedFault::OfFile(fault)),
         },
         Some(path) => match load_names(rt, words, path) {
-            Ok(names) => Ok(names),
+            Ok(names) => Ok(names.assembly),
             Err(refusal) => Err(NamedFault::OfNames(refusal)),
         },
     }

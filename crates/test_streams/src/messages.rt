@@ -2,7 +2,7 @@
 
 use crate::streams::LimitedWriter;
 use anyhow::Result;
-use message_stream::{StreamFault, write_message};
+use json_messages::{StreamFault, write_message};
 use std::cell::Cell;
 
 /// Writes a message where there is so much room and so many flushes succeed, and says how many of

@@ -2,7 +2,7 @@
 //! addresses each.
 
 use anyhow::Result;
-use round_trips::{Profile, listed_again};
+use named_source::{Profile, listed_again};
 use std::alloc::Global;
 
 /// The first bytes of both pages' ends, where a branch wraps, and where an instruction no longer

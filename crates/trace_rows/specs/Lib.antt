@@ -4,3 +4,4 @@ pub mod Words
 pub mod Steps
 pub mod Findings
 pub mod Counts
+pub mod Records

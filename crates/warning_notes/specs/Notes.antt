@@ -26,11 +26,12 @@ first_word line = take (word_length line) (without_blanks line)
 abbrev pub word_place : List ℕ → ℕ × ℕ
 word_place line = (prefix_len is_blank line, max (word_length line) 1)
 
--- A note means these bytes and has these words.
+-- A note means these bytes and has these words, and no right word.
 pub record Says (place : ℕ × ℕ) (words : List ℕ) (note : Note) : Type 0 where
   pub start : note.start ≡ place.0
   pub width : note.width ≡ place.1
   pub words_are : note.words.items ≡ words
+  pub no_right : note.right ≡ None
 
 -- ---- operands
 

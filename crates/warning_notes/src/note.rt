@@ -29,7 +29,7 @@ use warnings::WarningKind;
 /// Returns a note about the word with which a line begins.
 fn about_word(line: &[u8], words: Vec<u8>) -> Note
     ensures { let place = word_place line.now in
-        result ≡ record { start = place.0; width = place.1; words = words } }
+        result ≡ record { start = place.0; width = place.1; words = words; right = None } }
 {
     let start = blank_run(line);
     Note::new(start, word_run(after(line, start)).max(1), words)

@@ -68,7 +68,7 @@ pub const RUNS_ON: &str = "no instruction follows it in memory: JMP, RTS or BRK 
 
 /// What is said of a pointer at the end of a page.
 pub const TAKES_THE_PAGE: &str =
-    "profile N takes the high byte from the start of the same page: move the pointer";
+    "profile N takes the high byte at $xx00 of the same page, not of the next: move the pointer";
 
 /// Follows a name that is a register's.
 pub const IS_A_REGISTER: &str = " is a register in mon: give the name one letter more";

@@ -79,6 +79,7 @@ local colours, hints = shown("textDocument/semanticTokens/full"), shown("textDoc
   start = { line = 0, character = 0 }, ["end"] = { line = #lines, character = 0 } } })
 want(colours > 0 and colours % 5 == 0, "colours")
 want(shown("textDocument/foldingRange") > 0, "folds")
+want(shown("textDocument/documentHighlight") > 1, "a name and its uses, marked")
 want(hints > 0 and hints <= #lines, "what stands behind lines")
 want(shown("textDocument/signatureHelp") > 0, "the forms of an operation")
 local function rename(to)

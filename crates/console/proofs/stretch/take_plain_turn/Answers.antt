@@ -25,7 +25,7 @@ returns-clause-made c = λ _.
     let may = c.if-not-may_glide.ensures in
     let some : 0 < ran.result.steps = omega (arith, c.if-ran-eq0.false) in
     let made = ran.ensures.last some in
-    turns_plainly made.0 (known player) ran.result.from player.is_over c.args.session.now ran.new.session (may.rests refl) (may.idle refl) made.1 ran.ensures.size c.is_state.ensures (may.stands refl)
+    turns_plainly made.0 (known player) ran.result.from player.is_over c.args.session.now ran.new.session (may.rests refl) (may.idle refl) made.1 ran.ensures.size (may.stands refl)
     (steps_plainly made.0 ran.result.steps ran.result.from c.args.session.now ran.new.session some ran.ensures.within made.2 ran.ensures.session)
 
 pub returns-clause-entry : goal.returns-clause-entry
@@ -33,7 +33,7 @@ returns-clause-entry c = λ _.
     let ran = c.run_within-ran in
     let some : 0 < ran.result.steps = omega (arith, c.if-ran-eq0.false) in
     let made = ran.ensures.last some in
-    no_entry_made made.0 ran.result.from c.args.session.now ran.new.session c.is_state.ensures
+    no_entry_made made.0 ran.result.from c.args.session.now ran.new.session
     (steps_plainly made.0 ran.result.steps ran.result.from c.args.session.now ran.new.session some ran.ensures.within made.2 ran.ensures.session)
 
 pub returns-clause-waits : goal.returns-clause-waits

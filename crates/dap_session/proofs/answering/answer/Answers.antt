@@ -1,28 +1,15 @@
-use Rattle.std.proofs.Common.{map, refl}
-use Rattle.std.proofs.lemmas.Result.{IfOk-weaker}
-use Rattle.dap_messages.specs.Messages.{said_of}
-use Rattle.dap_session.proofs.Done.{answered_with, kept}
-use Rattle.dap_session.specs.Answered.{AreAnswers, IsShown, SetsListed}
-use Rattle.serde_json.specs.Data.{Data}
-use Rattle.serde_json.specs.View.{view}
+use Rattle.std.proofs.Common.{inl, inr}
+use Rattle.std.proofs.lemmas.Result.{IfErr-weaker, IfOk-weaker}
+use Rattle.dap_session.proofs.Stays.{refused_by_more, refused_so}
+use Rattle.dap_session.specs.Refusals.{MayRefuse, MayRefuseAt}
 use Rattle.dap_session.proofs.answering.answer.Goals as goal
 
-pub returns-in-Sets-clause-done : goal.returns-in-Sets-clause-done
-unfolding AreAnswers
-returns-in-Sets-clause-done g c =
-    let sets = λ (v : Data). SetsListed c.in-Sets.kind (view c.args.request.now) c.args.counting c.args.seat.now c.set_listed-told.new.seat v in
-    rw c.in-Sets.is (kept c.answered.result c.or_memory-in-Sets.result _ c.or_memory-in-Sets.ensures.made
-    (answered_with c.set_listed-told.result c.answered.result (λ ms. map said_of ms.items) sets c.set_listed-told.ensures c.answered.ensures))
+pub returns-then-client-clause-why : goal.returns-then-client-clause-why
+returns-then-client-clause-why g c = refused_so c.refused.result (MayRefuseAt c.args.asked c.args.client.now) (inl c.if-client.true)
 
-pub returns-in-Shows-clause-done : goal.returns-in-Shows-clause-done
-unfolding AreAnswers
-returns-in-Shows-clause-done g c =
-    let shows = λ (v : Data). IsShown c.in-Shows.query (view c.args.request.now) c.args.counting c.args.seat.now v in
-    rw c.in-Shows.is (IfOk-weaker c.or_memory-in-Shows.result _ _ (λ ms said. (refl, said))
-    (kept c.answered-in-Shows.result c.or_memory-in-Shows.result _ c.or_memory-in-Shows.ensures.made
-    (answered_with c.shown-told.result c.answered-in-Shows.result (λ ms. map said_of ms.items) shows c.shown-told.ensures c.answered-in-Shows.ensures)))
+pub returns-clause-done : goal.returns-clause-done
+returns-clause-done g c = IfOk-weaker c.answer_open.result _ _ (λ ms done. (c.if-client.false, done)) c.answer_open.ensures.done
 
-pub returns-in-Terminate-clause-done : goal.returns-in-Terminate-clause-done
-unfolding AreAnswers
-returns-in-Terminate-clause-done g c = rw c.in-Terminate.is (IfOk-weaker c.or_memory-in-Terminate.result _ _ (λ ms said. (refl, said))
-    (kept c.with_terminated.result c.or_memory-in-Terminate.result _ c.or_memory-in-Terminate.ensures.made (c.with_terminated.ensures _ c.all_done.ensures)))
+pub returns-clause-why : goal.returns-clause-why
+returns-clause-why g c = IfErr-weaker c.answer_open.result _ _
+    (λ f why. refused_by_more f (MayRefuse c.args.asked c.args.client.now) (MayRefuseAt c.args.asked c.args.client.now) (λ may. inr may) why) c.answer_open.ensures.why

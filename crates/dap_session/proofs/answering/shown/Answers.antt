@@ -1,4 +1,9 @@
-use Rattle.std.proofs.Common.{◌≡◌, List, map, subst}
+use Rattle.std.proofs.Common.{◌≡◌, ℕ, ℤ, List, map, rules, subst, w64}
+use Rattle.std.proofs.lemmas.Int.{to_z-of_z}
+use mir.Val.{SFits}
+use Rattle.dap_messages.specs.declared.counting.Counting.{Counting}
+use Rattle.dap_views.specs.Frames.{AreFrames}
+use Rattle.dap_views.specs.Rows.{disassembled}
 use Rattle.std.specs.Result.{IfOk}
 use Rattle.dap_messages.specs.Answers.{breakpoints_body}
 use Rattle.serde_json.specs.View.{view}
@@ -9,7 +14,7 @@ pub returns-in-Threads : goal.returns-in-Threads
 returns-in-Threads g c = rw c.in-Threads.is c.threads.ensures
 
 pub returns-in-Scopes : goal.returns-in-Scopes
-returns-in-Scopes g c = rw c.in-Scopes.is c.scopes.ensures
+returns-in-Scopes g c = rw (c.in-Scopes.is, ← c.is_first_frame.ensures) c.scopes.ensures
 
 pub returns-in-Variables : goal.returns-in-Variables
 returns-in-Variables g c = rw c.in-Variables.is c.variables_shown.ensures
@@ -29,12 +34,20 @@ returns-in-Pause g c = rw c.in-Pause.is c.nothing.ensures
 pub returns-in-StackTrace : goal.returns-in-StackTrace
 returns-in-StackTrace g c =
     let source = c.source_of-source.ensures in
-    rw (c.in-StackTrace.is, ← source.path, ← source.counting) c.frames_shown.ensures
+    let mon = c.args.client.now.mon in
+    let page = c.in-StackTrace.page in
+    rw c.in-StackTrace.is (subst (λ (path : List ℕ). IfOk c.frames_shown.result (λ v. AreFrames mon.session.current mon.places path c.args.counting page (view v))) source.path
+    (subst (λ (n : Counting). IfOk c.frames_shown.result (λ v. AreFrames mon.session.current mon.places c.source_of-source.result.path.now n page (view v))) source.counting c.frames_shown.ensures))
 
 pub returns-in-Disassemble : goal.returns-in-Disassemble
 returns-in-Disassemble g c =
     let source = c.source_of-source.ensures in
-    rw (c.in-Disassemble.is, ← source.path, ← source.counting) c.disassembled.ensures
+    let from = c.source_of-source.result in
+    let asked = c.in-Disassemble in
+    let fits : SFits w64 asked.offset = search rules in
+    let same = to_z-of_z w64 asked.offset fits in
+    rw (c.in-Disassemble.is, ← source.path, ← source.counting)
+    (subst (λ (z : ℤ). IfOk c.disassembled.result (λ v. view v ≡ disassembled c.args.client.now.mon from.path.now from.counting asked.address z asked.count)) same c.disassembled.ensures)
 
 pub returns-in-GotoTargets : goal.returns-in-GotoTargets
 returns-in-GotoTargets g c =

@@ -6,10 +6,10 @@ use Rattle.dap_session.proofs.Stays.{refused_so}
 use Rattle.dap_session.proofs.changing.bytes_in.Goals as goal
 
 pub returns-in-Ok-clause-bytes : goal.returns-in-Ok-clause-bytes
-returns-in-Ok-clause-bytes c = ap (decode_of standard) (sym (c.as_bytes.ensures.value ∙ c.text_or-text.ensures)) ∙ c.in-Ok.ensures.ok
+returns-in-Ok-clause-bytes c = ap (decode_of standard) (sym c.as_bytes.ensures.value) ∙ c.in-Ok.ensures.ok
 
 pub returns-in-Err-DecodeError-clause-why : goal.returns-in-Err-DecodeError-clause-why
 returns-in-Err-DecodeError-clause-why c =
     let err = rw c.in-Err-DecodeError.field-0-is at c.in-Err-DecodeError.ensures.err in
     refused_so c.refused.result _
-    (ap (λ l. is_ok (decode_of standard l)) (sym (c.as_bytes.ensures.value ∙ c.text_or-text.ensures)) ∙ ap is_ok err)
+    (ap (λ l. is_ok (decode_of standard l)) (sym c.as_bytes.ensures.value) ∙ ap is_ok err)

@@ -1,4 +1,4 @@
-use Rattle.std.proofs.Common.{◌≡◌, ◌∙◌, ◌-◌, ℕ, Option, None, Some, ap, arith, refl, sym, take}
+use Rattle.std.proofs.Common.{◌≡◌, ◌∙◌, ◌-◌, ℕ, Option, None, Some, arith, refl, sym, take}
 use Rattle.std.proofs.lemmas.List.{take_all}
 use Rattle.std.specs.Option.{unwrap_or}
 use Rattle.dap_session.specs.Completions.{bytes_before}
@@ -13,14 +13,14 @@ before counting None = omega arith
 
 pub returns-then-count-text : goal.returns-then-count-text
 returns-then-count-text c =
-    let column = c.unwrap_or-column.ensures ∙ ap (λ (o : Option ℕ). unwrap_or o 0) c.number_at.ensures in
-    let count = c.saturating_sub-count.ensures ∙ (λ i. column i - c.first_column.ensures i) ∙ before c.args.counting _ in
-    let text = c.as_bytes-text.ensures.value ∙ c.text_or.ensures in
+    let column = c.unwrap_or-column.ensures in
+    let count = c.saturating_sub-count.ensures ∙ (λ i. column i - c.first_column.ensures i) ∙ before c.args.counting c.args.column in
+    let text = c.as_bytes-text.ensures.value in
     λ i. take (count i) (text i)
 
 pub returns-else-count-text : goal.returns-else-count-text
 returns-else-count-text c =
-    let column = c.unwrap_or-column.ensures ∙ ap (λ (o : Option ℕ). unwrap_or o 0) c.number_at.ensures in
-    let count = c.saturating_sub-count.ensures ∙ (λ i. column i - c.first_column.ensures i) ∙ before c.args.counting _ in
-    let text = c.as_bytes-text.ensures.value ∙ c.text_or.ensures in
+    let column = c.unwrap_or-column.ensures in
+    let count = c.saturating_sub-count.ensures ∙ (λ i. column i - c.first_column.ensures i) ∙ before c.args.counting c.args.column in
+    let text = c.as_bytes-text.ensures.value in
     sym (take_all c.saturating_sub-count.result c.as_bytes-text.result.now (omega (arith, c.if-count-text.false))) ∙ (λ i. take (count i) (text i))

@@ -1,7 +1,7 @@
 use Rattle.std.proofs.Common.{◌∙◌, ◌++◌, ℕ, [], List, ap, arith, subst}
 use Rattle.dap_session.proofs.Begun.{coming_all, coming_done, coming_more}
 use Rattle.dap_session.specs.Completions.{if_begun}
-use Rattle.json_values.specs.ValueLists.{HasValues}
+use Rattle.json_messages.specs.ValueLists.{HasValues}
 use Rattle.serde_json.specs.Data.{Data}
 use Rattle.source_map.specs.Names.{Named, named}
 use Rattle.source_map.specs.declared.names.Name.{Name}

@@ -1,7 +1,7 @@
 use Rattle.std.proofs.Common.{◌≡◌, ◌++◌, List, map}
 use Rattle.dap_session.proofs.Begun.{coming}
 use Rattle.dap_session.specs.Completions.{if_begun, names_begun}
-use Rattle.json_values.specs.ValueLists.{HasValues}
+use Rattle.json_messages.specs.ValueLists.{HasValues}
 use Rattle.serde_json.specs.Data.{Data}
 use Rattle.source_map.specs.Names.{Named, named}
 use Rattle.dap_session.proofs.completion.names_begun.Given as goal

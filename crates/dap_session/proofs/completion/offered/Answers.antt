@@ -2,7 +2,7 @@ use Rattle.std.proofs.Common.{◌∙◌, ◌+◌, ◌-◌, [], List, ap, drop, i
 use Rattle.dap_session.proofs.Begun.{all_ascii, not_ascii}
 use Rattle.std.specs.List.{flat_map, list_all}
 use Rattle.dap_session.specs.Completions.{before_typed, begun_behind, column_behind, names_begun, typed_in, word_begun, words_begun}
-use Rattle.json_values.specs.ValueLists.{HasValues}
+use Rattle.json_messages.specs.ValueLists.{HasValues}
 use Rattle.model.specs.Token.{is_blank}
 use Rattle.serde_json.specs.Data.{Data}
 use Rattle.source_map.specs.Names.{named}

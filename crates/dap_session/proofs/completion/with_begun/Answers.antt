@@ -1,7 +1,7 @@
 use Rattle.std.proofs.Common.{◌∙◌, ◌∷◌, ◌++◌, [], List, if◌then◌else◌, length, subst, sym}
 use Rattle.std.specs.Str.Lossy.{utf8_lossy}
 use Rattle.dap_views.specs.BreakValues.{completion}
-use Rattle.json_values.specs.ValueLists.{HasValues}
+use Rattle.json_messages.specs.ValueLists.{HasValues}
 use Rattle.serde_json.specs.Data.{Data}
 use Rattle.dap_session.proofs.completion.with_begun.Goals as goal
 

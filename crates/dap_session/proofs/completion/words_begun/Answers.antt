@@ -1,7 +1,7 @@
 use Rattle.std.proofs.Common.{[], List, arith, subst}
 use Rattle.dap_session.proofs.Begun.{coming_all, coming_done, coming_more}
 use Rattle.dap_session.specs.Completions.{word_begun}
-use Rattle.json_values.specs.ValueLists.{HasValues}
+use Rattle.json_messages.specs.ValueLists.{HasValues}
 use Rattle.mon_line_parts.specs.Topics.{row_view}
 use Rattle.serde_json.specs.Data.{Data}
 use Rattle.dap_session.proofs.completion.words_begun.Goals as goal

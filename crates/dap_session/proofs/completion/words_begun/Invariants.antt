@@ -2,7 +2,7 @@ use Rattle.std.proofs.Common.{◌≡◌, ◌++◌, List, map}
 use Rattle.std.specs.List.{flat_map}
 use Rattle.dap_session.proofs.Begun.{coming}
 use Rattle.dap_session.specs.Completions.{word_begun}
-use Rattle.json_values.specs.ValueLists.{HasValues}
+use Rattle.json_messages.specs.ValueLists.{HasValues}
 use Rattle.mon_line_parts.specs.Topics.{row_view}
 use Rattle.serde_json.specs.Data.{Data}
 use Rattle.dap_session.proofs.completion.words_begun.Given as goal

@@ -1,38 +1,32 @@
-use Rattle.std.proofs.Common.{◌∙◌, ℕ, Bool, List, Option, ap, codes, map, option_map, refl, subst, sym}
-use Rattle.std.specs.Str.{bytes_eq}
-use Rattle.std.proofs.lemmas.Result.{IfOk-weaker}
+use Rattle.std.proofs.Common.{◌&&◌, Bool, map, refl, subst, sym}
+use Rattle.std.proofs.lemmas.Result.{IfErr-weaker, IfOk-weaker}
 use Rattle.dap_messages.specs.Messages.{said_of}
-use Rattle.dap_session.proofs.Done.{kept}
-use Rattle.dap_session.proofs.Stays.{refused_so}
-use Rattle.dap_session.specs.Console.{Evaluates, Looks, ServesConsole}
-use Rattle.dap_session.specs.Refusals.{IsNoLook}
-use Rattle.dap_views.specs.Looks.{look_at}
-use Rattle.serde_json.specs.View.{view}
-use Rattle.serde_json.specs.declared.value.Value.{Value}
+use Rattle.dap_session.proofs.Stays.{refused_by_more}
+use Rattle.dap_session.specs.Console.{Evaluates}
+use Rattle.dap_session.specs.Refusals.{IfRefused, IsNoLook}
 use Rattle.dap_session.proofs.console.evaluate.Goals as goal
 
-pub returns-then-eq-clause-done : goal.returns-then-eq-clause-done
-returns-then-eq-clause-done c =
-    let old = c.args.seat.now.desk in
-    let new = c.console.new.seat.desk in
-    IfOk-weaker c.or_memory.result _ _
-    (λ ms done. subst (λ (b : Bool). Evaluates b (view c.args.request.now) old new (map said_of ms.items)) (sym c.if-eq.true ∙ c.eq.ensures ∙ ap (λ (l : List ℕ). bytes_eq l (codes "repl")) c.text_or.ensures)
-    (done.0, done.1, subst (λ (l : List ℕ). ServesConsole l done.0 old new done.1) c.text_or-text.ensures done.2, done.3))
-    (kept c.console.result c.or_memory.result _ c.or_memory.ensures.made c.console.ensures.served)
+pub returns-then-is_console : goal.returns-then-is_console
+returns-then-is_console c =
+    let old = c.args.client.now in
+    let text = c.args.text.now in
+    let line = c.evaluate_line.ensures in
+    record {
+      done = IfOk-weaker c.evaluate_line.result _ _
+          (λ ms done. subst (λ (b : Bool). Evaluates b text old c.evaluate_line.new.client (map said_of ms.items)) (sym c.if-is_console.true) done) line.done;
+      refused = line.refused;
+      why = IfErr-weaker c.evaluate_line.result _ _ (λ f why. subst (λ (b : Bool). IfRefused f (IsNoLook text b old.mon)) (sym c.if-is_console.true) why) line.why;
+    }
 
-pub returns-in-Some-clause-done : goal.returns-in-Some-clause-done
-returns-in-Some-clause-done c =
-    let desk = c.args.seat.now.desk in
-    kept c.answered.result c.or_memory-in-Some.result _ c.or_memory-in-Some.ensures.made
-    (IfOk-weaker c.answered.result _ _
-    (λ ms said. subst (λ (b : Bool). Evaluates b (view c.args.request.now) desk desk (map said_of ms.items)) (sym c.if-eq.false ∙ c.eq.ensures ∙ ap (λ (l : List ℕ). bytes_eq l (codes "repl")) c.text_or.ensures)
-    (refl, subst (λ (l : List ℕ). Looks desk l (map said_of ms.items)) c.text_or-text.ensures (view c.in-Some.body, sym (ap (λ (o : Option Value). option_map view o) (sym c.in-Some.is) ∙ c.in_ok-looked.ensures), said)))
-    (c.answered.ensures _ refl))
+pub returns-clause-done : goal.returns-clause-done
+returns-clause-done c =
+    let old = c.args.client.now in
+    IfOk-weaker c.look.result _ _
+    (λ ms looks. subst (λ (b : Bool). Evaluates b c.args.text.now old old (map said_of ms.items)) (sym c.if-is_console.false) (refl, looks)) c.look.ensures.done
 
-pub returns-in-None-clause-why : goal.returns-in-None-clause-why
-returns-in-None-clause-why c =
-    let desk = c.args.seat.now.desk in
-    refused_so c.refused.result (IsNoLook (view c.args.request.now) desk) (
-      sym (sym c.if-eq.false ∙ c.eq.ensures ∙ ap (λ (l : List ℕ). bytes_eq l (codes "repl")) c.text_or.ensures),
-      sym (ap (λ (o : Option Value). option_map view o) (sym c.in-None.is) ∙ c.in_ok-looked.ensures ∙ ap (look_at desk.session.current desk.places.names) c.text_or-text.ensures),
-    )
+pub returns-clause-why : goal.returns-clause-why
+returns-clause-why c =
+    let old = c.args.client.now in
+    IfErr-weaker c.look.result _ _
+    (λ f why. refused_by_more f _ (IsNoLook c.args.text.now c.args.is_console old.mon) (λ none. subst (λ (b : Bool). IsNoLook c.args.text.now b old.mon) (sym c.if-is_console.false) (refl, none)) why)
+    c.look.ensures.why

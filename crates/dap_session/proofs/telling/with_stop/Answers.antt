@@ -5,7 +5,7 @@ use Rattle.dap_messages.specs.declared.halt.Reason.{Reason}
 use Rattle.dap_session.specs.Told.{remark_said}
 use Rattle.dap_views.specs.Values.{stopped_body}
 use Rattle.dap_session.proofs.telling.with_stop.Goals as goal
-use Rattle.dap_session.proofs.telling.with_stop.Goals.{in-Entry, in-Step, in-DataBreakpoint}
+use Rattle.dap_session.proofs.telling.with_stop.Goals.{in-Entry, in-Step, in-DataBreakpoint, in-NoStop}
 
 -- a fact at each of three reasons, and of four
 three : (P : Reason → Type 0) (reason a b d : Reason) → P a → P b → P d → (reason ≡ a) ⊎ ((reason ≡ b) ⊎ (reason ≡ d)) → P reason
@@ -21,12 +21,14 @@ pub returns : goal.returns
 returns c = λ before is.
     let words = c.args.words.now in
     let behind = before ++ remark_said c.args.halt.reason c.args.halt.words.now in
-    let body = c.build-body.ensures _ (c.count.ensures _ (c.word-3.ensures _ (c.word.ensures _ (c.flag.ensures _ c.new.ensures)))) in
+    let hits = c.args.hits.now in
+    let body = c.build-body.ensures _ (c.count.ensures _ (c.word-3.ensures _ (c.member.ensures _ _ (c.word.ensures _ (c.flag.ensures _ c.new.ensures)) c.numbers.ensures))) in
     let P : Reason → Type 0 = λ reason. IfOk c.args.messages (λ ms. map said_of ms.items ≡ before ++ remark_said reason c.args.halt.words.now) in
     let same = IfOk-weaker c.args.messages _ _ (λ ms h. h ∙ sym (append-nil before)) is in
     let remarked : IfOk c.match-halt.remarked (λ ms. map said_of ms.items ≡ behind) = elim c.match-halt.branch [
       | in-Entry w ↦ rw w.remarked-is (rw w.in-Entry.is (w.with_output-remarked.ensures before _ is w.format.ensures.ok))
       | in-Step w ↦ rw w.remarked-is (three P _ _ _ _ same same same w.in-Step.is)
       | in-DataBreakpoint w ↦ rw w.remarked-is (four P _ _ _ _ _ same same same same w.in-DataBreakpoint.is)
+      | in-NoStop w ↦ rw w.remarked-is (rw w.in-NoStop.is same)
     ] in
-    subst (λ (r : List ℕ). IfOk c.with_event.result (λ ms. map said_of ms.items ≡ behind ++ event (codes "stopped") (stopped_body r words) ∷ [])) c.word-2.ensures (c.with_event.ensures _ _ remarked body)
+    subst (λ (r : List ℕ). IfOk c.with_event.result (λ ms. map said_of ms.items ≡ behind ++ event (codes "stopped") (stopped_body r words hits) ∷ [])) c.word-2.ensures (c.with_event.ensures _ _ remarked body)

@@ -1,10 +1,6 @@
 use Rattle.dap_views.specs.Found.{found_address}
-use Rattle.dap_views.specs.Wanted.{Matches}
 use Rattle.dap_views.proofs.Finding.{AreFound}
 use Rattle.dap_views.proofs.listed.addresses_wanted.Given as goal
 
 abbrev pub invariant-loop-wanted : goal.invariant-loop-wanted
-invariant-loop-wanted l = record {
-  matches : Matches l.list;
-  found : AreFound (found_address l.desk.places l.desk.session.current.regs.pc) l.all l.wanted-index l.list;
-}
+invariant-loop-wanted l = AreFound (found_address l.mon.places l.mon.session.current.regs.pc) l.all l.wanted-index l.list

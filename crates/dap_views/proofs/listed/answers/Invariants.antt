@@ -1,7 +1,9 @@
-use Rattle.std.proofs.Common.{map, take}
-use Rattle.dap_views.specs.Answered.{answer_of}
-use Rattle.json_values.specs.ValueLists.{HasValues}
+use Rattle.std.proofs.Common.{◌≡◌, ◌++◌, List, drop}
+use Rattle.dap_views.specs.Answered.{answers_of}
+use Rattle.json_messages.specs.ValueLists.{HasValues}
+use Rattle.serde_json.specs.Data.{Data}
 use Rattle.dap_views.proofs.listed.answers.Given as goal
 
 abbrev pub invariant-loop-wanted : goal.invariant-loop-wanted
-invariant-loop-wanted l = HasValues (map (answer_of l.session l.counting) (take l.wanted-index l.told)) l.list
+invariant-loop-wanted l = (found : List Data) × HasValues found l.list
+    × (found ++ answers_of l.session l.counting l.id (drop l.wanted-index l.told) ≡ answers_of l.session l.counting l.first l.told)

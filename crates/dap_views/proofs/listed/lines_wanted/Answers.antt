@@ -1,31 +1,17 @@
-use Rattle.std.proofs.Common.{◌∙◌, ap, arith, map, option_map, subst, sym}
+use Rattle.std.proofs.Common.{arith, option_map, subst}
 use Rattle.dap_views.specs.Found.{HasFound, found_line}
-use Rattle.dap_views.specs.Wanted.{addresses}
 use Rattle.dap_views.proofs.Finding.{all_found, none_found, one_found}
-use Rattle.serde_json.specs.View.{view}
-use Rattle.serde_json.specs.declared.value.Value.{Value}
+use Rattle.dap_messages.specs.declared.request.SourceBreakpoint.{SourceBreakpoint}
 use Rattle.dap_views.proofs.listed.lines_wanted.Goals as goal
 
 pub loop-wanted-init : goal.loop-wanted-init
-loop-wanted-init c = record {
-  matches = ap addresses c.new_list-list.ensures.stops ∙ sym c.new_list-list.ensures.addresses;
-  found = none_found (found_line c.args.desk.now.places c.args.desk.now.session.current.regs.pc c.args.source.now.counting (option_map (λ a. a.now) c.args.source.now.assembly)) c.list_of-all.result.now _ c.new_list-list.ensures.told c.new_list-list.ensures.stops;
-}
+loop-wanted-init c = none_found (found_line c.args.mon.now.places c.args.mon.now.session.current.regs.pc c.args.source.now.counting (option_map (λ a. a.now) c.args.source.now.assembly)) c.args.all.now _ c.new_list-list.ensures.told c.new_list-list.ensures.stops
 
 pub loop-wanted-preserved : goal.loop-wanted-preserved
 loop-wanted-preserved c =
-    let find = found_line c.args.desk.now.places c.args.desk.now.session.current.regs.pc c.args.source.now.counting (option_map (λ a. a.now) c.args.source.now.assembly) in
-    let inv = c.loop-wanted.invariant in
-    record {
-      matches = c.in_ok-push_line.ensures.matches inv.matches;
-      found = one_found find c.list_of-all.result.now c.loop-wanted.wanted-index c.wanted-item.result c.loop-wanted.list c.push_line.new.list (omega (arith, c.loop-wanted-test.true))
-          (subst (λ (w : Value). HasFound (find (view w)) c.loop-wanted.list c.push_line.new.list) c.wanted-item.is c.in_ok-push_line.ensures.found) inv.found;
-    }
+    let find = found_line c.args.mon.now.places c.args.mon.now.session.current.regs.pc c.args.source.now.counting (option_map (λ a. a.now) c.args.source.now.assembly) in
+    one_found find c.args.all.now c.loop-wanted.wanted-index c.wanted-item.result c.loop-wanted.list c.push_line.new.list (omega (arith, c.loop-wanted-test.true))
+    (subst (λ (w : SourceBreakpoint). HasFound (find w) c.loop-wanted.list c.push_line.new.list) c.wanted-item.is c.in_ok-push_line.ensures) c.loop-wanted.invariant
 
-pub returns-clause-found : goal.returns-clause-found
-returns-clause-found c =
-    let find = found_line c.args.desk.now.places c.args.desk.now.session.current.regs.pc c.args.source.now.counting (option_map (λ a. a.now) c.args.source.now.assembly) in
-    let all = c.list_of-all.result.now in
-    let inv = c.loop-wanted.invariant in
-    let found = all_found find all c.loop-wanted.wanted-index c.loop-wanted.list (omega (arith, c.loop-wanted-test.false)) inv.found in
-    (inv.matches, map view all, c.list_of-all.ensures, found.0, found.1)
+pub returns : goal.returns
+returns c = all_found (found_line c.args.mon.now.places c.args.mon.now.session.current.regs.pc c.args.source.now.counting (option_map (λ a. a.now) c.args.source.now.assembly)) c.args.all.now c.loop-wanted.wanted-index c.loop-wanted.list (omega (arith, c.loop-wanted-test.false)) c.loop-wanted.invariant

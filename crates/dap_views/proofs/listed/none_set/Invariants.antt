@@ -1,8 +1,7 @@
 use Rattle.std.proofs.Common.{map, take}
 use Rattle.dap_views.specs.Answered.{answer_elsewhere}
-use Rattle.json_values.specs.ValueLists.{HasValues}
-use Rattle.serde_json.specs.View.{view}
+use Rattle.json_messages.specs.ValueLists.{HasValues}
 use Rattle.dap_views.proofs.listed.none_set.Given as goal
 
 abbrev pub invariant-loop : goal.invariant-loop
-invariant-loop l = HasValues (map (λ w. answer_elsewhere (view w)) (take l.index l.listed)) l.list
+invariant-loop l = HasValues (map answer_elsewhere (take l.index l.listed)) l.list

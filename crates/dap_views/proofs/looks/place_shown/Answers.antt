@@ -8,4 +8,4 @@ pub returns : goal.returns
 returns c =
     let shown = c.in_ok-value.ensures _ (c.count.ensures _ (c.text-2.ensures _ _ (c.text.ensures _ _ c.new.ensures c.reference.ensures) c.byte_text.ensures)) in
     ap (λ d. Some d) (shown ∙ ap (λ byte. looked_at_body c.in-Some.address (byte_text byte)) c.peek.ensures.value)
-    ∙ ap (λ (place : Option ℕ). byte_at c.args.desk.now.session.current.bus.memory place) (sym c.in-Some.is ∙ c.in_ok-address.ensures)
+    ∙ ap (λ (place : Option ℕ). byte_at c.args.mon.now.session.current.bus.memory place) (sym c.in-Some.is ∙ c.place_named.ensures)

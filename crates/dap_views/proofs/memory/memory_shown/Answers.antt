@@ -1,7 +1,7 @@
 use Rattle.std.proofs.Common.{◌≡◌, ◌∙◌, ◌-◌, ℕ, [], List, Option, ap, arith, sym}
 use Rattle.base64.specs.Rfc4648.{encode_symbols}
 use Rattle.dap_views.proofs.Shown.{shown_as}
-use Rattle.dap_views.specs.Memory.{bytes_text, memory_at, most}
+use Rattle.dap_views.specs.Memory.{bytes_text, memory_shown, most}
 use Rattle.dap_views.specs.Values.{memory_body}
 use Rattle.serde_json.specs.Data.{Data}
 use Rattle.std.specs.Prelude.{min}
@@ -15,11 +15,11 @@ shown memory count place = memory_body place.0 (bytes_text memory place.0 place.
 pub returns : goal.returns
 unfolding encode_symbols
 returns c =
-    let memory = c.args.desk.now.session.current.bus.memory in
-    let count = c.count_at-count.result in
-    let at : Option ℕ → Data = memory_at memory count in
-    let place = c.match-place_at.first in
-    let same : shown memory count place ≡ at c.place_at.result = elim c.match-place_at.branch [
+    let memory = c.args.mon.now.session.current.bus.memory in
+    let count = c.args.count in
+    let at : Option ℕ → Data = λ address. memory_shown memory address count in
+    let place = c.match-address.first in
+    let same : shown memory count place ≡ at c.args.address = elim c.match-address.branch [
       | in-Some w ↦
           let there : w.min.result ≡ most w.in-Some.first count = w.min.ensures ∙ ap (λ k. min count (65536 - k)) w.from.ensures in
           ap (shown memory count) w.first-is ∙ ap (λ n. shown memory count (w.in-Some.first, n)) there ∙ sym (ap at w.in-Some.is)
@@ -28,5 +28,4 @@ returns c =
           ap (shown memory count) w.first-is ∙ ap (memory_body 0 []) all ∙ sym (ap at w.in-None.is)
     ] in
     let built = c.build.ensures _ (c.count.ensures _ (c.text-2.ensures _ _ (c.text.ensures _ _ c.new.ensures c.reference.ensures) c.bytes_text.ensures)) in
-    shown_as _ _ _ (ap (memory_body place.0 (bytes_text memory place.0 place.1)) c.from-2.ensures ∙ same
-    ∙ (λ i. memory_at memory (c.count_at-count.ensures.value i) (c.place_at.ensures i))) built
+    shown_as _ _ _ (ap (memory_body place.0 (bytes_text memory place.0 place.1)) c.from-2.ensures ∙ same) built

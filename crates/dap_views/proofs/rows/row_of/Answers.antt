@@ -1,5 +1,6 @@
 use Rattle.std.proofs.Common.{◌∙◌, [], ap, arith, codes, if◌then◌else◌, sym}
-use Rattle.std.proofs.lemmas.Bool.{lt-ltb}
+use Rattle.std.proofs.lemmas.Bool.{le-ltb, lt-ltb}
+use Rattle.std.specs.Prelude.{decimal}
 use Rattle.std.specs.Str.Lossy.{utf8_lossy}
 use Rattle.dap_views.proofs.Lossy.{grown}
 use Rattle.dap_views.proofs.Shown.{shown_as}
@@ -9,13 +10,21 @@ use Rattle.dap_views.proofs.rows.row_of.Goals as goal
 
 pub returns : goal.returns
 returns c =
-    let desk = c.args.desk.now in
+    let mon = c.args.mon.now in
     let path = c.args.source.now.path.now in
     let counting = c.args.source.now.counting in
-    let bytes = utf8_lossy (joined [] (codes " ") (row_bytes desk c.args.address c.args.len)) in
-    let text = utf8_lossy (row_text desk c.args.address c.args.len) in
+    let bytes = utf8_lossy (joined [] (codes " ") (row_bytes mon c.args.address c.args.len)) in
+    let text = utf8_lossy (row_text mon c.args.address c.args.len) in
     let within = lt-ltb c.args.address 65536 (omega (arith, c.if-address-ge-BEHIND.false)) in
     let row = c.row_on.ensures _ _ (c.as_text-bytes.ensures _ (grown _ _ _ _ c.new-column.ensures.items c.push_row-grown.ensures.column))
     (c.as_text-text.ensures _ (grown _ _ _ _ c.new-words.ensures.items c.push_row-grown.ensures.words)) in
     shown_as _ _ _ (ap (row_on path counting c.args.address bytes text) c.line_at-line.ensures
-    ∙ sym (ap (λ b. if b then row_shown desk path counting c.args.address c.args.len else no_instruction) within)) row
+    ∙ sym (ap (λ b. if b then row_shown mon path counting c.args.address c.args.len else no_instruction (decimal c.args.address)) within)) row
+
+pub returns-then-address-ge-BEHIND : goal.returns-then-address-ge-BEHIND
+returns-then-address-ge-BEHIND c =
+    let mon = c.args.mon.now in
+    let path = c.args.source.now.path.now in
+    let past = le-ltb c.args.address 65536 (omega (arith, c.if-address-ge-BEHIND.true)) in
+    shown_as _ _ _ (sym (ap (λ b. if b then row_shown mon path c.args.source.now.counting c.args.address c.args.len else no_instruction (decimal c.args.address)) past))
+    (c.no_row.ensures _ c.format.ensures.ok)

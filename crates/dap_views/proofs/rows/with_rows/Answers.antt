@@ -1,37 +1,31 @@
 use Rattle.std.proofs.Common.{◌≡◌, ◌∙◌, ◌+◌, ◌-◌, ◌++◌, List, ap, arith, subst}
 use Rattle.dap_views.proofs.Following.{row_here, rows_done, rows_more}
 use Rattle.dap_views.specs.Rows.{rows}
-use Rattle.json_values.specs.ValueLists.{HasValues}
+use Rattle.json_messages.specs.ValueLists.{HasValues}
 use Rattle.serde_json.specs.Data.{Data}
 use Rattle.dap_views.proofs.rows.with_rows.Goals as goal
 
 pub loop-init : goal.loop-init
-loop-init c = record {
-  rows = λ ds has.
-      let all : c.args.count - 0 ≡ c.args.count = omega arith in
-      (ds, has, ap (λ n. ds ++ rows c.args.desk.now c.args.source.now.path.now c.args.source.now.counting c.args.until n c.args.from) all);
-  within = omega arith;
-}
+loop-init c = λ ds has.
+    let all : c.args.count - 0 ≡ c.args.count = omega arith in
+    (ds, has, ap (λ n. ds ++ rows c.args.mon.now c.args.source.now.path.now c.args.source.now.counting c.args.until n c.args.from) all)
 
 pub loop-preserved : goal.loop-preserved
-loop-preserved c = record {
-  rows = λ ds has.
-      let desk = c.args.desk.now in
-      let path = c.args.source.now.path.now in
-      let counting = c.args.source.now.counting in
-      let at = c.loop.address in
-      let next = ap (λ n. at + n) c.from-address.ensures ∙ c.in_ok-len.ensures.next in
-      let so_far = c.loop.invariant.rows ds has in (
-        _,
-        c.with-list.ensures _ _ so_far.1 c.row_of.ensures,
-        rows_more desk path counting c.args.until (c.args.count - c.loop.counter) (c.args.count - (c.loop.counter + 1)) at _ so_far.0 _ _
-            (omega (arith, c.loop-test.true)) next (row_here desk path counting c.args.until at _ c.in_ok-len.ensures.next) so_far.2,
-      );
-  within = omega (arith, c.in_ok-len.ensures.within, c.from-address.ensures);
-}
+loop-preserved c = λ ds has.
+    let mon = c.args.mon.now in
+    let path = c.args.source.now.path.now in
+    let counting = c.args.source.now.counting in
+    let at = c.loop.address in
+    let next = c.behind_row-address.ensures ∙ c.in_ok-len.ensures in
+    let so_far = c.loop.invariant ds has in (
+      _,
+      c.with-list.ensures _ _ so_far.1 c.row_of.ensures,
+      rows_more mon path counting c.args.until (c.args.count - c.loop.counter) (c.args.count - (c.loop.counter + 1)) at _ so_far.0 _ _
+          (omega (arith, c.loop-test.true)) next (row_here mon path counting c.args.until at _ c.in_ok-len.ensures) so_far.2,
+    )
 
 pub returns : goal.returns
 returns c = λ ds has.
-    let so_far = c.loop.invariant.rows ds has in
-    let all = rows_done c.args.desk.now c.args.source.now.path.now c.args.source.now.counting c.args.until (c.args.count - c.loop.counter) c.loop.address so_far.0 _ (omega (arith, c.loop-test.false)) so_far.2 in
+    let so_far = c.loop.invariant ds has in
+    let all = rows_done c.args.mon.now c.args.source.now.path.now c.args.source.now.counting c.args.until (c.args.count - c.loop.counter) c.loop.address so_far.0 _ (omega (arith, c.loop-test.false)) so_far.2 in
     subst (λ (found : List Data). HasValues found c.loop.list) all so_far.1

@@ -4,8 +4,8 @@ use Rattle.dap_views.specs.Variables.{number_variable}
 use Rattle.dap_views.proofs.variables.machine.Goals as goal
 
 pub returns : goal.returns
-returns c =
+returns c = λ asked is.
     let cycles = shown_as _ _ _ (ap (number_variable (codes "cycles")) c.cycles.ensures) c.number_variable.ensures in
     let held = shown_as _ _ _ (ap (number_variable (codes "events held")) c.held.ensures.held) c.number_variable-2.ensures in
     let output = shown_as _ _ _ (ap (number_variable (codes "bytes put out")) c.output_len.ensures) c.number_variable-3.ensures in
-    c.build.ensures _ (c.with-3.ensures _ _ (c.with-2.ensures _ _ (c.with.ensures _ _ c.new.ensures cycles) held) output)
+    c.with-3.ensures asked _ _ (c.with-2.ensures asked _ _ (c.with.ensures asked _ _ is cycles) held) output

@@ -3,8 +3,8 @@ use Rattle.std.proofs.lemmas.List.{map-append}
 use Rattle.dap_views.specs.Found.{stop_view, told_view}
 use Rattle.dap_views.proofs.wanted.push_unset.Goals as goal
 
-pub returns-clause-found : goal.returns-clause-found
-returns-clause-found c = (
+pub returns : goal.returns
+returns c = (
   ap (map told_view) c.in_ok-push.ensures.items ∙ map-append told_view c.args.list.now.told.items _,
   sym (append-nil (map stop_view c.args.list.now.stops.items)),
 )

@@ -1,10 +1,9 @@
-use Rattle.std.proofs.Common.{◌≡◌, drop, map}
+use Rattle.std.proofs.Common.{◌≡◌, drop}
 use Rattle.dap_views.specs.Watches.{KeepsBreaks, none_watched, watched_of, watches_in, with_all}
-use Rattle.serde_json.specs.View.{view}
 use Rattle.dap_views.proofs.watches.set_data.Given as goal
 
-abbrev pub invariant-loop-wanted : goal.invariant-loop-wanted
-invariant-loop-wanted l = record {
-  watched : with_all (watches_in (map view l.list)) (none_watched (watched_of l.fn.desk)) ≡ with_all (watches_in (map view (drop l.wanted-index l.list))) (watched_of l.desk);
-  kept : KeepsBreaks l.fn.desk l.desk;
+abbrev pub invariant-loop-byte : goal.invariant-loop-byte
+invariant-loop-byte l = record {
+  watched : with_all (watches_in l.all) (none_watched (watched_of l.fn.mon)) ≡ with_all (watches_in (drop l.byte-index l.all)) (watched_of l.mon);
+  kept : KeepsBreaks l.fn.mon l.mon;
 }

@@ -1,6 +1,6 @@
 use Rattle.std.proofs.Common.{◌≡◌, None, [], IfOk, arith, refl, rules}
 use Rattle.fault_notes.specs.Blocks.{fault_blocks, means_first}
-use Rattle.fault_notes.specs.Marks.{note_place}
+use Rattle.fault_notes.specs.Marks.{IsPlain}
 use Rattle.lsp_answers.specs.Diagnostics.{fault_kind}
 use Rattle.lsp_answers.proofs.Marking.{all_put, none_yet, put_more}
 use Rattle.lsp_answers.proofs.fault_marks.long_faults.Goals.{in-Ok, in-Err}
@@ -11,7 +11,7 @@ loop-fault-init c = none_yet (fault_blocks means_first) fault_kind [] c.args.fau
 
 pub loop-fault-preserved : goal.loop-fault-preserved
 loop-fault-preserved c =
-    let fits : IfOk c.match-phrase.note (λ note. note_place note ≡ (0, 1)) = elim c.match-phrase.branch [
+    let fits : IfOk c.match-phrase.note (IsPlain (0, 1)) = elim c.match-phrase.branch [
       | in-Ok w ↦ rw w.note-is (search rules)
       | in-Err w ↦ rw w.note-is tt
     ] in

@@ -4,7 +4,7 @@ use Rattle.std.specs.Str.Lossy.{utf8_lossy}
 use Rattle.lsp_answers.proofs.Behind.{all_behind, directive_item, next_behind, none_behind}
 use Rattle.lsp_answers.proofs.DefinedSteps.{all_defined, one_more, other_use}
 use Rattle.lsp_answers.specs.Lists.{defined, mnemonic_item, name_item}
-use Rattle.json_values.specs.ValueLists.{HasValues}
+use Rattle.json_messages.specs.ValueLists.{HasValues}
 use Rattle.lsp_messages.specs.Values.{item_data}
 use Rattle.model.specs.declared.instruction.Mnemonic.{Mnemonic}
 use Rattle.name_uses.specs.Views.{use_views}

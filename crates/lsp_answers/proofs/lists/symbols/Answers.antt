@@ -1,5 +1,5 @@
 use Rattle.std.proofs.Common.{List, arith, map, subst}
-use Rattle.json_values.specs.ValueLists.{HasValues}
+use Rattle.json_messages.specs.ValueLists.{HasValues}
 use Rattle.lsp_answers.proofs.DefinedSteps.{all_defined, one_more, other_use}
 use Rattle.lsp_answers.specs.Lists.{defined, symbol_of}
 use Rattle.lsp_answers.specs.Texts.{text_view}

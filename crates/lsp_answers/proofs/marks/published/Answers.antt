@@ -1,10 +1,10 @@
 use Rattle.std.proofs.Common.{[], ◌∷◌, ◌++◌, ◌∙◌, List, ap, arith, map, subst, take}
 use Rattle.std.proofs.lemmas.Result.{IfOk-weaker}
-use Rattle.json_values.specs.Values.{list_of}
+use Rattle.json_messages.specs.Values.{list_of}
 use Rattle.lsp_answers.specs.Marks.{mark_of}
 use Rattle.lsp_answers.specs.Texts.{text_view}
-use Rattle.json_values.proofs.Lists.{all_values, next_value}
-use Rattle.json_values.specs.ValueLists.{HasValues}
+use Rattle.json_messages.proofs.Lists.{all_values, next_value}
+use Rattle.json_messages.specs.ValueLists.{HasValues}
 use Rattle.lsp_messages.specs.Values.{marks_data}
 use Rattle.lsp_answers.specs.declared.kinds.Diagnostic.{Diagnostic}
 use Rattle.lsp_answers.proofs.marks.published.Goals as goal

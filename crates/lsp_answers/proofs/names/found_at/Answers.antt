@@ -4,8 +4,8 @@ use Rattle.std.proofs.lemmas.Simd.{map-map}
 use Rattle.lsp_answers.specs.Names.{locations_by}
 use Rattle.lsp_answers.specs.Texts.{text_view, use_range}
 use Rattle.lsp_messages.specs.Values.{location_data}
-use Rattle.json_values.proofs.Lists.{all_values, next_value}
-use Rattle.json_values.specs.ValueLists.{HasValues}
+use Rattle.json_messages.proofs.Lists.{all_values, next_value}
+use Rattle.json_messages.specs.ValueLists.{HasValues}
 use Rattle.name_uses.specs.Uses.{Use}
 use Rattle.name_uses.specs.Views.{use_view, use_views}
 use Rattle.name_uses.specs.declared.name_use.NameUse.{NameUse}

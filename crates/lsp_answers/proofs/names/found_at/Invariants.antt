@@ -1,7 +1,7 @@
 use Rattle.std.proofs.Common.{map, take}
 use Rattle.lsp_answers.specs.Texts.{text_view, use_range}
 use Rattle.lsp_messages.specs.Values.{location_data}
-use Rattle.json_values.specs.ValueLists.{HasValues}
+use Rattle.json_messages.specs.ValueLists.{HasValues}
 use Rattle.name_uses.specs.Views.{use_view}
 use Rattle.lsp_answers.proofs.names.found_at.Given as goal
 

@@ -2,8 +2,8 @@ use Rattle.std.proofs.Common.{List, arith, subst, sym}
 use Rattle.std.proofs.lemmas.Simd.{map-map}
 use Rattle.lsp_answers.specs.Texts.{text_view, use_range}
 use Rattle.lsp_messages.specs.Values.{edit_data}
-use Rattle.json_values.proofs.Lists.{all_values, next_value}
-use Rattle.json_values.specs.ValueLists.{HasValues}
+use Rattle.json_messages.proofs.Lists.{all_values, next_value}
+use Rattle.json_messages.specs.ValueLists.{HasValues}
 use Rattle.name_uses.specs.Uses.{Use}
 use Rattle.name_uses.specs.Views.{use_view}
 use Rattle.name_uses.specs.declared.name_use.NameUse.{NameUse}

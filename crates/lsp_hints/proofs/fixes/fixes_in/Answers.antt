@@ -1,8 +1,8 @@
 use Rattle.std.proofs.Common.{◌∙◌, ◌+◌, ◌++◌, [], List, ap, arith, drop, refl, subst, sym}
 use Rattle.std.proofs.lemmas.Result.{IfOk-weaker}
 use Rattle.std.specs.List.{flat_map}
-use Rattle.json_values.specs.ValueLists.{HasValues}
-use Rattle.json_values.specs.Values.{list_of}
+use Rattle.json_messages.specs.ValueLists.{HasValues}
+use Rattle.json_messages.specs.Values.{list_of}
 use Rattle.lsp_answers.specs.Texts.{text_view}
 use Rattle.lsp_answers.specs.declared.kinds.Diagnostic.{Diagnostic}
 use Rattle.lsp_hints.proofs.FlatSteps.{flat_end, flat_next}

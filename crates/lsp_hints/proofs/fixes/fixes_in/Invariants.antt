@@ -1,6 +1,6 @@
 use Rattle.std.proofs.Common.{◌≡◌, ◌++◌, List, drop}
 use Rattle.std.specs.List.{flat_map}
-use Rattle.json_values.specs.ValueLists.{HasValues}
+use Rattle.json_messages.specs.ValueLists.{HasValues}
 use Rattle.lsp_answers.specs.Texts.{text_view}
 use Rattle.lsp_hints.specs.Fixes.{fixes_between}
 use Rattle.serde_json.specs.Data.{Data}

@@ -1,6 +1,6 @@
 use Rattle.std.proofs.Common.{◌≡◌, ◌∙◌, ◌++◌, List, None, ap, arith, map, subst}
-use Rattle.json_values.proofs.Lists.{all_values, next_value}
-use Rattle.json_values.specs.ValueLists.{HasValues}
+use Rattle.json_messages.proofs.Lists.{all_values, next_value}
+use Rattle.json_messages.specs.ValueLists.{HasValues}
 use Rattle.lsp_hints.specs.Folds.{all_folds, comment_folds, fold_data, label_folds}
 use Rattle.lsp_hints.specs.declared.folds.Fold.{Fold}
 use Rattle.source_notes.specs.Lines.{texts_of}

@@ -1,5 +1,5 @@
 use Rattle.std.proofs.Common.{map, take}
-use Rattle.json_values.specs.ValueLists.{HasValues}
+use Rattle.json_messages.specs.ValueLists.{HasValues}
 use Rattle.lsp_hints.specs.Folds.{fold_data}
 use Rattle.lsp_hints.proofs.folds.folded.Given as goal
 

@@ -1,5 +1,5 @@
 use Rattle.std.proofs.Common.{◌≡◌, ◌∙◌, [], List, ap, arith, false, length, nat_lt, refl, rules, subst, sym, tests}
-use Rattle.json_values.specs.ValueLists.{HasValues}
+use Rattle.json_messages.specs.ValueLists.{HasValues}
 use Rattle.lsp_hints.proofs.HintSteps.{at_end, one_line, stopped}
 use Rattle.lsp_hints.specs.Hints.{found_in, hints_from}
 use Rattle.model.specs.AllFaults as all

@@ -1,5 +1,5 @@
 use Rattle.std.proofs.Common.{◌≡◌, ◌++◌, List}
-use Rattle.json_values.specs.ValueLists.{HasValues}
+use Rattle.json_messages.specs.ValueLists.{HasValues}
 use Rattle.lsp_hints.proofs.HintSteps.{hints_left}
 use Rattle.lsp_hints.specs.Hints.{hints_from}
 use Rattle.serde_json.specs.Data.{Data}

@@ -1,6 +1,6 @@
 use Rattle.std.proofs.Common.{◌∙◌, ◌++◌, [], ℕ, Bool, List, Option, ap, if◌then◌else◌, subst, sym}
 use Rattle.std.specs.Option.{option_map}
-use Rattle.json_values.specs.ValueLists.{HasValues}
+use Rattle.json_messages.specs.ValueLists.{HasValues}
 use Rattle.lsp_hints.specs.Hints.{hints_by, line_hints, place_words}
 use Rattle.model.specs.declared.instruction.Row.{Row}
 use Rattle.source_faults.specs.Views.{found_view}

@@ -1,5 +1,5 @@
 use Rattle.std.proofs.Common.{◌∙◌, ◌++◌, [], List, ap, arith, refl, subst}
-use Rattle.json_values.specs.ValueLists.{HasValues}
+use Rattle.json_messages.specs.ValueLists.{HasValues}
 use Rattle.lsp_hints.proofs.Gathered.{gathered, gathered_all}
 use Rattle.lsp_hints.proofs.PaintSteps.{paint_next, paints_end}
 use Rattle.lsp_hints.specs.Painted.{counted, paints_of}

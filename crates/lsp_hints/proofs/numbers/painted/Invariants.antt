@@ -1,5 +1,5 @@
 use Rattle.std.proofs.Common.{◌≡◌, ◌++◌, List}
-use Rattle.json_values.specs.ValueLists.{HasValues}
+use Rattle.json_messages.specs.ValueLists.{HasValues}
 use Rattle.lsp_hints.proofs.PaintSteps.{counts_left}
 use Rattle.lsp_hints.specs.Painted.{counted}
 use Rattle.serde_json.specs.Data.{Data}

@@ -1,6 +1,6 @@
 use Rattle.std.proofs.Common.{◌≡◌, ◌∷◌, ◌++◌, [], List, append_assoc, rules, subst, tests}
-use Rattle.json_values.specs.ValueLists.{HasValues}
-use Rattle.json_values.specs.declared.value_list.ValueList.{ValueList}
+use Rattle.json_messages.specs.ValueLists.{HasValues}
+use Rattle.json_messages.specs.declared.value_list.ValueList.{ValueList}
 use Rattle.lsp_hints.specs.Painted.{further}
 use Rattle.serde_json.specs.Data.{Data}
 use Rattle.lsp_hints.proofs.numbers.with_paint.Goals.{then-paint-line, else-paint-line}

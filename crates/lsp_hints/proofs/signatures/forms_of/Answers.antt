@@ -1,5 +1,5 @@
 use Rattle.std.proofs.Common.{◌≡◌, ◌∷◌, [], Bor, IfOk, List, ℕ, subst}
-use Rattle.json_values.specs.Values.{list_of}
+use Rattle.json_messages.specs.Values.{list_of}
 use Rattle.lsp_hints.specs.Signatures.{signature_data}
 use Rattle.serde_json.specs.View.{view}
 use Rattle.lsp_hints.proofs.signatures.forms_of.Goals.{in-Bytes, in-Words, in-WordsHighFirst, in-Reserve, in-Finish, in-Origin, in-Definition}

@@ -6,10 +6,10 @@ use Rattle.mon_dispatch.proofs.finding.find.Given as goal
 
 abbrev pub invariant-loop-address : goal.invariant-loop-address
 invariant-loop-address l = record {
-  shows : ShowsOnly l.initial.desk l.desk;
-  count : l.count ≡ length (found_below l.initial.desk.session.current.bus.memory l.bytes l.address);
+  shows : ShowsOnly l.initial.mon l.mon;
+  count : l.count ≡ length (found_below l.initial.mon.session.current.bus.memory l.bytes l.address);
   few : l.count ≤ 16;
-  text : l.desk.text.items ≡ l.initial.desk.text.items
-      ++ flat_map (found_line l.initial.desk.places.names)
-      (found_below l.initial.desk.session.current.bus.memory l.bytes l.address);
+  text : l.mon.text.items ≡ l.initial.mon.text.items
+      ++ flat_map (found_line l.initial.mon.places.names)
+      (found_below l.initial.mon.session.current.bus.memory l.bytes l.address);
 }

@@ -5,5 +5,5 @@ use Rattle.mon_dispatch.proofs.lines.follow.Goals as goal
 
 pub returns-in-Ok : goal.returns-in-Ok
 returns-in-Ok c =
-    followed c.execute.result (asked_view c.args.asked.now) c.in-Ok.command c.args.desk.now c.execute.new.desk (ap asked_view c.in-Ok.is)
+    followed c.execute.result (asked_view c.args.asked.now) c.in-Ok.command c.args.mon.now c.execute.new.mon (ap asked_view c.in-Ok.is)
     c.execute.ensures.does c.execute.ensures.text c.execute.ensures.outcome

@@ -15,9 +15,9 @@ always (Err e) P p = tt
 
 -- A line that is handed on is none of those before it.
 pub returns-in_default-clause-does : goal.returns-in_default-clause-does
-returns-in_default-clause-does c = always c.look.result (Does c.args.command.now c.args.desk.now c.look.new.desk) (by_command c.args.command.now refl c.look.ensures.shows)
+returns-in_default-clause-does c = always c.look.result (Does c.args.command.now c.args.mon.now c.look.new.mon) (by_command c.args.command.now refl c.look.ensures.shows)
   where
-    by_command : (command : Command) → c.args.command.now ≡ command → ShowsOnly c.args.desk.now c.look.new.desk → Does command c.args.desk.now c.look.new.desk
+    by_command : (command : Command) → c.args.command.now ≡ command → ShowsOnly c.args.mon.now c.look.new.mon → Does command c.args.mon.now c.look.new.mon
     by_command line.Nothing e shows = absurd (c.in_default.not-Nothing e)
     by_command (line.Step n) e shows = absurd (c.in_default.not-Step n e)
     by_command line.Over e shows = absurd (c.in_default.not-Over e)
@@ -51,8 +51,8 @@ returns-in_default-clause-text c =
     by_command c.args.command.now refl c.look.ensures.text
   where
     by_command : (command : Command) → c.args.command.now ≡ command
-        → OnOk c.look.result (c.look.new.desk.text.items ≡ c.args.desk.now.text.items ++ look_text command c.args.desk.now.session.current c.args.desk.now.places)
-        → OnOk c.look.result (c.look.new.desk.text.items ≡ c.args.desk.now.text.items ++ line_text command c.args.desk.now)
+        → OnOk c.look.result (c.look.new.mon.text.items ≡ c.args.mon.now.text.items ++ look_text command c.args.mon.now.session.current c.args.mon.now.places)
+        → OnOk c.look.result (c.look.new.mon.text.items ≡ c.args.mon.now.text.items ++ line_text command c.args.mon.now)
     by_command line.Nothing e said = absurd (c.in_default.not-Nothing e)
     by_command (line.Step n) e said = absurd (c.in_default.not-Step n e)
     by_command line.Over e said = absurd (c.in_default.not-Over e)

@@ -2,7 +2,7 @@ use Rattle.mon_dispatch.proofs.lines.serve.Goals as goal
 
 pub returns : goal.returns
 returns c = (
-  c.follow.new.desk,
+  c.follow.new.mon,
   c.in_ok-outcome.outcome,
   c.in_ok-outcome.ensures,
   c.is_over.ensures,

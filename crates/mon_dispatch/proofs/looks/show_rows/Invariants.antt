@@ -5,9 +5,9 @@ use Rattle.mon_dispatch.proofs.looks.show_rows.Given as goal
 
 abbrev pub invariant-loop : goal.invariant-loop
 invariant-loop l = record {
-  shows : ShowsOnly l.initial.desk l.desk;
-  text : l.initial.desk.text.items
-      ++ rows_text l.count l.initial.desk.session.current l.initial.desk.places l.address
-      ≡ l.desk.text.items ++ rows_text (l.count - l.counter) l.initial.desk.session.current
-      l.initial.desk.places l.at;
+  shows : ShowsOnly l.initial.mon l.mon;
+  text : l.initial.mon.text.items
+      ++ rows_text l.count l.initial.mon.session.current l.initial.mon.places l.address
+      ≡ l.mon.text.items ++ rows_text (l.count - l.counter) l.initial.mon.session.current
+      l.initial.mon.places l.at;
 }

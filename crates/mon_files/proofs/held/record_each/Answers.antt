@@ -8,7 +8,7 @@ loop-init c = record {
   course = refl;
   few = omega arith;
   history = refl;
-  told = λ start none room at known. none_told start c.args.desk.now.session c.args.asked c.new-records.result.items c.new-records.ensures.items none at known;
+  told = λ start none room at. none_told start c.args.mon.now.session c.new-records.result.items c.new-records.ensures.items none at;
   stops = (refl, refl, refl);
   text = refl;
 }
@@ -21,9 +21,9 @@ loop-preserved c =
       course = rw add-one (one.course ∙ ap remade_one before.course);
       few = omega (arith, one.few, before.few);
       history = one.history ∙ before.history;
-      told = λ start none room at known.
-          let held : length c.loop.desk.session.earlier < c.loop.desk.session.history = omega (arith, before.few, before.history, none, room, c.loop-test.true) in
-          c.in_ok-record_one.ensures.told start held (before.told start none room at known);
+      told = λ start none room at.
+          let held : length c.loop.mon.session.earlier < c.loop.mon.session.history = omega (arith, before.few, before.history, none, room, c.loop-test.true) in
+          c.in_ok-record_one.ensures.told start held (before.told start none room at);
       stops = (one.stops.0 ∙ before.stops.0, one.stops.1 ∙ before.stops.1, one.stops.2 ∙ before.stops.2);
       text = one.text ∙ before.text;
     }
@@ -38,4 +38,4 @@ pub returns-in_err-record_one-clause-text : goal.returns-in_err-record_one-claus
 returns-in_err-record_one-clause-text c = c.record_one.ensures.text ∙ c.loop.invariant.text
 
 pub returns-clause-told : goal.returns-clause-told
-returns-clause-told c = λ start none room at known. (c.loop.invariant.told start none room at known).told
+returns-clause-told c = λ start none room at. c.loop.invariant.told start none room at

@@ -10,10 +10,10 @@ use Rattle.mon_settings.proofs.asm.assemble_text.Goals as goal
 
 pub returns-in-Err-clause-course : goal.returns-in-Err-clause-course
 returns-in-Err-clause-course c =
-    let before = course_of c.args.desk.now in
+    let before = course_of c.args.mon.now in
     let a = c.args.address in
     let text = c.args.text.now in
-    let after = course_of c.refuse_line.new.desk in
+    let after = course_of c.refuse_line.new.mon in
     let P : Type 0 = after ≡ assembled a text before in
     elim c.in-Err.ensures.exact [
       | inl same ↦ only_err P c.refuse_line.result (c.refuse_line.ensures.memory (ap (λ (f : AsmFault). f.kind) same))
@@ -24,12 +24,12 @@ returns-in-Err-clause-course c =
 
 pub returns-in-Err-clause-text : goal.returns-in-Err-clause-text
 returns-in-Err-clause-text c =
-    let before = course_of c.args.desk.now in
-    let places = c.args.desk.now.places in
+    let before = course_of c.args.mon.now in
+    let places = c.args.mon.now.places in
     let a = c.args.address in
     let text = c.args.text.now in
-    let old = c.args.desk.now.text.items in
-    let new = c.refuse_line.new.desk.text.items in
+    let old = c.args.mon.now.text.items in
+    let new = c.refuse_line.new.mon.text.items in
     let P : Type 0 = new ≡ old ++ assembled_text places a text before in
     elim c.in-Err.ensures.exact [
       | inl same ↦ only_err P c.refuse_line.result (c.refuse_line.ensures.memory (ap (λ (f : AsmFault). f.kind) same))

@@ -12,7 +12,7 @@ pub returns-in_err-happen-clause-course : goal.returns-in_err-happen-clause-cour
 returns-in_err-happen-clause-course c =
     let bytes = c.args.bytes.now in
     let i = c.loop-byte.byte-index in
-    let before = course_of c.loop-byte.desk in
+    let before = course_of c.loop-byte.mon in
     let rest = inputs (drop (i + 1) bytes) in
     c.happen.ensures.course
     ∙ sym (c.loop-byte.invariant.course
@@ -23,7 +23,7 @@ pub returns-then-not-branch-clause-course : goal.returns-then-not-branch-clause-
 returns-then-not-branch-clause-course c =
     let bytes = c.args.bytes.now in
     let i = c.loop-byte.byte-index in
-    let before = course_of c.loop-byte.desk in
+    let before = course_of c.loop-byte.mon in
     let rest = inputs (drop (i + 1) bytes) in
     let fails : is_ok (event_of before.0.current (Input (get_or bytes i 0))) ≡ false = grind (arith, common_steps, c.in_ok-happen.ensures.accepted, c.if-not-branch.true) in
     c.happen.ensures.course
@@ -35,7 +35,7 @@ pub loop-byte-preserved : goal.loop-byte-preserved
 loop-byte-preserved c =
     let bytes = c.args.bytes.now in
     let i = c.loop-byte.byte-index in
-    let before = course_of c.loop-byte.desk in
+    let before = course_of c.loop-byte.mon in
     let rest = inputs (drop (i + 1) bytes) in
     let holds : is_ok (event_of before.0.current (Input (get_or bytes i 0))) ≡ true = grind (arith, common_steps, c.in_ok-happen.ensures.accepted, c.if-not-branch.false) in
     record {
@@ -48,8 +48,8 @@ loop-byte-preserved c =
           ∙ no_fault (Input (get_or bytes i 0)) rest before holds
           ∙ ap (first_fault rest) (sym c.happen.ensures.course);
       text = c.in_ok-happen.ensures.text
-          ∙ ap (λ l. c.loop-byte.desk.text.items ++ l) (accepted_said c.loop-byte.desk.places.names (Input (get_or bytes i 0)) before [] holds)
-          ∙ append-nil c.loop-byte.desk.text.items ∙ c.loop-byte.invariant.text;
+          ∙ ap (λ l. c.loop-byte.mon.text.items ++ l) (accepted_said c.loop-byte.mon.places.names (Input (get_or bytes i 0)) before [] holds)
+          ∙ append-nil c.loop-byte.mon.text.items ∙ c.loop-byte.invariant.text;
       stops = (c.happen.ensures.stops.0 ∙ c.loop-byte.invariant.stops.0, c.happen.ensures.stops.1 ∙ c.loop-byte.invariant.stops.1, c.happen.ensures.stops.2 ∙ c.loop-byte.invariant.stops.2);
     }
 
@@ -57,7 +57,7 @@ pub returns-clause-course : goal.returns-clause-course
 returns-clause-course c =
     let bytes = c.args.bytes.now in
     let i = c.loop-byte.byte-index in
-    let after = course_of c.loop-byte.desk in
+    let after = course_of c.loop-byte.mon in
     sym (c.loop-byte.invariant.course
     ∙ ap (λ es. all_happened es after) (inputs-end bytes i (omega (arith, c.loop-byte-test.false)))
     ∙ none_left after)
@@ -66,38 +66,38 @@ pub returns-then-not-branch-clause-done : goal.returns-then-not-branch-clause-do
 returns-then-not-branch-clause-done c =
     let bytes = c.args.bytes.now in
     let i = c.loop-byte.byte-index in
-    let before = course_of c.loop-byte.desk in
+    let before = course_of c.loop-byte.mon in
     let rest = inputs (drop (i + 1) bytes) in
     let fails : is_ok (event_of before.0.current (Input (get_or bytes i 0))) ≡ false = grind (arith, common_steps, c.in_ok-happen.ensures.accepted, c.if-not-branch.true) in
-    let so_far : first_fault (inputs bytes) (course_of c.args.desk.now) ≡ first_fault ((Input (get_or bytes i 0)) ∷ rest) before = c.loop-byte.invariant.fault ∙ ap (λ es. first_fault es before) (inputs-from bytes i (omega (arith, c.loop-byte-test.true))) in
-    is_some_fault (inputs bytes) (course_of c.args.desk.now) (Input (get_or bytes i 0)) rest before so_far fails
+    let so_far : first_fault (inputs bytes) (course_of c.args.mon.now) ≡ first_fault ((Input (get_or bytes i 0)) ∷ rest) before = c.loop-byte.invariant.fault ∙ ap (λ es. first_fault es before) (inputs-from bytes i (omega (arith, c.loop-byte-test.true))) in
+    is_some_fault (inputs bytes) (course_of c.args.mon.now) (Input (get_or bytes i 0)) rest before so_far fails
 
 pub returns-then-not-branch-clause-text : goal.returns-then-not-branch-clause-text
 returns-then-not-branch-clause-text c =
     let bytes = c.args.bytes.now in
     let i = c.loop-byte.byte-index in
-    let before = course_of c.loop-byte.desk in
+    let before = course_of c.loop-byte.mon in
     let rest = inputs (drop (i + 1) bytes) in
     let fails : is_ok (event_of before.0.current (Input (get_or bytes i 0))) ≡ false = grind (arith, common_steps, c.in_ok-happen.ensures.accepted, c.if-not-branch.true) in
-    let so_far : first_fault (inputs bytes) (course_of c.args.desk.now) ≡ first_fault ((Input (get_or bytes i 0)) ∷ rest) before = c.loop-byte.invariant.fault ∙ ap (λ es. first_fault es before) (inputs-from bytes i (omega (arith, c.loop-byte-test.true))) in
-    fault_said (inputs bytes) (course_of c.args.desk.now) (Input (get_or bytes i 0)) rest before so_far fails
-    c.args.desk.now.places.names c.loop-byte.desk.places.names c.args.desk.now.text.items
-    c.loop-byte.desk.text.items c.happen.new.self.text.items
+    let so_far : first_fault (inputs bytes) (course_of c.args.mon.now) ≡ first_fault ((Input (get_or bytes i 0)) ∷ rest) before = c.loop-byte.invariant.fault ∙ ap (λ es. first_fault es before) (inputs-from bytes i (omega (arith, c.loop-byte-test.true))) in
+    fault_said (inputs bytes) (course_of c.args.mon.now) (Input (get_or bytes i 0)) rest before so_far fails
+    c.args.mon.now.places.names c.loop-byte.mon.places.names c.args.mon.now.text.items
+    c.loop-byte.mon.text.items c.happen.new.self.text.items
     (λ k. (c.loop-byte.invariant.stops.1 k).names) c.loop-byte.invariant.text c.in_ok-happen.ensures.text
 
 pub returns-clause-done : goal.returns-clause-done
 returns-clause-done c =
     let bytes = c.args.bytes.now in
     let i = c.loop-byte.byte-index in
-    let before = course_of c.loop-byte.desk in
-    is_no_fault (inputs bytes) (course_of c.args.desk.now) before
+    let before = course_of c.loop-byte.mon in
+    is_no_fault (inputs bytes) (course_of c.args.mon.now) before
     (c.loop-byte.invariant.fault ∙ ap (λ es. first_fault es before) (inputs-end bytes i (omega (arith, c.loop-byte-test.false))))
 
 pub returns-clause-text : goal.returns-clause-text
 returns-clause-text c =
     let bytes = c.args.bytes.now in
     let i = c.loop-byte.byte-index in
-    let before = course_of c.loop-byte.desk in
-    nothing_said (inputs bytes) (course_of c.args.desk.now) before
+    let before = course_of c.loop-byte.mon in
+    nothing_said (inputs bytes) (course_of c.args.mon.now) before
     (c.loop-byte.invariant.fault ∙ ap (λ es. first_fault es before) (inputs-end bytes i (omega (arith, c.loop-byte-test.false))))
-    c.args.desk.now.places.names c.args.desk.now.text.items c.loop-byte.desk.text.items c.loop-byte.invariant.text
+    c.args.mon.now.places.names c.args.mon.now.text.items c.loop-byte.mon.text.items c.loop-byte.invariant.text

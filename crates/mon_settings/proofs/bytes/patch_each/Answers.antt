@@ -13,7 +13,7 @@ returns-in_err-happen-clause-course c =
     let a = c.args.address in
     let bytes = c.args.bytes.now in
     let i = c.loop-index.index in
-    let before = course_of c.loop-index.desk in
+    let before = course_of c.loop-index.mon in
     let rest = patches (a + (i + 1)) (drop (i + 1) bytes) in
     c.happen.ensures.course
     ∙ sym (c.loop-index.invariant.course
@@ -25,7 +25,7 @@ returns-then-not-branch-clause-course c =
     let a = c.args.address in
     let bytes = c.args.bytes.now in
     let i = c.loop-index.index in
-    let before = course_of c.loop-index.desk in
+    let before = course_of c.loop-index.mon in
     let rest = patches (a + (i + 1)) (drop (i + 1) bytes) in
     let fails : is_ok (event_of before.0.current (Patch (a + i) (get_or bytes i 0 ∷ 0 ∷ 0 ∷ []) 1)) ≡ false = grind (arith, common_steps, c.in_ok-happen.ensures.accepted, c.if-not-branch.true) in
     c.happen.ensures.course
@@ -38,7 +38,7 @@ loop-index-preserved c =
     let a = c.args.address in
     let bytes = c.args.bytes.now in
     let i = c.loop-index.index in
-    let before = course_of c.loop-index.desk in
+    let before = course_of c.loop-index.mon in
     let rest = patches (a + (i + 1)) (drop (i + 1) bytes) in
     let holds : is_ok (event_of before.0.current (Patch (a + i) (get_or bytes i 0 ∷ 0 ∷ 0 ∷ []) 1)) ≡ true = grind (arith, common_steps, c.in_ok-happen.ensures.accepted, c.if-not-branch.false) in
     record {
@@ -51,8 +51,8 @@ loop-index-preserved c =
           ∙ no_fault (Patch (a + i) (get_or bytes i 0 ∷ 0 ∷ 0 ∷ []) 1) rest before holds
           ∙ ap (first_fault rest) (sym c.happen.ensures.course);
       text = c.in_ok-happen.ensures.text
-          ∙ ap (λ l. c.loop-index.desk.text.items ++ l) (accepted_said c.loop-index.desk.places.names (Patch (a + i) (get_or bytes i 0 ∷ 0 ∷ 0 ∷ []) 1) before [] holds)
-          ∙ append-nil c.loop-index.desk.text.items ∙ c.loop-index.invariant.text;
+          ∙ ap (λ l. c.loop-index.mon.text.items ++ l) (accepted_said c.loop-index.mon.places.names (Patch (a + i) (get_or bytes i 0 ∷ 0 ∷ 0 ∷ []) 1) before [] holds)
+          ∙ append-nil c.loop-index.mon.text.items ∙ c.loop-index.invariant.text;
       stops = (c.happen.ensures.stops.0 ∙ c.loop-index.invariant.stops.0, c.happen.ensures.stops.1 ∙ c.loop-index.invariant.stops.1, c.happen.ensures.stops.2 ∙ c.loop-index.invariant.stops.2);
     }
 
@@ -61,7 +61,7 @@ returns-clause-course c =
     let a = c.args.address in
     let bytes = c.args.bytes.now in
     let i = c.loop-index.index in
-    let after = course_of c.loop-index.desk in
+    let after = course_of c.loop-index.mon in
     sym (c.loop-index.invariant.course
     ∙ ap (λ es. all_happened es after) (patches-end a bytes i (omega (arith, c.loop-index-test.false)))
     ∙ none_left after)
@@ -71,24 +71,24 @@ returns-then-not-branch-clause-done c =
     let a = c.args.address in
     let bytes = c.args.bytes.now in
     let i = c.loop-index.index in
-    let before = course_of c.loop-index.desk in
+    let before = course_of c.loop-index.mon in
     let rest = patches (a + (i + 1)) (drop (i + 1) bytes) in
     let fails : is_ok (event_of before.0.current (Patch (a + i) (get_or bytes i 0 ∷ 0 ∷ 0 ∷ []) 1)) ≡ false = grind (arith, common_steps, c.in_ok-happen.ensures.accepted, c.if-not-branch.true) in
-    let so_far : first_fault (patches a bytes) (course_of c.args.desk.now) ≡ first_fault ((Patch (a + i) (get_or bytes i 0 ∷ 0 ∷ 0 ∷ []) 1) ∷ rest) before = c.loop-index.invariant.fault ∙ ap (λ es. first_fault es before) (patches-from a bytes i (omega (arith, c.loop-index-test.true))) in
-    is_some_fault (patches a bytes) (course_of c.args.desk.now) (Patch (a + i) (get_or bytes i 0 ∷ 0 ∷ 0 ∷ []) 1) rest before so_far fails
+    let so_far : first_fault (patches a bytes) (course_of c.args.mon.now) ≡ first_fault ((Patch (a + i) (get_or bytes i 0 ∷ 0 ∷ 0 ∷ []) 1) ∷ rest) before = c.loop-index.invariant.fault ∙ ap (λ es. first_fault es before) (patches-from a bytes i (omega (arith, c.loop-index-test.true))) in
+    is_some_fault (patches a bytes) (course_of c.args.mon.now) (Patch (a + i) (get_or bytes i 0 ∷ 0 ∷ 0 ∷ []) 1) rest before so_far fails
 
 pub returns-then-not-branch-clause-text : goal.returns-then-not-branch-clause-text
 returns-then-not-branch-clause-text c =
     let a = c.args.address in
     let bytes = c.args.bytes.now in
     let i = c.loop-index.index in
-    let before = course_of c.loop-index.desk in
+    let before = course_of c.loop-index.mon in
     let rest = patches (a + (i + 1)) (drop (i + 1) bytes) in
     let fails : is_ok (event_of before.0.current (Patch (a + i) (get_or bytes i 0 ∷ 0 ∷ 0 ∷ []) 1)) ≡ false = grind (arith, common_steps, c.in_ok-happen.ensures.accepted, c.if-not-branch.true) in
-    let so_far : first_fault (patches a bytes) (course_of c.args.desk.now) ≡ first_fault ((Patch (a + i) (get_or bytes i 0 ∷ 0 ∷ 0 ∷ []) 1) ∷ rest) before = c.loop-index.invariant.fault ∙ ap (λ es. first_fault es before) (patches-from a bytes i (omega (arith, c.loop-index-test.true))) in
-    fault_said (patches a bytes) (course_of c.args.desk.now) (Patch (a + i) (get_or bytes i 0 ∷ 0 ∷ 0 ∷ []) 1) rest before so_far fails
-    c.args.desk.now.places.names c.loop-index.desk.places.names c.args.desk.now.text.items
-    c.loop-index.desk.text.items c.happen.new.self.text.items
+    let so_far : first_fault (patches a bytes) (course_of c.args.mon.now) ≡ first_fault ((Patch (a + i) (get_or bytes i 0 ∷ 0 ∷ 0 ∷ []) 1) ∷ rest) before = c.loop-index.invariant.fault ∙ ap (λ es. first_fault es before) (patches-from a bytes i (omega (arith, c.loop-index-test.true))) in
+    fault_said (patches a bytes) (course_of c.args.mon.now) (Patch (a + i) (get_or bytes i 0 ∷ 0 ∷ 0 ∷ []) 1) rest before so_far fails
+    c.args.mon.now.places.names c.loop-index.mon.places.names c.args.mon.now.text.items
+    c.loop-index.mon.text.items c.happen.new.self.text.items
     (λ k. (c.loop-index.invariant.stops.1 k).names) c.loop-index.invariant.text c.in_ok-happen.ensures.text
 
 pub returns-clause-done : goal.returns-clause-done
@@ -96,8 +96,8 @@ returns-clause-done c =
     let a = c.args.address in
     let bytes = c.args.bytes.now in
     let i = c.loop-index.index in
-    let before = course_of c.loop-index.desk in
-    is_no_fault (patches a bytes) (course_of c.args.desk.now) before
+    let before = course_of c.loop-index.mon in
+    is_no_fault (patches a bytes) (course_of c.args.mon.now) before
     (c.loop-index.invariant.fault ∙ ap (λ es. first_fault es before) (patches-end a bytes i (omega (arith, c.loop-index-test.false))))
 
 pub returns-clause-text : goal.returns-clause-text
@@ -105,7 +105,7 @@ returns-clause-text c =
     let a = c.args.address in
     let bytes = c.args.bytes.now in
     let i = c.loop-index.index in
-    let before = course_of c.loop-index.desk in
-    nothing_said (patches a bytes) (course_of c.args.desk.now) before
+    let before = course_of c.loop-index.mon in
+    nothing_said (patches a bytes) (course_of c.args.mon.now) before
     (c.loop-index.invariant.fault ∙ ap (λ es. first_fault es before) (patches-end a bytes i (omega (arith, c.loop-index-test.false))))
-    c.args.desk.now.places.names c.args.desk.now.text.items c.loop-index.desk.text.items c.loop-index.invariant.text
+    c.args.mon.now.places.names c.args.mon.now.text.items c.loop-index.mon.text.items c.loop-index.invariant.text

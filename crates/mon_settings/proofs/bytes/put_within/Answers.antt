@@ -9,7 +9,7 @@ use Rattle.mon_settings.proofs.bytes.put_within.Goals as goal
 
 pub returns-clause-text : goal.returns-clause-text
 returns-clause-text c =
-    let f = first_fault (patches c.args.address c.args.bytes.now) (course_of c.args.desk.now) in
+    let f = first_fault (patches c.args.address c.args.bytes.now) (course_of c.args.mon.now) in
     let holds : is_none f ≡ true = grind (arith, common_steps, c.in_ok-patch_each.ensures.done, c.if-not-branch.false) in
-    then_all c.say_stored.result c.args.desk.now.places.names f c.args.desk.now.text.items c.patch_each.new.desk.text.items c.say_stored.new.desk.text.items _ _ holds
+    then_all c.say_stored.result c.args.mon.now.places.names f c.args.mon.now.text.items c.patch_each.new.mon.text.items c.say_stored.new.mon.text.items _ _ holds
     c.in_ok-patch_each.ensures.text (λ i. stored_text (c.patch_each.ensures.stops.1 i).names c.args.address (length c.args.bytes.now)) c.say_stored.ensures.text

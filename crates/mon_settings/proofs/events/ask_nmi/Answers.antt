@@ -9,7 +9,7 @@ use Rattle.mon_settings.proofs.events.ask_nmi.Goals as goal
 
 pub returns-then-branch-clause-text : goal.returns-then-branch-clause-text
 returns-then-branch-clause-text c =
-    let before = course_of c.args.desk.now in
+    let before = course_of c.args.mon.now in
     let holds : is_ok (event_of before.0.current (Nmi)) ≡ true = grind (arith, common_steps, c.in_ok-happen.ensures.accepted, c.if-branch.true) in
-    then_said c.say.result c.args.desk.now.places.names (Nmi) before c.args.desk.now.text.items c.happen.new.self.text.items c.say.new.self.text.items _ _ holds
+    then_said c.say.result c.args.mon.now.places.names (Nmi) before c.args.mon.now.text.items c.happen.new.self.text.items c.say.new.self.text.items _ _ holds
     c.in_ok-happen.ensures.text refl c.say.ensures.text

@@ -5,9 +5,9 @@ use Rattle.mon_settings.proofs.watches.unwatch_from.Given as goal
 
 abbrev pub invariant-loop-offset : goal.invariant-loop-offset
 invariant-loop-offset l = record {
-  session : l.desk.session
-      ≡ all_unwatched l.initial.desk.stops.watches.items l.first l.offset l.initial.desk.session;
-  text : l.desk.text ≡ l.initial.desk.text;
-  events : l.desk.events ≡ l.initial.desk.events;
-  stops : KeepsStops l.initial.desk l.desk;
+  session : l.mon.session
+      ≡ all_unwatched l.initial.mon.stops.watches.items l.first l.offset l.initial.mon.session;
+  text : l.mon.text ≡ l.initial.mon.text;
+  events : l.mon.events ≡ l.initial.mon.events;
+  stops : KeepsStops l.initial.mon l.mon;
 }

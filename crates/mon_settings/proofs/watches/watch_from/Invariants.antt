@@ -5,8 +5,8 @@ use Rattle.mon_settings.proofs.watches.watch_from.Given as goal
 
 abbrev pub invariant-loop-offset : goal.invariant-loop-offset
 invariant-loop-offset l = record {
-  watched : all_watched l.first l.offset l.initial.desk.session ≡ (l.desk.session, None);
-  text : l.desk.text ≡ l.initial.desk.text;
-  events : l.desk.events ≡ l.initial.desk.events;
-  stops : KeepsStops l.initial.desk l.desk;
+  watched : all_watched l.first l.offset l.initial.mon.session ≡ (l.mon.session, None);
+  text : l.mon.text ≡ l.initial.mon.text;
+  events : l.mon.events ≡ l.initial.mon.events;
+  stops : KeepsStops l.initial.mon l.mon;
 }

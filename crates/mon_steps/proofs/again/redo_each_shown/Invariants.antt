@@ -6,8 +6,8 @@ use Rattle.mon_steps.proofs.again.redo_each_shown.Given as goal
 
 abbrev pub invariant-loop : goal.invariant-loop
 invariant-loop l = record {
-  course : course_of l.desk ≡ remade l.counter (course_of l.initial.desk);
-  text : l.desk.text.items ≡ l.initial.desk.text.items
-      ++ remade_text l.counter l.initial.desk.places (course_of l.initial.desk);
-  stops : KeepsStops l.initial.desk l.desk;
+  course : course_of l.mon ≡ remade l.counter (course_of l.initial.mon);
+  text : l.mon.text.items ≡ l.initial.mon.text.items
+      ++ remade_text l.counter l.initial.mon.places (course_of l.initial.mon);
+  stops : KeepsStops l.initial.mon l.mon;
 }

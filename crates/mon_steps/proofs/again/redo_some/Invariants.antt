@@ -5,7 +5,7 @@ use Rattle.mon_steps.proofs.again.redo_some.Given as goal
 
 abbrev pub invariant-loop : goal.invariant-loop
 invariant-loop l = record {
-  course : course_of l.desk ≡ remade l.counter (course_of l.initial.desk);
-  text : l.desk.text ≡ l.initial.desk.text;
-  stops : KeepsStops l.initial.desk l.desk;
+  course : course_of l.mon ≡ remade l.counter (course_of l.initial.mon);
+  text : l.mon.text ≡ l.initial.mon.text;
+  stops : KeepsStops l.initial.mon l.mon;
 }

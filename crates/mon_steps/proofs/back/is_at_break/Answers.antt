@@ -10,7 +10,7 @@ unfolding is_at_break
 returns-then-is_break c =
     found _ _ c.loop-index.index _ _ c.loop-index.invariant
     (omega (arith, c.loop-index-test.true, c.break_count-index-end.ensures)) c.is_break.ensures c.if-is_break.true
-    ∙ ap (λ (r : Regs). list_any (nat_eq r.pc) c.args.desk.now.session.breaks) c.regs-pc.ensures
+    ∙ ap (λ (r : Regs). list_any (nat_eq r.pc) c.args.mon.now.session.breaks) c.regs-pc.ensures
 
 pub loop-index-preserved : goal.loop-index-preserved
 loop-index-preserved c =
@@ -22,4 +22,4 @@ unfolding is_at_break
 returns c =
     nowhere _ _ c.loop-index.index _ c.loop-index.invariant
     (omega (arith, c.loop-index-test.false, c.break_count-index-end.ensures))
-    ∙ ap (λ (r : Regs). list_any (nat_eq r.pc) c.args.desk.now.session.breaks) c.regs-pc.ensures
+    ∙ ap (λ (r : Regs). list_any (nat_eq r.pc) c.args.mon.now.session.breaks) c.regs-pc.ensures

@@ -3,5 +3,5 @@ use Rattle.std.specs.List.{list_any}
 use Rattle.mon_steps.proofs.back.is_at_break.Given as goal
 
 abbrev pub invariant-loop-index : goal.invariant-loop-index
-invariant-loop-index l = list_any (nat_eq l.pc) l.desk.session.breaks
-    ≡ list_any (nat_eq l.pc) (drop l.index l.desk.session.breaks)
+invariant-loop-index l = list_any (nat_eq l.pc) l.mon.session.breaks
+    ≡ list_any (nat_eq l.pc) (drop l.index l.mon.session.breaks)

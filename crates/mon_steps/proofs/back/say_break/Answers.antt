@@ -6,6 +6,6 @@ use Rattle.mon_steps.proofs.back.say_break.Goals as goal
 
 pub returns-clause-text : goal.returns-clause-text
 returns-clause-text c =
-    subst (λ (r : Regs). OnOk c.say_place.result (c.say_place.new.desk.text.items
-    ≡ c.args.desk.now.text.items ++ at_break_text c.args.desk.now.places.names r.pc))
+    subst (λ (r : Regs). OnOk c.say_place.result (c.say_place.new.mon.text.items
+    ≡ c.args.mon.now.text.items ++ at_break_text c.args.mon.now.places.names r.pc))
     c.regs-pc.ensures c.say_place.ensures.text

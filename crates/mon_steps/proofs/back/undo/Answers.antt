@@ -5,6 +5,6 @@ use Rattle.mon_steps.proofs.back.undo.Goals as goal
 
 pub returns-then-held-eq0-clause-course : goal.returns-then-held-eq0-clause-course
 returns-then-held-eq0-clause-course c =
-    let before = course_of c.args.desk.now in
+    let before = course_of c.args.mon.now in
     let none : length before.0.earlier ≡ 0 = omega (arith, c.held.ensures.held, c.if-held-eq0.true) in
     (λ i. (c.say.ensures.shows.0 i, c.say.ensures.shows.1 i)) ∙ sym (none_held c.args.undoing before none)

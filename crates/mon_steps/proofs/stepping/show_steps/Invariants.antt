@@ -7,12 +7,12 @@ use Rattle.mon_steps.proofs.stepping.show_steps.Given as goal
 
 abbrev pub invariant-loop : goal.invariant-loop
 invariant-loop l = record {
-  course : HasRun (course_of l.initial.desk) (course_of l.desk);
-  left : stepped l.count (watches_of l.initial.desk) (stand_of l.initial.desk)
-      ≡ stepped (l.count - l.counter) (watches_of l.initial.desk) (stand_of l.desk);
-  text : l.initial.desk.text.items
-      ++ stepped_text l.count (watches_of l.initial.desk) l.initial.desk.places (stand_of l.initial.desk)
-      ≡ l.desk.text.items
-      ++ stepped_text (l.count - l.counter) (watches_of l.initial.desk) l.initial.desk.places (stand_of l.desk);
-  watches : KeepsWatches l.initial.desk l.desk;
+  course : HasRun (course_of l.initial.mon) (course_of l.mon);
+  left : stepped l.count (watches_of l.initial.mon) (stand_of l.initial.mon)
+      ≡ stepped (l.count - l.counter) (watches_of l.initial.mon) (stand_of l.mon);
+  text : l.initial.mon.text.items
+      ++ stepped_text l.count (watches_of l.initial.mon) l.initial.mon.places (stand_of l.initial.mon)
+      ≡ l.mon.text.items
+      ++ stepped_text (l.count - l.counter) (watches_of l.initial.mon) l.initial.mon.places (stand_of l.mon);
+  watches : KeepsWatches l.initial.mon l.mon;
 }

@@ -23,14 +23,14 @@ returns-clause-told c = λ start h.
     let all = c.run-end.ensures in
     let s = c.args.session.now in
     let made = made_one s c.run-end.new.self c.run-end.result all.end all.after c.if-end-eq0.false in
-    one_recorded start s.current c.run-end.new.self.current c.args.records.now.items c.push_step.new.written.items c.is_state.ensures made h
-    (λ earlier stepped told. (c.in_ok-push_step.ensures.tells start s.current [] earlier (c.look_ahead-ahead.ensures (sym h.quiet)) c.is_state.ensures stepped told).0)
+    one_recorded start s.current c.run-end.new.self.current c.args.records.now.items c.push_step.new.written.items made h
+    (λ earlier stepped told. (c.in_ok-push_step.ensures.tells start s.current [] earlier c.look_ahead-ahead.ensures c.is_state.ensures stepped told).0)
 
 pub returns-clause-short : goal.returns-clause-short
-returns-clause-short c = λ quiet.
+returns-clause-short c =
     let all = c.run-end.ensures in
     let s = c.args.session.now in
     let made = made_one s c.run-end.new.self c.run-end.result all.end all.after c.if-end-eq0.false in
     let one = did_one s c.run-end.new.self c.run-end.result all.end all.after c.if-end-eq0.false in
     one_short s.current c.run-end.new.self.current c.args.records.now.items c.push_step.new.written.items c.run-end.result.did c.is_state.ensures made one
-    (c.in_ok-push_step.ensures.ok s.current (c.look_ahead-ahead.ensures (sym quiet)))
+    (c.in_ok-push_step.ensures.ok s.current c.look_ahead-ahead.ensures)

@@ -14,8 +14,8 @@ loop-did-init c =
     let s = c.args.session.now in (
       begins c.args.limit s,
       sym (after_steps-zero step s),
-      λ quiet. subst (λ (l : List ℕ). IsRecorded s.current l s.current) (sym c.requires) (none_recorded s.current quiet),
-      λ quiet. (let none = ap length c.requires in omega (arith, none)),
+      subst (λ (l : List ℕ). IsRecorded s.current l s.current) (sym c.requires) (none_recorded s.current),
+      (let none = ap length c.requires in omega (arith, none)),
     )
 
 pub returns-in_err-end-clause-err : goal.returns-in_err-end-clause-err
@@ -58,10 +58,10 @@ loop-did-preserved c =
     let few = c.in_ok-end.ensures.within in (
       run-goes _ n c.loop-did.did u _ c.loop-did.invariant.0 some on ∙ ap (λ v. later (c.loop-did.did + 1) (run_end n v)) (sym next),
       next ∙ after-one c.loop-did.did s u c.loop-did.invariant.1 on,
-      λ quiet. c.in_ok-end.ensures.told s.current (c.loop-did.invariant.2 quiet),
-      λ quiet. (
-          let more = c.in_ok-end.ensures.short ((c.loop-did.invariant.2 quiet).quiet) in
-          let before = c.loop-did.invariant.3 quiet in
+      c.in_ok-end.ensures.told s.current c.loop-did.invariant.2,
+      (
+          let more = c.in_ok-end.ensures.short in
+          let before = c.loop-did.invariant.3 in
           omega (arith, more, before, few)
           ),
     )

@@ -1,4 +1,4 @@
-use Rattle.std.proofs.Common.{◌≡◌, ◌-◌, ◌*◌, ◌≤◌, false, length}
+use Rattle.std.proofs.Common.{◌≡◌, ◌-◌, ◌*◌, ◌≤◌, length}
 use Rattle.model.specs.Run.{after_steps, run_end}
 use Rattle.page_data.specs.Runs.{IsRecorded}
 use Rattle.mos65_c.proofs.RunsOfOne.{later}
@@ -9,5 +9,5 @@ abbrev pub invariant-loop-did : goal.invariant-loop-did
 invariant-loop-did l =
     (run_end l.limit l.fn.session ≡ later l.did (run_end (l.limit - l.did) l.session))
     × (l.session ≡ after_steps l.did l.fn.session)
-    × (l.fn.session.current.nmi ≡ false → IsRecorded l.fn.session.current l.records.items l.session.current)
-    × (l.fn.session.current.nmi ≡ false → length l.records.items ≤ 26 * l.did)
+    × IsRecorded l.fn.session.current l.records.items l.session.current
+    × (length l.records.items ≤ 26 * l.did)

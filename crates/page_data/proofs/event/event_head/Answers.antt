@@ -6,7 +6,7 @@ use Rattle.page_data.proofs.event.event_head.Goals as goal
 
 pub returns : goal.returns
 unfolding change_told
-returns c = λ event asked later.
+returns c = λ event.
     let memory = c.args.session.now.current.bus.memory in
     let cells = c.args.before.now.cells.items in
     let changed : ℕ × ℕ → ℕ × ℕ = λ x. (x.0, bit_xor x.1 (slice_index memory x.0)) in

@@ -7,16 +7,15 @@ use Rattle.page_data.proofs.start.push_start.Goals as goal
 
 pub returns-clause-ok : goal.returns-clause-ok
 returns-clause-ok c =
-    let s = c.args.session.now.current in
-    on_ok c.push_listed.result _ _ c.push_listed.ensures (λ last irq nmi given.
-    start_pushed s c.args.irq c.args.nmi c.args.given.now c.args.written.now.items c.push_pages.new.written.items c.push_registers.new.written.items c.push_number.new.written.items c.push_lines.new.written.items c.push_number-2.new.written.items c.push_output.new.written.items c.push_listed.new.written.items
-    c.control.result c.taken.result (c.control.ensures ∙ ap (λ b. b.control) c.bus.ensures) (c.taken.ensures ∙ ap (λ b. b.taken) c.bus-2.ensures) irq nmi given
+    on_ok c.push_input.result _ _ c.push_input.ensures (λ last.
+    start_pushed c.args.session.now.current c.args.written.now.items c.push_pages.new.written.items c.push_registers.new.written.items c.push_number.new.written.items c.push_lines.new.written.items c.push_number-2.new.written.items c.push_output.new.written.items c.push_input.new.written.items
+    c.taken.result (c.taken.ensures ∙ ap (λ b. b.taken) c.bus.ensures)
     c.in_ok-push_pages.ensures c.in_ok-push_registers.ensures
     (c.in_ok-push_number.ensures ∙ ap (λ (n : ℕ). c.push_registers.new.written.items ++ number n) c.cycles.ensures)
     c.in_ok-push_lines.ensures c.in_ok-push_number-2.ensures c.in_ok-push_output.ensures last)
 
 pub returns-clause-told : goal.returns-clause-told
-returns-clause-told c = either c.push_listed.result _ (λ rest. start_again c.args.session.now.current rest c.is_state.ensures)
+returns-clause-told c = either c.push_input.result _ (λ rest. start_again c.args.session.now.current rest c.is_state.ensures)
   where
     either : {X E : Type 0} (r : Result X E) (P : Type 0) → P → OnOk r P
     either (Ok x) P h = h

@@ -25,7 +25,6 @@ loop-steps-init g c =
         consumes = refl;
         waits = c.begin-player.ensures.waits;
         over = λ is. cc;
-        quiet = c.requires.quiet;
         runs = subst (λ (k : Known). RunsOn c.args.until c.args.limit s (first_known c.args.written) [] over 0 s k) (sym c.begin-player.ensures.known)
             (runs_none c.args.until c.args.limit s (first_known c.args.written) over);
         steps = subst (λ (k : Known). StepsOn c.args.until c.args.limit s (first_known c.args.written) [] over 0 s k []) (sym c.begin-player.ensures.known)
@@ -106,7 +105,6 @@ loop-steps-preserved g c =
         consumes = inv.3.consumes ∙ ap (λ (x : List ℕ). inv.0 ++ x) turn.consumes ∙ sym (append_assoc inv.0 turn.told left);
         waits = c.in-Ok-None.ensures.waits;
         over = still_over l.player.is_over p.is_over _ _ turn.over inv.3.over;
-        quiet = turn.records.quiet;
         runs = runs_on c.args.until c.args.limit s first inv.0 l.player.is_over l.steps l.session (known l.player) inv.3.runs c.loop-steps-test.true turn.told p.is_over None u (known p) turn.once turn.turn refl off;
         steps = made_on c.args.until c.args.limit s first inv.0 l.player.is_over l.steps l.session (known l.player) inv.2 inv.3.steps c.loop-steps-test.true turn.told p.is_over u (known p) turn.once turn.turn off;
         are = one_record s.current l.session.current u.current turn.told inv.2 inv.1 l.pending.items c.record_turn.new.pending.items inv.3.are inv.3.last turn.records;

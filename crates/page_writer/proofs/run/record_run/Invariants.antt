@@ -12,7 +12,6 @@ invariant-loop-steps g l = (told : List ℕ) × (records : List ℕ) × (done : 
   consumes : l.fn.input ≡ told ++ l.left;
   waits : Waits l.session.current l.player.waiting;
   over : l.player.is_over ≡ true → l.left ≡ [];
-  quiet : l.session.current.nmi ≡ false;
   runs : RunsOn l.fn.until l.fn.limit l.fn.session (first_known l.fn.written) told l.player.is_over l.steps l.session (known l.player);
   steps : StepsOn l.fn.until l.fn.limit l.fn.session (first_known l.fn.written) told l.player.is_over l.steps l.session (known l.player) done;
   are : AreRecords l.fn.session.current done records;

@@ -3,11 +3,7 @@ use Rattle.console.specs.Playing.{begun}
 use Rattle.page_writer.specs.Steps.{steps_of}
 use Rattle.page_writer.proofs.Recording.{whole_data}
 use Rattle.page_writer.proofs.Sending.{all_sent}
-use Rattle.page_writer.proofs.Whole.{none_waits}
 use Rattle.page_writer.proofs.run.write_run.Goals as goal
-
-pub record_run-requires-clause-idle : goal.record_run-requires-clause-idle
-record_run-requires-clause-idle g c = none_waits c.args.session.now.current.bus c.requires.given
 
 pub returns : goal.returns
 returns g c =

@@ -2,7 +2,7 @@ use Rattle.std.proofs.Common.{◌≡◌, ◌∙◌, ◌++◌, ◌<◌, ◌^◌, 
 use Rattle.console.specs.Turns.{known}
 use Rattle.page_data.specs.Format.{bytes_of}
 use Rattle.page_data.specs.Steps.{change_of}
-use Rattle.page_writer.proofs.Turning.{quiet_after, turn_step}
+use Rattle.page_writer.proofs.Turning.{turn_step}
 use Rattle.page_writer.proofs.turn.record_turn.Goals as goal
 
 pub returns-in-Ok-Some-clause-ok : goal.returns-in-Ok-Some-clause-ok
@@ -27,8 +27,7 @@ returns-in-Ok-clause-ok c =
         sound = c.is_state.ensures;
         few = subst (λ (l : List ℕ). length l < 2 ^ 64) given c.read_of-given.ensures.few;
         made = made;
-        quiet = quiet_after turn.0 s.current t.current c.is_state.ensures made c.requires.quiet;
-        pushed = c.in-Ok.ensures.ok s.current (c.look_ahead-ahead.ensures (sym c.requires.quiet))
+        pushed = c.in-Ok.ensures.ok s.current c.look_ahead-ahead.ensures
             ∙ ap (λ (l : List ℕ). c.args.pending.now.items ++ bytes_of (change_of l s.current t.current)) given;
       };
     }

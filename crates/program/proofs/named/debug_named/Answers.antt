@@ -1,5 +1,5 @@
 use Rattle.std.proofs.Common.{refl}
-use Rattle.arguments_core.specs.Views.{debug_view}
+use Rattle.program.specs.Views.{debug_view}
 use Rattle.program.proofs.Transcripts.{runs_debug}
 use Rattle.program.proofs.named.debug_named.Goals as goal
 

@@ -1,8 +1,8 @@
 use Rattle.std.proofs.Common.{◌≡◌, Err, arith, inl, inr, refl, subst}
 use Rattle.arguments.specs.Words.{IsStatusOf}
 use Rattle.arguments.specs.declared.refusal.Refusal.TheVariants.{OutOfMemory}
-use Rattle.arguments_core.specs.Asked.{debug, dis}
-use Rattle.arguments_core.specs.Views.{debug_view}
+use Rattle.program.specs.Asked.{debug, dis}
+use Rattle.program.specs.Views.{debug_view}
 use Rattle.program.proofs.Lines.{told_of_words}
 use Rattle.program.proofs.Transcripts.{one_debug, runs_debug}
 use Rattle.program.proofs.running.program.Goals as goal

@@ -1,7 +1,0 @@
-use Rattle.std.proofs.Common.{◌≡◌, ◌++◌}
-use Rattle.asm_files.specs.Texts.{symbols_text}
-use Rattle.asm_files.proofs.Rows.{names_left}
-use Rattle.asm_files.proofs.names.symbols_text.Given as goal
-
-abbrev pub invariant-loop-index : goal.invariant-loop-index
-invariant-loop-index l = l.out.items ++ names_left l.format l.names l.index ≡ symbols_text l.format l.names

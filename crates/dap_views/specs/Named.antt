@@ -1,0 +1,48 @@
+-- The variable of a scope that a client names, and its value. Source: mos65.
+use Rattle.std.specs.Prelude.{ℕ, Bool, true, false, if◌then◌else◌, List, slice_index, Option, Some, None, Result, Ok, Err}
+use Rattle.dap_messages.specs.declared.request.Scope.{Scope}
+use Rattle.dap_messages.specs.declared.request.Scope.TheVariants as scope
+use Rattle.dap_views.specs.Variables.{bit_text, byte_text, register_text}
+use Rattle.dap_views.specs.declared.named.Variable.{Variable}
+use Rattle.dap_views.specs.declared.named.Variable.TheVariants as variable
+use Rattle.model.specs.State.{State}
+use Rattle.mon_line_parts.specs.Reading.{SeenFlaw}
+use Rattle.mon_lines.specs.Parts.{flag_of, register_of}
+use Rattle.mon_lines.specs.Wholes.{place_in}
+use Rattle.mon_lines.specs.declared.command.Register.{Register}
+use Rattle.opcode_facts.specs.Flag.{has_flag}
+use Rattle.opcode_facts.specs.declared.flag.Flag.{Flag}
+use Rattle.source_map.specs.Names.{Named}
+
+-- The scopes of the registers and of the flags.
+abbrev pub is_of_processor : Scope → Bool
+is_of_processor scope.Registers = true
+is_of_processor scope.Flags = true
+is_of_processor other = false
+
+-- A flag or a register has its own name.
+abbrev pub flag_or_register : Option Flag → Option Register → Option Variable
+flag_or_register (Some flag) register = Some (variable.Flag flag)
+flag_or_register None (Some register) = Some (variable.Register register)
+flag_or_register None None = None
+
+-- A byte has the name of its place.
+abbrev pub at_place : Result ℕ SeenFlaw → Option Variable
+at_place (Ok address) = Some (variable.Byte address)
+at_place (Err why) = None
+
+abbrev pub variable_in : List Named → ℕ → Scope → List ℕ → Option Variable
+variable_in names pc scope name = if is_of_processor scope
+    then flag_or_register (flag_of name) (register_of name)
+    else at_place (place_in names pc name)
+
+-- No scope has no variable.
+abbrev pub variable_named : List Named → ℕ → Option Scope → List ℕ → Option Variable
+variable_named names pc (Some scope) name = variable_in names pc scope name
+variable_named names pc None name = None
+
+-- Its value, as it is shown among the variables of its scope.
+abbrev pub value_shown : State → Variable → List ℕ
+value_shown s (variable.Register register) = register_text s.regs register
+value_shown s (variable.Flag flag) = bit_text (has_flag flag s.regs.flags)
+value_shown s (variable.Byte address) = byte_text (slice_index s.bus.memory address)

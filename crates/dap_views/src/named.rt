@@ -1,0 +1,108 @@
+//! A variable that a client names.
+
+ghost use Rattle.std.specs.Prelude.{◌≡◌, IfOk, MatchResult, None, Some, string_bytes};
+ghost use Rattle.dap_views.specs.Named.{flag_or_register, is_of_processor, value_shown};
+ghost use Rattle.dap_views.specs.Named.{variable_in, variable_named};
+ghost use Rattle.mon_lines.specs.Parts.{flag_of, register_of};
+
+use crate::texts::byte_text;
+use crate::variables::{bit_text, register_text};
+use dap_messages::Scope;
+use mon_line_parts::{Flaw, Topic};
+use mon_lines::{Register, Slip, flag_of, read_place, register_of};
+use mon_session::MonState;
+use opcode_facts::Flag;
+use std::alloc::{AllocError, Global};
+
+/// A variable whose value can be set.
+#[derive(Clone, Copy)]
+pub enum Variable {
+    Register(Register),
+    Flag(Flag),
+    /// The byte at an address.
+    Byte(u16),
+}
+
+/// Returns whether a scope is that of the registers or that of the flags.
+fn is_of_processor(scope: Scope) -> bool
+    ensures { result ≡ is_of_processor scope }
+{
+    match scope {
+        Scope::Registers | Scope::Flags => true,
+        Scope::Symbols | Scope::Stack | Scope::ZeroPage | Scope::Machine => false,
+    }
+}
+
+/// Returns the flag or the register of a name.
+fn flag_or_register(name: &[u8]) -> Result<Variable, Slip<'_>>
+    ensures { MatchResult result
+        (λ variable. flag_or_register (flag_of name.now) (register_of name.now)
+        ≡ Some variable)
+        (λ slip. flag_or_register (flag_of name.now) (register_of name.now) ≡ None) }
+{
+    if let Some(flag) = flag_of(name) {
+        return Ok(Variable::Flag(flag));
+    }
+    match register_of(name) {
+        Some(register) => Ok(Variable::Register(register)),
+        None => Err(Slip {
+            topic: Some(Topic::Set),
+            flaw: Flaw::Unreadable(name),
+        }),
+    }
+}
+
+/// Returns the variable of a scope that has a name. The name of a byte is that of its place.
+fn variable_in<'a>(mon: &MonState, scope: Scope, name: &'a str) -> Result<Variable, Slip<'a>>
+    ensures { MatchResult result
+        (λ variable. variable_in mon.now.places.names mon.now.session.current.regs.pc
+        scope name.now ≡ Some variable)
+        (λ slip. variable_in mon.now.places.names mon.now.session.current.regs.pc
+        scope name.now ≡ None) }
+{
+    let name = name.as_bytes();
+    if is_of_processor(scope) {
+        return flag_or_register(name);
+    }
+    match read_place(name, &mon.places, mon.session.regs().pc) {
+        Ok(address) => Ok(Variable::Byte(address)),
+        Err(flaw) => Err(Slip {
+            topic: Some(Topic::Put),
+            flaw,
+        }),
+    }
+}
+
+/// Returns the variable that has a name of the scope that is named, if one is.
+pub fn variable_named<'a>(
+    mon: &MonState,
+    scope: Option<Scope>,
+    name: &'a str,
+) -> Result<Variable, Slip<'a>>
+    ensures { MatchResult result
+        (λ variable. variable_named mon.now.places.names mon.now.session.current.regs.pc
+        scope name.now ≡ Some variable)
+        (λ slip. variable_named mon.now.places.names mon.now.session.current.regs.pc
+        scope name.now ≡ None) }
+{
+    match scope {
+        Some(scope) => variable_in(mon, scope, name),
+        None => Err(Slip {
+            topic: Some(Topic::Set),
+            flaw: Flaw::Unreadable(name.as_bytes()),
+        }),
+    }
+}
+
+/// Returns the value of a variable, as it is shown among those of its scope.
+pub fn value_shown(alloc: Global, mon: &MonState, variable: Variable) -> Result<String, AllocError>
+    ensures { IfOk result
+        (λ text. string_bytes text ≡ value_shown mon.now.session.current variable) }
+{
+    let regs = mon.session.regs();
+    match variable {
+        Variable::Register(register) => register_text(alloc, regs, register),
+        Variable::Flag(flag) => bit_text(alloc, flag.of(regs.flags)),
+        Variable::Byte(address) => byte_text(alloc, mon.session.peek(address)),
+    }
+}

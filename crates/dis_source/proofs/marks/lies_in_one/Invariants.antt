@@ -1,6 +1,0 @@
-use Rattle.std.proofs.Common.{◌≡◌, drop}
-use Rattle.dis_source.specs.Marks.{lies_in_one}
-use Rattle.dis_source.proofs.marks.lies_in_one.Given as goal
-
-abbrev pub invariant-loop-range : goal.invariant-loop-range
-invariant-loop-range l = lies_in_one (drop l.range-index l.ranges) l.address ≡ lies_in_one l.ranges l.address

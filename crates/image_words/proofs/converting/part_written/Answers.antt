@@ -1,9 +1,0 @@
-use Rattle.std.proofs.Common.{ℕ, Vec, Global}
-use Rattle.image_words.specs.Asked.{convert_view}
-use Rattle.image_words.proofs.Whole.{part_as}
-use Rattle.image_words.proofs.converting.part_written.Goals as goal
-
-pub returns : goal.returns
-returns c =
-    part_as c.written.result (λ (v : Vec ℕ Global). v.items) (convert_view c.args.words.now) c.args.image.now c.in_ok-part.part c.args.low c.args.high c.fill_for-fill.result
-    c.fill_for-fill.ensures c.in_ok-part.ensures c.written.ensures

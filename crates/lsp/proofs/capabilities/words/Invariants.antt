@@ -1,7 +1,0 @@
-use Rattle.std.proofs.Common.{map, take}
-use Rattle.json_values.specs.Values.{word}
-use Rattle.json_values.specs.ValueLists.{HasValues}
-use Rattle.lsp.proofs.capabilities.words.Given as goal
-
-abbrev pub invariant-loop-text : goal.invariant-loop-text
-invariant-loop-text l = HasValues (map (λ s. word s.now) (take l.text-index l.texts)) l.list

@@ -1,6 +1,0 @@
-pub mod Fronts
-pub mod Taking
-pub mod Pieces
-pub mod ReadAgain
-pub mod Stays
-pub mod Sessions

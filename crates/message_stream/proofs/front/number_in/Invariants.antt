@@ -1,6 +1,0 @@
-use Rattle.std.proofs.Common.{◌≡◌, ◌≤◌, drop}
-use Rattle.message_stream.specs.Messages.{most_body, number_from}
-use Rattle.message_stream.proofs.front.number_in.Given as goal
-
-abbrev pub invariant-loop-byte : goal.invariant-loop-byte
-invariant-loop-byte l = (number_from 0 l.bytes ≡ number_from l.number (drop l.byte-index l.bytes)) × (l.number ≤ most_body)

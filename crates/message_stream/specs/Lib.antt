@@ -1,3 +1,0 @@
-pub mod Messages
-pub mod Sessions
-pub mod Taken

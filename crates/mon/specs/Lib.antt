@@ -1,8 +1,0 @@
-pub mod Attended
-pub mod Done
-pub mod Files
-pub mod Greeting
-pub mod Notes
-pub mod Pieces
-pub mod Seats
-pub mod Starts

@@ -1,9 +1,0 @@
-use Rattle.std.proofs.Common.{◌≡◌, drop}
-use Rattle.mon_stops.specs.Stops.{register_change}
-use Rattle.mon_stops.proofs.changes.first_change.Given as goal
-
-abbrev pub invariant-loop-watch : goal.invariant-loop-watch
-invariant-loop-watch l = record {
-  rest : register_change l.watches l.before l.after
-      ≡ register_change (drop l.watch-index l.watches) l.before l.after;
-}

@@ -1,6 +1,0 @@
-use Rattle.t65.specs.Views.{test_view}
-use Rattle.t65.proofs.Facts.{nothing_told}
-use Rattle.t65.proofs.run.run_reported.Goals as goal
-
-pub returns-in-Err-clause-begun : goal.returns-in-Err-clause-begun
-returns-in-Err-clause-begun g c = λ high. nothing_told (test_view c.args.words.now) _

@@ -1,7 +1,0 @@
-use Rattle.std.proofs.Common.{◌≡◌, drop}
-use Rattle.tape_compare.specs.DifferenceRows.{range_end}
-use Rattle.tape_compare.specs.Sides.{side_view}
-use Rattle.tape_compare.proofs.row_text.range_end.Given as goal
-
-abbrev pub invariant-loop-next : goal.invariant-loop-next
-invariant-loop-next l = range_end (side_view l.side) (side_view l.other) l.last (drop l.next-index l.more) ≡ range_end (side_view l.side) (side_view l.other) l.first l.more

@@ -1,9 +1,0 @@
-use Rattle.std.proofs.Common.{◌≡◌, ◌≤◌, is_some, take}
-use Rattle.std.specs.List.{count_by}
-use Rattle.tape_info.proofs.fact_list.count_bytes.Given as goal
-
-abbrev pub invariant-loop-cell : goal.invariant-loop-cell
-invariant-loop-cell l = record {
-  count : l.count ≡ count_by is_some (take l.cell-index l.cells);
-  few : l.count ≤ l.cell-index;
-}

@@ -1,6 +1,0 @@
-use Rattle.std.proofs.Common.{◌≡◌, drop}
-use Rattle.tape_mend.specs.Reported.{place_from, place_in}
-use Rattle.tape_mend.proofs.run.place_in.Given as goal
-
-abbrev pub invariant-loop-place : goal.invariant-loop-place
-invariant-loop-place l = place_from l.left l.is_first l.place (drop l.place l.text) ≡ place_in l.text l.made

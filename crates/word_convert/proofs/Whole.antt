@@ -1,0 +1,104 @@
+-- From what the parts of a conversion say to what the whole does.
+use Rattle.std.proofs.Common.{◌≡◌, ◌≤◌, ◌⊎◌, ℕ, List, Option, Result, Ok, Err, IfOk, IfErr, subst, sym, inl, inr, arith}
+use Rattle.arguments.specs.Files.{EndsWriting}
+use Rattle.arguments.specs.declared.refusal.Refusal.{Refusal}
+use Rattle.arguments.specs.declared.refusal.Refusal.TheVariants.{Words, Map as NoMap, Source, Tape, Session, OutOfMemory, Read, Write, WriteFile}
+use Rattle.image_files.specs.Bytes.{IsImage, IsNoImage}
+use Rattle.image_files.specs.Files.{EndsBytes}
+use Rattle.image_files.specs.declared.refusal.ImageRefusal.{ImageRefusal}
+use Rattle.image_files.specs.declared.refusal.ImageRefusal.TheVariants as why
+use Rattle.image_writer.specs.Window.{IsPart}
+use Rattle.word_convert.specs.Asked.{ConvertAsked}
+use Rattle.word_convert.specs.Converted.{IsConverted, IsNotWritten, IsPartWritten, IsRefused, IsWritten, ReadsAs, fill_for}
+use Rattle.word_convert.specs.Statuses.{EndsConvert, status_of}
+use Rattle.word_convert.specs.declared.fault.ConvertFault.{ConvertFault}
+use Rattle.word_convert.specs.declared.fault.ConvertFault.TheVariants.{Refused, NoByte}
+
+abbrev Cells : Type 0
+Cells = List (Option ℕ)
+
+pub part_as : {X E : Type 0} (r : Result X E) (items : X → List ℕ) (asked : ConvertAsked) (image part : Cells) (low high : ℕ) (fill : Option ℕ) → fill ≡ fill_for asked.to asked.fill
+    → IsPart low high fill image part → IfOk r (λ out. ReadsAs asked.to low high part (items out)) → IfOk r (λ out. IsPartWritten asked image low high (items out))
+part_as (Err e) items asked image part low high fill is p h = tt
+part_as (Ok out) items asked image part low high fill is p h =
+    record { part = part; is_part = subst (λ (f : Option ℕ). IsPart low high f image part) is p; reads = h }
+
+pub converted_as : {X E : Type 0} (r : Result X E) (items : X → List ℕ) (asked : ConvertAsked) (bytes : List ℕ) (image : Cells) → IsImage asked.from bytes image
+    → IfOk r (λ out. IsWritten asked image (items out)) → IfOk r (λ out. IsConverted asked bytes (items out))
+converted_as (Err e) items asked bytes image denotes h = tt
+converted_as (Ok out) items asked bytes image denotes h = record { image = image; denotes = denotes; written = h }
+
+pub refused_as : {X : Type 0} (r : Result X ConvertFault) (asked : ConvertAsked) (bytes : List ℕ) (image : Cells) → IsImage asked.from bytes image
+    → IfErr r (IsNotWritten asked image) → IfErr r (IsRefused asked bytes)
+refused_as (Ok out) asked bytes image denotes h = tt
+refused_as (Err NoByte) asked bytes image denotes h = record { image = image; denotes = denotes; none = h }
+refused_as (Err (Refused why)) asked bytes image denotes h = inl h
+
+-- ---- why a file is not converted
+
+pub bytes_end : (w : ImageRefusal) → EndsBytes w → EndsConvert (Refused w)
+bytes_end (why.NoImage no_image) ends = tt
+bytes_end (why.Refused OutOfMemory) ends = tt
+bytes_end (why.Refused (Read fault)) ends = tt
+bytes_end (why.Refused Words) ends = absurd ends
+bytes_end (why.Refused (NoMap fault)) ends = absurd ends
+bytes_end (why.Refused (Source fault)) ends = absurd ends
+bytes_end (why.Refused (Tape fault)) ends = absurd ends
+bytes_end (why.Refused (Session fault)) ends = absurd ends
+bytes_end (why.Refused Write) ends = absurd ends
+bytes_end (why.Refused (WriteFile fault)) ends = absurd ends
+
+pub writing_ends : (refusal : Refusal) → EndsWriting refusal → EndsConvert (Refused (why.Refused refusal))
+writing_ends OutOfMemory ends = tt
+writing_ends Write ends = tt
+writing_ends (WriteFile fault) ends = tt
+writing_ends Words ends = absurd ends
+writing_ends (NoMap fault) ends = absurd ends
+writing_ends (Source fault) ends = absurd ends
+writing_ends (Tape fault) ends = absurd ends
+writing_ends (Session fault) ends = absurd ends
+writing_ends (Read fault) ends = absurd ends
+
+no_image_ends : (asked : ConvertAsked) (bytes : List ℕ) (w : ImageRefusal) → IsNoImage asked.from bytes w → EndsConvert (Refused w)
+no_image_ends asked bytes (why.NoImage no_image) is = tt
+no_image_ends asked bytes (why.Refused (Tape fault)) is = tt
+no_image_ends asked bytes (why.Refused OutOfMemory) is = tt
+no_image_ends asked bytes (why.Refused (Read fault)) is = tt
+no_image_ends asked bytes (why.Refused Write) is = tt
+no_image_ends asked bytes (why.Refused (WriteFile fault)) is = tt
+no_image_ends asked bytes (why.Refused Words) is = absurd is
+no_image_ends asked bytes (why.Refused (NoMap fault)) is = absurd is
+no_image_ends asked bytes (why.Refused (Source fault)) is = absurd is
+no_image_ends asked bytes (why.Refused (Session fault)) is = absurd is
+
+pub refused_ends : (asked : ConvertAsked) (bytes : List ℕ) (fault : ConvertFault) → IsRefused asked bytes fault → EndsConvert fault
+refused_ends asked bytes NoByte is = tt
+refused_ends asked bytes (Refused w) (inl memory) = subst (λ (x : ImageRefusal). EndsConvert (Refused x)) (sym memory) tt
+refused_ends asked bytes (Refused w) (inr is) = no_image_ends asked bytes w is
+
+-- ---- statuses
+
+abbrev Bounded : ℕ → Type 0
+Bounded status = (1 ≤ status) × (status ≤ 4) × (status ≡ 2 → ⊥)
+
+one : Bounded 1
+one = (omega arith, omega arith, λ e. omega (arith, e))
+
+three : Bounded 3
+three = (omega arith, omega arith, λ e. omega (arith, e))
+
+four : Bounded 4
+four = (omega arith, omega arith, λ e. omega (arith, e))
+
+pub bounded : (fault : ConvertFault) → EndsConvert fault → Bounded (status_of fault)
+bounded NoByte ends = one
+bounded (Refused (why.NoImage no_image)) ends = one
+bounded (Refused (why.Refused (Tape fault))) ends = one
+bounded (Refused (why.Refused OutOfMemory)) ends = three
+bounded (Refused (why.Refused (Read fault))) ends = four
+bounded (Refused (why.Refused Write)) ends = four
+bounded (Refused (why.Refused (WriteFile fault))) ends = four
+bounded (Refused (why.Refused Words)) ends = absurd ends
+bounded (Refused (why.Refused (NoMap fault))) ends = absurd ends
+bounded (Refused (why.Refused (Source fault))) ends = absurd ends
+bounded (Refused (why.Refused (Session fault))) ends = absurd ends

@@ -1,0 +1,122 @@
+//! What the word `convert` does.
+
+ghost use Rattle.std.specs.Prelude.{◌≡◌, ◌≤◌, ◌⊎◌, IfErr, None};
+ghost use Rattle.arguments.specs.Files.{EndsWriting};
+ghost use Rattle.arguments.specs.Words.{AsksForHelp, Fits, Misfits, texts};
+ghost use Rattle.word_convert.specs.Asked.{convert_asked};
+ghost use Rattle.word_convert.specs.CommandLine.{convert};
+ghost use Rattle.word_convert.specs.Statuses.{EndsConvert, status_of};
+
+use crate::converting::converted;
+use crate::fault::ConvertFault;
+use crate::wording::NO_BYTE;
+use crate::words::{ConvertWords, read_convert_words};
+use arguments::{Refusal, refused_words, tell_no_image, write_output};
+use image_files::{ImageRefusal, image_bytes};
+use std::io::Write;
+use std::rt::Files;
+
+/// Writes OUT, unless it is IN under another name.
+///
+/// Errors: `WriteFile` if OUT is IN, or cannot be written; `OutOfMemory` if an allocation fails.
+fn write_out<H: Files + AllocGlobal>(
+    rt: &H,
+    words: &ConvertWords<'_>,
+    bytes: &[u8],
+) -> Result<(), Refusal>
+    ensures { IfErr result EndsWriting }
+{
+    write_output(rt, words.out, &[Some(words.input)], bytes)
+}
+
+/// Converts a file. The error has the file that it is of.
+#[tactic(auto, using(crate::proofs::Whole::bytes_end, crate::proofs::Whole::refused_ends, crate::proofs::Whole::writing_ends))]
+fn done<'a, H: Files + AllocGlobal>(
+    rt: &H,
+    words: &ConvertWords<'a>,
+) -> Result<(), (&'a str, ConvertFault)>
+    ensures { IfErr result (λ fault. EndsConvert fault.1) }
+{
+    let bytes = match image_bytes(rt, words.input) {
+        Ok(bytes) => bytes,
+        Err(why) => return Err((words.input, ConvertFault::Refused(why))),
+    };
+    match converted(rt.alloc(), words, &bytes) {
+        Err(fault) => Err((words.input, fault)),
+        Ok(out) => match write_out(rt, words, &out) {
+            Ok(()) => Ok(()),
+            Err(refusal) => {
+                let why = ImageRefusal::Refused(refusal);
+                Err((words.out, ConvertFault::Refused(why)))
+            }
+        },
+    }
+}
+
+/// Writes why a file is not converted, and returns the exit status, even if that cannot be written.
+fn tell<E: Write>(file: &str, fault: ConvertFault, errors: &mut E) -> u8
+    ensures { result ≡ status_of fault }
+{
+    match fault {
+        ConvertFault::Refused(why) => why.tell(file, errors),
+        ConvertFault::NoByte => {
+            tell_no_image(file, b"", NO_BYTE, None, errors);
+            1
+        }
+    }
+}
+
+/// Writes why a file is not converted, and returns the exit status, which is never that of wrong
+/// words.
+fn ended<E: Write>(file: &str, fault: ConvertFault, errors: &mut E) -> u8
+    requires { EndsConvert fault }
+    ensures least { 1 ≤ result }
+    ensures most { result ≤ 4 }
+    ensures two { result ≡ 2 → ⊥ }
+{
+    tell(file, fault, errors)
+}
+
+/// Converts the file of the words, or says why not, and returns the exit status.
+fn served<H: Files + AllocGlobal, E: Write>(rt: &H, words: &ConvertWords<'_>, errors: &mut E) -> u8
+    ensures status { result ≤ 4 }
+    ensures two { result ≡ 2 → ⊥ }
+    ensures quiet { result ≡ 0 → errors.new ≡ errors.old }
+{
+    match done(rt, words) {
+        Ok(()) => 0,
+        Err((file, fault)) => ended(file, fault, errors),
+    }
+}
+
+/// Does what the words after `convert` ask for, and returns the exit status.
+///
+/// - 0: OUT was written, or the help that is asked for.
+/// - 1: IN is no image, or has no byte to write.
+/// - 2: the words are wrong. 3: memory ran out.
+/// - 4: reading or writing failed, or OUT is IN under another name.
+///
+/// For 1 and above a line on `errors` says why, with the name of the file; that it cannot be
+/// written changes no status.
+pub fn convert<H: Files + AllocGlobal, O: Write, E: Write>(
+    rt: &H,
+    words: &[&str],
+    output: &mut O,
+    errors: &mut E,
+) -> u8
+    ensures status { result ≤ 4 }
+    // Where a file was written nothing is said.
+    ensures quiet { result ≡ 0 → errors.new ≡ errors.old }
+    // Only help that is asked for is written to the output.
+    ensures silent { Fits convert (texts words.entry.now) → output.new ≡ output.old }
+    ensures untouched { 1 ≤ result → result ≤ 3 → output.new ≡ output.old }
+    // 2 means that the words do not fit, or that they ask for nothing.
+    ensures refused { result ≡ 2 → Misfits convert (texts words.entry.now)
+        ⊎ (Fits convert (texts words.entry.now)
+        × (convert_asked (texts words.entry.now) ≡ None)) }
+{
+    match read_convert_words(rt.alloc(), words) {
+        Ok(words) => served(rt, &words, errors),
+        Err(fault) => refused_words(fault, output, errors),
+    }
+}

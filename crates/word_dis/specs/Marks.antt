@@ -1,0 +1,38 @@
+-- What is marked, and the part of an image that is written. Source: mos65.
+use Rattle.std.specs.Prelude.{ℕ, nat_le, nat_lt, ◌&&◌, ◌||◌, Bool, false, is_some, if◌then◌else◌, List, [], ◌∷◌, length, Option, Some, None, slice_set}
+use Rattle.model.specs.Image.{cell_at}
+use Rattle.source_forms.specs.declared.mark.Mark.{Mark}
+use Rattle.source_forms.specs.declared.mark.Mark.TheVariants.{Code, Data, Text, Address, Return}
+use Rattle.word_dis.specs.Asked.{Ranges, SourceAsked}
+
+abbrev pub lies_in : ℕ × ℕ → ℕ → Bool
+lies_in range address = nat_le range.0 address && nat_le address range.1
+
+-- Whether an address lies in one of some ranges.
+abbrev pub lies_in_one : List (ℕ × ℕ) → ℕ → Bool
+lies_in_one [] address = false
+lies_in_one (range ∷ ranges) address = lies_in range address || lies_in_one ranges address
+
+-- Text comes before numbers, these before words of RTS, these before words, and these before code.
+-- With labels the vectors, from $FFFA on, are data.
+abbrev pub mark_of : Bool → Ranges → ℕ → Mark
+mark_of labels ranges address = if lies_in_one ranges.letters address then Text
+    else if lies_in_one ranges.numbers address then Data
+    else if lies_in_one ranges.returns address then Return
+    else if lies_in_one ranges.addresses address then Address
+    else if labels && nat_le 65530 address then Data else Code
+
+-- There are labels where they are asked for, and where words or names are.
+abbrev pub has_labels : SourceAsked → Bool
+has_labels asked = asked.labels || is_some asked.symbols || nat_lt 0 (length asked.ranges.addresses)
+    || nat_lt 0 (length asked.ranges.returns)
+
+-- A cell between two addresses, and nothing elsewhere.
+abbrev pub cell_between : List (Option ℕ) → ℕ → ℕ → ℕ → Option ℕ
+cell_between cells first last address = if nat_le first address && nat_le address last
+    then cell_at cells address else None
+
+-- An image with a cell put at an address, where it is a byte.
+abbrev pub with_cell : List (Option ℕ) → ℕ → Option ℕ → List (Option ℕ)
+with_cell cells address None = cells
+with_cell cells address (Some b) = slice_set cells address (Some b)

@@ -1,0 +1,141 @@
+//! What the words ask for.
+ghost use Rattle.std.specs.Prelude.{◌≡◌, IfErr, IfOk, None, Some, option_map};
+ghost use Rattle.arguments.specs.Words.{Fits, IsRefusalOf, all_values, texts};
+ghost use Rattle.clap.specs.Words.{first_value, found_of};
+ghost use Rattle.word_dis.specs.Asked.{bounds_asked, source_asked};
+ghost use Rattle.word_dis.specs.CommandLine.{dis, words_asked};
+ghost use Rattle.word_dis.specs.Views.{source_view};
+
+use crate::command::dis_source_command;
+use crate::following::{FollowWords, following_asked};
+use crate::ranges::{RangeWords, addresses, all_ranges_asked};
+use arguments::{WordsFault, is_given, matched, profile_asked, wrong_value};
+use clap::ArgMatches;
+use image_files::{fill_asked, form_said};
+use image_reader::Form;
+use model::Profile;
+use std::alloc::{AllocError, Global};
+
+/// What the words of `dis TAPE [LO HI] --source` and its options ask for.
+#[derive(Drop)]
+pub struct SourceWords<'a> {
+    /// The file to read.
+    pub tape: &'a str,
+    /// Its form, if one is said.
+    pub form: Option<Form>,
+    /// The first address to write.
+    pub first: u16,
+    /// The last address to write.
+    pub last: u16,
+    /// The ranges of what is no code.
+    pub ranges: RangeWords,
+    /// Where control comes in.
+    pub following: FollowWords,
+    /// Whether the source has labels.
+    pub labels: bool,
+    /// The file with names for addresses, if there is one.
+    pub symbols: Option<&'a str>,
+    /// The processor whose instructions are written.
+    pub profile: Profile,
+    /// The byte whose runs are left out, if one is said.
+    pub fill: Option<u8>,
+}
+
+/// The addresses that LO and HI ask for, all where neither is there, or `None` where they are
+/// wrong.
+fn bounds_asked(low: Option<&str>, high: Option<&str>) -> Option<(u16, u16)>
+    ensures { result
+        ≡ bounds_asked (option_map (λ w. w.now) low.entry) (option_map (λ w. w.now) high.entry) }
+{
+    match low {
+        None => match high {
+            None => Some((0, 0xffff)),
+            Some(_) => None,
+        },
+        Some(low) => match high {
+            None => None,
+            Some(high) => addresses(low.as_bytes(), high.as_bytes()),
+        },
+    }
+}
+
+/// What the values that were found ask for, or `None` where one is wrong.
+fn source_words<'a>(
+    alloc: Global,
+    matches: &ArgMatches<'a>,
+) -> Result<Option<SourceWords<'a>>, AllocError>
+    ensures { IfOk result (λ r. option_map source_view r
+        ≡ source_asked (first_value (found_of matches.now)) (all_values (found_of matches.now))) }
+{
+    let Some(tape) = matches.get_str("TAPE") else {
+        return Ok(None);
+    };
+    let Some(form) = form_said(matches) else {
+        return Ok(None);
+    };
+    let Some(bounds) = bounds_asked(matches.get_str("LO"), matches.get_str("HI")) else {
+        return Ok(None);
+    };
+    let Some(ranges) = all_ranges_asked(alloc, matches)? else {
+        return Ok(None);
+    };
+    let Some(following) = following_asked(alloc, matches)? else {
+        return Ok(None);
+    };
+    let Some(profile) = profile_asked(matches.get_str("profile")) else {
+        return Ok(None);
+    };
+    let Some(fill) = fill_asked(matches.get_str("fill")) else {
+        return Ok(None);
+    };
+    Ok(Some(SourceWords {
+        tape,
+        form,
+        first: bounds.0,
+        last: bounds.1,
+        ranges,
+        following,
+        labels: is_given(matches, "labels"),
+        symbols: matches.get_str("symbols"),
+        profile,
+        fill,
+    }))
+}
+
+/// Returns a sentence that says which of the values that were found is wrong.
+fn wrong_word(matches: &ArgMatches<'_>) -> &'static str {
+    if bounds_asked(matches.get_str("LO"), matches.get_str("HI")).is_none() {
+        "LO and HI take four hex digits each, the lower first"
+    } else if fill_asked(matches.get_str("fill")).is_none() {
+        "--fill takes two hex digits"
+    } else {
+        let lists = "ranges are 0200-02FF, addresses 0200, routines 0200=z or 0200=12";
+        wrong_value(matches).unwrap_or(lists)
+    }
+}
+
+/// Reads the words after `dis`.
+///
+/// # Errors
+///
+/// - `Help` if they ask for help, and `Usage` if they do not fit the command line, with `clap`'s
+///   text.
+/// - `Wrong`: they fit, and a value is wrong: an address, a range, a routine or a fill byte that is
+///   none, LO without HI, or a first address above the last.
+/// - `OutOfMemory`: an allocation failed.
+pub fn read_source_words<'a>(
+    alloc: Global,
+    words: &'a [&'a str],
+) -> Result<SourceWords<'a>, WordsFault>
+    ensures asked { IfOk result (λ w. words_asked (texts words.entry.now) ≡ Some (source_view w)) }
+    ensures fits { IfOk result (λ w. Fits dis (texts words.entry.now)) }
+    ensures refused { IfErr result
+        (IsRefusalOf dis (texts words.entry.now) (words_asked (texts words.entry.now) ≡ None)) }
+{
+    let matches = matched(dis_source_command(alloc)?, words)?;
+    match source_words(alloc, &matches) {
+        Ok(Some(words)) => Ok(words),
+        Ok(None) => Err(WordsFault::Wrong(wrong_word(&matches))),
+        Err(_) => Err(WordsFault::OutOfMemory),
+    }
+}

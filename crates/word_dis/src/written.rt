@@ -1,0 +1,200 @@
+//! The source that the words ask for.
+
+ghost use Rattle.std.specs.Prelude.{◌≡◌, ◌++◌, IfErr, IfOk, OnOk, false, option_map};
+ghost use Rattle.word_dis.specs.Views.{source_view};
+ghost use Rattle.word_dis.specs.Word.{AreNames, EndsNames, names_map};
+ghost use Rattle.word_dis.specs.Marks.{has_labels};
+ghost use Rattle.word_dis.specs.Views.{following_view};
+ghost use Rattle.word_dis.specs.Written.{AreMarked, AreMarkedBy, IsText, IsWritten, entries};
+ghost use Rattle.word_dis.specs.Written.{is_followed, listed, starts_of};
+ghost use Rattle.reached.specs.Reached.{AreFollowed};
+ghost use Rattle.model.specs.Source.{Denotes};
+ghost use Rattle.model.specs.State.{Map, has_port_byte};
+
+use crate::advice::is_at_port;
+use crate::asked::SourceWords;
+use crate::fill::kept;
+use crate::following::FollowWords;
+use crate::marks::{between, marks_of};
+use arguments::{Refusal, map_of};
+use assembler::{Assembly, assemble};
+use bus::{Image, Port};
+use memory_map::DEFAULT_PORT;
+use model::Profile;
+use named_source::{Mark, flagged_text, labelled_text, named_text};
+use reached::{followed_marks, vectors};
+use std::alloc::{AllocError, Global};
+
+/// Returns what a source with names for addresses defines.
+///
+/// Errors: `Source` with the source's fault, or `OutOfMemory`.
+#[tactic(auto, unfolding(model::specs::State::is_map))]
+pub fn defined(alloc: Global, profile: Profile, source: &[u8]) -> Result<Assembly, Refusal>
+    ensures denoted { IfOk result (λ a. Denotes (names_map profile) source.now a.image) }
+    ensures named { IfOk result (λ a. AreNames profile source.now a.names) }
+    ensures kept { IfOk result (λ a. a.source ≡ source.now) }
+    ensures refused { IfErr result (EndsNames profile source.now) }
+{
+    let map = map_of(profile, None, Port::based(DEFAULT_PORT))?;
+    let names = assemble(alloc, source, &map)?;
+    Ok(names)
+}
+
+/// Whether control is followed.
+fn is_followed(following: &FollowWords) -> bool
+    ensures { result ≡ is_followed (following_view following.now) }
+{
+    following.only.is_some() || following.more.is_some() || following.routines.len() > 0
+}
+
+/// Appends addresses, if there are some.
+fn push_listed(starts: &mut Vec<u16>, more: &Option<Vec<u16>>) -> Result<(), AllocError>
+    ensures { OnOk result (starts.new.items
+        ≡ starts.old.items ++ listed (option_map (λ v. v.items) more.now)) }
+{
+    if let Some(more) = more {
+        starts.extend_from_slice(more.as_slice())?;
+    }
+    Ok(())
+}
+
+/// Appends the vectors, or the addresses in place of them.
+fn push_entries(
+    starts: &mut Vec<u16>,
+    part: &Image,
+    only: &Option<Vec<u16>>,
+) -> Result<(), AllocError>
+    ensures { OnOk result (starts.new.items
+        ≡ starts.old.items ++ entries part.now (option_map (λ v. v.items) only.now)) }
+{
+    match only {
+        None => starts.extend_from_slice(vectors(part).as_slice()),
+        Some(only) => starts.extend_from_slice(only.as_slice()),
+    }
+}
+
+/// Where control comes in.
+fn starts_of(alloc: Global, part: &Image, following: &FollowWords) -> Result<Vec<u16>, AllocError>
+    ensures { IfOk result (λ starts. starts.items
+        ≡ starts_of part.now (following_view following.now)) }
+{
+    let mut starts = Vec::new(alloc);
+    push_entries(&mut starts, part, &following.only)?;
+    push_listed(&mut starts, &following.more)?;
+    Ok(starts)
+}
+
+/// Whether there are labels.
+fn has_labels(words: &SourceWords<'_>) -> bool
+    ensures { result ≡ has_labels (source_view words.now) }
+{
+    words.labels
+        || words.symbols.is_some()
+        || words.ranges.addresses.len() > 0
+        || words.ranges.returns.len() > 0
+}
+
+/// The marks of the ranges.
+fn plain_marks(alloc: Global, words: &SourceWords<'_>) -> Result<Vec<Mark>, AllocError>
+    ensures { IfOk result (λ marks. AreMarked (source_view words.now) marks.items) }
+{
+    marks_of(alloc, has_labels(words), &words.ranges)
+}
+
+/// The marks after control was followed.
+fn followed(
+    alloc: Global,
+    words: &SourceWords<'_>,
+    part: &Image,
+    plain: &[Mark],
+) -> Result<Vec<Mark>, AllocError>
+    ensures { IfOk result (λ marks. AreFollowed words.now.profile part.now plain.now
+        (following_view words.now.following).routines
+        (starts_of part.now (following_view words.now.following)) marks.items) }
+{
+    let starts = starts_of(alloc, part, &words.following)?;
+    let routines = words.following.routines.as_slice();
+    followed_marks(
+        alloc,
+        words.profile,
+        part,
+        plain,
+        routines,
+        starts.as_slice(),
+    )
+}
+
+/// The marks that the words ask for.
+#[tactic(auto, using(crate::proofs::Parts::unfollowed, crate::proofs::Parts::followed))]
+fn marked(alloc: Global, words: &SourceWords<'_>, part: &Image) -> Result<Vec<Mark>, AllocError>
+    ensures { IfOk result (λ marks. AreMarkedBy (source_view words.now) part.now marks.items) }
+{
+    let plain = plain_marks(alloc, words)?;
+    if is_followed(&words.following) {
+        followed(alloc, words, part, plain.as_slice())
+    } else {
+        Ok(plain)
+    }
+}
+
+/// The source of an image with the marks and the names that are given.
+fn source_of(
+    alloc: Global,
+    words: &SourceWords<'_>,
+    image: &Image,
+    marks: &[Mark],
+    names: Option<&Assembly>,
+) -> Result<Vec<u8>, AllocError>
+    ensures says { IfOk result (λ text. IsText (source_view words.now) image.now marks.now
+        (option_map (λ a. a.now.names) names.entry) text.items) }
+    ensures denotes { IfOk result (λ text. (bus_map : Map) → bus_map.profile ≡ words.now.profile
+        → has_port_byte bus_map image.now ≡ false → Denotes bus_map text.items image.now) }
+{
+    match names {
+        Some(names) => named_text(alloc, words.profile, image, marks, names),
+        None => {
+            if has_labels(words) {
+                labelled_text(alloc, words.profile, image, marks)
+            } else {
+                flagged_text(alloc, words.profile, image, marks, &[])
+            }
+        }
+    }
+}
+
+/// What is written, and what `asm` has to be told of it.
+#[derive(Drop)]
+pub struct SourceText {
+    /// The source.
+    pub text: Vec<u8>,
+    /// Whether the image has bytes at the port.
+    pub at_port: bool,
+    /// How many bytes of the image are left out as fill.
+    pub left_out: usize,
+}
+
+/// Returns the source of what an image has between the addresses of the words, as the words ask for
+/// it: whatever they mark and name, it denotes exactly this, without the runs of the fill byte of
+/// the words. These are left out first, so control is followed to where they begin. With it comes
+/// whether this has bytes at the port, and how many bytes are left out. The only error is that a
+/// request for memory was refused.
+pub fn written(
+    alloc: Global,
+    words: &SourceWords<'_>,
+    image: &Image,
+    names: Option<&Assembly>,
+) -> Result<SourceText, AllocError>
+    ensures { IfOk result (λ w. IsWritten (source_view words.now) image.now
+        (option_map (λ a. a.now.names) names.entry) w.text.items w.at_port w.left_out) }
+{
+    let whole = between(alloc, image, words.first, words.last)?;
+    let kept_part = kept(alloc, whole, words.fill)?;
+    let part = &kept_part.part;
+    let marks = marked(alloc, words, part)?;
+    let text = source_of(alloc, words, part, marks.as_slice(), names)?;
+    Ok(SourceText {
+        text,
+        at_port: is_at_port(part),
+        left_out: kept_part.left_out,
+    })
+}

@@ -1,0 +1,124 @@
+-- What `info` says of a tape. Source: mos65. No clause can say which tape a file has.
+use Rattle.std.specs.Prelude.{◌≡◌, ◌⊎◌, ℕ, Bool, true, false, List, [], ◌++◌, Option, None, Some, Result, Ok, codes}
+use Rattle.dump_faults.specs.Faults.{stuck_lines}
+use Rattle.dump_faults.specs.Regions.{regions_of}
+use Rattle.image_files.specs.Bytes.{IsImage, IsNoImage, form_by}
+use Rattle.image_files.specs.FreeBase.{IsFreeBase}
+use Rattle.image_files.specs.declared.refusal.ImageRefusal.TheVariants as why
+use Rattle.image_files.specs.declared.refusal.NoImage.{NoImage}
+use Rattle.image_reader.specs.EndRecords.{as_read, has_count_twice}
+use Rattle.image_reader.specs.declared.form.Form.{Form}
+use Rattle.image_reader.specs.declared.form.Form.TheVariants.{Tape, Text}
+use Rattle.image_files.specs.declared.form.OtherText.{OtherText}
+use Rattle.model.specs.State.{memory_of}
+use Rattle.model.specs.Tape.{FirstFault, TapeDenotes}
+use Rattle.model.specs.declared.instruction.Profile.{Profile}
+use Rattle.model.specs.declared.tape.TapeFault.{TapeFault}
+use Rattle.word_mend.specs.Mending.{IsMendedText, mended_text}
+use Rattle.tape_words.specs.Asked.{InfoAsked}
+use Rattle.tape_words.specs.Meanings.{fault_line}
+use Rattle.tape_words.specs.declared.wording.TheConstants.{COUNT_TWICE}
+use Rattle.word_info.specs.Facts.{bytes_among, checksums_of, data_records, largest_gap, ranges_of, vector_at}
+use Rattle.word_info.specs.Overlaps.{AreTextOverlaps, overlaps_of}
+use Rattle.word_info.specs.Rows.{no_image_text, rows_of}
+use Rattle.word_info.specs.declared.fact_list.Facts.{Facts}
+use Rattle.word_info.specs.declared.ranges.Range.{Range}
+use Rattle.word_info.specs.declared.wording.TheConstants.{MEND_MENDS_IT, MENDED_FOR_DEBUG}
+
+-- The facts of an image, with those of a map's port.
+pub record AreFacts (image : List (Option ℕ)) (port : ℕ) (f : Facts) : Type 0 where
+  pub ranges : f.ranges.items ≡ ranges_of image
+  pub checksums : f.checksums.items ≡ checksums_of (memory_of image) (ranges_of image)
+  pub regions : f.regions.items ≡ regions_of image
+  pub lines : f.lines.items ≡ stuck_lines image
+  pub bytes : f.bytes ≡ bytes_among image 0 65536
+  pub gap : f.gap ≡ largest_gap (ranges_of image)
+  pub page_0 : f.in_page_0 ≡ bytes_among image 0 256
+  pub page_1 : f.in_page_1 ≡ bytes_among image 256 256
+  pub port_bytes : f.at_port ≡ bytes_among image port 4
+  pub free : IsFreeBase None image f.free_base
+  pub nmi : f.nmi ≡ vector_at image 65530
+  pub reset : f.reset ≡ vector_at image 65532
+  pub irq : f.irq ≡ vector_at image 65534
+
+-- The rows of an image's facts, for a profile and a port.
+pub record AreRows (profile : Profile) (image : List (Option ℕ)) (port : ℕ) (records : Option ℕ)
+    (overlaps : List Range) (said : List ℕ) : Type 0 where
+  pub facts : Facts
+  pub are : AreFacts image port facts
+  pub rows : said ≡ rows_of profile image port facts records overlaps
+
+abbrev pub is_tape : Result Form OtherText → Bool
+is_tape (Ok Tape) = true
+is_tape told = false
+
+-- How many data records some bytes have, where they are a tape.
+abbrev pub records_in : Result Form OtherText → List ℕ → Option ℕ
+records_in (Ok Tape) bytes = Some (data_records (as_read bytes))
+records_in told bytes = None
+
+-- Where records overlap: the ranges of the addresses at which more than one of them puts a byte. An
+-- image in a form without records has no such ranges.
+abbrev pub AreOverlaps : Result Form OtherText → List ℕ → List Range → Type 0
+AreOverlaps (Ok Tape) bytes overlaps = (cells : List (Option ℕ))
+    → (tape : TapeDenotes (as_read bytes) cells) → overlaps ≡ overlaps_of tape.pieces
+AreOverlaps (Ok (Text form)) bytes overlaps = AreTextOverlaps form bytes overlaps
+AreOverlaps told bytes overlaps = overlaps ≡ []
+
+-- `mend` makes a right tape of a text.
+abbrev pub IsMendable : List ℕ → Type 0
+IsMendable text = (out : List ℕ) × (image : List (Option ℕ)) × (fault : Option TapeFault)
+    × IsMendedText text out fault × TapeDenotes out image
+
+-- The mended text still has a fault.
+abbrev pub IsBeyondMending : List ℕ → Type 0
+IsBeyondMending text = (fault : TapeFault) × FirstFault (mended_text text) fault.kind fault.offset
+
+-- Whether `mend` mends a text: words that say so, or nothing.
+abbrev pub IsHint : List ℕ → List ℕ → List ℕ → Type 0
+IsHint words text hint = ((hint ≡ words) × IsMendable text)
+    ⊎ ((hint ≡ []) × IsBeyondMending text)
+
+-- Whether some bytes are a tape whose end record has the number of records in place of its sum.
+abbrev pub is_count_twice : Result Form OtherText → List ℕ → Bool
+is_count_twice (Ok Tape) bytes = has_count_twice bytes
+is_count_twice told bytes = false
+
+-- What is said last of an image: of such a tape that, and whether `mend` mends it.
+abbrev pub IsEndText : Bool → List ℕ → List ℕ → Type 0
+IsEndText false bytes end = end ≡ []
+IsEndText true bytes end = (hint : List ℕ) × IsHint MENDED_FOR_DEBUG.now bytes hint
+    × (end ≡ COUNT_TWICE.now ++ (codes "\n" ++ hint))
+
+-- What is said of an image that some bytes denote.
+pub record IsRightImage (asked : InfoAsked) (said : List ℕ) : Type 0 where
+  pub bytes : List ℕ
+  pub image : List (Option ℕ)
+  pub denotes : IsImage asked.form bytes image
+  pub overlaps : List Range
+  pub written : AreOverlaps (form_by asked.form bytes) bytes overlaps
+  pub front : List ℕ
+  pub rows : AreRows asked.profile image asked.port
+      (records_in (form_by asked.form bytes) bytes) overlaps front
+  pub end : List ℕ
+  pub ends : IsEndText (is_count_twice (form_by asked.form bytes) bytes) bytes end
+  pub told : said ≡ front ++ end
+
+-- The line that says a tape's fault, and whether `mend` mends the tape.
+abbrev pub IsFaultText : List ℕ → List ℕ → TapeFault → List ℕ → Type 0
+IsFaultText file text fault said = (hint : List ℕ) × IsHint MEND_MENDS_IT.now text hint
+    × (said ≡ fault_line file text fault ++ hint)
+
+-- What is said of some tape with a fault: its first one.
+pub record IsWrongTape (asked : InfoAsked) (said : List ℕ) : Type 0 where
+  pub text : List ℕ
+  pub fault : TapeFault
+  pub first : FirstFault (as_read text) fault.kind fault.offset
+  pub told : IsFaultText asked.tape text fault said
+
+-- What is said of bytes that denote no image in another form, or that tell none.
+pub record IsOther (asked : InfoAsked) (said : List ℕ) : Type 0 where
+  pub bytes : List ℕ
+  pub no_image : NoImage
+  pub is : IsNoImage asked.form bytes (why.NoImage no_image)
+  pub told : said ≡ no_image_text asked.tape no_image

@@ -1,0 +1,116 @@
+-- What is answered to requests. Source: Language Server Protocol 3.17; JSON-RPC 2.0.
+use Rattle.std.specs.Prelude.{◌≡◌, ◌⊎◌, ℕ, Bool, true, false, List}
+use Rattle.word_lsp.specs.Capabilities.{capabilities}
+use Rattle.word_lsp.specs.Shown.{colours_in, folds_in, hints_in, signatures_in}
+use Rattle.word_lsp.specs.State.{Opened, State, source_in}
+use Rattle.word_lsp.specs.declared.phase.Phase.{Phase}
+use Rattle.word_lsp.specs.declared.phase.Phase.TheVariants.{Fresh, Running, ShutDown}
+use Rattle.lsp_answers.specs.Lists.{completion_of, symbols_of}
+use Rattle.lsp_answers.specs.Meanings.{meaning_of}
+use Rattle.lsp_answers.specs.Names.{definition_at, highlights_at, references_at}
+use Rattle.lsp_answers.specs.Renames.{IsKeptAt, IsReadyAt, IsRenameAt}
+use Rattle.lsp_answers.specs.Texts.{TextView, name_at, text_of}
+use Rattle.lsp_hints.specs.Fixes.{AreFixes}
+use Rattle.lsp_messages.specs.Requests.{RequestView, initialize, shutdown, asks, prepares, renames, invalid, unknown}
+use Rattle.lsp_messages.specs.declared.asked.At.{At}
+use Rattle.lsp_messages.specs.declared.asked.At.TheVariants as positions
+use Rattle.lsp_messages.specs.declared.asked.Question.{Question}
+use Rattle.lsp_messages.specs.declared.asked.Question.TheVariants as questions
+use Rattle.lsp_messages.specs.declared.asked.Whole.{Whole}
+use Rattle.lsp_messages.specs.declared.asked.Whole.TheVariants as documents
+use Rattle.lsp_messages.specs.declared.asked.Within.{Within}
+use Rattle.lsp_messages.specs.declared.asked.Within.TheVariants as ranges
+use Rattle.lsp_messages.specs.Replies.{failure_data, result_data}
+use Rattle.lsp_messages.specs.declared.replies.Failure.{Failure}
+use Rattle.lsp_messages.specs.declared.replies.Failure.TheVariants as failures
+use Rattle.model.specs.State.{Map}
+use Rattle.serde_json.specs.Data.{Data, null}
+
+-- A request fails, with some words.
+abbrev pub IsFailure : Data → Failure → Data → Type 0
+IsFailure id failure v = (words : List ℕ) × (v ≡ failure_data id failure words)
+
+-- The answer's result is such.
+abbrev pub IsResult : Data → (Data → Type 0) → Data → Type 0
+IsResult id Such v = (given : Data) × Such given × (v ≡ result_data id given)
+
+-- The text of a document: what is answered of it.
+abbrev pub text_on : Map → List Opened → List ℕ → TextView
+text_on bus_map ds uri = text_of bus_map.profile (source_in ds uri)
+
+-- ---- the results of questions about a document with this name and this text
+
+abbrev pub of_document : TextView → Whole → Data
+of_document t documents.Symbols = symbols_of t
+of_document t documents.Completion = completion_of t
+of_document t documents.Colours = colours_in t
+of_document t documents.Folds = folds_in t
+
+abbrev pub IsOfPosition : List ℕ → TextView → ℕ → ℕ → At → Data → Type 0
+IsOfPosition uri t line character positions.Hover given = given ≡ meaning_of t line character
+IsOfPosition uri t line character positions.Definition given
+    = given ≡ definition_at uri t line character
+IsOfPosition uri t line character (positions.References declares) given
+    = given ≡ references_at uri t line character declares
+IsOfPosition uri t line character positions.Highlights given
+    = given ≡ highlights_at t line character
+IsOfPosition uri t line character positions.Signatures given
+    = given ≡ signatures_in t line character
+
+abbrev pub IsOfLines : Map → List ℕ → TextView → ℕ × ℕ → Within → Data → Type 0
+IsOfLines bus_map uri t lines ranges.Hints given = given ≡ hints_in t lines
+IsOfLines bus_map uri t lines ranges.Fixes given = AreFixes bus_map uri t lines given
+
+abbrev pub IsAnswerTo : Map → List ℕ → TextView → Question → Data → Type 0
+IsAnswerTo bus_map uri t (questions.Whole what) given = given ≡ of_document t what
+IsAnswerTo bus_map uri t (questions.At what line character) given
+    = IsOfPosition uri t line character what given
+IsAnswerTo bus_map uri t (questions.Within what from to) given
+    = IsOfLines bus_map uri t (from, to) what given
+
+-- ---- the answers to requests
+
+-- The name at a position, which may get another one, or why it may not.
+abbrev pub IsPrepared : Map → TextView → ℕ → ℕ → Data → Data → Type 0
+IsPrepared bus_map t line character id v =
+    IsResult id (IsReadyAt bus_map t (name_at t line character)) v
+    ⊎ (((name : List ℕ) → IsKeptAt bus_map t (name_at t line character) name)
+    × IsFailure id failures.Refused v)
+
+-- The changes of a rename of the name at a position, or why there are none.
+abbrev pub IsRenamed : Map → List ℕ → TextView → ℕ → ℕ → List ℕ → Data → Data → Type 0
+IsRenamed bus_map uri t line character name id v =
+    IsResult id (IsRenameAt bus_map uri t (name_at t line character) name) v
+    ⊎ (IsKeptAt bus_map t (name_at t line character) name × IsFailure id failures.Refused v)
+
+-- The answer of a server that is in use.
+abbrev pub IsRunning : Map → List Opened → Data → RequestView → Data → Type 0
+IsRunning bus_map ds id (asks uri question) v
+    = IsResult id (IsAnswerTo bus_map uri (text_on bus_map ds uri) question) v
+IsRunning bus_map ds id (prepares uri line character) v
+    = IsPrepared bus_map (text_on bus_map ds uri) line character id v
+IsRunning bus_map ds id (renames uri line character name) v
+    = IsRenamed bus_map uri (text_on bus_map ds uri) line character name id v
+IsRunning bus_map ds id shutdown v = v ≡ result_data id null
+IsRunning bus_map ds id invalid v = IsFailure id failures.WrongParameters v
+IsRunning bus_map ds id unknown v = IsFailure id failures.UnknownMethod v
+IsRunning bus_map ds id request v = IsFailure id failures.NoRequest v
+
+abbrev pub is_initialize : RequestView → Bool
+is_initialize (initialize client) = true
+is_initialize request = false
+
+-- The answer of a server of which nothing was asked: `initialize` comes first.
+abbrev pub IsFresh : Data → RequestView → Data → Type 0
+IsFresh id (initialize client) v = v ≡ result_data id (capabilities client)
+IsFresh id request v = IsFailure id failures.NotInitialized v
+
+-- The answer in each phase. After `shutdown` each request fails.
+abbrev pub IsReplyIn : Map → Phase → List Opened → Data → RequestView → Data → Type 0
+IsReplyIn bus_map Fresh ds id request v = IsFresh id request v
+IsReplyIn bus_map Running ds id request v = IsRunning bus_map ds id request v
+IsReplyIn bus_map ShutDown ds id request v = IsFailure id failures.NoRequest v
+
+-- The answer to a request.
+abbrev pub IsReply : Map → State → Data → RequestView → Data → Type 0
+IsReply bus_map s id request v = IsReplyIn bus_map s.phase s.documents id request v

@@ -1,0 +1,33 @@
+//! How far a client has come.
+
+ghost use Rattle.std.specs.Prelude.{◌≡◌};
+ghost use Rattle.word_lsp.specs.Messages.{phase_after};
+ghost use Rattle.lsp_messages.specs.Views.{request_view};
+
+use lsp_messages::Request;
+
+/// How far a client has come.
+#[derive(Clone, Copy)]
+pub enum Phase {
+    /// Nothing was asked for yet.
+    Fresh,
+    /// The server is in use.
+    Running,
+    /// `shutdown` was asked for.
+    ShutDown,
+}
+
+impl Phase {
+    /// Returns how far a client has come after a request.
+    pub fn after(self, request: Request<'_>) -> Phase
+        ensures { result ≡ phase_after self (request_view request.entry) }
+    {
+        match self {
+            Phase::Fresh if matches!(request, Request::Initialize { .. }) => Phase::Running,
+            Phase::Fresh => Phase::Fresh,
+            Phase::Running if matches!(request, Request::Shutdown) => Phase::ShutDown,
+            Phase::Running => Phase::Running,
+            Phase::ShutDown => Phase::ShutDown,
+        }
+    }
+}

@@ -1,0 +1,243 @@
+//! What the server does with a message.
+
+ghost use Rattle.std.specs.Prelude.{◌≡◌, ◌∷◌, [], IfOk, IsErr, MatchResult, OnOk, is_some};
+ghost use Rattle.std.specs.Prelude.{map as each};
+ghost use Rattle.std.specs.Option.{option_map};
+ghost use Rattle.word_lsp.specs.Messages.{AreAnswers, AreRefused, AreToldIn, AreToldOf, end_of};
+ghost use Rattle.word_lsp.specs.Messages.{IsUnknown, changed_by, documents_in, is_answer};
+ghost use Rattle.word_lsp.specs.Messages.{published, state_after};
+ghost use Rattle.word_lsp.specs.State.{documents_view, server_view, start};
+ghost use Rattle.lsp_messages.specs.TextChanges.{text_view};
+ghost use Rattle.lsp_messages.specs.Views.{request_view};
+ghost use Rattle.serde_json.specs.Find.{get};
+ghost use Rattle.serde_json.specs.View.{items_view, view};
+
+use crate::answers::{failed, reply};
+use crate::documents::Documents;
+use crate::phase::Phase;
+use bus::MapSpec;
+use clean_source::clean_source;
+use json_messages::ValueList;
+use lsp_answers::{Text, published};
+use lsp_messages::{Failure, Request, changed_text, mark, marks, notice, range, read_request};
+use serde_json::Value;
+use std::alloc::{AllocError, Global};
+
+/// A server: how far its client has come, and the documents that are open.
+#[derive(Drop)]
+pub struct Server {
+    pub phase: Phase,
+    pub documents: Documents,
+}
+
+impl Server {
+    /// Makes a server of which nothing was asked yet.
+    pub fn new(alloc: Global) -> Server
+        ensures { server_view result ≡ start }
+    {
+        Server {
+            phase: Phase::Fresh,
+            documents: Documents {
+                all: Vec::new(alloc),
+            },
+        }
+    }
+}
+
+/// Returns one answer, if memory did not run out for it.
+fn one(alloc: Global, reply: Result<Value, AllocError>) -> Result<Vec<Value>, AllocError>
+    ensures { MatchResult reply (λ v. IfOk result (λ vs. each view vs.items ≡ view v ∷ []))
+        (λ e. IsErr result) }
+{
+    let Ok(reply) = reply else {
+        return Err(AllocError);
+    };
+    let mut replies = Vec::new(alloc);
+    replies.push(reply)?;
+    Ok(replies)
+}
+
+/// Returns the notice of some marks, if memory did not run out for them.
+fn told_marks(alloc: Global, marks: Result<Value, AllocError>) -> Result<Vec<Value>, AllocError>
+    ensures { MatchResult marks
+        (λ v. IfOk result (λ vs. each view vs.items ≡ published (view v) ∷ []))
+        (λ e. IsErr result) }
+{
+    match marks {
+        Ok(marks) => one(
+            alloc,
+            notice(alloc, "textDocument/publishDiagnostics", marks),
+        ),
+        Err(error) => Err(error),
+    }
+}
+
+/// What is said of a document whose text is not known.
+const NOT_KNOWN: &str =
+    "the text is not known here, since a change of it could not be made; close the \
+    file and open it again";
+
+/// Returns the marks of a document whose text is not known.
+fn unknown_marks(alloc: Global, uri: &str) -> Result<Value, AllocError>
+    ensures { IfOk result (λ v. IsUnknown uri.now (view v)) }
+{
+    let words = String::from_str(alloc, NOT_KNOWN);
+    let one = mark(alloc, 1, "UnknownText", words, range(alloc, 0, 0, 0));
+    marks(alloc, uri, ValueList::new(alloc).with(one).build())
+}
+
+/// Returns the marks of a document, by its text if that is known, as what is told. The only error
+/// is that a request for memory was refused.
+fn told_text(
+    alloc: Global,
+    map: &MapSpec,
+    uri: &str,
+    text: &Option<Vec<u8>>,
+) -> Result<Vec<Value>, AllocError>
+    ensures { IfOk result (λ vs. AreToldOf map.now uri.now (text_view text.now)
+        (each view vs.items)) }
+{
+    let Some(text) = text else {
+        return told_marks(alloc, unknown_marks(alloc, uri));
+    };
+    let Ok(source) = clean_source(alloc, text) else {
+        return Err(AllocError);
+    };
+    let Ok(text) = Text::read(alloc, map.profile(), &source) else {
+        return Err(AllocError);
+    };
+    told_marks(alloc, published(alloc, map, uri, &text))
+}
+
+/// Returns the text of a document after changes, if it is known then.
+fn changed_by(
+    alloc: Global,
+    documents: &Documents,
+    uri: &str,
+    changes: Option<&[Value]>,
+) -> Result<Option<Vec<u8>>, AllocError>
+    ensures { IfOk result (λ text. text_view text ≡ changed_by (documents_view documents.now) uri.now
+        (option_map (λ vs. items_view vs.now) changes.entry)) }
+{
+    match changes {
+        Some(changes) => changed_text(alloc, documents.text_of(uri), changes),
+        None => Ok(None),
+    }
+}
+
+/// Does what a notice asks for in a phase, and returns what is told then. The only error is that a
+/// request for memory was refused.
+fn note(
+    alloc: Global,
+    map: &MapSpec,
+    phase: Phase,
+    documents: &mut Documents,
+    request: Request<'_>,
+) -> Result<Vec<Value>, AllocError>
+    ensures documents { OnOk result (documents_view documents.new
+        ≡ documents_in phase (documents_view documents.old) (request_view request.entry)) }
+    ensures told { IfOk result
+        (λ vs. AreToldIn map.now phase (documents_view documents.old) (request_view request.entry)
+        (each view vs.items)) }
+{
+    match phase {
+        Phase::Running => {}
+        Phase::Fresh | Phase::ShutDown => return Ok(Vec::new(alloc)),
+    }
+    match request {
+        Request::Open { uri, text } => {
+            let text = Some(Vec::from_slice(alloc, text.as_bytes())?);
+            let told = told_text(alloc, map, uri, &text)?;
+            documents.put(alloc, uri, text)?;
+            Ok(told)
+        }
+        Request::Change { uri, changes } => {
+            let text = changed_by(alloc, documents, uri, changes)?;
+            let told = told_text(alloc, map, uri, &text)?;
+            documents.put(alloc, uri, text)?;
+            Ok(told)
+        }
+        Request::Close { uri } => {
+            documents.close(uri);
+            told_marks(alloc, marks(alloc, uri, ValueList::new(alloc).build()))
+        }
+        _ => Ok(Vec::new(alloc)),
+    }
+}
+
+/// Returns the answer to what is no request, no notice and no answer.
+pub fn refused(alloc: Global, failure: Failure) -> Result<Vec<Value>, AllocError>
+    ensures { IfOk result (λ vs. AreRefused failure (each view vs.items)) }
+{
+    one(alloc, failed(alloc, &Value::Null, failure))
+}
+
+/// Returns whether a message has something of a name.
+fn has(message: &Value, name: &str) -> bool
+    ensures { result ≡ is_some (get name.now (view message.now)) }
+{
+    match message.get(name) {
+        Some(_) => true,
+        None => false,
+    }
+}
+
+/// Returns whether a message is an answer, which is not answered.
+fn is_answer(message: &Value) -> bool
+    ensures { result ≡ is_answer (view message.now) }
+{
+    !has(message, "method") && (has(message, "result") || has(message, "error"))
+}
+
+/// Does what a message asks for, and returns what is to be told then: one answer to a request, and
+/// the marks of a document after its text was told. The only error is that a request for memory was
+/// refused.
+pub fn serve(
+    alloc: Global,
+    map: &MapSpec,
+    server: &mut Server,
+    message: &Value,
+) -> Result<Vec<Value>, AllocError>
+    ensures state { OnOk result
+        (server_view server.new ≡ state_after (server_view server.old) (view message.now)) }
+    ensures answers { IfOk result (λ vs. AreAnswers map.now (server_view server.old)
+        (view message.now) (each view vs.items)) }
+{
+    let request = read_request(message);
+    match message.get("id") {
+        Some(id) => {
+            let phase = server.phase;
+            server.phase = phase.after(request);
+            if is_answer(message) {
+                Ok(Vec::new(alloc))
+            } else {
+                one(
+                    alloc,
+                    reply(alloc, map, phase, &server.documents, id, request),
+                )
+            }
+        }
+        None => {
+            let told = note(alloc, map, server.phase, &mut server.documents, request)?;
+            if has(message, "method") {
+                Ok(told)
+            } else {
+                refused(alloc, Failure::NoRequest)
+            }
+        }
+    }
+}
+
+/// Returns the exit status that a message asks for, if it asks for the end: 0 after `shutdown`, and
+/// 1 without.
+pub fn asks_for_end(server: &Server, message: &Value) -> Option<u8>
+    ensures { result ≡ end_of (server_view server.now) (view message.now) }
+{
+    match read_request(message) {
+        Request::Exit => match server.phase {
+            Phase::ShutDown => Some(0),
+            Phase::Fresh | Phase::Running => Some(1),
+        },
+        _ => None,
+    }
+}

@@ -1,0 +1,51 @@
+-- Why no session begins.
+use Rattle.std.proofs.Common.{◌≡◌, ◌⊎◌, ℕ, Bool, ◌++◌, inl, inr, refl, subst, List, Option, None, Some, Err, Bor, option_map, unwrap_or}
+use Rattle.std.specs.Prelude.{⊤}
+use Rattle.std.specs.Io.KnownBytes.{Appends}
+use Rattle.arguments.specs.FaultLines.{file_line, load_text}
+use Rattle.arguments.specs.Statuses.{status_of}
+use Rattle.arguments.specs.Asked.{FileAsked}
+use Rattle.arguments.specs.declared.load_fault.LoadFault.TheVariants.{Refused}
+use Rattle.arguments.specs.declared.refusal.Refusal.{Refusal}
+use Rattle.arguments.specs.declared.refusal.ReadFault.TheVariants.{Other}
+use Rattle.arguments.specs.declared.refusal.Refusal.TheVariants.{OutOfMemory, Read, Write}
+use Rattle.loading.proofs.Ends.{memory_ends}
+use Rattle.loading.specs.Told.{Heard, IsUnloaded, Tells}
+use Rattle.word_mon.specs.Attended.{AttendsInPart, IsAttendedSoFar}
+use Rattle.word_mon.specs.Done.{Attends, EndsSession, IsUnnamed, opening}
+use Rattle.word_mon.specs.declared.terminal.Terminal.{Terminal}
+use Rattle.word_mon.specs.Starts.{EndsNamed}
+
+-- Memory ran out: the line names no file.
+memory_unloads : (file : FileAsked) (heard : Heard) (path : List ℕ) (fault : Refusal) (status : ℕ) (Alone : Type 0) → fault ≡ OutOfMemory
+    → status ≡ status_of fault → Tells heard (file_line path fault) → Alone → IsUnloaded file heard status Alone
+unfolding load_text file_line
+memory_unloads file heard path fault status A memory is told alone =
+    (Refused OutOfMemory, memory_ends file, subst (λ f. status ≡ status_of f) memory is, subst (λ f. Tells heard (file_line path f)) memory told, alone)
+
+unnamed_ends : (symbols : Option (Bor (List ℕ))) (other : Bor (List ℕ)) (file : FileAsked) (heard : Heard) (fault : Refusal) (status : ℕ) (Alone : Type 0)
+    → EndsNamed (option_map (λ s. s.now) symbols) file fault → status ≡ status_of fault → Tells heard (file_line (unwrap_or symbols other).now fault) → Alone
+    → IsUnnamed (option_map (λ s. s.now) symbols) file heard status Alone
+unnamed_ends None other file heard fault status A ends is told alone = absurd ends
+unnamed_ends (Some path) other file heard fault status A ends is told alone = (fault, ends, is, told, alone)
+
+-- What was told of the file of names if there is one, and otherwise of another file.
+pub ends_named : (symbols : Option (Bor (List ℕ))) (other : Bor (List ℕ)) (file : FileAsked) (heard : Heard) (fault : Refusal) (status : ℕ) (Alone Begun : Type 0)
+    → (fault ≡ OutOfMemory) ⊎ EndsNamed (option_map (λ s. s.now) symbols) file fault → status ≡ status_of fault → Tells heard (file_line (unwrap_or symbols other).now fault) → Alone
+    → IsUnloaded file heard status Alone ⊎ (IsUnnamed (option_map (λ s. s.now) symbols) file heard status Alone ⊎ Begun)
+ends_named symbols other file heard fault status A B (inl memory) is told alone = inl (memory_unloads file heard (unwrap_or symbols other).now fault status A memory is told alone)
+ends_named symbols other file heard fault status A B (inr ends) is told alone = inr (inl (unnamed_ends symbols other file heard fault status A ends is told alone))
+
+-- How a session ended with a fault.
+pub attends_err : (prompts : Bool) (first last : Terminal) (given left held now : Option (List ℕ))
+    (fault : Refusal) → EndsSession fault
+    → (fault ≡ Read Other → (written : List ℕ)
+    × IsAttendedSoFar prompts given left first last written
+    × Appends held now (opening prompts first ++ written))
+    → AttendsInPart prompts (opening prompts first) first given left held now
+    → Attends {X = ⊤} prompts first given left held now (Err fault)
+attends_err prompts first last given left held now OutOfMemory ends unread broken = broken
+attends_err prompts first last given left held now Write ends unread broken = broken
+attends_err prompts first last given left held now (Read Other) ends unread broken =
+    let h = unread refl in (last, h.0, h.1, h.2)
+attends_err prompts first last given left held now fault ends unread broken = absurd ends

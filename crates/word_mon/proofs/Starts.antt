@@ -1,0 +1,25 @@
+-- How a session begins.
+use Rattle.std.proofs.Common.{◌≡◌, ◌∙◌, ℕ, Bool, List, Option, Some, option_map, subst, sym, Bor}
+use Rattle.accesses.specs.Writing.{bytes_in}
+use Rattle.assembler.specs.Assembly.{AssemblyView, IsAssembled}
+use Rattle.loading.specs.declared.loaded.ImageNames.{ImageNames}
+use Rattle.arguments.specs.Asked.{FileAsked, map_of}
+use Rattle.loading.specs.Loads.{AreOfFile, IsLoaded}
+use Rattle.model.specs.Event.{start}
+use Rattle.model.specs.Session.{Session, new_session}
+use Rattle.word_mon.specs.Starts.{AreNamed, IsNewState, StartsMon, places_in, with_names}
+use Rattle.mon_session.specs.declared.mon_state.MonState.{MonState}
+use Rattle.arguments_play.specs.Mon.{MonAsked}
+
+-- The session of a new state is the one that was loaded.
+pub named_starts : (asked : MonAsked) (session : Session) (assembly : Option AssemblyView) (written loaded : List Bool) (mon : MonState)
+    → (image : List (Option ℕ)) × IsLoaded asked.file image assembly × (session ≡ new_session asked.history (start (map_of asked.file) image)) × (written ≡ bytes_in image)
+    → (names : Option ImageNames) × AreNamed asked.symbols asked.file names × IsNewState session asked.history (with_names names (places_in asked.file.file assembly)) mon
+    → loaded ≡ written → StartsMon asked mon loaded
+named_starts asked session assembly written loaded mon given new same =
+    (given.0, assembly, given.1, same ∙ given.3, new.0, new.1, subst (λ s. IsNewState s asked.history (with_names new.0 (places_in asked.file.file assembly)) mon) given.2 new.2)
+
+-- A file of names that was read is the one that is named.
+pub named_with : (symbols : Option (Bor (List ℕ))) (path : Bor (List ℕ)) (file : FileAsked) (names : ImageNames) → symbols ≡ Some path → IsAssembled (map_of file) names.assembly
+    → AreOfFile file.profile names.assembly names.others → AreNamed (option_map (λ s. s.now) symbols) file (Some names)
+named_with symbols path file names is assembled given = subst (λ o. AreNamed (option_map (λ s. s.now) o) file (Some names)) (sym is) (assembled, given)

@@ -1,0 +1,21 @@
+use Rattle.std.proofs.Common.{inl, inr, refl}
+use Rattle.arguments_play.specs.Mon.{mon_view}
+use Rattle.word_mon.proofs.Again.{ends_reload, on_ok_map}
+use Rattle.word_mon.proofs.Starts.{named_starts}
+use Rattle.word_mon.proofs.reloading.begin_anew.Goals as goal
+
+pub take_over-requires : goal.take_over-requires
+take_over-requires g c =
+    named_starts (mon_view c.args.terminal.now.words.now) c.args.loaded.session c.args.loaded.assembly c.args.loaded.written c.in-Ok.started.loaded c.in-Ok.started.mon
+    c.requires c.in-Ok.ensures.made c.in-Ok.ensures.loaded
+
+pub keep_session-requires : goal.keep_session-requires
+keep_session-requires g c =
+    let words = c.args.terminal.now.words.now in
+    rw c.unwrap_or-file.ensures (ends_reload words.symbols words.file.file (mon_view words) c.in-Err.refusal refl c.in-Err.ensures.refused)
+
+pub returns-in_ok-of_memory-in-Ok-clause-reloaded : goal.returns-in_ok-of_memory-in-Ok-clause-reloaded
+returns-in_ok-of_memory-in-Ok-clause-reloaded g c = inl (rw c.in_ok-of_memory-in-Ok.ensures.made at c.take_over.ensures)
+
+pub returns-in-Err-clause-reloaded : goal.returns-in-Err-clause-reloaded
+returns-in-Err-clause-reloaded g c = on_ok_map c.keep_session.result _ _ inr c.keep_session.ensures.kept

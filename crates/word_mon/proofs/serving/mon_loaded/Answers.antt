@@ -1,0 +1,32 @@
+use Rattle.std.proofs.Common.{◌≡◌, inr, refl}
+use Rattle.arguments.specs.Asked.{file_view}
+use Rattle.arguments_play.specs.Mon.{mon_view}
+use Rattle.word_mon.proofs.Ends.{ends_named}
+use Rattle.word_mon.proofs.Starts.{named_starts}
+use Rattle.word_mon.proofs.serving.mon_loaded.Goals as goal
+
+pub returns-in-Ok-clause-done : goal.returns-in-Ok-clause-done
+returns-in-Ok-clause-done g c = inr (inr (
+  record {
+    words = c.args.words;
+    mon = c.in-Ok.started.mon;
+    view = c.first_view-view.result;
+    notes = c.new-notes.result;
+    loaded = c.in-Ok.started.loaded;
+  },
+  named_starts (mon_view c.args.words.now) c.args.loaded.session c.args.loaded.assembly c.args.loaded.written c.in-Ok.started.loaded c.in-Ok.started.mon c.requires c.in-Ok.ensures.made c.in-Ok.ensures.loaded,
+  c.new-notes.ensures.items,
+  refl,
+  c.first_view-view.ensures,
+  c.wants_prompts-prompts.result,
+  c.wants_prompts-prompts.ensures,
+  c.served.ensures.ended,
+))
+
+pub returns-in-Err-clause-done : goal.returns-in-Err-clause-done
+returns-in-Err-clause-done g c =
+    ends_named c.args.words.now.symbols c.args.words.now.file.file (file_view c.args.words.now.file) (record {
+      held = g.E.Write.contents c.args.errors.now;
+      now = g.E.Write.contents c.refuse_file.new.errors;
+    }) c.in-Err.refusal c.refuse_file.result ((c.args.input.now ≡ c.args.input.now) × (c.args.output.now ≡ c.args.output.now)) _
+    c.in-Err.ensures.refused c.refuse_file.ensures.status (rw c.unwrap_or-file.ensures at c.refuse_file.ensures.told) (refl, refl)

@@ -1,0 +1,110 @@
+-- What the word `mon` did, by its exit status. Source: mos65.
+use Rattle.std.specs.Prelude.{◌≡◌, ◌⊎◌, ⊤, ℕ, Bool, true, List, [], ◌++◌, Option, Some, None, Result, Ok, Err}
+use Rattle.std.specs.Io.KnownBytes.{Appends}
+use Rattle.arguments.specs.Asked.{FileAsked}
+use Rattle.arguments.specs.FaultLines.{fault_line, file_line}
+use Rattle.arguments.specs.Statuses.{status_of}
+use Rattle.arguments.specs.declared.refusal.ReadFault.TheVariants.{Other}
+use Rattle.arguments.specs.declared.refusal.Refusal.{Refusal}
+use Rattle.arguments.specs.declared.refusal.Refusal.TheVariants.{OutOfMemory, Read, Write}
+use Rattle.arguments_play.specs.Mon.{MonAsked, mon_view}
+use Rattle.clap.specs.Words.{Text}
+use Rattle.loading.specs.Loads.{EndsNames}
+use Rattle.loading.specs.Told.{Heard, IsUnloaded, Tells}
+use Rattle.word_mon.specs.Attended.{AttendsInPart, IsAttended, IsAttendedSoFar}
+use Rattle.word_mon.specs.Greeting.{greeting_of}
+use Rattle.word_mon.specs.Screens.{drawn}
+use Rattle.word_mon.specs.Starts.{StartsMon}
+use Rattle.word_mon.specs.declared.terminal.Terminal.{Terminal}
+use Rattle.mon_lines.specs.declared.command.Stretch.{Stretch}
+use Rattle.mon_screen.specs.Limits.{limited}
+use Rattle.mon_screen.specs.declared.size.Size.{Size}
+use Rattle.mon_screen.specs.declared.view.View.{View}
+use Rattle.mon_session.specs.EventTexts.{shown_text}
+use Rattle.mon_session.specs.declared.mon_state.MonState.{MonState}
+
+-- The file of names was not assembled, the error stream got why, and the others were left alone,
+-- `Alone`.
+abbrev pub IsUnnamed : Option Text → FileAsked → Heard → ℕ → Type 0 → Type 0
+IsUnnamed None file heard status Alone = ⊥
+IsUnnamed (Some path) file heard status Alone = (fault : Refusal) × EndsNames file fault
+    × (status ≡ status_of fault) × Tells heard (file_line path fault) × Alone
+
+-- Why a session ends before its input does.
+abbrev pub EndsSession : Refusal → Type 0
+EndsSession OutOfMemory = ⊤
+EndsSession (Read Other) = ⊤
+EndsSession Write = ⊤
+EndsSession fault = ⊥
+
+-- Why a line is not answered: memory ran out, or the answer could not be written.
+abbrev pub EndsAnswer : Refusal → Type 0
+EndsAnswer OutOfMemory = ⊤
+EndsAnswer Write = ⊤
+EndsAnswer fault = ⊥
+
+-- The size of a screen: the one that is asked for, otherwise any that a screen can have.
+abbrev pub IsSizeFor : Option (ℕ × ℕ) → Size → Type 0
+IsSizeFor None size = ⊤
+IsSizeFor (Some asked) size
+    = (size.columns ≡ limited 80 250 asked.0) × (size.rows ≡ limited 24 100 asked.1)
+
+-- The memory that a screen shows until a line asks for another: that from $0200 on.
+abbrev pub first_stretch : Stretch
+first_stretch = record { first = 512; last = 767 }
+
+-- A screen is drawn only if the words ask for one, and at first nothing has changed.
+abbrev pub StartsView : MonAsked → MonState → Option View → Type 0
+StartsView asked mon None = ⊤
+StartsView asked mon (Some view) = (asked.has_screen ≡ true) × IsSizeFor asked.size view.size
+    × (view.stretch ≡ first_stretch) × (view.regs ≡ mon.session.current.regs)
+    × (view.cycles ≡ None)
+
+-- What is written first: the greeting and the state, or a screen with both.
+abbrev pub opening : Bool → Terminal → List ℕ
+opening prompts terminal = drawn terminal.view terminal.mon (terminal.mon.text.items
+    ++ (greeting_of prompts terminal.mon.session.current terminal.mon.places.names
+    ++ shown_text terminal.mon.session.current terminal.mon.places.names None))
+
+-- What a session at a terminal wrote of what it read, by how it ended. `Ok`: its lines were served
+-- up to `quit` or to the end of the input, and what is said of them was written. `Read`: the
+-- complete lines that were read were served, and what is said of them was written. `Write` and
+-- `OutOfMemory`: a beginning was written of what is said of lines that were read. It ends with no
+-- other fault.
+abbrev pub Attends : {X : Type 0} → Bool → Terminal → Option (List ℕ) → Option (List ℕ)
+    → Option (List ℕ) → Option (List ℕ) → Result X Refusal → Type 0
+Attends prompts first given left held now (Ok done) = (last : Terminal) × (written : List ℕ)
+    × IsAttended prompts given left first last written
+    × Appends held now (opening prompts first ++ written)
+Attends prompts first given left held now (Err (Read Other)) = (last : Terminal) × (written : List ℕ)
+    × IsAttendedSoFar prompts given left first last written
+    × Appends held now (opening prompts first ++ written)
+Attends prompts first given left held now (Err Write)
+    = AttendsInPart prompts (opening prompts first) first given left held now
+Attends prompts first given left held now (Err OutOfMemory)
+    = AttendsInPart prompts (opening prompts first) first given left held now
+Attends prompts first given left held now (Err fault) = ⊥
+
+-- The exit status is 0, or that of the fault, which the error stream got.
+abbrev pub TellsEnd : {X : Type 0} → Heard → ℕ → Result X Refusal → Type 0
+TellsEnd heard status (Ok done) = status ≡ 0
+TellsEnd heard status (Err fault) = (status ≡ status_of fault) × Tells heard (fault_line fault)
+
+-- A session ended at a terminal, as the status says.
+abbrev pub EndsAt : Bool → Terminal → Option (List ℕ) → Option (List ℕ) → Option (List ℕ)
+    → Option (List ℕ) → Heard → ℕ → Type 0
+EndsAt prompts first given left held now heard status = (outcome : Result ⊤ Refusal)
+    × Attends prompts first given left held now outcome × TellsEnd heard status outcome
+
+-- What was done for words: no session began, and the streams were left alone, `Alone`; or one began
+-- at its terminal, with some input given, and ended so, with some input left. Prompts are written if
+-- the words ask for them, or if the input is a terminal; screens only if the words ask for them.
+abbrev pub IsDone : MonAsked → Option (List ℕ) → Option (List ℕ) → Option (List ℕ)
+    → Option (List ℕ) → Heard → ℕ → Type 0 → Type 0
+IsDone asked given left old new heard status Alone = IsUnloaded asked.file heard status Alone
+    ⊎ (IsUnnamed asked.symbols asked.file heard status Alone
+    ⊎ ((terminal : Terminal) × StartsMon asked terminal.mon terminal.loaded
+    × (terminal.notes.items ≡ [])
+    × (mon_view terminal.words.now ≡ asked) × StartsView asked terminal.mon terminal.view
+    × (prompts : Bool) × (asked.prompts ≡ true → prompts ≡ true)
+    × EndsAt prompts terminal given left old new heard status))

@@ -1,0 +1,63 @@
+-- How a session begins: the state, and what is known of its file. Source: mos65.
+use Rattle.std.specs.Prelude.{◌≡◌, ℕ, Bool, List, [], ◌++◌, Option, Some, None}
+use Rattle.accesses.specs.Writing.{bytes_in}
+use Rattle.assembler.specs.Assembly.{AssemblyView, IsAssembled}
+use Rattle.arguments.specs.Asked.{FileAsked, map_of}
+use Rattle.arguments.specs.declared.refusal.Refusal.{Refusal}
+use Rattle.arguments_play.specs.Mon.{MonAsked}
+use Rattle.clap.specs.Words.{Text}
+use Rattle.loading.specs.Loads.{AreOfFile, EndsNames, IsLoaded}
+use Rattle.loading.specs.declared.loaded.ImageNames.{ImageNames}
+use Rattle.model.specs.Event.{start}
+use Rattle.model.specs.Session.{Session, new_session}
+use Rattle.mon_session.specs.declared.mon_state.MonState.{MonState}
+use Rattle.source_map.specs.Lines.{PlacesView, places_of}
+use Rattle.source_map.specs.Names.{names_in, other_names}
+
+-- Why a file of names is not assembled, if one is named.
+abbrev pub EndsNamed : Option Text → FileAsked → Refusal → Type 0
+EndsNamed None file fault = ⊥
+EndsNamed (Some path) file fault = EndsNames file fault
+
+-- The names and the lines of a file: of a source those of its assembly, of a tape none.
+abbrev pub places_in : Text → Option AssemblyView → PlacesView
+places_in file None = record { names = []; lines = []; texts = []; file = [] }
+places_in file (Some assembly) = places_of file assembly
+
+-- With the names of a file of names, if there is one: those of its source, and those that cannot
+-- stand in one.
+abbrev pub with_names : Option ImageNames → PlacesView → PlacesView
+with_names None places = places
+with_names (Some names) places = record places {
+  names = (places.names ++ names_in names.assembly) ++ other_names names.others;
+}
+
+-- A file of names is read if one is named.
+abbrev pub AreNamed : Option Text → FileAsked → Option ImageNames → Type 0
+AreNamed None file names = names ≡ None
+AreNamed (Some path) file None = ⊥
+AreNamed (Some path) file (Some names) = IsAssembled (map_of file) names.assembly
+    × AreOfFile file.profile names.assembly names.others
+
+-- A state of `mon` at which no line was served: no event has happened, and no break and no watch is
+-- set.
+pub record IsNewState (begun : Session) (history : ℕ) (known : PlacesView) (mon : MonState)
+    : Type 0 where
+  pub session : mon.session ≡ begun
+  pub events : mon.events ≡ record { made = []; undone = []; room = history }
+  pub breaks : mon.stops.breaks.items ≡ []
+  pub watches : mon.stops.watches.items ≡ []
+  pub changes : mon.stops.changes.items ≡ []
+  pub displays : mon.displays.items ≡ []
+  pub places : mon.places ≡ known
+  pub text : mon.text.items ≡ []
+
+-- A state of `mon` with a session at the start of an image that the file can have, with the names
+-- and lines of its source and the names of a file of names; and the addresses at which the image
+-- has a byte.
+abbrev pub StartsMon : MonAsked → MonState → List Bool → Type 0
+StartsMon asked mon loaded = (image : List (Option ℕ)) × (assembly : Option AssemblyView)
+    × IsLoaded asked.file image assembly × (loaded ≡ bytes_in image)
+    × (names : Option ImageNames) × AreNamed asked.symbols asked.file names
+    × IsNewState (new_session asked.history (start (map_of asked.file) image)) asked.history
+    (with_names names (places_in asked.file.file assembly)) mon

@@ -1,0 +1,268 @@
+//! A session at a terminal, with the screen that is drawn of it.
+
+ghost use Rattle.std.specs.Prelude.{◌≡◌, ◌++◌, [], ℕ, IfErr, IfOk, List, Ok, OnOk};
+ghost use Rattle.std.specs.Prelude.{if◌then◌else◌};
+ghost use Rattle.std.specs.Io.KnownBytes.{Appends};
+ghost use Rattle.model.specs.Writers.{AppendsFront};
+ghost use Rattle.word_mon.specs.Attended.{IsNoted, IsShown, Obeys, ObeysRead, ServesLine};
+ghost use Rattle.word_mon.specs.Attended.{prompt_of};
+ghost use Rattle.word_mon.specs.Done.{EndsAnswer};
+ghost use Rattle.word_mon.specs.Screens.{Rests, answer_text, drawn, stretch_by, stretch_in};
+ghost use Rattle.word_mon.specs.Screens.{view_after};
+ghost use Rattle.mon_dispatch.specs.Lines.{Says, Serves};
+ghost use Rattle.mon_lines.specs.Lines.{asked_view, command_view, line_view};
+
+use crate::notes::{Note, note_line, placed_in};
+use crate::reloading::reload;
+use crate::wording::PROMPT;
+use arguments::{Refusal, write_text};
+use arguments_play::MonWords;
+use mon_dispatch::serve;
+use mon_files::{Known, save_tape, show_page};
+use mon_lines::{Command, ReadLine, Slip, Stretch};
+use mon_screen::{View, push_view};
+use mon_session::MonState;
+use std::alloc::{AllocError, Global};
+use std::io::Write;
+use std::rt::Files;
+
+/// A session at a terminal, with the words that it was begun by.
+#[derive(Drop)]
+pub struct Terminal<'a> {
+    pub words: &'a MonWords<'a>,
+    pub mon: MonState,
+    /// What a screen shows of the session, if one is drawn.
+    pub view: Option<View>,
+    /// The lines that have placed what stands.
+    pub notes: Vec<Note>,
+    /// The addresses at which the session's file has a byte, and what a page shows besides.
+    pub loaded: Known,
+}
+
+/// Returns what was made, or that an allocation failed.
+pub fn of_memory<T>(made: Result<T, AllocError>) -> Result<T, Refusal>
+    ensures made { IfOk result (λ value. made ≡ Ok value) }
+    ensures refused { IfErr result (λ fault. fault ≡ Refusal.OutOfMemory) }
+{
+    made.map_err(|_| Refusal::OutOfMemory)
+}
+
+/// Says something if it is asked for.
+pub fn say_if(terminal: &mut Terminal<'_>, is_asked: bool, words: &str) -> Result<(), Refusal>
+    ensures rests { Rests terminal.old terminal.new }
+    ensures said { OnOk result (terminal.new.mon.text.items
+        ≡ terminal.old.mon.text.items ++ (if is_asked then words.now else [])) }
+    ensures refused { IfErr result EndsAnswer }
+{
+    if is_asked {
+        return of_memory(terminal.mon.say(words));
+    }
+    Ok(())
+}
+
+/// Writes and flushes the text of the state, which has none afterwards.
+///
+/// Errors: `Write` if a write or the flush fails: a beginning of the text was then written.
+pub fn put_text<W: Write>(terminal: &mut Terminal<'_>, writer: &mut W) -> Result<(), Refusal>
+    ensures rests { Rests terminal.old terminal.new }
+    ensures written { IfOk result (λ _. Appends (W.contents writer.old) (W.contents writer.new)
+        terminal.old.mon.text.items) }
+    ensures cleared { IfOk result (λ _. terminal.new.mon.text.items ≡ []) }
+    ensures begun { IfErr result (λ _. AppendsFront (W.contents writer.old) (W.contents writer.new)
+        terminal.old.mon.text.items) }
+    ensures refused { IfErr result EndsAnswer }
+{
+    match write_text(writer, terminal.mon.text.as_slice()) {
+        Ok(()) => {
+            terminal.mon.text.clear();
+            Ok(())
+        }
+        Err(_) => Err(Refusal::Write),
+    }
+}
+
+/// Puts a screen in place of the text, which it shows, if a screen is drawn.
+pub fn draw(alloc: Global, terminal: &mut Terminal) -> Result<(), Refusal>
+    ensures rests { Rests terminal.old terminal.new }
+    ensures drawn { OnOk result (terminal.new.mon.text.items
+        ≡ drawn terminal.old.view terminal.old.mon terminal.old.mon.text.items) }
+    ensures refused { IfErr result EndsAnswer }
+{
+    let Some(view) = terminal.view else {
+        return Ok(());
+    };
+    let mon = &terminal.mon;
+    let mut screen = Vec::new(alloc);
+    of_memory(push_view(
+        &mut screen,
+        alloc,
+        view,
+        &mon.session,
+        &mon.places,
+        mon.text.as_slice(),
+    ))?;
+    terminal.mon.text = screen;
+    Ok(())
+}
+
+/// Draws the screen, and says that the next line may come if prompts are asked for. Does neither if
+/// the session is over.
+pub fn answer(
+    alloc: Global,
+    terminal: &mut Terminal<'_>,
+    prompts: bool,
+    is_over: bool,
+) -> Result<(), Refusal>
+    ensures rests { Rests terminal.old terminal.new }
+    ensures said { OnOk result (terminal.new.mon.text.items
+        ≡ answer_text is_over (prompt_of prompts) terminal.old terminal.old.mon.text.items) }
+    ensures refused { IfErr result EndsAnswer }
+{
+    if is_over {
+        return Ok(());
+    }
+    draw(alloc, terminal)?;
+    say_if(terminal, prompts, PROMPT)
+}
+
+/// Returns the memory that a line asks for that can be read, otherwise what was shown before it.
+fn stretch_in(command: &Command<'_>, shown: Stretch) -> Stretch
+    ensures { result ≡ stretch_in (command_view command.now) shown }
+{
+    match command {
+        Command::Mem(stretch) => *stretch,
+        _ => shown,
+    }
+}
+
+/// Returns the memory that a line asks for, otherwise what was shown before it.
+fn stretch_by(asked: &Result<Command<'_>, Slip<'_>>, shown: Stretch) -> Stretch
+    ensures { result ≡ stretch_by (asked_view asked.now) shown }
+{
+    match asked {
+        Ok(command) => stretch_in(command, shown),
+        Err(_) => shown,
+    }
+}
+
+/// Returns what a screen shows after a line that was served.
+fn view_after(
+    asked: &Result<Command<'_>, Slip<'_>>,
+    mon: &MonState,
+    view: Option<View>,
+) -> Option<View>
+    ensures { result ≡ view_after (asked_view asked.now) mon.now view }
+{
+    let view = view?;
+    Some(View {
+        size: view.size,
+        stretch: stretch_by(asked, view.stretch),
+        regs: mon.session.regs(),
+        cycles: Some(mon.session.cycles()),
+    })
+}
+
+/// Does what a line asks for, notes it if it has placed something, and returns whether the
+/// session is to end.
+fn serve_noted(
+    alloc: Global,
+    terminal: &mut Terminal<'_>,
+    read: &ReadLine<'_>,
+    line: &[u8],
+) -> Result<bool, AllocError>
+    ensures served { IfOk result
+        (λ is_over. Serves (line_view read.now) is_over terminal.old.mon terminal.new.mon) }
+    ensures noted { OnOk result
+        (IsNoted (asked_view read.now.asked) line.now terminal.old terminal.new) }
+{
+    terminal.view = view_after(&read.asked, &terminal.mon, terminal.view);
+    let pc = terminal.mon.session.regs().pc;
+    let is_over = serve(&mut terminal.mon, alloc, read)?;
+    let placed = placed_in(&read.asked);
+    note_line(alloc, &mut terminal.notes, &terminal.mon, placed, pc, line)?;
+    Ok(is_over)
+}
+
+/// Writes the tape of memory to a file, of a stretch if one is given, and says what became of it.
+fn save<H: Files + AllocGlobal>(
+    rt: &H,
+    terminal: &mut Terminal<'_>,
+    file: &[u8],
+    stretch: Option<Stretch>,
+) -> Result<(), Refusal>
+    ensures rests { Rests terminal.old terminal.new }
+    ensures said { OnOk result ((said : List ℕ) × Says said terminal.old.mon terminal.new.mon) }
+    ensures refused { IfErr result EndsAnswer }
+{
+    save_tape(
+        rt,
+        &mut terminal.mon,
+        terminal.words,
+        &terminal.loaded,
+        file,
+        stretch,
+    )
+}
+
+/// Writes the page of what the session holds to a file, and says what became of it.
+fn show<H: Files + AllocGlobal>(
+    rt: &H,
+    terminal: &mut Terminal<'_>,
+    file: &[u8],
+) -> Result<(), Refusal>
+    ensures shown { OnOk result (IsShown terminal.old terminal.new) }
+    ensures refused { IfErr result EndsAnswer }
+{
+    let program = terminal.loaded.program(terminal.words);
+    show_page(rt, &mut terminal.mon, &program, file)
+}
+
+/// Does what a line asks for that reads or writes a file. Any other line does nothing here.
+fn obey<H: Files + AllocGlobal>(
+    rt: &H,
+    terminal: &mut Terminal<'_>,
+    command: &Command<'_>,
+) -> Result<(), Refusal>
+    ensures obeyed { OnOk result (Obeys (command_view command.now) terminal.old terminal.new) }
+    ensures refused { IfErr result EndsAnswer }
+{
+    match command {
+        Command::Save { file, stretch } => save(rt, terminal, *file, *stretch),
+        Command::Page(file) => show(rt, terminal, *file),
+        Command::Reload => reload(rt, terminal),
+        _ => Ok(()),
+    }
+}
+
+/// Does what a line asks for that reads or writes a file, if the line can be read.
+fn obey_read<H: Files + AllocGlobal>(
+    rt: &H,
+    terminal: &mut Terminal<'_>,
+    asked: &Result<Command<'_>, Slip<'_>>,
+) -> Result<(), Refusal>
+    ensures obeyed { OnOk result (ObeysRead (asked_view asked.now) terminal.old terminal.new) }
+    ensures refused { IfErr result EndsAnswer }
+{
+    match asked {
+        Ok(command) => obey(rt, terminal, command),
+        Err(_) => Ok(()),
+    }
+}
+
+/// Reads a line, does what it asks for, also with files, and returns whether the session is to end.
+pub fn serve_line<H: Files + AllocGlobal>(
+    rt: &H,
+    terminal: &mut Terminal<'_>,
+    line: &[u8],
+) -> Result<bool, Refusal>
+    ensures served { IfOk result (λ is_over. (said : List ℕ)
+        × ServesLine line.now is_over terminal.old terminal.new said
+        × Says said terminal.old.mon terminal.new.mon) }
+    ensures refused { IfErr result EndsAnswer }
+{
+    let pc = terminal.mon.session.regs().pc;
+    let read = ReadLine::new(line, &terminal.mon.places, pc);
+    let is_over = of_memory(serve_noted(rt.alloc(), terminal, &read, line))?;
+    obey_read(rt, terminal, &read.asked)?;
+    Ok(is_over)
+}

@@ -1,0 +1,28 @@
+use Rattle.std.proofs.Common.{rules, ap, ap₂, codes, ◌≡◌, ◌∙◌}
+use Rattle.arguments.specs.CommandLine.{file_rule, flag_rule, option_rule, unnamed, with_file}
+use Rattle.clap.specs.Words.{app_of, rule_of, with_rule}
+use Rattle.word_page.proofs.command.page_command.Goals as goal
+
+pub returns-clause-shape : goal.returns-clause-shape
+returns-clause-shape c =
+    let out_is : rule_of c.file.result ≡ file_rule (codes "OUT") = search rules in
+    let symbols_is : rule_of c.option.result ≡ option_rule (codes "symbols") = search rules in
+    let input_is : rule_of c.option-2.result ≡ option_rule (codes "input") = search rules in
+    let until_is : rule_of c.option-3.result ≡ option_rule (codes "until") = search rules in
+    let steps_is : rule_of c.option-4.result ≡ option_rule (codes "steps") = search rules in
+    let title_is : rule_of c.option-5.result ≡ option_rule (codes "title") = search rules in
+    let at_is : rule_of c.option-6.result ≡ option_rule (codes "at") = search rules in
+    let screen_is : rule_of c.option-7.result ≡ option_rule (codes "screen") = search rules in
+    let notes_is : rule_of c.option-8.result ≡ option_rule (codes "notes") = search rules in
+    let free_is : rule_of c.flag.result ≡ flag_rule (codes "free") = search rules in
+    let filed : app_of c.in_ok-with_file_options.field-0 ≡ with_file (unnamed (codes "page")) = c.in_ok-with_file_options.ensures.shape ∙ ap with_file (c.in_ok-command.ensures.shape) in
+    let with_out = c.in_ok-arg.ensures.shape (search rules) ∙ ap₂ with_rule filed out_is in
+    let with_symbols = c.in_ok-arg-2.ensures.shape (search rules) ∙ ap₂ with_rule with_out symbols_is in
+    let with_input = c.in_ok-arg-3.ensures.shape (search rules) ∙ ap₂ with_rule with_symbols input_is in
+    let with_until = c.in_ok-arg-4.ensures.shape (search rules) ∙ ap₂ with_rule with_input until_is in
+    let with_steps = c.in_ok-arg-5.ensures.shape (search rules) ∙ ap₂ with_rule with_until steps_is in
+    let with_title = c.in_ok-arg-6.ensures.shape (search rules) ∙ ap₂ with_rule with_steps title_is in
+    let with_at = c.in_ok-arg-7.ensures.shape (search rules) ∙ ap₂ with_rule with_title at_is in
+    let with_screen = c.in_ok-arg-8.ensures.shape (search rules) ∙ ap₂ with_rule with_at screen_is in
+    let with_notes = c.in_ok-arg-9.ensures.shape (search rules) ∙ ap₂ with_rule with_screen notes_is in
+    c.in_ok-command-2.ensures.shape (search rules) ∙ ap₂ with_rule with_notes free_is

@@ -1,0 +1,37 @@
+use Rattle.std.proofs.Common.{sym, ◌∙◌, ◌≡◌, None}
+use Rattle.arguments.proofs.Parsed.{asked_by, fits_by, not_both, refused_by, served_by}
+use Rattle.arguments.specs.Words.{texts}
+use Rattle.clap.specs.Words.{app_of, first_value, found_of}
+use Rattle.word_page.specs.Asked.{asked, page_asked}
+use Rattle.word_page.specs.CommandLine.{page}
+use Rattle.word_page.proofs.words.read_page_words.Goals as goal
+
+pub returns-in_err-matches-clause-served : goal.returns-in_err-matches-clause-served
+returns-in_err-matches-clause-served c a fits h =
+    served_by (app_of c.in_ok-page_command.field-0) page (texts c.args.words.now) c.in_err-matches.field-0.0 c.from_residual-in_err-matches.result
+    c.in_ok-page_command.ensures.shape c.in_err-matches.ensures.served c.from_residual-in_err-matches.ensures.1 fits
+
+pub returns-in_err-matches-clause-refused : goal.returns-in_err-matches-clause-refused
+returns-in_err-matches-clause-refused c =
+    refused_by (app_of c.in_ok-page_command.field-0) page (texts c.args.words.now) (asked (texts c.args.words.now) ≡ None) c.in_err-matches.field-0.0 c.from_residual-in_err-matches.result
+    c.in_ok-page_command.ensures.shape c.in_err-matches.ensures.refused c.from_residual-in_err-matches.ensures.1
+
+pub returns-in-Some-clause-asked : goal.returns-in-Some-clause-asked
+returns-in-Some-clause-asked c =
+    sym (c.in-Some.ensures ∙ asked_by page_asked (app_of c.in_ok-page_command.field-0) page (texts c.args.words.now) (first_value (found_of c.in_ok-matches.matches))
+    c.in_ok-page_command.ensures.shape c.in_ok-matches.ensures.values)
+
+pub returns-in-Some-clause-fits : goal.returns-in-Some-clause-fits
+returns-in-Some-clause-fits c = fits_by (app_of c.in_ok-page_command.field-0) page (texts c.args.words.now) c.in_ok-page_command.ensures.shape c.in_ok-matches.ensures.fits
+
+pub returns-clause-served : goal.returns-clause-served
+returns-clause-served c a fits h =
+    absurd (not_both _ a h (sym (c.in-None.ensures ∙ asked_by page_asked (app_of c.in_ok-page_command.field-0) page (texts c.args.words.now) (first_value (found_of c.in_ok-matches.matches))
+    c.in_ok-page_command.ensures.shape c.in_ok-matches.ensures.values)))
+
+pub returns-clause-refused : goal.returns-clause-refused
+returns-clause-refused c = (
+  fits_by (app_of c.in_ok-page_command.field-0) page (texts c.args.words.now) c.in_ok-page_command.ensures.shape c.in_ok-matches.ensures.fits,
+  sym (c.in-None.ensures ∙ asked_by page_asked (app_of c.in_ok-page_command.field-0) page (texts c.args.words.now) (first_value (found_of c.in_ok-matches.matches))
+      c.in_ok-page_command.ensures.shape c.in_ok-matches.ensures.values),
+)

@@ -1,0 +1,141 @@
+-- What `page` does to the error stream, and its exit status. No clause can say which image and
+-- names a file stands for, which input and notes a file has, nor what the page's file got.
+-- Source: mos65.
+use Rattle.std.specs.Prelude.{◌≡◌, ◌⊎◌, ⊤, ℕ, Bool, [], List, Option, Some, None, Result, Ok, Err}
+use Rattle.accesses.specs.Writing.{bytes_in, or_everywhere}
+use Rattle.arguments.specs.Asked.{FileAsked, map_of}
+use Rattle.arguments.specs.FaultLines.{file_line}
+use Rattle.arguments.specs.Statuses.{status_of}
+use Rattle.arguments.specs.declared.refusal.Refusal.{Refusal}
+use Rattle.arguments.specs.declared.refusal.Refusal.TheVariants.{Map, OutOfMemory, Read, Session, Source, Tape, Words, Write, WriteFile}
+use Rattle.assembler.specs.Assembly.{AssemblyView, IsAssembled}
+use Rattle.console.specs.Playing.{Outcome, begun, played}
+use Rattle.console.specs.Written.{RanAs}
+use Rattle.console.specs.declared.ending.Played.{Played}
+use Rattle.loading.specs.Loads.{IsLoaded}
+use Rattle.loading.specs.Place.{names_of, place_of}
+use Rattle.loading.specs.Told.{Heard, IsUnloaded, Tells}
+use Rattle.model.specs.Event.{start}
+use Rattle.model.specs.Names.{Definitions}
+use Rattle.model.specs.Session.{Session as SessionView, new_session}
+use Rattle.word_page.specs.Asked.{PageAsked}
+use Rattle.word_page.specs.Notes.{IsFaultOf, notes_line, notes_status}
+use Rattle.word_page.specs.declared.fault.PageFault.{PageFault}
+use Rattle.word_page.specs.declared.fault.PageFault.TheVariants.{File, Notes}
+use Rattle.word_page.specs.declared.notes.NotesFault.{NotesFault}
+use Rattle.word_run.specs.Places.{place_asked}
+use Rattle.word_run.specs.Runs.{Start, TellsEnding}
+use Rattle.word_run.specs.Statuses.{status_of_ending}
+use Rattle.word_run.specs.Told.{unplaced_line}
+
+-- A session with these addresses written, or all if a run goes on where nothing was.
+abbrev pub start_in : Bool → SessionView → List Bool → Start
+start_in is_free session written
+    = record { session = session; written = or_everywhere is_free written }
+
+-- A session ran over an input by the definition of a run.
+abbrev pub Ran : Option ℕ → ℕ → Start → List ℕ → Played → SessionView → Type 0
+Ran until steps s input end now = (left : List ℕ)
+    × RanAs (played until steps (begun s.session s.written input)) end now left
+
+-- The input of a run: none where no file is named.
+abbrev pub IsInput : Option (List ℕ) → List ℕ → Type 0
+IsInput None input = input ≡ []
+IsInput (Some path) input = ⊤
+
+-- Why a file of names or input is not read, or the page not written: the names have a fault, memory
+-- ran out, or reading or writing failed.
+abbrev pub EndsFile : Refusal → Type 0
+EndsFile (Source fault) = ⊤
+EndsFile (Map fault) = ⊤
+EndsFile OutOfMemory = ⊤
+EndsFile (Read why) = ⊤
+EndsFile Write = ⊤
+EndsFile (WriteFile why) = ⊤
+EndsFile Words = ⊥
+EndsFile (Tape fault) = ⊥
+EndsFile (Session fault) = ⊥
+
+-- The same, or a file of notes has a fault.
+abbrev pub EndsPage : PageFault → Type 0
+EndsPage (File why) = EndsFile why.refusal
+EndsPage (Notes file fault) = (text : List ℕ) × IsFaultOf text fault
+
+-- The error stream got why a file is not read or written, with its name.
+abbrev pub IsUnread : Heard → ℕ → Type 0
+IsUnread heard status = (file : List ℕ) × (refusal : Refusal) × EndsFile refusal
+    × (status ≡ status_of refusal) × Tells heard (file_line file refusal)
+
+-- The error stream got which fault a file of notes has, with its name.
+abbrev pub IsUnnoted : Heard → ℕ → Type 0
+IsUnnoted heard status = (file : List ℕ) × (text : List ℕ) × (fault : NotesFault)
+    × IsFaultOf text fault × (status ≡ notes_status fault) × Tells heard (notes_line file fault)
+
+-- The error stream got why there is no whole page.
+abbrev pub IsRefused : Heard → ℕ → Type 0
+IsRefused heard status = IsUnread heard status ⊎ IsUnnoted heard status
+
+-- A session ran over some input by the definition of a run, and the error stream got how it ended.
+abbrev pub IsRun : PageAsked → Option AssemblyView → Heard → ℕ → Outcome → Type 0
+IsRun a assembly heard status end = (status ≡ status_of_ending end.ending 0)
+    × TellsEnding a.file.file assembly heard end.ending end.steps end.play.session.current.regs.pc
+
+-- A session ran up to a place, or there is no whole page.
+abbrev pub IsShown : PageAsked → Option AssemblyView → Option ℕ → Start → Heard → ℕ → Type 0
+IsShown a assembly until s heard status = IsRefused heard status
+    ⊎ ((input : List ℕ) × IsInput a.input input
+    × IsRun a assembly heard status (played until a.steps (begun s.session s.written input)))
+
+-- The same up to the place of the words, if it is found; otherwise the error stream got that it is
+-- no place.
+abbrev pub ShownIfFound : PageAsked → Option AssemblyView → Result (Option ℕ) ℕ → Start → Heard
+    → ℕ → Type 0
+ShownIfFound a assembly (Ok until) s heard status = IsShown a assembly until s heard status
+ShownIfFound a assembly (Err refused) s heard status
+    = (status ≡ refused) × Tells heard (unplaced_line a.until)
+
+-- ---- names and places
+
+-- The names of a file of names, if one is named.
+abbrev pub AreNamed : Option (List ℕ) → FileAsked → Option AssemblyView → Type 0
+AreNamed None file names = names ≡ None
+AreNamed (Some path) file None = ⊥
+AreNamed (Some path) file (Some names) = IsAssembled (map_of file) names
+
+-- The place of a word by a file of names, where it names none by the source.
+abbrev pub if_unplaced : Option ℕ → Option ℕ → Option ℕ
+if_unplaced None other = other
+if_unplaced (Some address) other = None
+
+abbrev pub place_besides : Definitions → Definitions → Option (List ℕ) → Option ℕ
+place_besides source names None = None
+place_besides source names (Some word) = if_unplaced (place_of source word) (place_of names word)
+
+-- The place of a word by the source or by a file of names; the source comes first.
+abbrev pub found_or : Option ℕ → Result (Option ℕ) ℕ → Result (Option ℕ) ℕ
+found_or (Some address) rest = Ok (Some address)
+found_or None rest = rest
+
+abbrev pub place_in : Definitions → Definitions → Option (List ℕ) → Result (Option ℕ) ℕ
+place_in source names word = found_or (place_besides source names word) (place_asked source word)
+
+-- The names were read, and the place of the words was looked for among them and in the source; or
+-- there is no whole page.
+abbrev pub ShownIfNamed : PageAsked → Option AssemblyView → Start → Heard → ℕ → Type 0
+ShownIfNamed a assembly s heard status = IsRefused heard status
+    ⊎ ((names : Option AssemblyView) × AreNamed a.symbols a.file names
+    × ShownIfFound a assembly (place_in (names_of assembly) (names_of names) a.until) s heard
+    status)
+
+-- A session at the start of an image, with the image's bytes written.
+abbrev pub start_of : PageAsked → List (Option ℕ) → Start
+start_of a image
+    = start_in a.is_free (new_session 0 (start (map_of a.file) image)) (bytes_in image)
+
+-- What was done for words: a file was not loaded, and the error stream got why; or from the start
+-- of an image that it can have, on the map of the words and with the names of the image's source
+-- and of the file of names, a session ran.
+abbrev pub IsDone : PageAsked → Heard → ℕ → Type 0
+IsDone a heard status = IsUnloaded a.file heard status ⊤
+    ⊎ ((image : List (Option ℕ)) × (assembly : Option AssemblyView)
+    × IsLoaded a.file image assembly × ShownIfNamed a assembly (start_of a image) heard status)

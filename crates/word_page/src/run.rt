@@ -1,0 +1,412 @@
+//! What the word `page` does.
+
+ghost use Rattle.std.specs.Prelude.{◌≡◌, ◌⊎◌, ℕ, List, IfErr, IfOk, None, Some, false};
+ghost use Rattle.std.specs.Prelude.{OnErr, OnOk, option_map};
+ghost use Rattle.accesses.specs.Writing.{or_everywhere};
+ghost use Rattle.arguments.specs.Words.{Fits, Refuses, texts};
+ghost use Rattle.loading.specs.Place.{names_of};
+ghost use Rattle.model.specs.State.{is_map};
+ghost use Rattle.model.specs.Writers.{AppendsFront};
+ghost use Rattle.word_page.specs.Asked.{PageAsked, asked, page_view};
+ghost use Rattle.word_page.specs.CommandLine.{page};
+ghost use Rattle.word_page.specs.Done.{AreNamed, EndsFile, EndsPage, IsDone, IsInput, IsShown};
+ghost use Rattle.word_page.specs.Done.{Ran, place_besides, place_in, start_in};
+ghost use Rattle.word_run.specs.Told.{unplaced_line};
+
+use crate::fault::PageFault;
+use crate::notes::{MOST_NOTES, read_notes};
+use crate::words::{PageWords, read_page_words};
+use accesses::Written;
+use arguments::{FileRefusal, NewFile, Refusal, create, read_most, refused_words};
+use assembler::Assembly;
+use console::Played;
+use loading::{Loaded, load, load_names, place_of};
+use page_writer::{
+    Note, Opening, Program, SendFault, Texts, facts_of, push_opening, source_of, viewer, write_page,
+};
+use std::alloc::{AllocError, Global};
+use std::io::Write;
+use std::rt::Files;
+use word_run::{place_named, status_of_ending, tell_ending};
+
+/// The most bytes of input that a program can be given.
+const MOST_INPUT: u64 = 65_536;
+
+/// What a page says of a program besides its run.
+#[derive(Drop)]
+struct Said {
+    facts: Vec<u8>,
+    source: Vec<u8>,
+}
+
+/// Returns the names of the file of names, if one is named.
+fn names_asked<'a, H: Files + AllocGlobal>(
+    rt: &H,
+    words: &PageWords<'a>,
+) -> Result<Option<Assembly>, FileRefusal<'a>>
+    ensures named { IfOk result (λ names. AreNamed (page_view words.now).symbols
+        (page_view words.now).file names) }
+    ensures refused { IfErr result (λ why. EndsFile why.refusal) }
+{
+    match words.symbols {
+        None => Ok(None),
+        Some(file) => match load_names(rt, &words.file, file) {
+            Ok(names) => Ok(Some(names.assembly)),
+            Err(refusal) => Err(FileRefusal { file, refusal }),
+        },
+    }
+}
+
+/// Returns the first bytes of a file, so many at most, or none where no file is named.
+#[tactic(auto, using(crate::proofs::Ends::reading_ends))]
+fn bytes_asked<'a, H: Files + AllocGlobal>(
+    rt: &H,
+    file: Option<&'a str>,
+    most: u64,
+) -> Result<Vec<u8>, FileRefusal<'a>>
+    ensures bytes { IfOk result
+        (λ bytes. IsInput (option_map (λ f. f.now) file.entry) bytes.items) }
+    ensures refused { IfErr result (λ why. EndsFile why.refusal) }
+{
+    let Some(file) = file else {
+        return Ok(Vec::new(rt.alloc()));
+    };
+    match read_most(rt, file, most) {
+        Ok(bytes) => Ok(bytes),
+        Err(refusal) => Err(FileRefusal { file, refusal }),
+    }
+}
+
+/// Returns the notes of a file, or none where no file is named.
+fn notes_asked<'a, 't>(
+    alloc: Global,
+    file: Option<&'a str>,
+    text: &'t [u8],
+) -> Result<Vec<Note<'t>>, PageFault<'a>>
+    ensures { IfErr result EndsPage }
+{
+    match file {
+        None => Ok(Vec::new(alloc)),
+        Some(file) => match read_notes(alloc, text) {
+            Ok(notes) => Ok(notes),
+            Err(fault) => Err(PageFault::Notes { file, fault }),
+        },
+    }
+}
+
+/// Returns the title of a page: that of the words, or else the name of the file without its
+/// folders, which are those of who makes the page.
+fn title_of<'a>(words: &PageWords<'a>) -> &'a str {
+    let file = words.file.file;
+    match (words.title, file.rsplit_once('/')) {
+        (Some(title), _) => title,
+        (None, Some((_, name))) => name,
+        (None, None) => file,
+    }
+}
+
+/// Returns what the page says of a program, and what it shows when it is opened.
+fn said_of(
+    alloc: Global,
+    words: &PageWords<'_>,
+    loaded: &Loaded,
+    names: Option<&Assembly>,
+    opening: &Opening<'_>,
+) -> Result<Said, AllocError> {
+    let program = Program {
+        title: title_of(words),
+        port: words.file.port,
+        profile: words.file.profile,
+        written: &loaded.written,
+        assembly: loaded.assembly.as_ref(),
+        names,
+    };
+    let mut facts = facts_of(alloc, &program)?;
+    push_opening(&mut facts, opening)?;
+    let source = source_of(alloc, program.assembly)?;
+    Ok(Said { facts, source })
+}
+
+/// Begins the file of the page, unless it is one that was read.
+///
+/// Errors: `WriteFile` if it is, or cannot be made; `OutOfMemory` if an allocation fails.
+#[tactic(auto, using(crate::proofs::Ends::unwritten_ends))]
+fn begun_file<'a, H: Files + AllocGlobal>(
+    rt: &H,
+    words: &PageWords<'a>,
+) -> Result<NewFile<'a, H::File>, Refusal>
+    ensures { IfErr result EndsFile }
+{
+    let notes = words.opening.notes;
+    let read = [Some(words.file.file), words.symbols, words.input, notes];
+    Ok(create(rt, words.out, &read)?)
+}
+
+/// Returns the addresses that count as written when the run begins.
+fn first_written(
+    alloc: Global,
+    words: &PageWords<'_>,
+    loaded: &Loaded,
+) -> Result<Written, AllocError>
+    ensures { IfOk result
+        (λ written. written ≡ or_everywhere words.now.is_free loaded.now.written) }
+{
+    let written = loaded.written.copied(alloc)?;
+    Ok(written.or_everywhere(words.is_free))
+}
+
+/// Returns what the failure of a page means for the program.
+fn refusal_of(fault: SendFault) -> Refusal
+    ensures { EndsFile result }
+{
+    match fault {
+        SendFault::OutOfMemory => Refusal::OutOfMemory,
+        SendFault::Write => Refusal::Write,
+    }
+}
+
+/// Runs what was loaded over an input, and writes the page to a file.
+fn write_run<W: Write>(
+    alloc: Global,
+    words: &PageWords<'_>,
+    loaded: &mut Loaded,
+    said: &Said,
+    until: Option<u16>,
+    input: &[u8],
+    file: &mut W,
+) -> Result<Played, Refusal>
+    ensures ran { IfOk result (λ end. Ran until words.now.steps
+        (start_in words.now.is_free loaded.old.session loaded.old.written)
+        input.now end loaded.new.session) }
+    ensures assembly { loaded.new.assembly ≡ loaded.old.assembly }
+    ensures refused { IfErr result EndsFile }
+{
+    let Ok(written) = first_written(alloc, words, loaded) else {
+        return Err(Refusal::OutOfMemory);
+    };
+    let texts = Texts {
+        facts: said.facts.as_slice(),
+        source: said.source.as_slice(),
+    };
+    let viewer = viewer();
+    let session = &mut loaded.session;
+    let steps = words.steps;
+    match write_page(
+        alloc, &viewer, &texts, session, written, until, steps, input, file,
+    ) {
+        Ok(played) => Ok(played),
+        Err(fault) => Err(refusal_of(fault)),
+    }
+}
+
+/// Leaves the file of a page that was not written whole, and returns why it was not.
+#[tactic(auto, using(crate::proofs::Ends::unwritten_ends))]
+fn unwritten<H: Files>(rt: &H, refusal: Refusal, file: NewFile<'_, H::File>) -> Refusal
+    requires { EndsFile refusal }
+    ensures { EndsFile result }
+{
+    let why = file.abandon(rt);
+    match refusal {
+        Refusal::Write => why,
+        refusal => refusal,
+    }
+}
+
+/// Makes the file of the page, and writes the run of what was loaded over an input.
+#[tactic(auto, using(crate::proofs::Ends::unwritten_ends))]
+fn make_page<H: Files + AllocGlobal>(
+    rt: &H,
+    words: &PageWords<'_>,
+    loaded: &mut Loaded,
+    names: Option<&Assembly>,
+    opening: &Opening<'_>,
+    until: Option<u16>,
+    input: &[u8],
+) -> Result<Played, Refusal>
+    ensures ran { IfOk result (λ end. Ran until words.now.steps
+        (start_in words.now.is_free loaded.old.session loaded.old.written)
+        input.now end loaded.new.session) }
+    ensures assembly { loaded.new.assembly ≡ loaded.old.assembly }
+    ensures refused { IfErr result EndsFile }
+{
+    let Ok(said) = said_of(rt.alloc(), words, loaded, names, opening) else {
+        return Err(Refusal::OutOfMemory);
+    };
+    let mut file = begun_file(rt, words)?;
+    match write_run(rt.alloc(), words, loaded, &said, until, input, &mut file) {
+        Ok(played) => {
+            file.end(rt)?;
+            Ok(played)
+        }
+        Err(refusal) => Err(unwritten(rt, refusal, file)),
+    }
+}
+
+/// Reads the input and the notes that are asked for, and writes the page of what was loaded.
+fn show_run<'a, H: Files + AllocGlobal>(
+    rt: &H,
+    words: &PageWords<'a>,
+    loaded: &mut Loaded,
+    names: Option<&Assembly>,
+    until: Option<u16>,
+) -> Result<Played, PageFault<'a>>
+    ensures ran { IfOk result (λ end. (input : List ℕ) × IsInput (page_view words.now).input input
+        × Ran until words.now.steps
+        (start_in words.now.is_free loaded.old.session loaded.old.written)
+        input end loaded.new.session) }
+    ensures assembly { loaded.new.assembly ≡ loaded.old.assembly }
+    ensures refused { IfErr result EndsPage }
+{
+    let input = match bytes_asked(rt, words.input, MOST_INPUT) {
+        Ok(input) => input,
+        Err(why) => return Err(PageFault::File(why)),
+    };
+    let wanted = words.opening;
+    let text = match bytes_asked(rt, wanted.notes, MOST_NOTES as u64 + 1) {
+        Ok(text) => text,
+        Err(why) => return Err(PageFault::File(why)),
+    };
+    let notes = notes_asked(rt.alloc(), wanted.notes, text.as_slice())?;
+    let opening = Opening {
+        step: wanted.step,
+        screen: wanted.screen,
+        notes: notes.as_slice(),
+    };
+    let bytes = input.as_slice();
+    match make_page(rt, words, loaded, names, &opening, until, bytes) {
+        Ok(played) => Ok(played),
+        Err(refusal) => Err(PageFault::File(FileRefusal {
+            file: words.out,
+            refusal,
+        })),
+    }
+}
+
+/// Writes the page of what was loaded up to a place, tells how that ended, and returns the exit
+/// status.
+fn show_to<H: Files + AllocGlobal, E: Write>(
+    rt: &H,
+    words: &PageWords<'_>,
+    loaded: &mut Loaded,
+    names: Option<&Assembly>,
+    until: Option<u16>,
+    errors: &mut E,
+) -> u8
+    ensures { IsShown (page_view words.now) loaded.old.assembly until
+        (start_in words.now.is_free loaded.old.session loaded.old.written) (record {
+          held = E.contents errors.old;
+          now = E.contents errors.new;
+        }) result }
+{
+    match show_run(rt, words, loaded, names, until) {
+        Ok(played) => {
+            let pc = loaded.session.regs().pc;
+            let assembly = loaded.assembly.as_ref();
+            tell_ending(rt.alloc(), words.file.file, assembly, played, pc, errors);
+            status_of_ending(played.ending, 0)
+        }
+        Err(why) => why.tell(errors),
+    }
+}
+
+/// Returns the address that a word names by a file of names, and not by the source.
+fn place_besides(loaded: &Loaded, names: Option<&Assembly>, word: Option<&str>) -> Option<u16>
+    ensures { result ≡ place_besides (names_of loaded.now.assembly)
+        (names_of (option_map (λ a. a.now) names.entry)) (option_map (λ w. w.now) word.entry) }
+{
+    let word = word?.as_bytes();
+    match place_of(loaded.assembly.as_ref(), word) {
+        Some(_) => None,
+        None => place_of(names, word),
+    }
+}
+
+/// Returns the address of the place that a word names by the source or by a file of names, or
+/// `None` if there is no word.
+///
+/// Errors: as `place_named`.
+fn place_in<E: Write>(
+    loaded: &Loaded,
+    names: Option<&Assembly>,
+    word: Option<&str>,
+    errors: &mut E,
+) -> Result<Option<u16>, u8>
+    ensures place { result ≡ place_in (names_of loaded.now.assembly)
+        (names_of (option_map (λ a. a.now) names.entry)) (option_map (λ w. w.now) word.entry) }
+    ensures quiet { OnOk result (errors.new ≡ errors.old) }
+    ensures told { OnErr result (AppendsFront (E.contents errors.old) (E.contents errors.new)
+        (unplaced_line (option_map (λ w. w.now) word.entry))) }
+{
+    match place_besides(loaded, names, word) {
+        Some(address) => Ok(Some(address)),
+        None => place_named(loaded, word, errors),
+    }
+}
+
+/// Loads the file of the words and the names that they ask for, writes the page of its run up to
+/// the place of the words, and returns the exit status.
+fn show_words<H: Files + AllocGlobal, E: Write>(rt: &H, words: &PageWords<'_>, errors: &mut E) -> u8
+    ensures done { IsDone (page_view words.now) (record {
+      held = E.contents errors.old;
+      now = E.contents errors.new;
+    }) result }
+    ensures bad_map { is_map words.now.file.rom words.now.file.port ≡ false → result ≡ 2 }
+{
+    let mut loaded = match load(rt, &words.file) {
+        Ok(loaded) => loaded,
+        Err(fault) => return fault.tell(words.file.file, errors),
+    };
+    let names = match names_asked(rt, words) {
+        Ok(names) => names,
+        Err(why) => return why.tell(errors),
+    };
+    let until = match place_in(&loaded, names.as_ref(), words.until, errors) {
+        Ok(until) => until,
+        Err(status) => return status,
+    };
+    show_to(rt, words, &mut loaded, names.as_ref(), until, errors)
+}
+
+/// Does what the words of `page` ask for, its own name left out, and returns the exit status.
+///
+/// The run is that of `run` with the input of a file, or with none. In a page it has 100,000 steps
+/// at most, or as many as `--steps` says.
+///
+/// - 0: the run came to its end, at `--until`, at a jump to itself, or waiting for input that has
+///   ended. 10: the limit of steps. 11: a fault of the program. 12: the console is full. 13:
+///   nothing stands where the program runs, or at the vector of its BRK. In each of these cases the
+///   page was written.
+/// - 1: the source, the tape, the file of names or that of notes is rejected. 2: the words, the
+///   place or the map are wrong. 3: memory ran out. 4: reading or writing failed, or the page is a
+///   file that is read under another name.
+///
+/// For each status but 0 a line on `errors` says why; that it cannot be written changes no status.
+/// A file that was at the name of the page is replaced.
+pub fn page<H: Files + AllocGlobal, O: Write, E: Write>(
+    rt: &H,
+    words: &[&str],
+    output: &mut O,
+    errors: &mut E,
+) -> u8
+    // Words that fit the command line, with right values: their file was loaded and ran by the
+    // definition of a run, or it was not, or a file could not be read or written, as the status
+    // says. The error stream gets why, or how the run ended. What the page got, no clause can say
+    // of a file: `write_page` says it of a writer.
+    ensures done { (a : PageAsked) → asked (texts words.entry.now) ≡ Some a
+        → Fits page (texts words.entry.now) → (output.new ≡ output.old) × IsDone a (record {
+          held = E.contents errors.old;
+          now = E.contents errors.new;
+        }) result }
+    // Other words write nothing on the output but help.
+    ensures refused { Refuses page (texts words.entry.now) (asked (texts words.entry.now) ≡ None)
+        result (Unit {0}) (output.new ≡ output.old) }
+    // A port and a ROM that make no map have the status 2, unless memory runs out.
+    ensures bad_map { (a : PageAsked) → asked (texts words.entry.now) ≡ Some a
+        → Fits page (texts words.entry.now)
+        → is_map a.file.rom a.file.port ≡ false → (result ≡ 2) ⊎ (result ≡ 3) }
+{
+    match read_page_words(rt.alloc(), words) {
+        Ok(words) => show_words(rt, &words, errors),
+        Err(fault) => refused_words(fault, output, errors),
+    }
+}

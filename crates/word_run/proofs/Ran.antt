@@ -1,0 +1,152 @@
+-- How a run ended, from what `play` says of it.
+use Rattle.std.proofs.Common.{◌≡◌, ◌∙◌, ◌++◌, ℕ, Bool, true, List, [], Option, Some, None, Ok, Err, refl, sym, ap, subst, if◌then◌else◌, inl, inr}
+use Rattle.std.specs.Io.KnownBytes.{Appends}
+use Rattle.accesses.specs.Writing.{bytes_in, or_everywhere}
+use Rattle.assembler.specs.Assembly.{AssemblyView}
+use Rattle.console.specs.Playing.{Outcome, begun, played}
+use Rattle.console.proofs.Growing.{broke_grows}
+use Rattle.console.specs.Written.{AreBytesOf, BrokeOff, RanAs}
+use Rattle.console.specs.declared.ending.Ending.{Ending}
+use Rattle.console.specs.declared.ending.PlayFault.{PlayFault}
+use Rattle.console.specs.declared.ending.Played.{Played}
+use Rattle.arguments.specs.Asked.{map_of}
+use Rattle.loading.specs.Loads.{IsLoaded}
+use Rattle.loading.specs.Place.{names_of, place_of}
+use Rattle.model.specs.Event.{start}
+use Rattle.model.specs.Names.{Definitions}
+use Rattle.model.specs.State.{State}
+use Rattle.model.specs.Session.{Session, new_session}
+use Rattle.model.proofs.Written.{front_more}
+use Rattle.model.specs.Writers.{AppendsFront}
+use Rattle.arguments.specs.FaultLines.{fault_line}
+use Rattle.arguments.specs.Statuses.{status_of}
+use Rattle.arguments_play.specs.Run.{RunAsked}
+use Rattle.loading.specs.Told.{Heard, Tells}
+use Rattle.word_run.specs.Runs.{IsDone, RanIfFound, RanOrInterrupted, Start, Streams, TellsEnd, TellsInterrupted, start_of}
+use Rattle.word_run.specs.Places.{or_status, place_asked}
+use Rattle.word_run.specs.Statuses.{refusal_of, status_of_ending}
+use Rattle.word_run.specs.Told.{unplaced_line}
+
+abbrev PlayedOf : Option ℕ → ℕ → Start → Option (List ℕ) → Option (List ℕ) → Session → Played → Type 0
+PlayedOf until limit s given left now end = (input : List ℕ) × (rest : List ℕ) × AreBytesOf given input × AreBytesOf left rest
+    × RanAs (played until limit (begun s.session s.written input)) end now rest
+
+-- What was written is what the session put out since.
+abbrev AllWritten : Session → Session → Option (List ℕ) → Option (List ℕ) → Type 0
+AllWritten s t held now = (text : List ℕ) × (t.current.bus.out ≡ s.current.bus.out ++ text) × Appends held now text
+
+abbrev FrontWritten : Session → Session → Option (List ℕ) → Option (List ℕ) → Type 0
+FrontWritten s t held now = (text : List ℕ) × (t.current.bus.out ≡ s.current.bus.out ++ text) × AppendsFront held now text
+
+-- What was told of a run is told of its outcome.
+told_of : (is_told : Bool) (file : List ℕ) (assembly : Option AssemblyView) (heard : Heard) (ending why : Ending) (steps count : ℕ) (state now : State) → ending ≡ why → steps ≡ count → state ≡ now
+    → TellsEnd is_told file assembly heard ending steps state → TellsEnd is_told file assembly heard why count now
+told_of is_told file assembly heard ending why steps count state now e n s told =
+    let E : Ending → Type 0 = λ x. TellsEnd is_told file assembly heard x count now in
+    let N : ℕ → Type 0 = λ x. TellsEnd is_told file assembly heard ending x now in
+    let S : State → Type 0 = λ x. TellsEnd is_told file assembly heard ending steps x in
+    subst E e (subst N n (subst S s told))
+
+pub ran_to : (a : RunAsked) (assembly : Option AssemblyView) (until : Option ℕ) (s : Start) (t : Session) (streams : Streams) (interrupted : Bool) (heard : Heard) (end : Played) (status : ℕ)
+    → s.session.current.bus.out ≡ []
+    → PlayedOf until a.steps s streams.given streams.left t end
+    → AllWritten s.session t streams.held streams.now
+    → status ≡ status_of_ending end.ending (if a.is_status_of_a then t.current.regs.a else 0)
+    → TellsEnd a.tells_cycles a.file.file assembly heard end.ending end.steps t.current
+    → RanOrInterrupted a assembly until s streams interrupted heard status
+unfolding RanOrInterrupted
+ran_to a assembly until s t streams interrupted heard end status silent run written is told =
+    let outcome : Outcome = played until a.steps (begun s.session s.written run.0) in
+    let same : RanAs outcome end t run.1 = run.4 in
+    let B : List ℕ → Type 0 = λ bytes. AreBytesOf streams.left bytes in
+    let W : List ℕ → Type 0 = λ text. Appends streams.held streams.now text in
+    let ended : Ending → Session → ℕ = λ why now. status_of_ending why (if a.is_status_of_a then now.current.regs.a else 0) in
+    let text_is : written.0 ≡ outcome.play.session.current.bus.out
+    = sym (ap (λ (out : List ℕ). out ++ written.0) silent) ∙ sym written.1 ∙ ap (λ (now : Session). now.current.bus.out) same.session in inl (
+      Ok outcome,
+      (run.0, refl, run.2, subst B same.left run.3, subst W text_is written.2),
+      is ∙ ap (λ (why : Ending). ended why t) same.ending ∙ ap (λ (now : Session). ended outcome.ending now) same.session,
+      told_of a.tells_cycles a.file.file assembly heard end.ending outcome.ending end.steps outcome.steps t.current outcome.play.session.current same.ending same.steps (ap (λ (now : Session). now.current) same.session) told,
+    )
+
+abbrev BrokenOf : Option ℕ → ℕ → Start → Option (List ℕ) → Option (List ℕ) → Session → Type 0
+BrokenOf until limit s given left now = (input : List ℕ) × (rest : List ℕ) × AreBytesOf given input × AreBytesOf left rest
+    × BrokeOff until limit (begun s.session s.written input) now rest
+
+pub failed_to : (a : RunAsked) (assembly : Option AssemblyView) (until : Option ℕ) (s : Start) (t : Session) (streams : Streams) (interrupted : Bool) (heard : Heard) (fault : PlayFault) (status : ℕ)
+    → s.session.current.bus.out ≡ []
+    → BrokenOf until a.steps s streams.given streams.left t
+    → FrontWritten s.session t streams.held streams.now
+    → status ≡ status_of (refusal_of fault)
+    → Tells heard (fault_line (refusal_of fault))
+    → RanOrInterrupted a assembly until s streams interrupted heard status
+unfolding RanOrInterrupted
+failed_to a assembly until s t streams interrupted heard fault status silent broke written is told =
+    let whole : List ℕ = (played until a.steps (begun s.session s.written broke.0)).play.session.current.bus.out in
+    let grows = broke_grows until a.steps (begun s.session s.written broke.0) t broke.1 broke.4 in
+    let W : List ℕ → Type 0 = λ text. AppendsFront streams.held streams.now text in
+    let text_is : written.0 ≡ t.current.bus.out = sym (ap (λ (out : List ℕ). out ++ written.0) silent) ∙ sym written.1 in
+    let front : W whole = subst W (sym grows.1) (front_more streams.held streams.now t.current.bus.out grows.0 (subst W text_is written.2)) in
+    inl (Err fault, (broke.0, broke.2, front), is, told)
+
+-- What was written begins what the session has put out, and so what the whole run puts out.
+pub interrupted_to : (a : RunAsked) (assembly : Option AssemblyView) (until : Option ℕ) (s : Start) (t : Session) (streams : Streams) (interrupted : Bool) (heard : Heard) (status : ℕ)
+    → interrupted ≡ true
+    → s.session.current.bus.out ≡ []
+    → BrokenOf until a.steps s streams.given streams.left t
+    → FrontWritten s.session t streams.held streams.now
+    → status ≡ 130
+    → TellsInterrupted a.file.file assembly heard t.current.regs.pc t.current.cycles
+    → RanOrInterrupted a assembly until s streams interrupted heard status
+unfolding RanOrInterrupted
+interrupted_to a assembly until s t streams interrupted heard status was silent broke written is told =
+    let whole : List ℕ = (played until a.steps (begun s.session s.written broke.0)).play.session.current.bus.out in
+    let grows = broke_grows until a.steps (begun s.session s.written broke.0) t broke.1 broke.4 in
+    let W : List ℕ → Type 0 = λ text. AppendsFront streams.held streams.now text in
+    let text_is : written.0 ≡ t.current.bus.out = sym (ap (λ (out : List ℕ). out ++ written.0) silent) ∙ sym written.1 in
+    let front : W t.current.bus.out = subst W text_is written.2 in
+    let more : W whole = subst W (sym grows.1) (front_more streams.held streams.now t.current.bus.out grows.0 front) in
+    inr (was, (is, (broke.0, t, broke.1, broke.2, broke.3, broke.4, front, more, told)))
+
+-- A file that was loaded.
+ran_file : (a : RunAsked) (s : Session) (w : List Bool) (assembly : Option AssemblyView) (image : List (Option ℕ)) (streams : Streams) (interrupted : Bool) (heard : Heard) (status : ℕ) (Alone : Type 0) → IsLoaded a.file image assembly
+    → s ≡ new_session 0 (start (map_of a.file) image) → w ≡ bytes_in image
+    → RanIfFound a assembly (place_asked (names_of assembly) a.until) (record { session = s; written = or_everywhere a.is_free w }) streams interrupted heard status Alone → IsDone a streams interrupted heard status Alone
+ran_file a s w assembly image streams interrupted heard status A loaded begins bytes ran =
+    let T : Start → Type 0 = λ x. RanIfFound a assembly (place_asked (names_of assembly) a.until) x streams interrupted heard status A in
+    let at : record { session = s; written = or_everywhere a.is_free w } ≡ start_of a image =
+    ap (λ (t : Session). record { session = t; written = or_everywhere a.is_free w }) begins
+    ∙ ap (λ (v : List Bool). record { session = new_session 0 (start (map_of a.file) image); written = or_everywhere a.is_free v }) bytes in
+    inr (image, assembly, loaded, subst T at ran)
+
+-- A file that was loaded, and a place that was found, of which nothing was told.
+pub ran_found : {E : Type 0} (contents : E → Option (List ℕ)) (a : RunAsked) (s : Session) (w v : List Bool) (assembly told : Option AssemblyView) (image : List (Option ℕ)) (until : Option ℕ)
+    (streams : Streams) (interrupted : Bool) (first middle last : E) (status : ℕ) (Alone : Type 0) → IsLoaded a.file image assembly
+    → s ≡ new_session 0 (start (map_of a.file) image) → w ≡ bytes_in image
+    → Ok until ≡ place_asked (names_of assembly) a.until → middle ≡ first → told ≡ assembly → v ≡ or_everywhere a.is_free w
+    → RanOrInterrupted a told until (record { session = s; written = v }) streams interrupted (record { held = contents middle; now = contents last }) status
+    → IsDone a streams interrupted (record { held = contents first; now = contents last }) status Alone
+ran_found contents a s w v assembly told image until streams interrupted first middle last status A loaded begins bytes place quiet names counts ran =
+    let H : Heard = record { held = contents first; now = contents last } in
+    let T : Start = record { session = s; written = or_everywhere a.is_free w } in
+    let heard = subst (λ e. RanOrInterrupted a told until (record { session = s; written = v }) streams interrupted (record { held = contents e; now = contents last }) status) quiet ran in
+    let known = subst (λ x. RanOrInterrupted a x until (record { session = s; written = v }) streams interrupted H status) names heard in
+    let from = subst (λ x. RanOrInterrupted a assembly until (record { session = s; written = x }) streams interrupted H status) counts known in
+    ran_file a s w assembly image streams interrupted H status A loaded begins bytes (subst (λ r. RanIfFound a assembly r T streams interrupted H status A) place from)
+
+-- A place that was not found.
+pub ran_unfound : (a : RunAsked) (s : Session) (w : List Bool) (assembly : Option AssemblyView) (image : List (Option ℕ)) (streams : Streams) (interrupted : Bool) (heard : Heard) (status : ℕ) (Alone : Type 0)
+    → IsLoaded a.file image assembly → s ≡ new_session 0 (start (map_of a.file) image) → w ≡ bytes_in image
+    → Err status ≡ place_asked (names_of assembly) a.until → Tells heard (unplaced_line a.until) → Alone → IsDone a streams interrupted heard status Alone
+ran_unfound a s w assembly image streams interrupted heard status A loaded begins bytes place told alone =
+    let T : Start = record { session = s; written = or_everywhere a.is_free w } in
+    ran_file a s w assembly image streams interrupted heard status A loaded begins bytes (subst (λ r. RanIfFound a assembly r T streams interrupted heard status A) place (refl, told, alone))
+
+-- The status of a place that was not found is not 0.
+unplaced : (found : Option ℕ) (status : ℕ) → Err status ≡ or_status found → status ≡ 0 → ⊥
+unplaced (Some address) status is zero = cc
+unplaced None status is zero = cc
+
+pub unfound_status : (names : Definitions) (word : Option (List ℕ)) (status : ℕ) → Err status ≡ place_asked names word → status ≡ 0 → ⊥
+unfound_status names None status is zero = cc
+unfound_status names (Some word) status is zero = unplaced (place_of names word) status is zero

@@ -1,0 +1,121 @@
+-- What the error stream gets of a run: why it did not come to its end, and its cycles and steps.
+-- Source: mos65.
+use Rattle.std.specs.Prelude.{◌≡◌, ◌⊎◌, ℕ, ◌==◌, List, [], ◌++◌, codes, decimal, if◌then◌else◌, Option, Some, None}
+use Rattle.assembler.specs.Assembly.{AssemblyView}
+use Rattle.console.specs.declared.ending.Ending.{Ending}
+use Rattle.console.specs.declared.ending.Ending.TheVariants.{Limit, Unwritten, NoReset, NoVector, Refused}
+use Rattle.model.specs.FaultTexts.{event_fault_text}
+use Rattle.model.specs.Text.{hex_address, hex_byte}
+use Rattle.model.specs.declared.event.EventFault.{EventFault}
+use Rattle.model.specs.declared.event.EventFault.TheVariants.{ConsoleFull, Undocumented}
+use Rattle.word_run.specs.declared.wording.TheConstants.{AFTER, AFTER_CYCLES, BREAK_AT, CONSOLE_FULL, CYCLES, CYCLES_END, FROM, INTERRUPTED, NO_INSTRUCTION, NO_PLACE, NO_RESET, NO_VECTOR, PROGRAM, RAN_INTO, STEP, STEPS, STOPPED, UNWRITTEN}
+use Rattle.source_map.specs.Lines.{PlacesView, line_at, places_of}
+use Rattle.source_map.specs.Names.{Near, name_near}
+
+abbrev pub step_word : ℕ → List ℕ
+step_word steps = if steps == 1 then STEP.now else STEPS.now
+
+-- Where a run stopped.
+abbrev pub stop_text : ℕ → List ℕ
+stop_text pc = STOPPED.now ++ hex_address pc
+
+-- Where a run was rejected: at its program counter, or at that of the fault.
+abbrev pub refused_address : EventFault → ℕ → ℕ
+refused_address (Undocumented opcode at) pc = at
+refused_address fault pc = pc
+
+-- Why a run was rejected, as the line ends.
+abbrev pub refused_text : EventFault → List ℕ
+refused_text ConsoleFull = CONSOLE_FULL.now
+refused_text (Undocumented opcode at) = codes ": " ++ hex_byte opcode ++ NO_INSTRUCTION.now
+refused_text fault = codes ": " ++ event_fault_text fault ++ codes "\n"
+
+-- Where and why a run was rejected. `site` is what is said of the program counter.
+unfoldable pub refused_line : List ℕ → EventFault → ℕ → List ℕ
+refused_line site fault pc
+    = stop_text (refused_address fault pc) ++ (site ++ refused_text fault)
+
+-- ---- an address in its source
+
+-- How far behind a name an address is.
+abbrev pub distance_text : ℕ → List ℕ
+distance_text distance = if distance == 0 then [] else codes "+" ++ decimal distance
+
+-- A name and how far behind it an address is, and a line of a file.
+abbrev pub name_words : Near → List ℕ
+name_words None = []
+name_words (Some (name, distance)) = codes " " ++ (name ++ distance_text distance)
+
+abbrev pub line_words : List ℕ → Option ℕ → List ℕ
+line_words file None = []
+line_words file (Some line) = codes ", " ++ (file ++ (codes ":" ++ decimal line))
+
+-- What the source says of an address, as ` next+4, first.a65:6`.
+abbrev pub site_text : PlacesView → ℕ → List ℕ
+site_text places address = name_words (name_near places.names address)
+    ++ line_words places.file (line_at places.lines address)
+
+-- What is said of an address: nothing without a source, nor where memory runs out.
+abbrev pub IsSite : List ℕ → Option AssemblyView → ℕ → List ℕ → Type 0
+IsSite file None address site = site ≡ []
+IsSite file (Some assembly) address site
+    = (site ≡ site_text (places_of file assembly) address) ⊎ (site ≡ [])
+
+-- ---- the end
+
+-- The address of which an ending says where it is in the source: that of the last instruction, or
+-- of the next one.
+abbrev pub place_of_ending : Ending → ℕ → ℕ
+place_of_ending (Unwritten (Some from)) pc = from
+place_of_ending ending pc = pc
+
+-- Where nothing was ever written.
+abbrev pub stray_text : ℕ → List ℕ
+stray_text pc = RAN_INTO.now ++ hex_address pc ++ UNWRITTEN.now
+
+-- And the address of the last instruction.
+abbrev pub came_text : ℕ → ℕ → List ℕ
+came_text pc from = RAN_INTO.now ++ hex_address pc ++ UNWRITTEN.now ++ FROM.now ++ hex_address from
+
+-- Where nothing was ever written, and from where the program came there. `site` is what is said of
+-- that address.
+unfoldable pub stray_line : Option ℕ → ℕ → List ℕ → List ℕ
+stray_line None pc site = stray_text pc ++ codes "\n"
+stray_line (Some from) pc site = came_text pc from ++ (site ++ codes "\n")
+
+-- Where a BRK stands.
+abbrev pub break_text : ℕ → List ℕ
+break_text pc = BREAK_AT.now ++ hex_address pc
+
+-- Why a run did not come to its end. `site` is what is said of the address of the ending.
+unfoldable pub ending_line : List ℕ → Ending → ℕ → ℕ → List ℕ
+ending_line site Limit steps pc
+    = stop_text pc ++ (site ++ (AFTER.now ++ decimal steps ++ step_word steps))
+ending_line site (Unwritten from) steps pc = stray_line from pc site
+ending_line site NoReset steps pc = stray_text pc ++ NO_RESET.now
+ending_line site NoVector steps pc = break_text pc ++ (site ++ NO_VECTOR.now)
+ending_line site (Refused fault) steps pc = refused_line site fault pc
+ending_line site ending steps pc = []
+
+-- How many cycles and steps a run took.
+abbrev pub cycles_line : ℕ → ℕ → List ℕ
+cycles_line cycles steps = PROGRAM.now ++ decimal cycles ++ CYCLES.now
+    ++ (decimal steps ++ step_word steps)
+
+-- Where a run stood when it was interrupted, and at which cycle. `site` is what is said of that
+-- address.
+abbrev pub interrupted_text : ℕ → List ℕ
+interrupted_text pc = INTERRUPTED.now ++ hex_address pc
+
+unfoldable pub interrupted_line : List ℕ → ℕ → ℕ → List ℕ
+interrupted_line site pc cycles = interrupted_text pc
+    ++ (site ++ (AFTER_CYCLES.now ++ decimal cycles ++ CYCLES_END.now))
+
+-- A word that stands for no place.
+abbrev pub no_place_line : List ℕ → List ℕ
+no_place_line word
+    = PROGRAM.now ++ (word ++ NO_PLACE.now)
+
+abbrev pub unplaced_line : Option (List ℕ) → List ℕ
+unplaced_line None = []
+unplaced_line (Some word) = no_place_line word

@@ -1,0 +1,100 @@
+-- What TAP tells of the tests of a suite, and what they come to. Source: mos65.
+use Rattle.std.specs.Prelude.{◌≡◌, ℕ, ◌+◌, ◌-◌, ◌^◌, ◌&&◌, min, Bool, true, false, is_none, if◌then◌else◌, List, [], ◌∷◌, ◌++◌, Option, option_map}
+use Rattle.clap.specs.Words.{Text}
+use Rattle.t65_suites.specs.Prepared.{Ground, ground_in}
+use Rattle.t65_reader.specs.RowText.{SeenRow}
+use Rattle.t65_failures.specs.Failures.{detail_text}
+use Rattle.t65_reports.specs.Lines.{line_at, lines_after, next_after}
+use Rattle.t65_reports.specs.Junit.{ReportTold, with_test}
+use Rattle.t65_reports.specs.Reports.{junit_case, summary_text, tap_case}
+use Rattle.t65_reports.specs.declared.reports.Score.{Score}
+use Rattle.t65_runner.specs.Passes.{first_failed, rows_seen}
+use Rattle.t65_runner.specs.Start.{fresh}
+use Rattle.t65_runner.specs.declared.range_values.Values.{Values}
+use Rattle.t65_runner.specs.declared.around.Around.{Around}
+use Rattle.t65_suites.specs.declared.prepared.Prepared.{Prepared}
+use Rattle.word_test.specs.declared.tally.Tally.{Tally}
+
+-- ---- rows on a machine
+
+-- What is run for a test, one row after another.
+abbrev pub run_of : Ground → ℕ × SeenRow → List (ℕ × SeenRow)
+run_of bench row = bench.before ++ row ∷ bench.after
+
+-- The first values for which a test fails.
+abbrev pub failure_of : Ground → ℕ × SeenRow → Option Values
+failure_of bench row = first_failed row.1 (run_of bench row) (fresh bench.bus_map bench.image)
+
+-- Why a test fails, if it does.
+abbrev pub why : Ground → ℕ × SeenRow → Option (List ℕ)
+why bench row = option_map (detail_text bench.bus_map bench.image bench.places row.1.ranges
+    (run_of bench row)) (failure_of bench row)
+
+-- A count, at most 2^64 - 1.
+abbrev pub plus : ℕ → ℕ → ℕ
+plus count more = min (count + more) (2 ^ 64 - 1)
+
+-- What TAP tells of tests after so many others: of each row its line of the file, whose lines from the
+-- one with the number `next` on are left, and why it fails, if it does.
+unfoldable pub rows_text : Ground → Text → ℕ → ℕ → List (List ℕ) → List (ℕ × SeenRow) → List ℕ
+rows_text bench name count next lines [] = []
+rows_text bench name count next lines (row ∷ rows)
+    = tap_case (plus count 1) name row.0 (line_at row.0 next lines) (why bench row)
+    ++ rows_text bench name (plus count 1) (next_after row.0 next lines)
+    (lines_after row.0 next lines) rows
+
+-- What the report for JUnit gets of the same tests: of each row its text, and whether it passes.
+unfoldable pub rows_reported : Ground → Text → ℕ → List (List ℕ) → List (ℕ × SeenRow) → ReportTold
+    → ReportTold
+rows_reported bench name next lines [] report = report
+rows_reported bench name next lines (row ∷ rows) report = rows_reported bench name
+    (next_after row.0 next lines) (lines_after row.0 next lines) rows
+    (with_test (is_none (failure_of bench row))
+    (junit_case name row.0 (line_at row.0 next lines) (why bench row)) report)
+
+-- ---- what they come to
+
+abbrev pub scored : Bool → ℕ → Score → Score
+scored true points score = record {
+  passed = plus score.passed 1;
+  failed = score.failed;
+  earned = plus score.earned points;
+  worth = plus score.worth points;
+}
+scored false points score = record {
+  passed = score.passed;
+  failed = plus score.failed 1;
+  earned = score.earned;
+  worth = plus score.worth points;
+}
+
+-- One more test, which passes or not, and is worth so many points.
+abbrev pub tally_after : Bool → ℕ → Tally → Tally
+tally_after passes points tally = record {
+  count = plus tally.count 1;
+  score = scored passes points tally.score;
+  all_pass = tally.all_pass && passes;
+}
+
+unfoldable pub tally_rows : Ground → Tally → List (ℕ × SeenRow) → Tally
+tally_rows bench tally [] = tally
+tally_rows bench tally (row ∷ rows) = tally_rows bench
+    (tally_after (is_none (failure_of bench row)) row.1.points tally) rows
+
+-- Before a suite, after so many tests of others.
+abbrev pub fresh_tally : ℕ → Tally
+fresh_tally count = record {
+  count = count;
+  score = record { passed = 0; failed = 0; earned = 0; worth = 0 };
+  all_pass = true;
+}
+
+abbrev pub summary_if : Bool → Text → Score → List ℕ
+summary_if is_summary name score = if is_summary then summary_text name score else []
+
+-- ---- a suite
+
+-- The rows that are run before and after each test are those of the file.
+pub record IsAround (prepared : Prepared) (around : Around) : Type 0 where
+  pub before : rows_seen around.before.items ≡ (ground_in prepared).before
+  pub after : rows_seen around.after.items ≡ (ground_in prepared).after

@@ -1,0 +1,232 @@
+//! Suites, run and told of one after another.
+
+ghost use Rattle.std.specs.Prelude.{◌≡◌, ◌⊎◌, ◌++◌, ◌&&◌, ℕ, List, IfErr, IfOk, MatchResult, false, map};
+ghost use Rattle.std.specs.Prelude.{string_bytes};
+ghost use Rattle.std.specs.Io.KnownBytes.{Appends};
+ghost use Rattle.model.specs.TextLines.{lines_of};
+ghost use Rattle.model.specs.Writers.{AppendsFront, Writes};
+ghost use Rattle.t65_reports.specs.Reports.{junit_fault, tap_fault};
+ghost use Rattle.t65_suites.specs.Suites.{name_of, suite_view};
+ghost use Rattle.word_test.specs.Tested.{fresh_tally, rows_text, summary_if, tally_after};
+ghost use Rattle.t65_suites.specs.Prepared.{ground_in};
+ghost use Rattle.word_test.specs.Tested.{tally_rows};
+ghost use Rattle.t65_suites.specs.Prepared.{tests_in};
+ghost use Rattle.word_test.specs.Told.{AreBegun, AreRun, IsBegun, IsFaultText, IsRun};
+
+use crate::report::Reports;
+use crate::rows::{Told, run_rows, write_told};
+use crate::stop::Stop;
+use crate::tally::{Tally, fresh_tally, tally_after};
+use arguments::write_text;
+use std::alloc::{AllocError, Global};
+use std::io::Write;
+use std::rt::Files;
+use t65_reader::Part;
+use t65_reports::{Score, junit_fault, summary, tap_fault};
+use t65_runner::rows_of;
+use t65_suites::{FileFault, Prepared, Suite, is_memory, prepare, remarks_of, title_of};
+
+/// How rows are run and told of.
+#[derive(Clone, Copy)]
+pub struct Manner {
+    /// The most steps of a call.
+    pub steps: u32,
+    /// Whether a line sums up each suite.
+    pub is_summary: bool,
+}
+
+/// Writes the line that sums up a suite, if there is to be one.
+fn write_summary<O: Write>(
+    alloc: Global,
+    is_summary: bool,
+    name: &str,
+    score: Score,
+    output: &mut O,
+) -> Result<(), Stop>
+    ensures { Writes (O.contents output.old) (O.contents output.new)
+        (summary_if is_summary name.now score) result }
+{
+    if !is_summary {
+        return Ok(());
+    }
+    let line = summary(alloc, name, score)?;
+    write_text(output, line.as_bytes())?;
+    Ok(())
+}
+
+/// Runs the rows of a suite that was prepared, after so many tests, and sums them up.
+fn run_tested<H: Files + AllocGlobal, O: Write>(
+    rt: &H,
+    prepared: &Prepared,
+    is_summary: bool,
+    name: &str,
+    count: u64,
+    output: &mut O,
+    reports: &mut Reports,
+) -> Result<Tally, Stop>
+    ensures tally { IfOk result (λ tally. tally ≡ tally_rows (ground_in prepared.now)
+        (fresh_tally count) (tests_in prepared.now)) }
+    ensures written { IfOk result (λ tally. Appends (O.contents output.old) (O.contents output.new)
+        (rows_text (ground_in prepared.now) name.now count 1
+        (lines_of prepared.now.text.items) (tests_in prepared.now)
+        ++ summary_if is_summary name.now tally.score)) }
+    ensures begun { IfErr result (λ _. AppendsFront (O.contents output.old) (O.contents output.new)
+        (rows_text (ground_in prepared.now) name.now count 1
+        (lines_of prepared.now.text.items) (tests_in prepared.now)
+        ++ summary_if is_summary name.now (tally_rows (ground_in prepared.now)
+        (fresh_tally count) (tests_in prepared.now)).score)) }
+{
+    let tests = rows_of(rt.alloc(), &prepared.rows, Part::Test)?;
+    reports.junit.begin_suite(rt.alloc(), name, tests.len())?;
+    reports.coverage.begin_suite(rt.alloc())?;
+    let first = fresh_tally(count);
+    let tally = run_rows(rt, prepared, &tests, name, first, output, reports)?;
+    reports.coverage.end_suite(rt.alloc(), prepared)?;
+    reports.junit.end_suite(rt.alloc())?;
+    write_summary(rt.alloc(), is_summary, name, tally.score, output)?;
+    Ok(tally)
+}
+
+/// Returns what is told of a suite that cannot be tested, by the number of that test among all.
+fn untested(
+    alloc: Global,
+    number: u64,
+    suite: Suite<'_>,
+    fault: &FileFault,
+) -> Result<Told, AllocError>
+    ensures texts { IfOk result (λ told. (title : List ℕ) × (remarks : List ℕ)
+        × (string_bytes told.tap
+        ≡ tap_fault number (name_of (suite_view suite.entry)) title remarks)
+        × IsFaultText fault.now title remarks
+        × (string_bytes told.junit
+        ≡ junit_fault (name_of (suite_view suite.entry)) title remarks)) }
+    ensures fails { IfOk result (λ told. told.passes ≡ false) }
+{
+    let title = title_of(alloc, fault)?;
+    let remarks = remarks_of(alloc, suite, fault)?;
+    Ok(Told {
+        tap: tap_fault(alloc, number, suite.name(), &title, &remarks)?,
+        junit: junit_fault(alloc, suite.name(), &title, &remarks)?,
+        passes: false,
+    })
+}
+
+/// Returns what a suite that cannot be tested comes to, after so many tests: one that fails.
+fn untested_tally(count: u64) -> Tally
+    ensures { result ≡ tally_after false 0 (fresh_tally count) }
+{
+    tally_after(false, 0, fresh_tally(count))
+}
+
+/// Tells of a suite that cannot be tested, after so many tests: as a test that fails.
+fn run_untested<H: Files + AllocGlobal, O: Write>(
+    rt: &H,
+    suite: Suite<'_>,
+    is_summary: bool,
+    count: u64,
+    fault: &FileFault,
+    output: &mut O,
+    reports: &mut Reports,
+) -> Result<Tally, Stop>
+    ensures tally { IfOk result (λ tally. tally ≡ tally_after false 0 (fresh_tally count)) }
+    ensures written { IfOk result (λ tally. (title : List ℕ) × (remarks : List ℕ)
+        × Appends (O.contents output.old) (O.contents output.new)
+        (tap_fault tally.count (name_of (suite_view suite.entry)) title remarks
+        ++ summary_if is_summary (name_of (suite_view suite.entry)) tally.score)
+        × IsFaultText fault.now title remarks) }
+    // Where memory ran out before there was a text, nothing was written.
+    ensures begun { IfErr result (λ _. (output.new ≡ output.old)
+        ⊎ ((title : List ℕ) × (remarks : List ℕ)
+        × AppendsFront (O.contents output.old) (O.contents output.new)
+        (tap_fault (tally_after false 0 (fresh_tally count)).count
+        (name_of (suite_view suite.entry)) title remarks
+        ++ summary_if is_summary (name_of (suite_view suite.entry))
+        (tally_after false 0 (fresh_tally count)).score)
+        × IsFaultText fault.now title remarks)) }
+{
+    let tally = untested_tally(count);
+    let told = untested(rt.alloc(), tally.count, suite, fault)?;
+    reports.junit.begin_suite(rt.alloc(), suite.name(), 1)?;
+    write_told(rt, &told, output, reports)?;
+    reports.junit.end_suite(rt.alloc())?;
+    write_summary(rt.alloc(), is_summary, suite.name(), tally.score, output)?;
+    Ok(tally)
+}
+
+/// Runs a suite after so many tests. Its texts are written, and the output is flushed, test by
+/// test.
+fn run_suite<H: Files + AllocGlobal, O: Write>(
+    rt: &H,
+    suite: Suite<'_>,
+    manner: Manner,
+    count: u64,
+    output: &mut O,
+    reports: &mut Reports,
+) -> Result<Tally, Stop>
+    ensures { MatchResult result (IsRun manner (suite_view suite.entry) count
+        (O.contents output.old) (O.contents output.new))
+        (λ _. IsBegun manner (suite_view suite.entry) count (O.contents output.old)
+        (O.contents output.new)) }
+{
+    let is_summary = manner.is_summary;
+    match prepare(rt, suite, manner.steps) {
+        Ok(prepared) => {
+            run_tested(
+                rt,
+                &prepared,
+                is_summary,
+                suite.name(),
+                count,
+                output,
+                reports,
+            )
+        }
+        Err(fault) => {
+            if is_memory(&fault) {
+                return Err(Stop::OutOfMemory);
+            }
+            run_untested(rt, suite, is_summary, count, &fault, output, reports)
+        }
+    }
+}
+
+/// Runs suites, each on its program, and tells of their tests as they end. Returns how many tests
+/// there are, and whether all pass.
+///
+/// # Errors
+///
+/// `OutOfMemory` if an allocation fails, `Output` and `Report` if these cannot be written: the
+/// output has then a beginning of what is told of the suites. What cannot be read, assembled or
+/// loaded is a test that fails, and the other suites are run.
+pub fn run_suites<H: Files + AllocGlobal, O: Write>(
+    rt: &H,
+    suites: &[Suite<'_>],
+    manner: Manner,
+    output: &mut O,
+    reports: &mut Reports,
+) -> Result<(u64, bool), Stop>
+    ensures { MatchResult result (λ end. AreRun manner (map suite_view suites.now)
+        (O.contents output.old) (O.contents output.new) end.0 end.1)
+        (λ _. AreBegun manner (map suite_view suites.now) (O.contents output.old)
+        (O.contents output.new)) }
+{
+    let mut count = 0u64;
+    let mut all_pass = true;
+    for index in 0..suites.len() {
+        match run_suite(rt, suites[index], manner, count, output, reports) {
+            Ok(tally) => {
+                count = tally.count;
+                all_pass = both(all_pass, tally.all_pass);
+            }
+            Err(stop) => return Err(stop),
+        }
+    }
+    Ok((count, all_pass))
+}
+
+/// Returns whether both hold.
+fn both(first: bool, second: bool) -> bool
+    ensures { result ≡ (first && second) }
+{
+    if first { second } else { false }
+}

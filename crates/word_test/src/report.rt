@@ -1,0 +1,190 @@
+//! What is written in files beside TAP: a report for JUnit, and which lines were run.
+//!
+//! Both are kept as texts. The report is a whole file after each test, and is written whole: after
+//! the first test, then each time when a sixteenth of it or more is not in the file, and at the
+//! end. So all writes together are as long as some seventeen reports, however many tests there are.
+
+ghost use Rattle.std.specs.Prelude.{◌≡◌, IfOk, OnOk};
+ghost use Rattle.std.specs.Option.{option_map};
+ghost use Rattle.t65_reports.specs.Junit.{no_suite, report_told, with_end, with_suite, with_test};
+ghost use Rattle.word_test.specs.Covered.{told_in};
+
+use crate::coverage::Coverage;
+use crate::stop::Stop;
+use arguments::write_file;
+use std::alloc::{AllocError, Global};
+use std::rt::Files;
+use t65_reports::Junit;
+
+/// A report for JUnit, and how much of it is in its file.
+#[derive(Drop)]
+pub struct ReportFile {
+    path: String,
+    junit: Junit,
+    /// How many bytes are told of tests.
+    told: usize,
+    /// How many of these are not in the file.
+    unwritten: usize,
+}
+
+/// A report for JUnit; nothing is told where none is asked for.
+#[derive(Drop)]
+pub struct Report {
+    file: Option<ReportFile>,
+}
+
+/// What is written in files.
+#[derive(Drop)]
+pub struct Reports {
+    pub junit: Report,
+    pub coverage: Coverage,
+}
+
+/// Returns a path that is there already, as one of its own.
+///
+/// Errors: `AllocError` if an allocation fails.
+pub fn path_of(alloc: Global, path: &str) -> Result<String, AllocError> {
+    let mut copy = String::new(alloc);
+    copy.push_str(path)?;
+    Ok(copy)
+}
+
+/// Begins a report for the file of that name. The file stays as it is.
+fn begin_file(alloc: Global, path: &str) -> Result<ReportFile, AllocError>
+    ensures { IfOk result (λ file. report_told file.junit ≡ no_suite) }
+{
+    Ok(ReportFile {
+        path: path_of(alloc, path)?,
+        junit: Junit::new(alloc),
+        told: 0,
+        unwritten: 0,
+    })
+}
+
+/// Begins a report for the file of that name, if one is asked for. The file stays as it is.
+///
+/// Errors: `AllocError` if an allocation fails.
+pub fn begin_report(alloc: Global, path: Option<&str>) -> Result<Report, AllocError>
+    // There is a report where one is asked for, and it has no suite.
+    ensures { IfOk result
+        (λ report. told_in report ≡ option_map (λ _. no_suite) path.entry) }
+{
+    match path {
+        None => Ok(Report { file: None }),
+        Some(path) => {
+            let file = begin_file(alloc, path)?;
+            Ok(Report { file: Some(file) })
+        }
+    }
+}
+
+impl ReportFile {
+    /// Writes the report to its file.
+    fn write<H: Files + AllocGlobal>(&mut self, rt: &H) -> Result<(), Stop>
+        ensures { report_told self.new.junit ≡ report_told self.old.junit }
+    {
+        let text = self.junit.text(rt.alloc())?;
+        match write_file(rt, self.path.as_str(), text.as_bytes()) {
+            Ok(()) => {
+                self.unwritten = 0;
+                Ok(())
+            }
+            Err(refusal) => Err(Stop::of_report(refusal)),
+        }
+    }
+
+    /// Appends the text of a test, and writes the report if much of it is not in its file.
+    fn push_test<H: Files + AllocGlobal>(
+        &mut self,
+        rt: &H,
+        text: &str,
+        passes: bool,
+    ) -> Result<(), Stop>
+        ensures { OnOk result (report_told self.new.junit
+            ≡ with_test passes text.now (report_told self.old.junit)) }
+    {
+        self.junit.push_test(text, passes)?;
+        self.told = self.told.saturating_add(text.len());
+        self.unwritten = self.unwritten.saturating_add(text.len());
+        if self.unwritten >= self.told / 16 {
+            self.write(rt)
+        } else {
+            Ok(())
+        }
+    }
+}
+
+impl Report {
+    /// Begins a suite of so many tests.
+    ///
+    /// Errors: `AllocError` if an allocation fails.
+    pub fn begin_suite(&mut self, alloc: Global, name: &str, tests: usize) -> Result<(), AllocError>
+        ensures { OnOk result (told_in self.new
+            ≡ option_map (with_suite name.now tests) (told_in self.old)) }
+    {
+        match &mut self.file {
+            None => Ok(()),
+            Some(file) => file.junit.begin_suite(alloc, name, tests),
+        }
+    }
+
+    /// Appends the text of a test of the suite, which passes or not, and writes the report if much
+    /// of it is not in its file.
+    ///
+    /// Errors: `OutOfMemory` if an allocation fails, `Report` if the file cannot be written.
+    pub fn push_test<H: Files + AllocGlobal>(
+        &mut self,
+        rt: &H,
+        text: &str,
+        passes: bool,
+    ) -> Result<(), Stop>
+        ensures { OnOk result (told_in self.new
+            ≡ option_map (with_test passes text.now) (told_in self.old)) }
+    {
+        match &mut self.file {
+            None => Ok(()),
+            Some(file) => file.push_test(rt, text, passes),
+        }
+    }
+
+    /// Ends the suite.
+    ///
+    /// Errors: `AllocError` if an allocation fails.
+    pub fn end_suite(&mut self, alloc: Global) -> Result<(), AllocError>
+        ensures { OnOk result (told_in self.new ≡ option_map with_end (told_in self.old)) }
+    {
+        match &mut self.file {
+            None => Ok(()),
+            Some(file) => file.junit.end_suite(alloc),
+        }
+    }
+
+    /// Writes the report to its file, if some of it is not there yet.
+    ///
+    /// Errors: `OutOfMemory` if an allocation fails, `Report` if the file cannot be written.
+    pub fn finish<H: Files + AllocGlobal>(&mut self, rt: &H) -> Result<(), Stop>
+        ensures { told_in self.new ≡ told_in self.old }
+    {
+        match &mut self.file {
+            None => Ok(()),
+            Some(file) => {
+                if file.unwritten == 0 {
+                    Ok(())
+                } else {
+                    file.write(rt)
+                }
+            }
+        }
+    }
+}
+
+impl Reports {
+    /// Writes what is not in its file yet: the records for lcov, and the report for JUnit.
+    ///
+    /// Errors: `OutOfMemory` if an allocation fails, `Report` and `Coverage` if these cannot be
+    /// written.
+    pub fn finish<H: Files + AllocGlobal>(&mut self, rt: &H) -> Result<(), Stop> {
+        self.coverage.finish(rt)?;
+        self.junit.finish(rt)
+    }
+}

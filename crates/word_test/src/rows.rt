@@ -1,0 +1,253 @@
+//! The rows of a suite, run and told of one after another.
+
+ghost use Rattle.std.specs.Prelude.{◌≡◌, ◌+◌, IfOk, OnOk, is_none, is_some, map, string_bytes};
+ghost use Rattle.std.specs.Option.{option_map};
+ghost use Rattle.model.specs.TextLines.{lines_of};
+ghost use Rattle.model.specs.Writers.{Writes};
+ghost use Rattle.t65_reader.specs.RowText.{numbered_view};
+ghost use Rattle.t65_failures.specs.Failures.{detail_text};
+ghost use Rattle.t65_reports.specs.Junit.{with_test};
+ghost use Rattle.t65_reports.specs.Reports.{junit_case, tap_case};
+ghost use Rattle.t65_runner.specs.Start.{fresh};
+ghost use Rattle.word_test.specs.Covered.{told_in};
+ghost use Rattle.word_test.specs.Tested.{IsAround, failure_of, plus, rows_reported, rows_text, run_of};
+ghost use Rattle.t65_suites.specs.Prepared.{ground_in};
+ghost use Rattle.word_test.specs.Tested.{tally_rows, why};
+ghost use Rattle.t65_runner.specs.Passes.{rows_seen};
+
+use crate::coverage::Coverage;
+use crate::report::Reports;
+use crate::stop::Stop;
+use crate::tally::{Tally, tally_after};
+use arguments::write_text;
+use debugger::Session;
+use std::alloc::{AllocError, Global};
+use std::io::Write;
+use std::rt::Files;
+use t65_failures::{Bench, detail_of};
+use t65_reader::{Ranges, Row};
+use t65_reports::{Case, RowLines, junit_case, tap_case};
+use t65_runner::{Around, HISTORY, Values, first_failed};
+use t65_suites::Prepared;
+
+/// The texts of a test that has ended, and whether it passes.
+#[derive(Drop)]
+pub struct Told {
+    pub tap: String,
+    pub junit: String,
+    pub passes: bool,
+}
+
+/// Returns why a test fails for these values of its ranges, where some rows are run for it.
+fn detail_in(
+    alloc: Global,
+    prepared: &Prepared,
+    ranges: Ranges,
+    rows: &[&(u32, Row)],
+    values: Values,
+) -> Result<String, AllocError>
+    ensures { IfOk result (λ text. string_bytes text
+        ≡ detail_text prepared.now.map prepared.now.assembly.image prepared.now.places
+        ranges (rows_seen rows.now) values) }
+{
+    let bench = Bench {
+        map: prepared.map,
+        image: prepared.assembly.image(),
+        places: &prepared.places,
+    };
+    detail_of(alloc, bench, ranges, rows, values)
+}
+
+/// Returns the texts of a row by its number among all tests, which fails for the reason that is
+/// given, if one is.
+fn texts_of(
+    alloc: Global,
+    number: u64,
+    case: Case<'_>,
+    detail: Option<&str>,
+) -> Result<Told, AllocError>
+    ensures tap { IfOk result (λ told. string_bytes told.tap
+        ≡ tap_case number case.entry.file.now case.entry.line case.entry.text.now
+        (option_map (λ why. why.now) detail.entry)) }
+    ensures junit { IfOk result (λ told. string_bytes told.junit
+        ≡ junit_case case.entry.file.now case.entry.line case.entry.text.now
+        (option_map (λ why. why.now) detail.entry)) }
+    ensures passes { IfOk result (λ told. told.passes ≡ is_none detail.entry) }
+{
+    Ok(Told {
+        tap: tap_case(alloc, number, case, detail)?,
+        junit: junit_case(alloc, case, detail)?,
+        passes: detail.is_none(),
+    })
+}
+
+/// Returns what is run for a test of a suite, one row after another.
+fn run_for<'a>(
+    alloc: Global,
+    prepared: &Prepared,
+    around: &Around<'a>,
+    row: &'a (u32, Row),
+) -> Result<Vec<&'a (u32, Row)>, AllocError>
+    requires { IsAround prepared.now around.now }
+    ensures { IfOk result (λ run. rows_seen run.items
+        ≡ run_of (ground_in prepared.now) (numbered_view row.now)) }
+{
+    let run = around.run_of(alloc, row)?;
+    Ok(run)
+}
+
+/// Runs a test from the start of the machine, goes back there, and returns the row's texts.
+fn run_row(
+    alloc: Global,
+    session: &mut Session,
+    prepared: &Prepared,
+    around: &Around<'_>,
+    number: u64,
+    case: Case<'_>,
+    row: &(u32, Row),
+    coverage: &mut Coverage,
+) -> Result<Told, AllocError>
+    requires start { session.old ≡ fresh prepared.now.map prepared.now.assembly.image }
+    requires around { IsAround prepared.now around.now }
+    ensures back { OnOk result
+        (session.new ≡ fresh prepared.now.map prepared.now.assembly.image) }
+    ensures tap { IfOk result (λ told. string_bytes told.tap
+        ≡ tap_case number case.entry.file.now case.entry.line case.entry.text.now
+        (why (ground_in prepared.now) (numbered_view row.now))) }
+    ensures junit { IfOk result (λ told. string_bytes told.junit
+        ≡ junit_case case.entry.file.now case.entry.line case.entry.text.now
+        (why (ground_in prepared.now) (numbered_view row.now))) }
+    ensures passes { IfOk result (λ told. told.passes
+        ≡ is_none (failure_of (ground_in prepared.now) (numbered_view row.now))) }
+{
+    let rows = run_for(alloc, prepared, around, row)?;
+    let image = prepared.assembly.image();
+    let failed = first_failed(alloc, session, prepared.map, image, &row.1, &rows)?;
+    coverage.count(alloc, session, prepared, &row.1, &rows, failed)?;
+    match failed {
+        None => texts_of(alloc, number, case, None),
+        Some(values) => {
+            let detail = detail_in(alloc, prepared, row.1.ranges, &rows, values)?;
+            texts_of(alloc, number, case, Some(detail.as_str()))
+        }
+    }
+}
+
+/// Writes the texts of a test: into the report, and then on the output, which is flushed.
+///
+/// Where memory runs out, or the report or the output cannot be written, the output has a beginning
+/// of the text of TAP.
+pub fn write_told<H: Files + AllocGlobal, O: Write>(
+    rt: &H,
+    told: &Told,
+    output: &mut O,
+    reports: &mut Reports,
+) -> Result<(), Stop>
+    ensures written { Writes (O.contents output.old) (O.contents output.new)
+        (string_bytes told.now.tap) result }
+    ensures report { OnOk result (told_in reports.new.junit ≡ option_map
+        (with_test told.now.passes (string_bytes told.now.junit)) (told_in reports.old.junit)) }
+{
+    reports
+        .junit
+        .push_test(rt, told.junit.as_str(), told.passes)?;
+    write_text(output, told.tap.as_bytes())?;
+    Ok(())
+}
+
+/// Runs tests, each from the start of the machine. The texts of a row are written, and the output
+/// is flushed, before the next row runs.
+fn run_each<H: Files + AllocGlobal, O: Write>(
+    rt: &H,
+    session: &mut Session,
+    prepared: &Prepared,
+    around: &Around<'_>,
+    tests: &[&(u32, Row)],
+    name: &str,
+    tally: Tally,
+    output: &mut O,
+    reports: &mut Reports,
+) -> Result<Tally, Stop>
+    requires start { session.old ≡ fresh prepared.now.map prepared.now.assembly.image }
+    requires around { IsAround prepared.now around.now }
+    ensures written { Writes (O.contents output.old) (O.contents output.new)
+        (rows_text (ground_in prepared.now) name.now tally.count 1
+        (lines_of prepared.now.text.items) (rows_seen tests.now)) result }
+    ensures report { OnOk result (told_in reports.new.junit ≡ option_map
+        (rows_reported (ground_in prepared.now) name.now 1 (lines_of prepared.now.text.items)
+        (rows_seen tests.now)) (told_in reports.old.junit)) }
+    ensures tally { IfOk result (λ all. all
+        ≡ tally_rows (ground_in prepared.now) tally (rows_seen tests.now)) }
+{
+    let mut lines = RowLines::new(&prepared.text, 1);
+    let mut so_far = tally;
+    for index in 0..tests.len() {
+        let line = tests[index].0;
+        let text = lines.walk_to(line);
+        let case = Case {
+            file: name,
+            line,
+            text,
+        };
+        let number = so_far.count.saturating_add(1);
+        let row = tests[index];
+        let coverage = &mut reports.coverage;
+        let told = run_row(
+            rt.alloc(),
+            session,
+            prepared,
+            around,
+            number,
+            case,
+            row,
+            coverage,
+        )?;
+        write_told(rt, &told, output, reports)?;
+        so_far = tally_after(told.passes, tests[index].1.points, so_far);
+    }
+    Ok(so_far)
+}
+
+/// Runs the tests of a suite, each from the start of its machine. The texts of a row are written,
+/// and the output is flushed, before the next row runs.
+///
+/// # Errors
+///
+/// `OutOfMemory` if an allocation fails, `Output` and `Report` if these cannot be written: the
+/// output has then a beginning of the texts of all rows.
+pub fn run_rows<H: Files + AllocGlobal, O: Write>(
+    rt: &H,
+    prepared: &Prepared,
+    tests: &[&(u32, Row)],
+    name: &str,
+    tally: Tally,
+    output: &mut O,
+    reports: &mut Reports,
+) -> Result<Tally, Stop>
+    ensures written { Writes (O.contents output.old) (O.contents output.new)
+        (rows_text (ground_in prepared.now) name.now tally.count 1
+        (lines_of prepared.now.text.items) (rows_seen tests.now)) result }
+    ensures report { OnOk result (told_in reports.new.junit ≡ option_map
+        (rows_reported (ground_in prepared.now) name.now 1 (lines_of prepared.now.text.items)
+        (rows_seen tests.now)) (told_in reports.old.junit)) }
+    ensures tally { IfOk result (λ all. all ≡ tally_rows (ground_in prepared.now) tally
+        (rows_seen tests.now)) }
+{
+    let around = Around::new(rt.alloc(), &prepared.rows)?;
+    match Session::new(rt.alloc(), prepared.map, prepared.assembly.image(), HISTORY) {
+        Ok(mut session) => {
+            run_each(
+                rt,
+                &mut session,
+                prepared,
+                &around,
+                tests,
+                name,
+                tally,
+                output,
+                reports,
+            )
+        }
+        Err(_) => Err(Stop::OutOfMemory),
+    }
+}

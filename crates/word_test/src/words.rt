@@ -1,0 +1,344 @@
+//! The words of `test`.
+
+ghost use Rattle.std.specs.Prelude.{◌≡◌, ◌||◌, IfErr, IfOk, None, Some, codes, false, map};
+ghost use Rattle.std.specs.Prelude.{option_map};
+ghost use Rattle.std.specs.List.{list_any};
+ghost use Rattle.arguments.specs.Asked.{is_flag};
+ghost use Rattle.arguments.specs.Values.{form_asked};
+ghost use Rattle.arguments.specs.Words.{Fits, IsRefusalOf, all_values, texts};
+ghost use Rattle.clap.specs.Words.{app_of, first_value, found_of, kind_of};
+ghost use Rattle.clap.specs.declared.builder.command.Command.TheViews.{out-Command};
+ghost use Rattle.word_test.specs.Asked.{are_one, clash, has_name, limit_asked, reading_as};
+ghost use Rattle.word_test.specs.Asked.{reading_asked, replaces, sources_asked, test_asked, test_of};
+ghost use Rattle.word_test.specs.CommandLine.{test, test_files, with_telling, words_asked};
+ghost use Rattle.word_test.specs.Views.{test_view};
+ghost use Rattle.t65_suites.specs.Suites.{reading_view};
+
+use arguments::{
+    FileForm, WordsFault, begin, file_list, flag, form_asked, is_given, list, matched, option,
+    steps_asked,
+};
+use clap::error::ErrorKind;
+use clap::{ArgMatches, Command, Error};
+use image_files::with_image_options;
+use std::alloc::{AllocError, Global};
+use t65_reader::MOST_STEPS;
+use t65_suites::Reading;
+
+/// What the words of `test` ask for.
+#[derive(Drop)]
+pub struct TestWords<'a> {
+    /// The files of rows, one at least.
+    pub files: Vec<&'a str>,
+    /// The files that each file of rows is run on; where there is none, each file's own is.
+    pub sources: Vec<&'a str>,
+    /// How these are read.
+    pub reading: Reading<'a>,
+    /// The file to write the report for JUnit to, if one is asked for; its name is that of none of
+    /// the files that are read.
+    pub junit: Option<&'a str>,
+    /// The file to write which lines were run to, if that is asked for; its name is that of none of
+    /// these.
+    pub coverage: Option<&'a str>,
+    /// The most steps of a call.
+    pub steps: u32,
+    /// Whether a line is written of each file.
+    pub is_summary: bool,
+}
+
+/// What the help of `test` shows below its options.
+const STATUSES: &str = "Exit status: 0 all rows pass, 1 a row fails, or a file cannot be tested,
+2 bad words, 3 out of memory, 4 I/O failed
+
+Examples:
+  mos65 test crc8.t65
+  mos65 test crc8.t65 --source students/*/crc8.a65 --steps 10000 --summary
+  mos65 test crc8.t65 --source crc8.bin --bin 0200 --symbols crc8.sym";
+
+/// Returns a command with the files, and the flag that says that they are images.
+fn files_command<'a>(alloc: Global) -> Result<Command<'a>, Error>
+    ensures shape { IfOk result (λ c. app_of c ≡ test_files) }
+    ensures local { IfOk result (λ c. (out-Command c).has_globals ≡ false) }
+    ensures memory { IfErr result (λ e. kind_of e ≡ ErrorKind.OutOfMemory) }
+{
+    let about = "Tests routines by rows: what is given to a call, and what it has to leave";
+    let rows = "Files of rows, each of which names its source";
+    let source = "Sources that the rows are run on, each, in place of the one that a file names";
+    let image = "What rows are run on is an image: a tape, Intel HEX or S-records";
+    let command = begin(alloc, "test", "mos65 test", about, STATUSES)?
+        .arg(file_list(alloc, "FILE", rows))?
+        .arg(list(alloc, "source", "FILE", 1, source))?
+        .arg(flag(alloc, "image", image))?;
+    Ok(command)
+}
+
+/// Returns a command with the options added of the file of names, and of what is told.
+fn with_telling<'a>(alloc: Global, command: Command<'a>) -> Result<Command<'a>, Error>
+    ensures shape { IfOk result (λ c. app_of c ≡ with_telling (app_of command.entry)) }
+    ensures local { IfOk result (λ c. (out-Command command.entry).has_globals ≡ false
+        → (out-Command c).has_globals ≡ false) }
+    ensures memory { IfErr result (λ e. kind_of e ≡ ErrorKind.OutOfMemory) }
+{
+    let symbols = "A file of names for an image, as asm --symbols writes it [default: none]";
+    let junit = "The file to write a report for JUnit to [default: none]";
+    let coverage = "The file to write for lcov: how often each line was run [default: none]";
+    let steps = "The most steps of a call [default: 10000000]";
+    let summary = "Prints a line after each file: rows that pass and fail, and points";
+    let command = command
+        .arg(option(alloc, "symbols", "FILE", symbols))?
+        .arg(option(alloc, "junit", "FILE", junit))?
+        .arg(option(alloc, "coverage", "FILE", coverage))?
+        .arg(option(alloc, "steps", "N", steps))?
+        .arg(flag(alloc, "summary", summary))?;
+    Ok(command)
+}
+
+/// Returns the command line of `test`. The only error is that an allocation failed.
+pub fn test_command<'a>(alloc: Global) -> Result<Command<'a>, Error>
+    ensures shape { IfOk result (λ c. app_of c ≡ test) }
+    ensures local { IfOk result (λ c. (out-Command c).has_globals ≡ false) }
+    ensures memory { IfErr result (λ e. kind_of e ≡ ErrorKind.OutOfMemory) }
+{
+    let raw = "What rows are run on is a raw image, from this address on, four hex digits";
+    let prg = "What rows are run on is a PRG file: its address in two bytes, and bytes from it on";
+    let command = with_image_options(alloc, files_command(alloc)?, raw, prg)?;
+    with_telling(alloc, command)
+}
+
+/// Returns whether a name is among those of files.
+fn is_among(files: &[&str], name: &str) -> bool
+    ensures { result ≡ list_any (has_name name.now) (map (λ f. f.now) files.now) }
+{
+    for file in files {
+        if *file == name {
+            return true;
+        }
+    }
+    false
+}
+
+/// Returns whether the report has the name of one of some files.
+fn replaces(report: Option<&str>, files: &[&str]) -> bool
+    ensures { result
+        ≡ replaces (option_map (λ f. f.now) report.entry) (map (λ f. f.now) files.now) }
+{
+    match report {
+        None => false,
+        Some(report) => is_among(files, report),
+    }
+}
+
+/// Returns whether there are two files, and they have one name.
+fn are_one(file: Option<&str>, other: Option<&str>) -> bool
+    ensures { result ≡ are_one (option_map (λ f. f.now) file.entry)
+        (option_map (λ f. f.now) other.entry) }
+{
+    match (file, other) {
+        (Some(file), Some(other)) => file == other,
+        _ => false,
+    }
+}
+
+/// Returns whether a report has the name of a file that is read, or of the other report.
+fn clash(
+    junit: Option<&str>,
+    coverage: Option<&str>,
+    symbols: Option<&str>,
+    sources: &[&str],
+    files: &[&str],
+) -> bool
+    ensures { result ≡ clash (option_map (λ f. f.now) junit.entry)
+        (option_map (λ f. f.now) coverage.entry) (option_map (λ f. f.now) symbols.entry)
+        (map (λ f. f.now) sources.now) (map (λ f. f.now) files.now) }
+{
+    replaces(junit, files)
+        || replaces(junit, sources)
+        || are_one(junit, symbols)
+        || replaces(coverage, files)
+        || replaces(coverage, sources)
+        || are_one(coverage, symbols)
+        || are_one(junit, coverage)
+}
+
+/// Returns how many steps the word after `--steps` asks for at most, or `None` if it is wrong.
+fn limit_asked(word: Option<&str>) -> Option<u32>
+    ensures { result ≡ limit_asked (option_map (λ w. w.now) word.entry) }
+{
+    match word {
+        None => Some(MOST_STEPS),
+        Some(word) => match steps_asked(Some(word)) {
+            Some(steps) if steps <= u32::MAX as u64 => Some(steps as u32),
+            _ => None,
+        },
+    }
+}
+
+/// Returns the sources that an option asks for.
+fn sources_asked<'a, 'b>(sources: Option<&'b [&'a str]>) -> &'b [&'a str]
+    ensures { map (λ f. f.now) result.now
+        ≡ sources_asked (option_map (λ s. map (λ f. f.now) s.now) sources.entry) }
+{
+    match sources {
+        None => &[],
+        Some(sources) => sources,
+    }
+}
+
+/// Returns how files are read in a form, with the names of a file if one is named; `None` if a
+/// source is given names.
+fn reading_as<'a>(form: FileForm, symbols: Option<&'a str>) -> Option<Reading<'a>>
+    ensures { option_map reading_view result
+        ≡ reading_as form (option_map (λ f. f.now) symbols.entry) }
+{
+    match symbols {
+        None => Some(Reading { form, symbols }),
+        Some(_) => match form {
+            FileForm::Source => None,
+            FileForm::Records | FileForm::Raw(_) | FileForm::Prg => Some(Reading { form, symbols }),
+        },
+    }
+}
+
+/// Returns in which form files are read, or `None` if two are said or an address is wrong.
+fn form_of(matches: &ArgMatches<'_>) -> Option<FileForm>
+    ensures { result ≡ form_asked (is_flag (first_value (found_of matches.now) (codes "image")))
+        (first_value (found_of matches.now) (codes "bin"))
+        (is_flag (first_value (found_of matches.now) (codes "prg"))) }
+{
+    form_asked(
+        is_given(matches, "image"),
+        matches.get_str("bin"),
+        is_given(matches, "prg"),
+    )
+}
+
+/// Returns how files are read, or `None` if a value is wrong or a source is given names.
+fn reading_asked<'a>(matches: &ArgMatches<'a>) -> Option<Reading<'a>>
+    ensures { option_map reading_view result
+        ≡ reading_asked (first_value (found_of matches.now)) }
+{
+    match form_of(matches) {
+        None => None,
+        Some(form) => reading_as(form, matches.get_str("symbols")),
+    }
+}
+
+/// Returns what files and options ask for, or `None` if there is no file, a value is wrong, or a
+/// report would replace a file.
+fn test_of<'a>(
+    alloc: Global,
+    junit: Option<&'a str>,
+    coverage: Option<&'a str>,
+    steps: Option<u32>,
+    reading: Option<Reading<'a>>,
+    is_summary: bool,
+    sources: &[&'a str],
+    files: &[&'a str],
+) -> Result<Option<TestWords<'a>>, AllocError>
+    ensures { IfOk result (λ w. option_map test_view w
+        ≡ test_of (option_map (λ f. f.now) junit.entry) (option_map (λ f. f.now) coverage.entry)
+        steps (option_map reading_view reading.entry) is_summary
+        (map (λ f. f.now) sources.now) (map (λ f. f.now) files.now)) }
+{
+    let Some(steps) = steps else {
+        return Ok(None);
+    };
+    let Some(reading) = reading else {
+        return Ok(None);
+    };
+    if files.is_empty() || clash(junit, coverage, reading.symbols, sources, files) {
+        return Ok(None);
+    }
+    Ok(Some(TestWords {
+        files: Vec::from_slice(alloc, files)?,
+        sources: Vec::from_slice(alloc, sources)?,
+        reading,
+        junit,
+        coverage,
+        steps,
+        is_summary,
+    }))
+}
+
+/// Returns what the values that were found ask for, or `None` if no file is among them, one is
+/// wrong, or a report would replace a file.
+fn asked<'a>(alloc: Global, matches: &ArgMatches<'a>) -> Result<Option<TestWords<'a>>, AllocError>
+    ensures { IfOk result (λ w. option_map test_view w
+        ≡ test_asked (first_value (found_of matches.now)) (all_values (found_of matches.now))) }
+{
+    match matches.get_strs("FILE") {
+        None => Ok(None),
+        Some(files) => test_of(
+            alloc,
+            matches.get_str("junit"),
+            matches.get_str("coverage"),
+            limit_asked(matches.get_str("steps")),
+            reading_asked(matches),
+            is_given(matches, "summary"),
+            sources_asked(matches.get_strs("source")),
+            files,
+        ),
+    }
+}
+
+/// Returns the values of an option that were found.
+fn given<'a, 'b>(matches: &'b ArgMatches<'a>, name: &str) -> &'b [&'a str] {
+    sources_asked(matches.get_strs(name))
+}
+
+/// Returns a sentence that says which file a report would replace.
+fn clashing_words(matches: &ArgMatches<'_>) -> &'static str {
+    let junit = matches.get_str("junit");
+    let symbols = matches.get_str("symbols");
+    if are_one(junit, matches.get_str("coverage")) {
+        "--junit and --coverage name one file"
+    } else if clash(
+        junit,
+        None,
+        symbols,
+        given(matches, "source"),
+        given(matches, "FILE"),
+    ) {
+        "--junit names a file that is read"
+    } else {
+        "--coverage names a file that is read"
+    }
+}
+
+/// Returns a sentence that says why the values that were found ask for nothing.
+fn wrong_words(matches: &ArgMatches<'_>) -> &'static str {
+    if limit_asked(matches.get_str("steps")).is_none() {
+        "--steps takes a decimal number up to 4294967295"
+    } else if form_of(matches).is_none() {
+        "--bin takes four hex digits; only one of --image, --bin and --prg can be said"
+    } else if reading_asked(matches).is_none() {
+        "--symbols is for an image; a source has its own names"
+    } else {
+        clashing_words(matches)
+    }
+}
+
+/// Reads the words of `test`, its own name left out.
+///
+/// # Errors
+///
+/// - `Help` if they ask for help, and `Usage` if they do not fit the command line, with `clap`'s
+///   text.
+/// - `Wrong` if they name no file, a number of steps is wrong, more than one form of an image is
+///   said, an address is wrong, a file of names is named and no form of an image is said, or a
+///   report has the name of a file that is read or of the other report.
+/// - `OutOfMemory` if an allocation failed.
+pub fn read_words<'a>(alloc: Global, words: &'a [&'a str]) -> Result<TestWords<'a>, WordsFault>
+    ensures asked { IfOk result
+        (λ w. words_asked (texts words.entry.now) ≡ Some (test_view w)) }
+    ensures taken { IfOk result (λ w. Fits test (texts words.entry.now)) }
+    ensures refused { IfErr result (IsRefusalOf test (texts words.entry.now)
+        (words_asked (texts words.entry.now) ≡ None)) }
+{
+    let matches = matched(test_command(alloc)?, words)?;
+    match asked(alloc, &matches) {
+        Ok(Some(words)) => Ok(words),
+        Ok(None) => Err(WordsFault::Wrong(wrong_words(&matches))),
+        Err(_) => Err(WordsFault::OutOfMemory),
+    }
+}

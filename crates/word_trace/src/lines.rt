@@ -1,0 +1,64 @@
+//! How often the lines of a source were run, written to a file for lcov.
+
+ghost use Rattle.std.specs.Prelude.{IfErr, IfOk};
+ghost use Rattle.arguments_play.specs.Trace.{trace_view};
+ghost use Rattle.word_trace.specs.Traces.{IsApart, IsOfStreams};
+
+use accesses::Tally;
+use arguments::{Refusal, check_outputs, write_file};
+use arguments_play::TraceWords;
+use assembler::Assembly;
+use std::alloc::{AllocError, Global};
+use std::rt::Files;
+use trace_rows::push_record;
+
+/// Checks that the file for lcov, if one is asked for, is neither the file to run nor the file of
+/// names.
+///
+/// Errors: `WriteFile` with `SameFile` where it is one of them, `OutOfMemory` if an allocation
+/// fails.
+#[tactic(auto, using(crate::proofs::Refusing::ends_writing))]
+pub fn check_lines<H: Files + AllocGlobal>(rt: &H, words: &TraceWords<'_>) -> Result<(), Refusal>
+    ensures apart { IfOk result (λ _. IsApart (trace_view words.now)) }
+    ensures fault { IfErr result IsOfStreams }
+{
+    check_outputs(rt, &[Some(words.file.file), words.symbols], &[words.lcov])?;
+    Ok(())
+}
+
+/// Returns the record of a source; no byte where there is none.
+fn lines_text(
+    alloc: Global,
+    file: &str,
+    assembly: Option<&Assembly>,
+    tally: &Tally,
+) -> Result<Vec<u8>, AllocError> {
+    let mut text = Vec::new(alloc);
+    if let Some(assembly) = assembly {
+        push_record(&mut text, alloc, file.as_bytes(), assembly, tally)?;
+    }
+    Ok(text)
+}
+
+/// Writes how often each line was run, if a file for that is asked for.
+///
+/// Errors: `OutOfMemory` if an allocation fails, `WriteFile` if the file cannot be written; what it
+/// held before is then still there.
+#[tactic(auto, using(crate::proofs::Refusing::ends_writing))]
+pub fn write_lines<H: Files + AllocGlobal>(
+    rt: &H,
+    words: &TraceWords<'_>,
+    assembly: Option<&Assembly>,
+    tally: Option<&Tally>,
+) -> Result<(), Refusal>
+    ensures { IfErr result IsOfStreams }
+{
+    let (Some(path), Some(tally)) = (words.lcov, tally) else {
+        return Ok(());
+    };
+    let text = lines_text(rt.alloc(), words.file.file, assembly, tally).map_err(
+        |_| Refusal::OutOfMemory,
+    )?;
+    write_file(rt, path, &text)?;
+    Ok(())
+}
