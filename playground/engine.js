@@ -340,9 +340,9 @@ const { openEngine, EngineFault } = (() => {
     }
 
     /* The machine's state as the data of a page begin. */
-    recordStart(irq, given) {
-      const { calls, slot } = this, words = [irq ? 1 : 0, ...calls.given.put(given)];
-      return calls.whole((...out) => calls.exports.mos65_record_start(slot, ...words, ...out));
+    recordStart() {
+      const { calls, slot } = this;
+      return calls.whole((...out) => calls.exports.mos65_record_start(slot, ...out));
     }
 
     /* Runs, and returns the records of its steps too. */

@@ -140,7 +140,7 @@ class Session {
     this.givenCount = 0;
     this.outside = [];                         // [event number, what came], in order
     this.taken = [];                           // the events that took a byte of input
-    this.run = new this.Run(machine.recordStart(false, new Uint8Array()), this.loaded);
+    this.run = new this.Run(machine.recordStart(), this.loaded);
     for (const address of this.breaks) machine.setBreak(address);
     this.reason = {why: "start"};
   }
@@ -417,9 +417,7 @@ class Session {
   rebuild(held) {
     this.machine.back(held);
     this.base = this.shown = this.total - held;
-    const given = this.outside.filter(([number, it]) => it.given && number < this.base);
-    const start = this.machine.recordStart(false, Uint8Array.from(given, ([, it]) => it.given[0]));
-    this.run = new this.Run(start, this.loaded);
+    this.run = new this.Run(this.machine.recordStart(), this.loaded);
     this.again(this.base);
   }
 
@@ -474,9 +472,7 @@ class Session {
   data() {
     const first = this.total - Math.min(this.machine.held(), this.total - this.base);
     this.machine.back(this.total - first);
-    const given = this.outside.filter(([number, it]) => it.given && number < first);
-    const start = this.machine.recordStart(false, Uint8Array.from(given, ([, it]) => it.given[0]));
-    const parts = [start, ...this.remade(first)];
+    const parts = [this.machine.recordStart(), ...this.remade(first)];
     const all = new Uint8Array(parts.reduce((sum, part) => sum + part.length, 0));
     let at = 0;
     for (const part of parts) {

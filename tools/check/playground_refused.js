@@ -40,7 +40,7 @@ function answers(engine, source) {
   const assembly = attempt(() => engine.assemble(source, CONFIG));
   for (const name of ["names", "lines", "listing"]) note(() => assembly[name]());
   const machine = attempt(() => engine.open(assembly, CONFIG));
-  note(() => machine.recordStart(false, new Uint8Array()));
+  note(() => machine.recordStart());
   note(() => machine.setBreak(0x1234));
   note(() => machine.setWatch(0x1234));
   note(() => machine.runTo(0x4321, 700));

@@ -131,7 +131,7 @@ class Model:
                 return self.ending(did, end.why)
         return self.ending(did, ("LIMIT",))
 
-    def recordStart(self, irq, given):
+    def recordStart(self):
         return shown(page_model.start_of(self.state))
 
     def recordRun(self, limit):
@@ -324,13 +324,7 @@ class Session:
                  ("output", rng.randrange(3)), ("access",), ("held",),
                  ("disassemble", rng.choice((model.state.pc, self.an_address())))]
         marks = sorted({self.an_address() for _ in range(3)})
-        rare = [("runToAccess", {"marks": marks}, rng.randrange(100)), *self.records(model)]
+        rare = [("runToAccess", {"marks": marks}, rng.randrange(100)), ("recordStart",),
+                ("recordRun", rng.randrange(60))]
         return rng.choice(rng.choice((moves, moves, moves, changes, stops, looks, rare)))
 
-    def records(self, model):
-        """The calls that record a run, where no NMI is pending."""
-        s = model.state
-        if s.nmi:
-            return []
-        given = bytes(self.other.store.get(s.given, it) for it in range(s.given_len))
-        return [("recordStart", s.irq, {"hex": given.hex()}), ("recordRun", self.rng.randrange(60))]
