@@ -1,3 +1,4 @@
 pub mod Failures
+pub mod Faulty
 pub mod Steps
 pub mod Texts

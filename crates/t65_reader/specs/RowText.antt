@@ -1,5 +1,5 @@
 -- What a line of a test file says. Source: mos65.
-use Rattle.std.specs.Prelude.{ℕ, zero, suc, ◌+◌, ◌-◌, ◌==◌, ◌&&◌, nat_le, Bool, true, false, is_some, if◌then◌else◌, List, [], ◌∷◌, ◌++◌, length, take, drop, codes, Option, Some, None, Result, Ok, Err}
+use Rattle.std.specs.Prelude.{ℕ, zero, suc, ◌+◌, ◌-◌, ◌==◌, ◌&&◌, ◌||◌, nat_le, Bool, true, false, is_some, if◌then◌else◌, List, [], ◌∷◌, ◌++◌, length, take, drop, codes, Option, Some, None, Result, Ok, Err}
 use Rattle.std.specs.Borrow.{Bor}
 use Rattle.std.specs.Str.{byte, bytes_eq}
 use Rattle.std.specs.List.{prefix_len}
@@ -23,7 +23,10 @@ use Rattle.t65_reader.specs.declared.row.Choice.TheVariants.{All, Random}
 use Rattle.t65_reader.specs.declared.row.Entry.{Entry}
 use Rattle.t65_reader.specs.declared.row.Entry.TheVariants.{Subroutine, Interrupt}
 use Rattle.opcode_facts.specs.declared.flag.Flag.TheVariants as flag
+use Rattle.t65_reader.specs.declared.row.Faulty.{Faulty}
 use Rattle.t65_reader.specs.declared.row.Item.{Item}
+use Rattle.t65_reader.specs.declared.row.Line.{Line}
+use Rattle.t65_reader.specs.declared.row.Line.TheVariants as line
 use Rattle.t65_reader.specs.declared.row.Part.{Part}
 use Rattle.t65_reader.specs.declared.row.Part.TheVariants.{Test, Setup, Teardown}
 use Rattle.t65_reader.specs.declared.row.Target.{Target}
@@ -455,10 +458,14 @@ abbrev pub decimal_after : Result (List ℕ) RowFault → Reads ℕ
 decimal_after (Ok rest) = number_of Decimal rest
 decimal_after (Err fault) = Err fault
 
+-- `=`, and how many points a row is worth.
+abbrev pub points_after : List ℕ → Reads ℕ
+points_after text = decimal_after (after_sign (byte "=") text)
+
 -- A row, and `points=` with a decimal number before it: otherwise it is worth one point.
 unfoldable pub pointed_row_of : Definitions → List ℕ → Result SeenRow RowFault
 pointed_row_of names text = if bytes_eq (word_of text) (codes "points")
-    then worth_by names (decimal_after (after_sign (byte "=") (after_word text)))
+    then worth_by names (points_after (after_word text))
     else row_of names text
 
 abbrev pub around_by : Definitions → Part → Result (List ℕ) RowFault → Result SeenRow RowFault
@@ -497,25 +504,72 @@ line_at steps names text =
 unfoldable pub line_of : ℕ → Definitions → List ℕ → Result (Option SeenRow) RowFault
 line_of steps names line = line_at steps names (skip_blanks line)
 
--- ---- all lines
+-- ---- rows that cannot be read
 
--- The rows of some lines with the numbers of their lines, or the first fault: its line, its column,
--- both counted from 1, and its kind.
-abbrev pub Rows : Type 0
-Rows = Result (List (ℕ × SeenRow)) TextFault
+-- A line says what is run before or after each row.
+abbrev pub is_around : List ℕ → Bool
+is_around line = bytes_eq (word_of (skip_blanks line)) (codes "setup")
+    || bytes_eq (word_of (skip_blanks line)) (codes "teardown")
 
-abbrev pub row_before : ℕ → Option SeenRow → Rows → Rows
-row_before number None rows = rows
-row_before number (Some row) (Ok rows) = Ok ((number, row) ∷ rows)
-row_before number (Some row) (Err fault) = Err fault
+abbrev pub points_or_one : Reads ℕ → ℕ
+points_or_one (Ok read) = read.0
+points_or_one (Err fault) = 1
 
-abbrev pub line_before : ℕ → List ℕ → Result (Option SeenRow) RowFault → Rows → Rows
-line_before number line (Ok row) rows = row_before number row rows
-line_before number line (Err fault) rows = Err (record {
+unfoldable pub points_before : List ℕ → ℕ
+points_before text = if bytes_eq (word_of text) (codes "points")
+    then points_or_one (points_after (after_word text))
+    else 1
+
+-- How many points the row of a line is worth, whether it can be read or not.
+abbrev pub points_in : List ℕ → ℕ
+points_in line = points_before (skip_blanks line)
+
+-- The fault of a line: its line and its column, both counted from 1, and its kind.
+abbrev pub fault_in : ℕ → List ℕ → RowFault → TextFault
+fault_in number line fault = record {
   line = number;
   column = length line - fault.left + 1;
   kind = fault.kind;
-})
+}
+
+-- What a line asks for: a row, with the number of the line, or what cannot be read as one.
+pub data SeenLine : Type 0 where
+  readable : ℕ × SeenRow → SeenLine
+  faulty : Faulty → SeenLine
+
+abbrev pub line_number : SeenLine → ℕ
+line_number (readable row) = row.0
+line_number (faulty row) = row.fault.line
+
+abbrev pub line_points : SeenLine → ℕ
+line_points (readable row) = row.1.points
+line_points (faulty row) = row.points
+
+-- ---- all lines
+
+-- What some lines ask for, one after another; or why nothing is, since all rows need what is run
+-- before and after them: the first fault of a line that says so.
+abbrev pub Rows : Type 0
+Rows = Result (List SeenLine) TextFault
+
+abbrev pub one_before : SeenLine → Rows → Rows
+one_before line (Ok lines) = Ok (line ∷ lines)
+one_before line (Err fault) = Err fault
+
+abbrev pub row_before : ℕ → Option SeenRow → Rows → Rows
+row_before number None rows = rows
+row_before number (Some row) rows = one_before (readable (number, row)) rows
+
+-- A row with a fault is a row that cannot be read, and no other row is less a row for it.
+abbrev pub fault_before : Bool → ℕ → TextFault → Rows → Rows
+fault_before true points fault rows = Err fault
+fault_before false points fault rows
+    = one_before (faulty (record { fault = fault; points = points })) rows
+
+abbrev pub line_before : ℕ → List ℕ → Result (Option SeenRow) RowFault → Rows → Rows
+line_before number line (Ok row) rows = row_before number row rows
+line_before number line (Err fault) rows
+    = fault_before (is_around line) (points_in line) (fault_in number line fault) rows
 
 unfoldable pub rows_from : ℕ → Definitions → ℕ → List (List ℕ) → Rows
 rows_from steps names number [] = Ok []
@@ -549,7 +603,15 @@ numbered_view numbered = (numbered.0, row_view numbered.1)
 abbrev pub row_seen : Bor (ℕ × Row) → ℕ × SeenRow
 row_seen row = numbered_view row.now
 
--- Rows that were read, before those of the lines behind them.
-unfoldable pub rows_after : List (ℕ × SeenRow) → Rows → Rows
-rows_after rows (Ok more) = Ok (rows ++ more)
-rows_after rows (Err fault) = Err fault
+abbrev pub line_view : Line → SeenLine
+line_view (line.Row row) = readable (numbered_view row)
+line_view (line.Faulty row) = faulty row
+
+-- What a line asks for, without where it lies in memory.
+abbrev pub line_seen : Bor Line → SeenLine
+line_seen line = line_view line.now
+
+-- Lines that were read, before those behind them.
+unfoldable pub rows_after : List SeenLine → Rows → Rows
+rows_after lines (Ok more) = Ok (lines ++ more)
+rows_after lines (Err fault) = Err fault

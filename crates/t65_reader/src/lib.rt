@@ -1,6 +1,7 @@
 //! The rows of a test file: what a line of it asks for and expects.
 //!
-//! `read_row` reads a line, and `read_rows` all lines after the one that names the source.
+//! `read_row` reads a line, and `read_rows` all lines after the one that names the source. A row
+//! that cannot be read stands among the others.
 //! `specs/RowText.antt` has the definitions; `t65_values` has those of numbers and values.
 #![tactic(auto)]
 
@@ -12,7 +13,7 @@ mod text;
 pub use assembler::Assembly;
 pub use item::string_of;
 pub use row::{
-    Call, Choice, Entry, Item, MOST_STEPS, Part, Range, Ranges, Register, Relation, Request, Row,
-    Signal, Target,
+    Call, Choice, Entry, Faulty, Item, Line, MOST_STEPS, Part, Range, Ranges, Register, Relation,
+    Request, Row, Signal, Target,
 };
 pub use text::{fault_of, read_rows};

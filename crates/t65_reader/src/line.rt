@@ -3,6 +3,7 @@
 ghost use Rattle.std.specs.Prelude.{◌≤◌, ◌≡◌, ◌≢◌, IfErr, IfOk, None, Option, Some, MatchOption};
 ghost use Rattle.std.specs.Option.{option_map};
 ghost use Rattle.t65_reader.specs.RowText.{after_dots, around_of, call_of, call_view, called_of};
+ghost use Rattle.t65_reader.specs.RowText.{is_around, points_after, points_before, points_in};
 ghost use Rattle.t65_reader.specs.RowText.{chosen_of, count_of, cycle_of, entered_of, letter_of};
 ghost use Rattle.t65_reader.specs.RowText.{letters_of, line_at, requested_of, time_of};
 ghost use Rattle.t65_reader.specs.RowText.{line_of, next_range, no_ranges, part_of, pointed_row_of};
@@ -377,6 +378,14 @@ fn row_of(alloc: Global, names: &Assembly, text: &[u8]) -> Result<Row, RowFault>
     }
 }
 
+/// Reads `=` and how many points a row is worth.
+fn points_after(text: &[u8]) -> Result<(u32, &[u8]), RowFault>
+    ensures ok { IfOk result (λ p. points_after text.now ≡ Ok (p.0, p.1.now)) }
+    ensures err { IfErr result (λ fault. points_after text.now ≡ Err fault) }
+{
+    number_of(Base::Decimal, after_sign(b'=', text)?)
+}
+
 /// Reads a row, and how many points it is worth where `points=` stands before it.
 #[tactic(auto, unfolding(crate::specs::RowText::pointed_row_of))]
 fn pointed_row_of(alloc: Global, names: &Assembly, text: &[u8]) -> Result<Row, RowFault>
@@ -385,8 +394,7 @@ fn pointed_row_of(alloc: Global, names: &Assembly, text: &[u8]) -> Result<Row, R
         → pointed_row_of names.now.names text.now ≡ Err fault) }
 {
     if is_text(word_of(text), b"points") {
-        let rest = after_sign(b'=', after_word(text))?;
-        let (points, rest) = number_of(Base::Decimal, rest)?;
+        let (points, rest) = points_after(after_word(text))?;
         let mut row = row_of(alloc, names, rest)?;
         row.points = points;
         Ok(row)
@@ -421,6 +429,37 @@ fn part_of(alloc: Global, names: &Assembly, text: &[u8]) -> Result<Row, RowFault
     } else {
         pointed_row_of(alloc, names, text)
     }
+}
+
+/// Returns whether a line says what is run before or after each row.
+pub fn is_around(line: &[u8]) -> bool
+    ensures { result ≡ is_around line.now }
+{
+    let word = word_of(skip_blanks(line));
+    is_text(word, b"setup") || is_text(word, b"teardown")
+}
+
+/// Returns how many points a row is worth that begins with this text, or 1 where the number cannot
+/// be read.
+#[tactic(auto, unfolding(crate::specs::RowText::points_before))]
+fn points_before(text: &[u8]) -> u32
+    ensures { result ≡ points_before text.now }
+{
+    if is_text(word_of(text), b"points") {
+        match points_after(after_word(text)) {
+            Ok((points, _)) => points,
+            Err(_) => 1,
+        }
+    } else {
+        1
+    }
+}
+
+/// Returns how many points the row of a line is worth, whether it can be read or not.
+pub fn points_in(line: &[u8]) -> u32
+    ensures { result ≡ points_in line.now }
+{
+    points_before(skip_blanks(line))
 }
 
 /// Reads a line after the one that names the source: a row, whose calls have so many steps at most,

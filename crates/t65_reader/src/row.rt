@@ -1,9 +1,10 @@
 //! What a row asks for and expects, as plain types.
 
 ghost use Rattle.std.specs.Prelude.{◌≡◌};
+ghost use Rattle.t65_reader.specs.RowText.{line_number, line_points, line_view};
 
 use opcode_facts::Flag;
-use t65_values::Value;
+use t65_values::{TextFault, Value};
 
 /// A register of 8 bits. P is the status register: N V 1 B D I Z C from bit 7 down, B as 0.
 #[derive(Clone, Copy)]
@@ -137,6 +138,45 @@ pub struct Row {
     pub call: Call,
     /// How many points it is worth.
     pub points: u32,
+}
+
+/// A row that cannot be read: it is a test that fails.
+#[derive(Clone, Copy)]
+pub struct Faulty {
+    pub fault: TextFault,
+    /// How many points it is worth.
+    pub points: u32,
+}
+
+/// What a line asks for.
+#[derive(Drop)]
+pub enum Line {
+    /// A row, with the number of its line.
+    Row((u32, Row)),
+    /// What cannot be read as one.
+    Faulty(Faulty),
+}
+
+impl Line {
+    /// Returns the number of the line.
+    pub fn number(&self) -> u32
+        ensures { result ≡ line_number (line_view self.now) }
+    {
+        match self {
+            Line::Row(row) => row.0,
+            Line::Faulty(faulty) => faulty.fault.line,
+        }
+    }
+
+    /// Returns how many points the row is worth.
+    pub fn points(&self) -> u32
+        ensures { result ≡ line_points (line_view self.now) }
+    {
+        match self {
+            Line::Row(row) => row.1.points,
+            Line::Faulty(faulty) => faulty.points,
+        }
+    }
 }
 
 /// The most steps of a call, where nothing else is asked for. Source: mos65.

@@ -2,10 +2,11 @@
 
 ghost use Rattle.std.specs.Prelude.{◌≡◌, ◌≢◌, ◌<◌, ◌+◌, ◌-◌, ◌++◌, ◌∷◌, [], length, IfErr, IfOk, map};
 ghost use Rattle.model.specs.TextLines.{lines_of};
-ghost use Rattle.t65_reader.specs.RowText.{line_before, line_of, numbered_view, row_view, Rows, rows_after, rows_from};
+ghost use Rattle.t65_reader.specs.RowText.{Rows, fault_before, fault_in, is_around, line_before};
+ghost use Rattle.t65_reader.specs.RowText.{line_of, line_view, points_in, rows_after, rows_from};
 
-use crate::line::read_row;
-use crate::row::Row;
+use crate::line::{is_around, points_in, read_row};
+use crate::row::{Faulty, Line};
 use assembler::Assembly;
 use line_parts::next_line;
 use std::alloc::Global;
@@ -13,8 +14,7 @@ use t65_values::{RowFault, RowFaultKind, TextFault};
 
 /// The fault of a line, with its column.
 pub fn fault_of(number: u32, line: &[u8], fault: RowFault) -> TextFault
-    ensures { result
-        ≡ record { line = number; column = length line.now - fault.left + 1; kind = fault.kind } }
+    ensures { result ≡ fault_in number line.now fault }
 {
     TextFault {
         line: number,
@@ -23,70 +23,91 @@ pub fn fault_of(number: u32, line: &[u8], fault: RowFault) -> TextFault
     }
 }
 
-/// Appends a row with the number of its line.
-fn push_row(rows: &mut Vec<(u32, Row)>, number: u32, row: Row) -> Result<(), TextFault>
-    ensures ok { IfOk result (λ _. map numbered_view rows.new.items
-        ≡ map numbered_view rows.old.items ++ (number, row_view row) ∷ []) }
+/// Appends what a line asks for.
+fn push_one(lines: &mut Vec<Line>, number: u32, line: Line) -> Result<(), TextFault>
+    ensures ok { IfOk result (λ _. map line_view lines.new.items
+        ≡ map line_view lines.old.items ++ line_view line ∷ []) }
     ensures err { IfErr result (λ fault. fault.kind ≡ RowFaultKind.OutOfMemory) }
 {
-    rows.push((number, row)).map_err(|_| memory_fault(number))
+    lines.push(line).map_err(|_| memory_fault(number))
 }
 
-/// Reads a line, and appends its row if it is one.
+/// Appends a row that cannot be read; refuses the text where it would be run before or after each
+/// row.
+fn push_faulty(lines: &mut Vec<Line>, line: &[u8], fault: TextFault) -> Result<(), TextFault>
+    ensures ok { IfOk result (λ _. (behind : Rows) → rows_after (map line_view lines.old.items)
+        (fault_before (is_around line.now) (points_in line.now) fault behind)
+        ≡ rows_after (map line_view lines.new.items) behind) }
+    ensures err { IfErr result (λ told. told.kind ≢ RowFaultKind.OutOfMemory → (behind : Rows)
+        → fault_before (is_around line.now) (points_in line.now) fault behind ≡ Err told) }
+{
+    if is_around(line) {
+        return Err(fault);
+    }
+    let points = points_in(line);
+    push_one(lines, fault.line, Line::Faulty(Faulty { fault, points }))?;
+    Ok(())
+}
+
+/// Reads a line, and appends what it asks for, if it does for something.
 fn push_line(
     alloc: Global,
     names: &Assembly,
     steps: u32,
-    rows: &mut Vec<(u32, Row)>,
+    lines: &mut Vec<Line>,
     number: u32,
     line: &[u8],
 ) -> Result<(), TextFault>
-    ensures ok { IfOk result (λ _. (behind : Rows) → rows_after (map numbered_view rows.old.items)
+    ensures ok { IfOk result (λ _. (behind : Rows) → rows_after (map line_view lines.old.items)
         (line_before number line.now (line_of steps names.now.names line.now) behind)
-        ≡ rows_after (map numbered_view rows.new.items) behind) }
+        ≡ rows_after (map line_view lines.new.items) behind) }
     ensures err { IfErr result (λ fault. fault.kind ≢ RowFaultKind.OutOfMemory → (behind : Rows)
         → line_before number line.now (line_of steps names.now.names line.now) behind ≡ Err fault) }
 {
     match read_row(alloc, names, steps, line) {
         Ok(Some(row)) => {
-            push_row(rows, number, row)?;
+            push_one(lines, number, Line::Row((number, row)))?;
             Ok(())
         }
         Ok(None) => Ok(()),
-        Err(fault) => Err(fault_of(number, line, fault)),
+        Err(fault) => match fault.kind {
+            RowFaultKind::OutOfMemory => Err(memory_fault(number)),
+            _ => push_faulty(lines, line, fault_of(number, line, fault)),
+        },
     }
 }
 
-/// Reads the rows of a text, each with the number of its line, under the names of a source. The
+/// Reads the rows of a text under the names of a source, those that cannot be read among them. The
 /// first line of the text has the number `first`; a call of a row has `steps` steps at most.
 ///
 /// # Errors
 ///
-/// The fault of the first line that has one, as `read_row` tells it. `OutOfMemory` comes where a
-/// request for memory was refused, and in place of no other fault of an earlier line.
+/// The fault, as `read_row` tells it, of the first line that has one and says what is run before or
+/// after each row. `OutOfMemory` comes where a request for memory was refused, and in place of no
+/// other fault of an earlier line.
 pub fn read_rows(
     alloc: Global,
     names: &Assembly,
     first: u32,
     steps: u32,
     text: &[u8],
-) -> Result<Vec<(u32, Row)>, TextFault>
+) -> Result<Vec<Line>, TextFault>
     requires { first + length text.now < 4294967296 }
-    ensures ok { IfOk result (λ rows. rows_from steps names.now.names first (lines_of text.now)
-        ≡ Ok (map numbered_view rows.items)) }
+    ensures ok { IfOk result (λ lines. rows_from steps names.now.names first (lines_of text.now)
+        ≡ Ok (map line_view lines.items)) }
     ensures err { IfErr result (λ fault. fault.kind ≢ RowFaultKind.OutOfMemory
         → rows_from steps names.now.names first (lines_of text.now) ≡ Err fault) }
 {
-    let mut rows = Vec::new(alloc);
+    let mut lines = Vec::new(alloc);
     let mut rest = text;
     let mut number = first;
     while rest.len() > 0 {
         let (line, behind) = next_line(rest);
-        push_line(alloc, names, steps, &mut rows, number, line)?;
+        push_line(alloc, names, steps, &mut lines, number, line)?;
         rest = behind;
         number += 1;
     }
-    Ok(rows)
+    Ok(lines)
 }
 
 fn memory_fault(line: u32) -> TextFault

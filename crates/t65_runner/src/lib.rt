@@ -18,7 +18,7 @@ mod passes;
 mod range_values;
 mod requests;
 
-pub use around::{Around, has_test, rows_of};
+pub use around::{Around, has_test, tests_of};
 pub use bench::{first_failed, run_called};
 pub use counting::count_test;
 pub use going_back::HISTORY;

@@ -11,13 +11,12 @@ use Rattle.model.specs.TextLines.{lines_of}
 use Rattle.model.specs.declared.bus_fault.BusFault.TheVariants.{BadMap}
 use Rattle.model.specs.Names.{Definitions}
 use Rattle.t65_suites.specs.HeadText.{SeenHead, head_from}
-use Rattle.t65_reader.specs.RowText.{SeenRow, rows_from}
-use Rattle.t65_reader.specs.declared.row.Part.TheVariants.{Test}
+use Rattle.t65_reader.specs.RowText.{SeenLine, rows_from}
 use Rattle.t65_values.specs.declared.fault.TextFault.{TextFault}
 use Rattle.t65_suites.specs.Ends.{EndsAnyTest, EndsFile, EndsRows, EndsTest, HeadedFile}
 use Rattle.t65_suites.specs.Programs.{EndsProgram, IsProgram, file_asked}
 use Rattle.t65_suites.specs.Suites.{ReadingAsked}
-use Rattle.t65_runner.specs.Parts.{rows_of}
+use Rattle.t65_runner.specs.Parts.{tests_of}
 use Rattle.t65_suites.specs.declared.fault.FileFault.{FileFault}
 use Rattle.t65_suites.specs.declared.fault.FileFault.TheVariants.{InProgram, InRows}
 use Rattle.t65_suites.specs.declared.fault.TestFault.{TestFault}
@@ -26,7 +25,7 @@ use Rattle.t65_suites.specs.declared.fault.TestFault.TheVariants.{Rows, TooLarge
 pub head_ends : (text : List ℕ) (fault : TextFault) → head_from 1 (lines_of text) ≡ Err fault → EndsAnyTest (Rows fault)
 head_ends text fault refused = λ reading. inl (text, refused)
 
-pub no_test : (steps : ℕ) (names : Definitions) (next : ℕ) (lines : List (List ℕ)) (rows : List (ℕ × SeenRow)) → rows_from steps names next lines ≡ Ok rows → rows_of Test rows ≡ []
+pub no_test : (steps : ℕ) (names : Definitions) (next : ℕ) (lines : List (List ℕ)) (rows : List SeenLine) → rows_from steps names next lines ≡ Ok rows → tests_of rows ≡ []
     → EndsRows steps names next lines NoRow
 no_test steps names next lines rows read none = (rows, read, none)
 

@@ -5,7 +5,7 @@ use Rattle.model.specs.State.{Map}
 use Rattle.model.specs.TextLines.{lines_of}
 use Rattle.source_map.specs.Lines.{PlacesView, places_of}
 use Rattle.t65_suites.specs.HeadText.{SeenHead, head_from}
-use Rattle.t65_reader.specs.RowText.{SeenRow, numbered_view, rows_from}
+use Rattle.t65_reader.specs.RowText.{SeenLine, line_view, rows_from}
 use Rattle.t65_reader.specs.declared.row.Part.TheVariants.{Setup, Teardown}
 use Rattle.t65_suites.specs.Programs.{IsProgram, file_asked}
 use Rattle.t65_suites.specs.Suites.{SuiteAsked}
@@ -13,7 +13,7 @@ use Rattle.t65_runner.specs.Parts.{rows_of}
 use Rattle.t65_suites.specs.Prepared.{Ground, IsPrepared, map_of, path_of}
 use Rattle.t65_suites.specs.declared.prepared.Prepared.{Prepared}
 
-abbrev ground_at : Map → List (Option ℕ) → PlacesView → List (ℕ × SeenRow) → Ground
+abbrev ground_at : Map → List (Option ℕ) → PlacesView → List SeenLine → Ground
 ground_at bus_map image places rows = record {
   bus_map = bus_map;
   image = image;
@@ -26,7 +26,7 @@ pub ready : (prepared : Prepared) (steps : ℕ) (suite : SuiteAsked) (text : Lis
     → head_from 1 (lines_of text) ≡ Ok (head, next, lines) → text ≡ prepared.text.items
     → prepared.map ≡ map_of head → path ≡ path_of suite head.source
     → IsProgram (file_asked suite.reading head path) suite.reading.symbols prepared.assembly → prepared.places ≡ places_of path prepared.assembly
-    → rows_from steps prepared.assembly.names next lines ≡ Ok (map numbered_view prepared.rows.items)
+    → rows_from steps prepared.assembly.names next lines ≡ Ok (map line_view prepared.rows.items)
     → prepared.form ≡ suite.reading.form → IsPrepared steps suite prepared
 ready prepared steps suite text head next lines path headed same mapped named program placed read form = record {
   file = record {
@@ -39,12 +39,12 @@ ready prepared steps suite text head next lines path headed same mapped named pr
     path_is = named;
     assembly = prepared.assembly;
     program = program;
-    rows = map numbered_view prepared.rows.items;
+    rows = map line_view prepared.rows.items;
     read = read;
   };
   text_is = same;
-  ground_is = ap (λ (m : Map). ground_at m prepared.assembly.image (places_of path prepared.assembly) (map numbered_view prepared.rows.items)) (sym mapped)
-      ∙ ap (λ (p : PlacesView). ground_at prepared.map prepared.assembly.image p (map numbered_view prepared.rows.items)) (sym placed);
+  ground_is = ap (λ (m : Map). ground_at m prepared.assembly.image (places_of path prepared.assembly) (map line_view prepared.rows.items)) (sym mapped)
+      ∙ ap (λ (p : PlacesView). ground_at prepared.map prepared.assembly.image p (map line_view prepared.rows.items)) (sym placed);
   rows_are = refl;
   form_is = form;
 }

@@ -11,9 +11,8 @@ use Rattle.model.specs.State.{is_map}
 use Rattle.model.specs.TextLines.{lines_of}
 use Rattle.model.specs.declared.bus_fault.BusFault.TheVariants.{BadMap}
 use Rattle.t65_suites.specs.HeadText.{SeenHead, head_from}
-use Rattle.t65_reader.specs.RowText.{Rows, SeenRow, rows_from}
-use Rattle.t65_reader.specs.declared.row.Part.TheVariants.{Test}
-use Rattle.t65_runner.specs.Parts.{rows_of}
+use Rattle.t65_reader.specs.RowText.{Rows, SeenLine, rows_from}
+use Rattle.t65_runner.specs.Parts.{tests_of}
 use Rattle.t65_suites.specs.Programs.{EndsProgram, IsProgram, file_asked}
 use Rattle.t65_suites.specs.Suites.{ReadingAsked}
 use Rattle.t65_suites.specs.declared.fault.FileFault.{FileFault}
@@ -47,14 +46,14 @@ EndsRefused OutOfMemory = ⊤
 EndsRefused (Read why) = ⊤
 EndsRefused refusal = ⊥
 
--- Why a file of rows cannot be tested: its head or a row has this fault, no row is a test, or it is
--- refused.
+-- Why a file of rows cannot be tested: its head has this fault, or a row that is run before or after
+-- each test; no line is a test; or it is refused.
 abbrev pub EndsTest : ReadingAsked → TestFault → Type 0
 EndsTest reading (NotRows fault) = ((text : List ℕ) × (head_from 1 (lines_of text) ≡ Err fault))
     ⊎ AreRead reading (Err fault)
 EndsTest reading TooLarge = ⊤
-EndsTest reading NoRow = (rows : List (ℕ × SeenRow)) × AreRead reading (Ok rows)
-    × (rows_of Test rows ≡ [])
+EndsTest reading NoRow = (rows : List SeenLine) × AreRead reading (Ok rows)
+    × (tests_of rows ≡ [])
 EndsTest reading (Refused refusal) = EndsRefused refusal
 
 -- The same for every suite.
@@ -71,6 +70,6 @@ EndsFile reading (InProgram path fault) = (file : HeadedFile)
 -- Why rows are not read under some names.
 abbrev pub EndsRows : ℕ → Definitions → ℕ → List (List ℕ) → TestFault → Type 0
 EndsRows steps names next lines (NotRows fault) = rows_from steps names next lines ≡ Err fault
-EndsRows steps names next lines NoRow = (rows : List (ℕ × SeenRow))
-    × (rows_from steps names next lines ≡ Ok rows) × (rows_of Test rows ≡ [])
+EndsRows steps names next lines NoRow = (rows : List SeenLine)
+    × (rows_from steps names next lines ≡ Ok rows) × (tests_of rows ≡ [])
 EndsRows steps names next lines fault = fault ≡ Refused OutOfMemory

@@ -1,12 +1,12 @@
 -- What the line of a test file says that names its source. Source: mos65.
-use Rattle.std.specs.Prelude.{ℕ, ◌+◌, ◌-◌, ◌==◌, ◌&&◌, nat_lt, Bool, not, if◌then◌else◌, List, [], ◌∷◌, length, take, drop, codes, Option, Some, None, Result, Ok, Err}
+use Rattle.std.specs.Prelude.{ℕ, ◌+◌, ◌==◌, ◌&&◌, nat_lt, Bool, not, if◌then◌else◌, List, [], ◌∷◌, take, drop, codes, Option, Some, None, Result, Ok, Err}
 use Rattle.std.specs.Str.{byte, bytes_eq}
 use Rattle.std.specs.List.{prefix_len}
 use Rattle.memory_map.specs.declared.port.TheConstants.{DEFAULT_PORT}
 use Rattle.model.specs.declared.instruction.Profile.{Profile}
 use Rattle.model.specs.declared.instruction.Profile.TheVariants as profile
 use Rattle.t65_values.specs.ValueText.{Reads, after_sign, after_word, and_then, ends, fault_at, is_next, number_of, skip_blanks, word_of}
-use Rattle.t65_reader.specs.RowText.{string_of}
+use Rattle.t65_reader.specs.RowText.{fault_in, string_of}
 use Rattle.t65_values.specs.declared.fault.RowFault.{RowFault}
 use Rattle.t65_values.specs.declared.fault.RowFaultKind.TheVariants.{NoSource, Syntax}
 use Rattle.t65_values.specs.declared.fault.TextFault.{TextFault}
@@ -99,11 +99,7 @@ Heads = Result (SeenHead × ℕ × List (List ℕ)) TextFault
 
 abbrev pub head_in_line : ℕ → List ℕ → List (List ℕ) → Result SeenHead RowFault → Heads
 head_in_line number line lines (Ok head) = Ok (head, number + 1, lines)
-head_in_line number line lines (Err fault) = Err (record {
-  line = number;
-  column = length line - fault.left + 1;
-  kind = fault.kind;
-})
+head_in_line number line lines (Err fault) = Err (fault_in number line fault)
 
 -- The first line that is neither blank nor a comment is the head.
 unfoldable pub head_from : ℕ → List (List ℕ) → Heads

@@ -7,9 +7,9 @@ use Rattle.model.specs.State.{Map}
 use Rattle.model.specs.TextLines.{lines_of}
 use Rattle.source_map.specs.Lines.{PlacesView, places_of}
 use Rattle.t65_suites.specs.HeadText.{SeenHead, head_from}
-use Rattle.t65_reader.specs.RowText.{SeenRow, numbered_view, rows_from}
-use Rattle.t65_reader.specs.declared.row.Part.TheVariants.{Test, Setup, Teardown}
-use Rattle.t65_runner.specs.Parts.{rows_of}
+use Rattle.t65_reader.specs.RowText.{SeenLine, SeenRow, line_view, rows_from}
+use Rattle.t65_reader.specs.declared.row.Part.TheVariants.{Setup, Teardown}
+use Rattle.t65_runner.specs.Parts.{rows_of, tests_of}
 use Rattle.t65_suites.specs.Paths.{source_path}
 use Rattle.t65_suites.specs.Programs.{IsProgram, file_asked}
 use Rattle.t65_suites.specs.Suites.{SuiteAsked}
@@ -29,7 +29,7 @@ abbrev pub path_of : SuiteAsked → Text → Text
 path_of suite name = path_by suite.rows suite.source name
 
 -- The text of a file of rows, its head, the path of the file that they are run on, what is loaded
--- of that, and the rows, which are read under its names.
+-- of that, and what the lines ask for under its names.
 pub record TestedFile (steps : ℕ) (suite : SuiteAsked) : Type 0 where
   pub text : List ℕ
   pub head : SeenHead
@@ -40,7 +40,7 @@ pub record TestedFile (steps : ℕ) (suite : SuiteAsked) : Type 0 where
   pub path_is : path ≡ path_of suite head.source
   pub assembly : AssemblyView
   pub program : IsProgram (file_asked suite.reading head path) suite.reading.symbols assembly
-  pub rows : List (ℕ × SeenRow)
+  pub rows : List SeenLine
   pub read : rows_from steps assembly.names next lines ≡ Ok rows
 
 -- ---- its machine
@@ -68,17 +68,17 @@ ground_in prepared = record {
   bus_map = prepared.map;
   image = prepared.assembly.image;
   places = prepared.places;
-  before = rows_of Setup (map numbered_view prepared.rows.items);
-  after = rows_of Teardown (map numbered_view prepared.rows.items);
+  before = rows_of Setup (map line_view prepared.rows.items);
+  after = rows_of Teardown (map line_view prepared.rows.items);
 }
 
-abbrev pub tests_in : Prepared → List (ℕ × SeenRow)
-tests_in prepared = rows_of Test (map numbered_view prepared.rows.items)
+abbrev pub tests_in : Prepared → List SeenLine
+tests_in prepared = tests_of (map line_view prepared.rows.items)
 
 -- What was prepared of a suite is what its file says.
 pub record IsPrepared (steps : ℕ) (suite : SuiteAsked) (prepared : Prepared) : Type 0 where
   pub file : TestedFile steps suite
   pub text_is : file.text ≡ prepared.text.items
   pub ground_is : ground_of steps suite file ≡ ground_in prepared
-  pub rows_are : file.rows ≡ map numbered_view prepared.rows.items
+  pub rows_are : file.rows ≡ map line_view prepared.rows.items
   pub form_is : prepared.form ≡ suite.reading.form

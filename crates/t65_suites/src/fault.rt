@@ -13,11 +13,11 @@ use t65_values::TextFault;
 /// Why a file of rows cannot be tested.
 #[derive(Clone, Copy)]
 pub enum TestFault {
-    /// A line of the file is no row.
+    /// The head of the file has a fault, or a row that is run before or after each test.
     Rows(TextFault),
     /// The file has more than 1,048,576 bytes.
     TooLarge,
-    /// No row of the file is a test.
+    /// No line of the file is a test.
     NoRow,
     /// What other words are refused for too: the map, reading, memory.
     Refused(Refusal),

@@ -11,16 +11,7 @@ use arguments::{LoadFault, Refusal, put_fault_line, refuse_file, shown_name, tel
 use loading::NamedFault;
 use std::alloc::{AllocError, Global};
 use std::io::Write;
-use t65_values::{RowFaultKind, TextFault, push_visible};
-
-/// Returns an example of what has to stand there, for the faults that a first file has.
-fn example_of(kind: RowFaultKind) -> &'static str {
-    match kind {
-        RowFaultKind::Syntax => ", as in: call NAME A=07 [10]=FF -> A=46 C=0 cycles<900",
-        RowFaultKind::NoSource => ", as in: source NAME.a65",
-        _ => "",
-    }
-}
+use t65_values::{TextFault, push_visible};
 
 /// Appends a byte as it is shown.
 fn push_shown(text: &mut String, byte: u8) -> Result<(), AllocError>
@@ -138,7 +129,7 @@ fn tell_line<E: Write>(path: &str, fault: TextFault, text: &mut E) {
         fault.line,
         fault.column,
         fault.kind,
-        example_of(fault.kind)
+        fault.kind.example()
     );
 }
 

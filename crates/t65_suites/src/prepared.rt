@@ -8,7 +8,7 @@ ghost use Rattle.model.specs.State.{is_map};
 ghost use Rattle.model.specs.TextLines.{lines_of};
 ghost use Rattle.source_map.specs.Lines.{places_of};
 ghost use Rattle.t65_suites.specs.HeadText.{head_from, head_view};
-ghost use Rattle.t65_reader.specs.RowText.{numbered_view, rows_from};
+ghost use Rattle.t65_reader.specs.RowText.{line_view, rows_from};
 ghost use Rattle.t65_suites.specs.Ends.{EndsAnyTest, EndsFile, EndsRows};
 ghost use Rattle.t65_suites.specs.Prepared.{IsPrepared, map_of};
 ghost use Rattle.t65_suites.specs.Programs.{EndsProgram, IsProgram, file_asked};
@@ -27,12 +27,12 @@ use model::BusFault;
 use source_map::Places;
 use std::alloc::Global;
 use std::rt::Files;
-use t65_reader::{Row, read_rows};
+use t65_reader::{Line, read_rows};
 use t65_runner::has_test;
 use t65_values::RowFaultKind;
 
-/// A file of rows, what they are run on, and the rows, one of them a test at least. An image is an
-/// assembly without a line, with the names of a file or none.
+/// A file of rows, what they are run on, and what its lines ask for, one of them a test at least.
+/// An image is an assembly without a line, with the names of a file or none.
 #[derive(Drop)]
 pub struct Prepared {
     pub text: Vec<u8>,
@@ -40,7 +40,7 @@ pub struct Prepared {
     /// As what the rows' program was read.
     pub form: FileForm,
     pub assembly: Assembly,
-    pub rows: Vec<(u32, Row)>,
+    pub rows: Vec<Line>,
     pub places: Places,
 }
 
@@ -146,7 +146,8 @@ fn opened_in(text: &[u8]) -> Result<Opened<'_>, TestFault>
     read_head(text).map_err(TestFault::Rows)
 }
 
-/// Returns the rows of a text, one of them a test at least, under the names of a source.
+/// Returns what the lines of a text ask for under the names of a source, one of them a test at
+/// least.
 #[tactic(auto, using(crate::proofs::Ends::no_test))]
 fn rows_in(
     alloc: Global,
@@ -154,10 +155,10 @@ fn rows_in(
     first: u32,
     steps: u32,
     text: &[u8],
-) -> Result<Vec<(u32, Row)>, TestFault>
+) -> Result<Vec<Line>, TestFault>
     requires { first + length text.now < 4294967296 }
     ensures rows { IfOk result (λ rows. rows_from steps names.now.names first (lines_of text.now)
-        ≡ Ok (map numbered_view rows.items)) }
+        ≡ Ok (map line_view rows.items)) }
     ensures refused { IfErr result (EndsRows steps names.now.names first (lines_of text.now)) }
 {
     match read_rows(alloc, names, first, steps, text) {
@@ -177,8 +178,9 @@ fn rows_in(
 ///
 /// # Errors
 ///
-/// - `InRows`: the file of rows cannot be read, or has more than 1,048,576 bytes; its head or a row
-///   has a fault; its head asks for a map that is none; no row is a test.
+/// - `InRows`: the file of rows cannot be read, or has more than 1,048,576 bytes; its head has a
+///   fault, or a row that is run before or after each test; its head asks for a map that is none;
+///   no line is a test.
 /// - `InProgram`: what the rows are run on is not loaded, as `program_of` says.
 ///
 /// An allocation that fails is `OutOfMemory` in one of them.

@@ -1,7 +1,7 @@
 //! Why a line is no row.
 
 ghost use Rattle.std.specs.Prelude.{◌≡◌, Some};
-ghost use Rattle.t65_values.specs.FaultWords.{fault_words};
+ghost use Rattle.t65_values.specs.FaultWords.{example_words, fault_words};
 
 use crate::wording;
 use std::fmt;
@@ -49,6 +49,23 @@ impl RowFaultKind {
             RowFaultKind::SecondSource => wording::SECOND_SOURCE,
             RowFaultKind::NoSource => wording::NO_SOURCE,
             RowFaultKind::OutOfMemory => wording::OUT_OF_MEMORY,
+        }
+    }
+
+    /// Returns an example of what has to stand there, for the faults that a first file has; no byte
+    /// for the others.
+    pub fn example(&self) -> &'static str
+        ensures { result.now ≡ example_words self.now }
+    {
+        match self {
+            RowFaultKind::Syntax => wording::ROW_EXAMPLE,
+            RowFaultKind::NoSource => wording::SOURCE_EXAMPLE,
+            RowFaultKind::LongNumber(_)
+            | RowFaultKind::UndefinedName
+            | RowFaultKind::AddressRange
+            | RowFaultKind::EmptyRange
+            | RowFaultKind::SecondSource
+            | RowFaultKind::OutOfMemory => wording::NO_EXAMPLE,
         }
     }
 }

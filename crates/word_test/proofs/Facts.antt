@@ -8,15 +8,14 @@ use Rattle.std.proofs.lemmas.Result.{MatchResult-from_err}
 use Rattle.model.specs.TextLines.{lines_of}
 use Rattle.model.specs.Writers.{AppendsFront}
 use Rattle.model.proofs.Written.{front_after, front_more, front_none}
-use Rattle.t65_reader.specs.RowText.{SeenRow, numbered_view}
-use Rattle.t65_reader.specs.declared.row.Part.TheVariants.{Test}
+use Rattle.t65_reader.specs.RowText.{SeenLine, line_view}
 use Rattle.t65_reports.specs.Reports.{plan_text, tap_fault}
 use Rattle.t65_reports.specs.declared.wording.TheConstants.{TAP_BEGIN}
 use Rattle.word_test.specs.Asked.{TestAsked}
 use Rattle.t65_suites.specs.Ends.{EndsFile}
 use Rattle.t65_suites.specs.Suites.{SuiteAsked, name_of, suite_view, suites_of}
 use Rattle.word_test.specs.Tested.{fresh_tally, rows_text, summary_if, tally_after, tally_rows}
-use Rattle.t65_runner.specs.Parts.{rows_of}
+use Rattle.t65_runner.specs.Parts.{tests_of}
 use Rattle.t65_suites.specs.Prepared.{Ground, IsPrepared, ground_in, ground_of, tests_in}
 use Rattle.word_test.specs.Told.{AreBegun, AreOutcomes, AreRun, AreTested, HasBegun, IsBegun, IsFaultText, IsOutcome, IsRun, Outcome, manner_of, outcome_by}
 use Rattle.t65_suites.specs.declared.fault.FileFault.{FileFault}
@@ -188,17 +187,17 @@ none_begun manner suite count old = record {
 
 tested_outcome : (manner : Manner) (suite : SuiteAsked) (count : ℕ) (prepared : Prepared) (tally : Tally) → IsPrepared manner.steps suite prepared
     → tally ≡ tally_rows (ground_in prepared) (fresh_tally count) (tests_in prepared)
-    → IsOutcome manner suite count (outcome_by manner.is_summary (name_of suite) (rows_text (ground_in prepared) (name_of suite) count 1 (lines_of prepared.text.items) (tests_in prepared)) tally)
+    → IsOutcome manner suite count (outcome_by manner.is_summary (name_of suite) (rows_text (ground_in prepared) suite count 1 (lines_of prepared.text.items) (tests_in prepared)) tally)
 tested_outcome manner suite count prepared tally p is =
-    let text : List ℕ = rows_text (ground_in prepared) (name_of suite) count 1 (lines_of prepared.text.items) (tests_in prepared) in
-    let rows_are : List (ℕ × SeenRow) → List ℕ → Ground → Outcome = λ rows lines bench. outcome_by manner.is_summary (name_of suite)
-    (rows_text bench (name_of suite) count 1 (lines_of lines) (rows_of Test rows)) (tally_rows bench (fresh_tally count) (rows_of Test rows)) in
+    let text : List ℕ = rows_text (ground_in prepared) suite count 1 (lines_of prepared.text.items) (tests_in prepared) in
+    let rows_are : List SeenLine → List ℕ → Ground → Outcome = λ rows lines bench. outcome_by manner.is_summary (name_of suite)
+    (rows_text bench suite count 1 (lines_of lines) (tests_of rows)) (tally_rows bench (fresh_tally count) (tests_of rows)) in
     inl (record {
       file = p.file;
       is = ap (outcome_by manner.is_summary (name_of suite) text) is
-          ∙ (ap (λ (g : Ground). rows_are (map numbered_view prepared.rows.items) prepared.text.items g) (sym p.ground_is)
-          ∙ (ap (λ (t : List ℕ). rows_are (map numbered_view prepared.rows.items) t (ground_of manner.steps suite p.file)) (sym p.text_is)
-          ∙ ap (λ (r : List (ℕ × SeenRow)). rows_are r p.file.text (ground_of manner.steps suite p.file)) (sym p.rows_are)));
+          ∙ (ap (λ (g : Ground). rows_are (map line_view prepared.rows.items) prepared.text.items g) (sym p.ground_is)
+          ∙ (ap (λ (t : List ℕ). rows_are (map line_view prepared.rows.items) t (ground_of manner.steps suite p.file)) (sym p.text_is)
+          ∙ ap (λ (r : List SeenLine). rows_are r p.file.text (ground_of manner.steps suite p.file)) (sym p.rows_are)));
     })
 
 untested_outcome : (manner : Manner) (suite : SuiteAsked) (count : ℕ) (fault : FileFault) (title remarks : List ℕ) (tally : Tally) → EndsFile suite.reading fault → IsFaultText fault title remarks
@@ -218,28 +217,28 @@ abbrev pub EndsSuite : Manner → SuiteAsked → ℕ → Option (List ℕ) → O
 EndsSuite manner suite count old new result = MatchResult result (IsRun manner suite count old new) (λ _. IsBegun manner suite count old new)
 
 -- What TAP tells of the tests of a suite that was prepared.
-abbrev tested_text : Prepared → Bool → List ℕ → ℕ → Tally → List ℕ
-tested_text prepared is_summary name count tally = rows_text (ground_in prepared) name count 1 (lines_of prepared.text.items) (tests_in prepared) ++ summary_if is_summary name tally.score
+abbrev tested_text : Prepared → Bool → SuiteAsked → ℕ → Tally → List ℕ
+tested_text prepared is_summary suite count tally = rows_text (ground_in prepared) suite count 1 (lines_of prepared.text.items) (tests_in prepared) ++ summary_if is_summary (name_of suite) tally.score
 
-pub tested_result : (manner : Manner) (suite : SuiteAsked) (count : ℕ) (old new : Option (List ℕ)) (prepared : Prepared) (name : List ℕ) (result : Result Tally Stop)
-    → IsPrepared manner.steps suite prepared → name ≡ name_of suite
+pub tested_result : (manner : Manner) (suite : SuiteAsked) (count : ℕ) (old new : Option (List ℕ)) (prepared : Prepared) (result : Result Tally Stop)
+    → IsPrepared manner.steps suite prepared
     → IfOk result (λ tally. tally ≡ tally_rows (ground_in prepared) (fresh_tally count) (tests_in prepared))
-    → IfOk result (λ tally. Appends old new (tested_text prepared manner.is_summary name count tally))
-    → IfErr result (λ _. AppendsFront old new (tested_text prepared manner.is_summary name count (tally_rows (ground_in prepared) (fresh_tally count) (tests_in prepared))))
+    → IfOk result (λ tally. Appends old new (tested_text prepared manner.is_summary suite count tally))
+    → IfErr result (λ _. AppendsFront old new (tested_text prepared manner.is_summary suite count (tally_rows (ground_in prepared) (fresh_tally count) (tests_in prepared))))
     → EndsSuite manner suite count old new result
-tested_result manner suite count old new prepared name (Err stop) p named is written begun =
+tested_result manner suite count old new prepared (Err stop) p is written begun =
     let tally = tally_rows (ground_in prepared) (fresh_tally count) (tests_in prepared) in
     record {
-      outcome = outcome_by manner.is_summary (name_of suite) (rows_text (ground_in prepared) (name_of suite) count 1 (lines_of prepared.text.items) (tests_in prepared)) tally;
+      outcome = outcome_by manner.is_summary (name_of suite) (rows_text (ground_in prepared) suite count 1 (lines_of prepared.text.items) (tests_in prepared)) tally;
       is = tested_outcome manner suite count prepared tally p refl;
-      written = subst (λ (n : List ℕ). AppendsFront old new (tested_text prepared manner.is_summary n count tally)) named begun;
+      written = begun;
     }
-tested_result manner suite count old new prepared name (Ok tally) p named is written begun = record {
-  outcome = outcome_by manner.is_summary (name_of suite) (rows_text (ground_in prepared) (name_of suite) count 1 (lines_of prepared.text.items) (tests_in prepared)) tally;
+tested_result manner suite count old new prepared (Ok tally) p is written begun = record {
+  outcome = outcome_by manner.is_summary (name_of suite) (rows_text (ground_in prepared) suite count 1 (lines_of prepared.text.items) (tests_in prepared)) tally;
   is = tested_outcome manner suite count prepared tally p is;
   count_is = refl;
   passes_is = refl;
-  written = subst (λ (n : List ℕ). Appends old new (tested_text prepared manner.is_summary n count tally)) named written;
+  written = written;
 }
 
 -- What TAP tells of a suite that cannot be tested.

@@ -1,22 +1,23 @@
 -- The way over the rows of a suite.
 use Rattle.std.proofs.Common.{◌≡◌, ◌∙◌, ℕ, ◌+◌, ◌<◌, ◌≤◌, List, [], ◌++◌, Option, length, drop, get_or, refl, sym, ap, subst, append-nil, append_assoc}
-use Rattle.std.specs.Prelude.{Bool, Some, None, is_none}
+use Rattle.std.specs.Prelude.{Bool, Some, None}
 use Rattle.std.specs.Option.{option_map}
 use Rattle.std.specs.Io.KnownBytes.{Appends}
 use Rattle.model.specs.Writers.{AppendsFront}
 use Rattle.model.proofs.Written.{front_after, front_more}
 use Rattle.std.proofs.KnownBytes.{Appends-nil, Appends-trans}
-use Rattle.std.proofs.lemmas.List.{drop_all, drop_more, get_or_default}
+use Rattle.std.proofs.lemmas.List.{drop_all, drop_more}
 use Rattle.std.specs.Borrow.{Bor}
-use Rattle.t65_reader.specs.RowText.{row_seen}
-use Rattle.t65_reader.specs.declared.row.Row.{Row}
+use Rattle.t65_reader.specs.RowText.{line_number, line_points, line_seen}
+use Rattle.t65_reader.specs.declared.row.Line.{Line}
+use Rattle.t65_runner.specs.Parts.{lines_seen}
 use Rattle.t65_reports.specs.Lines.{line_at, lines_after, next_after}
 use Rattle.t65_reports.specs.Junit.{ReportTold, with_test}
 use Rattle.t65_reports.specs.Reports.{junit_case, tap_case}
-use Rattle.word_test.specs.Tested.{failure_of, plus, rows_reported, rows_text, tally_after, tally_rows, why}
+use Rattle.word_test.specs.Tested.{passes, plus, rows_reported, rows_text, tally_after, tally_rows, why}
 use Rattle.t65_suites.specs.Prepared.{Ground}
+use Rattle.t65_suites.specs.Suites.{SuiteAsked, name_of}
 use Rattle.word_test.specs.declared.tally.Tally.{Tally}
-use Rattle.t65_runner.specs.Passes.{rows_seen}
 
 mapped : (f g h : ReportTold → ReportTold) (x : Option ReportTold) → ((r : ReportTold) → f (g r) ≡ h r) → option_map f (option_map g x) ≡ option_map h x
 mapped f g h None e = refl
@@ -55,86 +56,88 @@ more_begun : (old now new : Option (List ℕ)) (left rest whole text : List ℕ)
 more_begun old now new left rest whole text t front is =
     subst (AppendsFront old new) t.left_is (front_after old now new t.text left t.written (subst (AppendsFront now new) (sym is) (front_more now new text rest front)))
 
-module _ (bench : Ground) (name : List ℕ) (rows : List (Bor (ℕ × Row))) (i : ℕ) where
+module _ (bench : Ground) (suite : SuiteAsked) (tests : List (Bor Line)) (i : ℕ) where
   abbrev left : ℕ → ℕ → ℕ → List (List ℕ) → List ℕ
-  left j count next lines = rows_text bench name count next lines (rows_seen (drop j rows))
+  left j count next lines = rows_text bench suite count next lines (lines_seen (drop j tests))
 
-  text-more : (count next : ℕ) (lines : List (List ℕ)) (row : Bor (ℕ × Row)) → i < length rows → left i count next lines
-      ≡ tap_case (plus count 1) name (get_or rows i row).now.0 (line_at (get_or rows i row).now.0 next lines) (why bench (row_seen (get_or rows i row)))
-      ++ left (i + 1) (plus count 1) (next_after (get_or rows i row).now.0 next lines) (lines_after (get_or rows i row).now.0 next lines)
+  text-more : (count next : ℕ) (lines : List (List ℕ)) (test other : Bor Line) → i < length tests → test ≡ get_or tests i other → left i count next lines
+      ≡ tap_case (plus count 1) (name_of suite) (line_number (line_seen test)) (line_at (line_number (line_seen test)) next lines) (why bench suite.rows (line_at (line_number (line_seen test)) next lines) (line_seen test))
+      ++ left (i + 1) (plus count 1) (next_after (line_number (line_seen test)) next lines) (lines_after (line_number (line_seen test)) next lines)
   unfolding rows_text
-  text-more count next lines row h = rw (drop_more rows i row h) refl
+  text-more count next lines test other h is = rw (drop_more tests i other h, is) refl
 
-  -- The next row was told of.
-  pub row_told : (old now new : Option (List ℕ)) (count count_then number next next_then : ℕ) (lines lines_then : List (List ℕ)) (row ran other : Bor (ℕ × Row)) (line tap whole : List ℕ)
-      → i < length rows → TextLeft old now (left i count next lines) whole → Appends now new tap
-      → tap ≡ tap_case number name (get_or rows i row).now.0 line (why bench (row_seen ran)) → ran ≡ get_or rows i other
-      → number ≡ plus count 1 → line ≡ line_at (get_or rows i row).now.0 next lines
-      → lines_then ≡ lines_after (get_or rows i row).now.0 next lines → next_then ≡ next_after (get_or rows i row).now.0 next lines
+  -- The next test was told of.
+  pub test_told : (old now new : Option (List ℕ)) (count count_then number at next next_then : ℕ) (lines lines_then : List (List ℕ)) (test other : Bor Line) (file line tap whole : List ℕ)
+      → i < length tests → test ≡ get_or tests i other → TextLeft old now (left i count next lines) whole → Appends now new tap
+      → tap ≡ tap_case number file at line (why bench suite.rows line (line_seen test)) → file ≡ name_of suite → at ≡ line_number (line_seen test)
+      → number ≡ plus count 1 → line ≡ line_at at next lines
+      → lines_then ≡ lines_after at next lines → next_then ≡ next_after at next lines
       → count_then ≡ plus count 1
       → TextLeft old new (left (i + 1) count_then next_then lines_then) whole
-  row_told old now new count count_then number next next_then lines lines_then row ran other line tap whole h so_far written tap_is ran_is number_is line_is lines_are next_is count_is =
+  test_told old now new count count_then number at next next_then lines lines_then test other file line tap whole h is so_far written tap_is file_is at_is number_is line_is lines_are next_is count_is =
       less_left old now new (left i count next lines) (left (i + 1) count_then next_then lines_then) whole tap so_far written
-      (rw (tap_is, ran_is, get_or_default rows i other row h, number_is, line_is, lines_are, next_is, count_is) (text-more count next lines row h))
+      (rw (tap_is, file_is, number_is, line_is, lines_are, next_is, count_is, at_is) (text-more count next lines test other h is))
 
-  -- A beginning of what is told of the next row was written.
-  pub row_begun : (old now new : Option (List ℕ)) (count number next : ℕ) (lines : List (List ℕ)) (row ran other : Bor (ℕ × Row)) (line tap whole : List ℕ)
-      → i < length rows → TextLeft old now (left i count next lines) whole → AppendsFront now new tap
-      → tap ≡ tap_case number name (get_or rows i row).now.0 line (why bench (row_seen ran)) → ran ≡ get_or rows i other
-      → number ≡ plus count 1 → line ≡ line_at (get_or rows i row).now.0 next lines
+  -- A beginning of what is told of the next test was written.
+  pub test_begun : (old now new : Option (List ℕ)) (count number at next : ℕ) (lines : List (List ℕ)) (test other : Bor Line) (file line tap whole : List ℕ)
+      → i < length tests → test ≡ get_or tests i other → TextLeft old now (left i count next lines) whole → AppendsFront now new tap
+      → tap ≡ tap_case number file at line (why bench suite.rows line (line_seen test)) → file ≡ name_of suite → at ≡ line_number (line_seen test)
+      → number ≡ plus count 1 → line ≡ line_at at next lines
       → AppendsFront old new whole
-  row_begun old now new count number next lines row ran other line tap whole h so_far front tap_is ran_is number_is line_is =
+  test_begun old now new count number at next lines test other file line tap whole h is so_far front tap_is file_is at_is number_is line_is =
       more_begun old now new (left i count next lines)
-      (left (i + 1) (plus count 1) (next_after (get_or rows i row).now.0 next lines) (lines_after (get_or rows i row).now.0 next lines)) whole tap so_far front
-      (rw (tap_is, ran_is, get_or_default rows i other row h, number_is, line_is) (text-more count next lines row h))
+      (left (i + 1) (plus count 1) (next_after (line_number (line_seen test)) next lines) (lines_after (line_number (line_seen test)) next lines)) whole tap so_far front
+      (rw (tap_is, file_is, number_is, line_is, at_is) (text-more count next lines test other h is))
 
-  pub no_row_left : (count next : ℕ) (lines : List (List ℕ)) → length rows ≤ i → left i count next lines ≡ []
+  pub no_test_left : (count next : ℕ) (lines : List (List ℕ)) → length tests ≤ i → left i count next lines ≡ []
   unfolding rows_text
-  no_row_left count next lines h = rw (drop_all i rows h) refl
+  no_test_left count next lines h = rw (drop_all i tests h) refl
 
   abbrev reported_left : ℕ → ℕ → List (List ℕ) → ReportTold → ReportTold
-  reported_left j next lines report = rows_reported bench name next lines (rows_seen (drop j rows)) report
+  reported_left j next lines report = rows_reported bench suite next lines (lines_seen (drop j tests)) report
 
-  reported-more : (next : ℕ) (lines : List (List ℕ)) (row : Bor (ℕ × Row)) (report : ReportTold) → i < length rows → reported_left i next lines report
-      ≡ reported_left (i + 1) (next_after (get_or rows i row).now.0 next lines) (lines_after (get_or rows i row).now.0 next lines)
-      (with_test (is_none (failure_of bench (row_seen (get_or rows i row)))) (junit_case name (get_or rows i row).now.0 (line_at (get_or rows i row).now.0 next lines) (why bench (row_seen (get_or rows i row)))) report)
+  reported-more : (next : ℕ) (lines : List (List ℕ)) (test other : Bor Line) (report : ReportTold) → i < length tests → test ≡ get_or tests i other → reported_left i next lines report
+      ≡ reported_left (i + 1) (next_after (line_number (line_seen test)) next lines) (lines_after (line_number (line_seen test)) next lines)
+      (with_test (passes bench (line_seen test)) (junit_case (name_of suite) (line_number (line_seen test)) (line_at (line_number (line_seen test)) next lines) (why bench suite.rows (line_at (line_number (line_seen test)) next lines) (line_seen test))) report)
   unfolding rows_reported
-  reported-more next lines row report h = rw (drop_more rows i row h) refl
+  reported-more next lines test other report h is = rw (drop_more tests i other h, is) refl
 
-  -- The next row was reported.
-  pub one_reported : (now new whole : Option ReportTold) (next next_then : ℕ) (lines lines_then : List (List ℕ)) (passes : Bool) (row ran other : Bor (ℕ × Row)) (line junit : List ℕ)
-      → i < length rows → new ≡ option_map (with_test passes junit) now
-      → passes ≡ is_none (failure_of bench (row_seen ran))
-      → junit ≡ junit_case name (get_or rows i row).now.0 line (why bench (row_seen ran)) → ran ≡ get_or rows i other
-      → line ≡ line_at (get_or rows i row).now.0 next lines
-      → lines_then ≡ lines_after (get_or rows i row).now.0 next lines → next_then ≡ next_after (get_or rows i row).now.0 next lines
+  -- The next test was reported.
+  pub one_reported : (now new whole : Option ReportTold) (at next next_then : ℕ) (lines lines_then : List (List ℕ)) (passing : Bool) (test other : Bor Line) (file line junit : List ℕ)
+      → i < length tests → test ≡ get_or tests i other → new ≡ option_map (with_test passing junit) now
+      → passing ≡ passes bench (line_seen test)
+      → junit ≡ junit_case file at line (why bench suite.rows line (line_seen test)) → file ≡ name_of suite → at ≡ line_number (line_seen test)
+      → line ≡ line_at at next lines
+      → lines_then ≡ lines_after at next lines → next_then ≡ next_after at next lines
       → option_map (reported_left i next lines) now ≡ whole → option_map (reported_left (i + 1) next_then lines_then) new ≡ whole
-  one_reported now new whole next next_then lines lines_then passes row ran other line junit h is passes_is junit_is ran_is line_is lines_are next_is so_far =
-      ap (option_map (reported_left (i + 1) next_then lines_then)) is
-      ∙ (mapped (reported_left (i + 1) next_then lines_then) (with_test passes junit) (reported_left i next lines) now
-      (λ report. sym (rw (passes_is, junit_is, ran_is, get_or_default rows i other row h, line_is, lines_are, next_is) (reported-more next lines row report h)))
+  one_reported now new whole at next next_then lines lines_then passing test other file line junit h is new_is passing_is junit_is file_is at_is line_is lines_are next_is so_far =
+      ap (option_map (reported_left (i + 1) next_then lines_then)) new_is
+      ∙ (mapped (reported_left (i + 1) next_then lines_then) (with_test passing junit) (reported_left i next lines) now
+      (λ report. sym (rw (passing_is, junit_is, file_is, line_is, lines_are, next_is, at_is) (reported-more next lines test other report h is)))
       ∙ so_far)
 
-  -- All rows were reported.
-  pub all_reported : (now whole : Option ReportTold) (next : ℕ) (lines : List (List ℕ)) → length rows ≤ i → option_map (reported_left i next lines) now ≡ whole → now ≡ whole
+  -- All tests were reported.
+  pub all_reported : (now whole : Option ReportTold) (next : ℕ) (lines : List (List ℕ)) → length tests ≤ i → option_map (reported_left i next lines) now ≡ whole → now ≡ whole
   unfolding rows_reported
-  all_reported now whole next lines h so_far = sym (unmapped (reported_left i next lines) now (λ report. rw (drop_all i rows h) refl)) ∙ so_far
+  all_reported now whole next lines h so_far = sym (unmapped (reported_left i next lines) now (λ report. rw (drop_all i tests h) refl)) ∙ so_far
 
   abbrev tally_left : ℕ → Tally → Tally
-  tally_left j tally = tally_rows bench tally (rows_seen (drop j rows))
+  tally_left j tally = tally_rows bench tally (lines_seen (drop j tests))
 
-  -- The next row was counted.
-  pub one_counted : (tally whole : Tally) (passes : Bool) (row ran other : Bor (ℕ × Row)) → i < length rows
-      → passes ≡ is_none (failure_of bench (row_seen ran)) → ran ≡ get_or rows i other
-      → tally_left i tally ≡ whole
-      → tally_left (i + 1) (tally_after passes (get_or rows i row).now.1.points tally) ≡ whole
+  tally-more : (tally : Tally) (test other : Bor Line) → i < length tests → test ≡ get_or tests i other
+      → tally_left i tally ≡ tally_left (i + 1) (tally_after (passes bench (line_seen test)) (line_points (line_seen test)) tally)
   unfolding tally_rows
-  one_counted tally whole passes row ran other h is ran_is left_is =
-      ap (λ (p : Bool). tally_left (i + 1) (tally_after p (get_or rows i row).now.1.points tally)) (is ∙ ap (λ (r : Bor (ℕ × Row)). is_none (failure_of bench (row_seen r))) (ran_is ∙ get_or_default rows i other row h))
-      ∙ (ap (λ (r : List (Bor (ℕ × Row))). tally_rows bench tally (rows_seen r)) (sym (drop_more rows i row h)) ∙ left_is)
+  tally-more tally test other h is = rw (drop_more tests i other h, is) refl
 
-  -- All rows were counted.
-  pub all_counted : (tally whole : Tally) → length rows ≤ i → tally_left i tally ≡ whole → tally ≡ whole
+  -- The next test was counted.
+  pub one_counted : (tally then whole : Tally) (passing : Bool) (points : ℕ) (test other : Bor Line) → i < length tests → test ≡ get_or tests i other
+      → passing ≡ passes bench (line_seen test) → points ≡ line_points (line_seen test) → then ≡ tally_after passing points tally
+      → tally_left i tally ≡ whole → tally_left (i + 1) then ≡ whole
+  one_counted tally then whole passing points test other h is passing_is points_are then_is left_is =
+      rw (then_is, passing_is, points_are) (sym (tally-more tally test other h is) ∙ left_is)
+
+  -- All tests were counted.
+  pub all_counted : (tally whole : Tally) → length tests ≤ i → tally_left i tally ≡ whole → tally ≡ whole
   unfolding tally_rows
   all_counted tally whole h left_is =
-      ap (λ (r : List (Bor (ℕ × Row))). tally_rows bench tally (rows_seen r)) (sym (drop_all i rows h)) ∙ left_is
+      ap (λ (r : List (Bor Line)). tally_rows bench tally (lines_seen r)) (sym (drop_all i tests h)) ∙ left_is

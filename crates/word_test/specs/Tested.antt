@@ -1,9 +1,11 @@
 -- What TAP tells of the tests of a suite, and what they come to. Source: mos65.
-use Rattle.std.specs.Prelude.{◌≡◌, ℕ, ◌+◌, ◌-◌, ◌^◌, ◌&&◌, min, Bool, true, false, is_none, if◌then◌else◌, List, [], ◌∷◌, ◌++◌, Option, option_map}
+use Rattle.std.specs.Prelude.{◌≡◌, ℕ, ◌+◌, ◌-◌, ◌^◌, ◌&&◌, min, Bool, true, false, is_none, if◌then◌else◌, List, [], ◌∷◌, ◌++◌, Option, Some, option_map}
 use Rattle.clap.specs.Words.{Text}
 use Rattle.t65_suites.specs.Prepared.{Ground, ground_in}
-use Rattle.t65_reader.specs.RowText.{SeenRow}
+use Rattle.t65_suites.specs.Suites.{SuiteAsked, name_of}
+use Rattle.t65_reader.specs.RowText.{SeenLine, SeenRow, faulty, line_number, line_points, readable}
 use Rattle.t65_failures.specs.Failures.{detail_text}
+use Rattle.t65_failures.specs.Faulty.{faulty_text}
 use Rattle.t65_reports.specs.Lines.{line_at, lines_after, next_after}
 use Rattle.t65_reports.specs.Junit.{ReportTold, with_test}
 use Rattle.t65_reports.specs.Reports.{junit_case, summary_text, tap_case}
@@ -25,32 +27,45 @@ run_of bench row = bench.before ++ row ∷ bench.after
 abbrev pub failure_of : Ground → ℕ × SeenRow → Option Values
 failure_of bench row = first_failed row.1 (run_of bench row) (fresh bench.bus_map bench.image)
 
--- Why a test fails, if it does.
-abbrev pub why : Ground → ℕ × SeenRow → Option (List ℕ)
-why bench row = option_map (detail_text bench.bus_map bench.image bench.places row.1.ranges
+-- Why a row fails, if it does.
+abbrev pub why_row : Ground → ℕ × SeenRow → Option (List ℕ)
+why_row bench row = option_map (detail_text bench.bus_map bench.image bench.places row.1.ranges
     (run_of bench row)) (failure_of bench row)
+
+-- Why a test fails, if it does: one of a file with this name, which has this text.
+abbrev pub why : Ground → Text → List ℕ → SeenLine → Option (List ℕ)
+why bench rows text (readable row) = why_row bench row
+why bench rows text (faulty row) = Some (faulty_text rows text row.fault)
+
+-- Whether a test passes.
+abbrev pub passes : Ground → SeenLine → Bool
+passes bench (readable row) = is_none (failure_of bench row)
+passes bench (faulty row) = false
 
 -- A count, at most 2^64 - 1.
 abbrev pub plus : ℕ → ℕ → ℕ
 plus count more = min (count + more) (2 ^ 64 - 1)
 
--- What TAP tells of tests after so many others: of each row its line of the file, whose lines from the
--- one with the number `next` on are left, and why it fails, if it does.
-unfoldable pub rows_text : Ground → Text → ℕ → ℕ → List (List ℕ) → List (ℕ × SeenRow) → List ℕ
-rows_text bench name count next lines [] = []
-rows_text bench name count next lines (row ∷ rows)
-    = tap_case (plus count 1) name row.0 (line_at row.0 next lines) (why bench row)
-    ++ rows_text bench name (plus count 1) (next_after row.0 next lines)
-    (lines_after row.0 next lines) rows
+-- What TAP tells of tests of a suite after so many others: of each its line of the file, whose lines
+-- from the one with the number `next` on are left, and why it fails, if it does.
+unfoldable pub rows_text : Ground → SuiteAsked → ℕ → ℕ → List (List ℕ) → List SeenLine → List ℕ
+rows_text bench suite count next lines [] = []
+rows_text bench suite count next lines (test ∷ tests)
+    = tap_case (plus count 1) (name_of suite) (line_number test)
+    (line_at (line_number test) next lines)
+    (why bench suite.rows (line_at (line_number test) next lines) test)
+    ++ rows_text bench suite (plus count 1) (next_after (line_number test) next lines)
+    (lines_after (line_number test) next lines) tests
 
--- What the report for JUnit gets of the same tests: of each row its text, and whether it passes.
-unfoldable pub rows_reported : Ground → Text → ℕ → List (List ℕ) → List (ℕ × SeenRow) → ReportTold
+-- What the report for JUnit gets of the same tests: of each its text, and whether it passes.
+unfoldable pub rows_reported : Ground → SuiteAsked → ℕ → List (List ℕ) → List SeenLine → ReportTold
     → ReportTold
-rows_reported bench name next lines [] report = report
-rows_reported bench name next lines (row ∷ rows) report = rows_reported bench name
-    (next_after row.0 next lines) (lines_after row.0 next lines) rows
-    (with_test (is_none (failure_of bench row))
-    (junit_case name row.0 (line_at row.0 next lines) (why bench row)) report)
+rows_reported bench suite next lines [] report = report
+rows_reported bench suite next lines (test ∷ tests) report = rows_reported bench suite
+    (next_after (line_number test) next lines) (lines_after (line_number test) next lines) tests
+    (with_test (passes bench test)
+    (junit_case (name_of suite) (line_number test) (line_at (line_number test) next lines)
+    (why bench suite.rows (line_at (line_number test) next lines) test)) report)
 
 -- ---- what they come to
 
@@ -76,10 +91,10 @@ tally_after passes points tally = record {
   all_pass = tally.all_pass && passes;
 }
 
-unfoldable pub tally_rows : Ground → Tally → List (ℕ × SeenRow) → Tally
+unfoldable pub tally_rows : Ground → Tally → List SeenLine → Tally
 tally_rows bench tally [] = tally
-tally_rows bench tally (row ∷ rows) = tally_rows bench
-    (tally_after (is_none (failure_of bench row)) row.1.points tally) rows
+tally_rows bench tally (test ∷ tests) = tally_rows bench
+    (tally_after (passes bench test) (line_points test) tally) tests
 
 -- Before a suite, after so many tests of others.
 abbrev pub fresh_tally : ℕ → Tally

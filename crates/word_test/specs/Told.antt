@@ -3,7 +3,6 @@ use Rattle.std.specs.Prelude.{◌≡◌, ◌⊎◌, ℕ, ◌&&◌, Bool, true, f
 use Rattle.std.specs.Io.KnownBytes.{Appends}
 use Rattle.model.specs.TextLines.{lines_of}
 use Rattle.model.specs.Writers.{AppendsFront}
-use Rattle.t65_reader.specs.declared.row.Part.TheVariants.{Test}
 use Rattle.t65_reports.specs.Reports.{plan_text, tap_fault}
 use Rattle.t65_reports.specs.declared.wording.TheConstants.{TAP_BEGIN}
 use Rattle.word_test.specs.Asked.{TestAsked}
@@ -11,7 +10,7 @@ use Rattle.t65_suites.specs.Ends.{EndsFile}
 use Rattle.t65_suites.specs.FaultTexts.{IsShown, IsTitle}
 use Rattle.t65_suites.specs.Suites.{SuiteAsked, name_of, suites_of}
 use Rattle.word_test.specs.Tested.{fresh_tally, rows_text, summary_if, tally_after, tally_rows}
-use Rattle.t65_runner.specs.Parts.{rows_of}
+use Rattle.t65_runner.specs.Parts.{tests_of}
 use Rattle.t65_suites.specs.Prepared.{TestedFile, ground_of}
 use Rattle.t65_suites.specs.declared.fault.FileFault.{FileFault}
 use Rattle.t65_suites.specs.Replaced.{replaces_any}
@@ -40,9 +39,9 @@ pub record IsTested (manner : Manner) (suite : SuiteAsked) (count : ℕ) (outcom
     : Type 0 where
   pub file : TestedFile manner.steps suite
   pub is : outcome ≡ outcome_by manner.is_summary (name_of suite)
-      (rows_text (ground_of manner.steps suite file) (name_of suite) count 1 (lines_of file.text)
-      (rows_of Test file.rows))
-      (tally_rows (ground_of manner.steps suite file) (fresh_tally count) (rows_of Test file.rows))
+      (rows_text (ground_of manner.steps suite file) suite count 1 (lines_of file.text)
+      (tests_of file.rows))
+      (tally_rows (ground_of manner.steps suite file) (fresh_tally count) (tests_of file.rows))
 
 -- Why a suite cannot be tested, in a few words, and remarks.
 pub record IsFaultText (fault : FileFault) (title remarks : List ℕ) : Type 0 where

@@ -21,9 +21,8 @@ use arguments::write_text;
 use std::alloc::{AllocError, Global};
 use std::io::Write;
 use std::rt::Files;
-use t65_reader::Part;
 use t65_reports::{Score, junit_fault, summary, tap_fault};
-use t65_runner::rows_of;
+use t65_runner::tests_of;
 use t65_suites::{FileFault, Prepared, Suite, is_memory, prepare, remarks_of, title_of};
 
 /// How rows are run and told of.
@@ -54,12 +53,12 @@ fn write_summary<O: Write>(
     Ok(())
 }
 
-/// Runs the rows of a suite that was prepared, after so many tests, and sums them up.
+/// Runs the tests of a suite that was prepared, after so many tests, and sums them up.
 fn run_tested<H: Files + AllocGlobal, O: Write>(
     rt: &H,
     prepared: &Prepared,
+    suite: Suite<'_>,
     is_summary: bool,
-    name: &str,
     count: u64,
     output: &mut O,
     reports: &mut Reports,
@@ -67,20 +66,21 @@ fn run_tested<H: Files + AllocGlobal, O: Write>(
     ensures tally { IfOk result (λ tally. tally ≡ tally_rows (ground_in prepared.now)
         (fresh_tally count) (tests_in prepared.now)) }
     ensures written { IfOk result (λ tally. Appends (O.contents output.old) (O.contents output.new)
-        (rows_text (ground_in prepared.now) name.now count 1
+        (rows_text (ground_in prepared.now) (suite_view suite.entry) count 1
         (lines_of prepared.now.text.items) (tests_in prepared.now)
-        ++ summary_if is_summary name.now tally.score)) }
+        ++ summary_if is_summary (name_of (suite_view suite.entry)) tally.score)) }
     ensures begun { IfErr result (λ _. AppendsFront (O.contents output.old) (O.contents output.new)
-        (rows_text (ground_in prepared.now) name.now count 1
+        (rows_text (ground_in prepared.now) (suite_view suite.entry) count 1
         (lines_of prepared.now.text.items) (tests_in prepared.now)
-        ++ summary_if is_summary name.now (tally_rows (ground_in prepared.now)
-        (fresh_tally count) (tests_in prepared.now)).score)) }
+        ++ summary_if is_summary (name_of (suite_view suite.entry))
+        (tally_rows (ground_in prepared.now) (fresh_tally count) (tests_in prepared.now)).score)) }
 {
-    let tests = rows_of(rt.alloc(), &prepared.rows, Part::Test)?;
+    let name = suite.name();
+    let tests = tests_of(rt.alloc(), &prepared.rows)?;
     reports.junit.begin_suite(rt.alloc(), name, tests.len())?;
     reports.coverage.begin_suite(rt.alloc())?;
     let first = fresh_tally(count);
-    let tally = run_rows(rt, prepared, &tests, name, first, output, reports)?;
+    let tally = run_rows(rt, prepared, &tests, suite, first, output, reports)?;
     reports.coverage.end_suite(rt.alloc(), prepared)?;
     reports.junit.end_suite(rt.alloc())?;
     write_summary(rt.alloc(), is_summary, name, tally.score, output)?;
@@ -170,17 +170,7 @@ fn run_suite<H: Files + AllocGlobal, O: Write>(
 {
     let is_summary = manner.is_summary;
     match prepare(rt, suite, manner.steps) {
-        Ok(prepared) => {
-            run_tested(
-                rt,
-                &prepared,
-                is_summary,
-                suite.name(),
-                count,
-                output,
-                reports,
-            )
-        }
+        Ok(prepared) => run_tested(rt, &prepared, suite, is_summary, count, output, reports),
         Err(fault) => {
             if is_memory(&fault) {
                 return Err(Stop::OutOfMemory);

@@ -1,18 +1,23 @@
 //! The rows of a suite, run and told of one after another.
 
-ghost use Rattle.std.specs.Prelude.{◌≡◌, ◌+◌, IfOk, OnOk, is_none, is_some, map, string_bytes};
+ghost use Rattle.std.specs.Prelude.{◌≡◌, ◌+◌, IfOk, OnOk, Some, false, is_none, is_some, map};
+ghost use Rattle.std.specs.Prelude.{string_bytes};
 ghost use Rattle.std.specs.Option.{option_map};
 ghost use Rattle.model.specs.TextLines.{lines_of};
 ghost use Rattle.model.specs.Writers.{Writes};
-ghost use Rattle.t65_reader.specs.RowText.{numbered_view};
+ghost use Rattle.t65_reader.specs.RowText.{line_view, numbered_view};
 ghost use Rattle.t65_failures.specs.Failures.{detail_text};
+ghost use Rattle.t65_failures.specs.Faulty.{faulty_text};
 ghost use Rattle.t65_reports.specs.Junit.{with_test};
 ghost use Rattle.t65_reports.specs.Reports.{junit_case, tap_case};
 ghost use Rattle.t65_runner.specs.Start.{fresh};
 ghost use Rattle.word_test.specs.Covered.{told_in};
-ghost use Rattle.word_test.specs.Tested.{IsAround, failure_of, plus, rows_reported, rows_text, run_of};
+ghost use Rattle.word_test.specs.Tested.{IsAround, failure_of, passes, plus, rows_reported};
+ghost use Rattle.word_test.specs.Tested.{rows_text, run_of};
 ghost use Rattle.t65_suites.specs.Prepared.{ground_in};
-ghost use Rattle.word_test.specs.Tested.{tally_rows, why};
+ghost use Rattle.t65_suites.specs.Suites.{name_of, suite_view};
+ghost use Rattle.word_test.specs.Tested.{tally_rows, why, why_row};
+ghost use Rattle.t65_runner.specs.Parts.{lines_seen};
 ghost use Rattle.t65_runner.specs.Passes.{rows_seen};
 
 use crate::coverage::Coverage;
@@ -24,11 +29,11 @@ use debugger::Session;
 use std::alloc::{AllocError, Global};
 use std::io::Write;
 use std::rt::Files;
-use t65_failures::{Bench, detail_of};
-use t65_reader::{Ranges, Row};
+use t65_failures::{Bench, detail_of, faulty_text};
+use t65_reader::{Faulty, Line, Ranges, Row};
 use t65_reports::{Case, RowLines, junit_case, tap_case};
 use t65_runner::{Around, HISTORY, Values, first_failed};
-use t65_suites::Prepared;
+use t65_suites::{Prepared, Suite};
 
 /// The texts of a test that has ended, and whether it passes.
 #[derive(Drop)]
@@ -113,10 +118,10 @@ fn run_row(
         (session.new ≡ fresh prepared.now.map prepared.now.assembly.image) }
     ensures tap { IfOk result (λ told. string_bytes told.tap
         ≡ tap_case number case.entry.file.now case.entry.line case.entry.text.now
-        (why (ground_in prepared.now) (numbered_view row.now))) }
+        (why_row (ground_in prepared.now) (numbered_view row.now))) }
     ensures junit { IfOk result (λ told. string_bytes told.junit
         ≡ junit_case case.entry.file.now case.entry.line case.entry.text.now
-        (why (ground_in prepared.now) (numbered_view row.now))) }
+        (why_row (ground_in prepared.now) (numbered_view row.now))) }
     ensures passes { IfOk result (λ told. told.passes
         ≡ is_none (failure_of (ground_in prepared.now) (numbered_view row.now))) }
 {
@@ -130,6 +135,64 @@ fn run_row(
             let detail = detail_in(alloc, prepared, row.1.ranges, &rows, values)?;
             texts_of(alloc, number, case, Some(detail.as_str()))
         }
+    }
+}
+
+/// Returns the texts of a row of a suite that cannot be read.
+fn faulty_row(
+    alloc: Global,
+    suite: Suite<'_>,
+    number: u64,
+    case: Case<'_>,
+    row: Faulty,
+) -> Result<Told, AllocError>
+    ensures tap { IfOk result (λ told. string_bytes told.tap
+        ≡ tap_case number case.entry.file.now case.entry.line case.entry.text.now
+        (Some (faulty_text (suite_view suite.entry).rows case.entry.text.now row.fault))) }
+    ensures junit { IfOk result (λ told. string_bytes told.junit
+        ≡ junit_case case.entry.file.now case.entry.line case.entry.text.now
+        (Some (faulty_text (suite_view suite.entry).rows case.entry.text.now row.fault))) }
+    ensures passes { IfOk result (λ told. told.passes ≡ false) }
+{
+    let detail = faulty_text(alloc, suite.rows, case.text, row.fault)?;
+    texts_of(alloc, number, case, Some(detail.as_str()))
+}
+
+/// Runs a test of a suite from the start of the machine, if it can be read, goes back there, and
+/// returns the test's texts.
+fn run_test(
+    alloc: Global,
+    session: &mut Session,
+    prepared: &Prepared,
+    around: &Around<'_>,
+    suite: Suite<'_>,
+    number: u64,
+    case: Case<'_>,
+    test: &Line,
+    coverage: &mut Coverage,
+) -> Result<Told, AllocError>
+    requires start { session.old ≡ fresh prepared.now.map prepared.now.assembly.image }
+    requires around { IsAround prepared.now around.now }
+    ensures back { OnOk result
+        (session.new ≡ fresh prepared.now.map prepared.now.assembly.image) }
+    ensures tap { IfOk result (λ told. string_bytes told.tap
+        ≡ tap_case number case.entry.file.now case.entry.line case.entry.text.now
+        (why (ground_in prepared.now) (suite_view suite.entry).rows case.entry.text.now
+        (line_view test.now))) }
+    ensures junit { IfOk result (λ told. string_bytes told.junit
+        ≡ junit_case case.entry.file.now case.entry.line case.entry.text.now
+        (why (ground_in prepared.now) (suite_view suite.entry).rows case.entry.text.now
+        (line_view test.now))) }
+    ensures passes { IfOk result (λ told. told.passes
+        ≡ passes (ground_in prepared.now) (line_view test.now)) }
+{
+    match test {
+        Line::Row(row) => {
+            run_row(
+                alloc, session, prepared, around, number, case, row, coverage,
+            )
+        }
+        Line::Faulty(row) => faulty_row(alloc, suite, number, case, *row),
     }
 }
 
@@ -155,15 +218,15 @@ pub fn write_told<H: Files + AllocGlobal, O: Write>(
     Ok(())
 }
 
-/// Runs tests, each from the start of the machine. The texts of a row are written, and the output
-/// is flushed, before the next row runs.
+/// Runs tests of a suite, each from the start of the machine. The texts of a test are written, and
+/// the output is flushed, before the next one runs.
 fn run_each<H: Files + AllocGlobal, O: Write>(
     rt: &H,
     session: &mut Session,
     prepared: &Prepared,
     around: &Around<'_>,
-    tests: &[&(u32, Row)],
-    name: &str,
+    tests: &[&Line],
+    suite: Suite<'_>,
     tally: Tally,
     output: &mut O,
     reports: &mut Reports,
@@ -171,67 +234,68 @@ fn run_each<H: Files + AllocGlobal, O: Write>(
     requires start { session.old ≡ fresh prepared.now.map prepared.now.assembly.image }
     requires around { IsAround prepared.now around.now }
     ensures written { Writes (O.contents output.old) (O.contents output.new)
-        (rows_text (ground_in prepared.now) name.now tally.count 1
-        (lines_of prepared.now.text.items) (rows_seen tests.now)) result }
+        (rows_text (ground_in prepared.now) (suite_view suite.entry) tally.count 1
+        (lines_of prepared.now.text.items) (lines_seen tests.now)) result }
     ensures report { OnOk result (told_in reports.new.junit ≡ option_map
-        (rows_reported (ground_in prepared.now) name.now 1 (lines_of prepared.now.text.items)
-        (rows_seen tests.now)) (told_in reports.old.junit)) }
+        (rows_reported (ground_in prepared.now) (suite_view suite.entry) 1
+        (lines_of prepared.now.text.items) (lines_seen tests.now)) (told_in reports.old.junit)) }
     ensures tally { IfOk result (λ all. all
-        ≡ tally_rows (ground_in prepared.now) tally (rows_seen tests.now)) }
+        ≡ tally_rows (ground_in prepared.now) tally (lines_seen tests.now)) }
 {
     let mut lines = RowLines::new(&prepared.text, 1);
     let mut so_far = tally;
     for index in 0..tests.len() {
-        let line = tests[index].0;
+        let test = tests[index];
+        let line = test.number();
         let text = lines.walk_to(line);
         let case = Case {
-            file: name,
+            file: suite.name(),
             line,
             text,
         };
         let number = so_far.count.saturating_add(1);
-        let row = tests[index];
         let coverage = &mut reports.coverage;
-        let told = run_row(
+        let told = run_test(
             rt.alloc(),
             session,
             prepared,
             around,
+            suite,
             number,
             case,
-            row,
+            test,
             coverage,
         )?;
         write_told(rt, &told, output, reports)?;
-        so_far = tally_after(told.passes, tests[index].1.points, so_far);
+        so_far = tally_after(told.passes, test.points(), so_far);
     }
     Ok(so_far)
 }
 
-/// Runs the tests of a suite, each from the start of its machine. The texts of a row are written,
-/// and the output is flushed, before the next row runs.
+/// Runs the tests of a suite, each from the start of its machine. The texts of a test are written,
+/// and the output is flushed, before the next one runs.
 ///
 /// # Errors
 ///
 /// `OutOfMemory` if an allocation fails, `Output` and `Report` if these cannot be written: the
-/// output has then a beginning of the texts of all rows.
+/// output has then a beginning of the texts of all tests.
 pub fn run_rows<H: Files + AllocGlobal, O: Write>(
     rt: &H,
     prepared: &Prepared,
-    tests: &[&(u32, Row)],
-    name: &str,
+    tests: &[&Line],
+    suite: Suite<'_>,
     tally: Tally,
     output: &mut O,
     reports: &mut Reports,
 ) -> Result<Tally, Stop>
     ensures written { Writes (O.contents output.old) (O.contents output.new)
-        (rows_text (ground_in prepared.now) name.now tally.count 1
-        (lines_of prepared.now.text.items) (rows_seen tests.now)) result }
+        (rows_text (ground_in prepared.now) (suite_view suite.entry) tally.count 1
+        (lines_of prepared.now.text.items) (lines_seen tests.now)) result }
     ensures report { OnOk result (told_in reports.new.junit ≡ option_map
-        (rows_reported (ground_in prepared.now) name.now 1 (lines_of prepared.now.text.items)
-        (rows_seen tests.now)) (told_in reports.old.junit)) }
+        (rows_reported (ground_in prepared.now) (suite_view suite.entry) 1
+        (lines_of prepared.now.text.items) (lines_seen tests.now)) (told_in reports.old.junit)) }
     ensures tally { IfOk result (λ all. all ≡ tally_rows (ground_in prepared.now) tally
-        (rows_seen tests.now)) }
+        (lines_seen tests.now)) }
 {
     let around = Around::new(rt.alloc(), &prepared.rows)?;
     match Session::new(rt.alloc(), prepared.map, prepared.assembly.image(), HISTORY) {
@@ -242,7 +306,7 @@ pub fn run_rows<H: Files + AllocGlobal, O: Write>(
                 prepared,
                 &around,
                 tests,
-                name,
+                suite,
                 tally,
                 output,
                 reports,

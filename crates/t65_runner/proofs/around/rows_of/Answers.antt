@@ -1,16 +1,21 @@
-use Rattle.std.proofs.Common.{◌∙◌, sym}
+use Rattle.std.proofs.Common.{◌∙◌, sym, ap, ℕ}
+use Rattle.std.specs.Prelude.{Option, option_map}
+use Rattle.std.specs.Borrow.{Bor}
+use Rattle.t65_reader.specs.RowText.{row_seen}
+use Rattle.t65_reader.specs.declared.row.Row.{Row}
 use Rattle.t65_runner.specs.Passes.{rows_seen}
-use Rattle.t65_runner.proofs.Parts.{left_out, none_left, pushed}
+use Rattle.t65_runner.proofs.Parts.{no_row_left, row_left_out, row_pushed}
 use Rattle.t65_runner.proofs.around.rows_of.Goals as goal
 
-pub loop-row-preserved-then-not-is_part : goal.loop-row-preserved-then-not-is_part
-loop-row-preserved-then-not-is_part c =
-    left_out c.args.part c.args.rows.now c.loop-row.row-index c.row-item.result (rows_seen c.loop-row.found.items) _ c.loop-row-test.true c.row-item.is (sym c.is_part.ensures ∙ c.if-not-is_part.true) c.loop-row.invariant
+pub loop-line-preserved-else-in-Some : goal.loop-line-preserved-else-in-Some
+loop-line-preserved-else-in-Some c =
+    row_left_out c.args.lines.now c.loop-line.line-index c.args.part c.line-item.result (rows_seen c.loop-line.found.items) _ c.loop-line-test.true c.line-item.is
+    (sym c.row_in.ensures ∙ ap (λ (r : Option (Bor (ℕ × Row))). option_map row_seen r) c.else-in-Some.is) c.loop-line.invariant
 
-pub loop-row-preserved : goal.loop-row-preserved
-loop-row-preserved c =
-    pushed c.args.part c.args.rows.now c.loop-row.row-index _ c.loop-row.found.items c.push.new.self.items _ c.loop-row-test.true c.row-item.is
-    (sym c.is_part.ensures ∙ c.if-not-is_part.false) c.in_ok-push.ensures.items c.loop-row.invariant
+pub loop-line-preserved : goal.loop-line-preserved
+loop-line-preserved c =
+    row_pushed c.args.lines.now c.loop-line.line-index c.args.part _ c.in-Some.row c.loop-line.found.items c.push.new.self.items _ c.loop-line-test.true c.line-item.is
+    (sym c.row_in.ensures ∙ ap (λ (r : Option (Bor (ℕ × Row))). option_map row_seen r) c.in-Some.is) c.in_ok-push.ensures.items c.loop-line.invariant
 
 pub returns : goal.returns
-returns c = none_left c.args.part c.args.rows.now c.loop-row.row-index (rows_seen c.loop-row.found.items) _ c.loop-row-test.false c.loop-row.invariant
+returns c = no_row_left c.args.lines.now c.loop-line.line-index c.args.part (rows_seen c.loop-line.found.items) _ c.loop-line-test.false c.loop-line.invariant

@@ -3,7 +3,7 @@ use Rattle.word_test.proofs.Facts.{none_begun, tested_result, untested_result}
 use Rattle.word_test.proofs.files.run_suite.Goals as goal
 
 pub returns-in-Ok : goal.returns-in-Ok
-returns-in-Ok g c = tested_result c.args.manner (suite_view c.args.suite) c.args.count _ _ c.in-Ok.prepared _ c.run_tested.result c.in-Ok.ensures.prepared c.name.ensures c.run_tested.ensures.tally c.run_tested.ensures.written c.run_tested.ensures.begun
+returns-in-Ok g c = tested_result c.args.manner (suite_view c.args.suite) c.args.count _ _ c.in-Ok.prepared c.run_tested.result c.in-Ok.ensures.prepared c.run_tested.ensures.tally c.run_tested.ensures.written c.run_tested.ensures.begun
 
 pub returns-then-is_memory : goal.returns-then-is_memory
 returns-then-is_memory g c = none_begun c.args.manner (suite_view c.args.suite) c.args.count _
