@@ -3,7 +3,7 @@ use Rattle.std.proofs.Common.{◌≡◌, ℕ, ◌+◌, List, [], ◌∷◌, ◌+
 use Rattle.model.specs.Names.{Definitions}
 use Rattle.model.specs.TextLines.{lines_from, lines_of}
 use Rattle.t65_values.specs.declared.fault.TextFault.{TextFault}
-use Rattle.t65_reader.specs.RowText.{Rows, SeenLine, line_before, line_of, one_before, rows_after, rows_from}
+use Rattle.t65_reader.specs.RowText.{Rows, SeenLine, line_before, line_of, one_before, points_of, rows_after, rows_from, worth_of}
 
 pub after_none : (rows : Rows) → rows_after [] rows ≡ rows
 unfolding rows_after
@@ -27,3 +27,15 @@ pub at_end : (steps : ℕ) (names : Definitions) (number : ℕ) (front : List Se
 unfolding rows_from rows_after lines_from
 at_end steps names number front (b ∷ text) h = absurd (omega arith)
 at_end steps names number front [] h = ap (λ (x : List SeenLine). Ok x) (append-nil front)
+
+-- ---- points
+
+pub points_more : (points : ℕ) (line : List ℕ) (lines : List (List ℕ)) (worth whole : ℕ) → worth ≡ worth_of line
+    → points + points_of (line ∷ lines) ≡ whole → (points + worth) + points_of lines ≡ whole
+unfolding points_of
+points_more points line lines worth whole is left = rw is (omega (arith, left))
+
+pub no_points : (points : ℕ) (text : List ℕ) (whole : ℕ) → length text ≡ 0 → points + points_of (lines_of text) ≡ whole → points ≡ whole
+unfolding points_of lines_from
+no_points points (b ∷ text) whole h left = absurd (omega arith)
+no_points points [] whole h left = omega (arith, left)

@@ -524,6 +524,16 @@ points_before text = if bytes_eq (word_of text) (codes "points")
 abbrev pub points_in : List ℕ → ℕ
 points_in line = points_before (skip_blanks line)
 
+-- How many points a line is worth: none where it is blank or a comment, or says what is run before
+-- or after each row.
+abbrev pub worth_of : List ℕ → ℕ
+worth_of line = if ends (skip_blanks line) then 0 else if is_around line then 0 else points_in line
+
+-- How many points the rows of some lines are worth together, whether they can be read or not.
+unfoldable pub points_of : List (List ℕ) → ℕ
+points_of [] = 0
+points_of (line ∷ lines) = worth_of line + points_of lines
+
 -- The fault of a line: its line and its column, both counted from 1, and its kind.
 abbrev pub fault_in : ℕ → List ℕ → RowFault → TextFault
 fault_in number line fault = record {

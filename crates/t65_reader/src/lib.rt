@@ -16,4 +16,4 @@ pub use row::{
     Call, Choice, Entry, Faulty, Item, Line, MOST_STEPS, Part, Range, Ranges, Register, Relation,
     Request, Row, Signal, Target,
 };
-pub use text::{fault_of, read_rows};
+pub use text::{fault_of, points_of, read_rows};

@@ -3,7 +3,7 @@
 ghost use Rattle.std.specs.Prelude.{◌≤◌, ◌≡◌, ◌≢◌, IfErr, IfOk, None, Option, Some, MatchOption};
 ghost use Rattle.std.specs.Option.{option_map};
 ghost use Rattle.t65_reader.specs.RowText.{after_dots, around_of, call_of, call_view, called_of};
-ghost use Rattle.t65_reader.specs.RowText.{is_around, points_after, points_before, points_in};
+ghost use Rattle.t65_reader.specs.RowText.{is_around, points_after, points_before, points_in, worth_of};
 ghost use Rattle.t65_reader.specs.RowText.{chosen_of, count_of, cycle_of, entered_of, letter_of};
 ghost use Rattle.t65_reader.specs.RowText.{letters_of, line_at, requested_of, time_of};
 ghost use Rattle.t65_reader.specs.RowText.{line_of, next_range, no_ranges, part_of, pointed_row_of};
@@ -460,6 +460,20 @@ pub fn points_in(line: &[u8]) -> u32
     ensures { result ≡ points_in line.now }
 {
     points_before(skip_blanks(line))
+}
+
+/// Returns how many points a line is worth: none where it is blank or a comment, or says what is
+/// run before or after each row.
+pub fn worth_of(line: &[u8]) -> u32
+    ensures { result ≡ worth_of line.now }
+{
+    if ends(skip_blanks(line)) {
+        0
+    } else if is_around(line) {
+        0
+    } else {
+        points_in(line)
+    }
 }
 
 /// Reads a line after the one that names the source: a row, whose calls have so many steps at most,

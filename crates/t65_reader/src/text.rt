@@ -3,9 +3,10 @@
 ghost use Rattle.std.specs.Prelude.{◌≡◌, ◌≢◌, ◌<◌, ◌+◌, ◌-◌, ◌++◌, ◌∷◌, [], length, IfErr, IfOk, map};
 ghost use Rattle.model.specs.TextLines.{lines_of};
 ghost use Rattle.t65_reader.specs.RowText.{Rows, fault_before, fault_in, is_around, line_before};
-ghost use Rattle.t65_reader.specs.RowText.{line_of, line_view, points_in, rows_after, rows_from};
+ghost use Rattle.t65_reader.specs.RowText.{line_of, line_view, points_in, points_of};
+ghost use Rattle.t65_reader.specs.RowText.{rows_after, rows_from};
 
-use crate::line::{is_around, points_in, read_row};
+use crate::line::{is_around, points_in, read_row, worth_of};
 use crate::row::{Faulty, Line};
 use assembler::Assembly;
 use line_parts::next_line;
@@ -108,6 +109,21 @@ pub fn read_rows(
         number += 1;
     }
     Ok(lines)
+}
+
+/// Returns how many points the rows of a text are worth together, whether they can be read or not.
+pub fn points_of(text: &[u8]) -> u64
+    requires { length text.now < 4294967296 }
+    ensures { result ≡ points_of (lines_of text.now) }
+{
+    let mut points = 0u64;
+    let mut rest = text;
+    while rest.len() > 0 {
+        let (line, behind) = next_line(rest);
+        points += worth_of(line) as u64;
+        rest = behind;
+    }
+    points
 }
 
 fn memory_fault(line: u32) -> TextFault

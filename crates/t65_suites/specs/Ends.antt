@@ -11,7 +11,7 @@ use Rattle.model.specs.State.{is_map}
 use Rattle.model.specs.TextLines.{lines_of}
 use Rattle.model.specs.declared.bus_fault.BusFault.TheVariants.{BadMap}
 use Rattle.t65_suites.specs.HeadText.{SeenHead, head_from}
-use Rattle.t65_reader.specs.RowText.{Rows, SeenLine, rows_from}
+use Rattle.t65_reader.specs.RowText.{Rows, SeenLine, points_of, rows_from}
 use Rattle.t65_runner.specs.Parts.{tests_of}
 use Rattle.t65_suites.specs.Programs.{EndsProgram, IsProgram, file_asked}
 use Rattle.t65_suites.specs.Suites.{ReadingAsked}
@@ -28,44 +28,49 @@ pub record HeadedFile : Type 0 where
   pub lines : List (List ℕ)
   pub headed : head_from 1 (lines_of text) ≡ Ok (head, next, lines)
 
--- The rows of some file are read so under the names of some file that is loaded on its map.
-pub record AreRead (reading : ReadingAsked) (rows : Rows) : Type 0 where
+-- The rows of some file, which are worth so many points together, are read so under the names of
+-- some file that is loaded on its map.
+pub record AreRead (reading : ReadingAsked) (points : ℕ) (rows : Rows) : Type 0 where
   pub file : HeadedFile
   pub path : Text
   pub assembly : AssemblyView
   pub program : IsProgram (file_asked reading file.head path) reading.symbols assembly
   pub steps : ℕ
   pub read : rows_from steps assembly.names file.next file.lines ≡ rows
+  pub points_are : points ≡ points_of file.lines
 
 -- Why a file cannot be tested, where it is what other words are refused for too: its head asks for a
 -- map that is none, it cannot be read, or memory ran out.
-abbrev pub EndsRefused : Refusal → Type 0
-EndsRefused (NoMap fault) = (file : HeadedFile) × (fault ≡ BadMap)
-    × (is_map file.head.rom (base_of file.head.port) ≡ false)
-EndsRefused OutOfMemory = ⊤
-EndsRefused (Read why) = ⊤
-EndsRefused refusal = ⊥
+abbrev pub EndsRefused : ℕ → Refusal → Type 0
+EndsRefused points (NoMap fault) = (file : HeadedFile) × (fault ≡ BadMap)
+    × (is_map file.head.rom (base_of file.head.port) ≡ false) × (points ≡ 0)
+EndsRefused points OutOfMemory = ⊤
+EndsRefused points (Read why) = points ≡ 0
+EndsRefused points refusal = ⊥
 
--- Why a file of rows cannot be tested: its head has this fault, or a row that is run before or after
--- each test; no line is a test; or it is refused.
-abbrev pub EndsTest : ReadingAsked → TestFault → Type 0
-EndsTest reading (NotRows fault) = ((text : List ℕ) × (head_from 1 (lines_of text) ≡ Err fault))
-    ⊎ AreRead reading (Err fault)
-EndsTest reading TooLarge = ⊤
-EndsTest reading NoRow = (rows : List SeenLine) × AreRead reading (Ok rows)
+-- Why a file of rows cannot be tested, and how many points its rows are worth: its head has this
+-- fault, or a row that is run before or after each test; no line is a test; or it is refused. They
+-- are worth none where it has no head, or is refused.
+abbrev pub EndsTest : ReadingAsked → ℕ → TestFault → Type 0
+EndsTest reading points (NotRows fault)
+    = ((text : List ℕ) × (head_from 1 (lines_of text) ≡ Err fault) × (points ≡ 0))
+    ⊎ AreRead reading points (Err fault)
+EndsTest reading points TooLarge = points ≡ 0
+EndsTest reading points NoRow = (rows : List SeenLine) × AreRead reading points (Ok rows)
     × (tests_of rows ≡ [])
-EndsTest reading (Refused refusal) = EndsRefused refusal
+EndsTest reading points (Refused refusal) = EndsRefused points refusal
 
--- The same for every suite.
+-- The same for every suite, before its rows are reached.
 abbrev pub EndsAnyTest : TestFault → Type 0
-EndsAnyTest fault = (reading : ReadingAsked) → EndsTest reading fault
+EndsAnyTest fault = (reading : ReadingAsked) → EndsTest reading 0 fault
 
--- Why a suite cannot be tested: its file of rows cannot, or the file that its rows are run on is
--- not loaded on the map of its head.
-abbrev pub EndsFile : ReadingAsked → FileFault → Type 0
-EndsFile reading (InRows fault) = EndsTest reading fault
-EndsFile reading (InProgram path fault) = (file : HeadedFile)
+-- Why a suite cannot be tested, and how many points its rows are worth together: its file of rows
+-- cannot, or the file that its rows are run on is not loaded on the map of its head.
+abbrev pub EndsFile : ReadingAsked → ℕ → FileFault → Type 0
+EndsFile reading points (InRows fault) = EndsTest reading points fault
+EndsFile reading points (InProgram path fault) = (file : HeadedFile)
     × EndsProgram (file_asked reading file.head (string_bytes path)) reading.symbols fault
+    × (points ≡ points_of file.lines)
 
 -- Why rows are not read under some names.
 abbrev pub EndsRows : ℕ → Definitions → ℕ → List (List ℕ) → TestFault → Type 0

@@ -38,11 +38,22 @@ pub enum FileFault {
     InProgram(String, NamedFault),
 }
 
-impl From<TestFault> for FileFault {
-    ghost from_gives = { λ fault of_file. of_file ≡ InRows fault };
+/// Why a suite cannot be tested, and how many points its rows are worth together: none where these
+/// were not reached.
+#[derive(Drop)]
+pub struct Unprepared {
+    pub fault: FileFault,
+    pub points: u64,
+}
 
-    fn from(fault: TestFault) -> FileFault {
-        FileFault::InRows(fault)
+impl From<TestFault> for Unprepared {
+    ghost from_gives = { λ fault why. (why.fault ≡ InRows fault) × (why.points ≡ 0) };
+
+    fn from(fault: TestFault) -> Unprepared {
+        Unprepared {
+            fault: FileFault::InRows(fault),
+            points: 0,
+        }
     }
 }
 

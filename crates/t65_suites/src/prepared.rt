@@ -14,7 +14,7 @@ ghost use Rattle.t65_suites.specs.Prepared.{IsPrepared, map_of};
 ghost use Rattle.t65_suites.specs.Programs.{EndsProgram, IsProgram, file_asked};
 ghost use Rattle.t65_suites.specs.Suites.{reading_view, suite_view};
 
-use crate::fault::{FileFault, TestFault};
+use crate::fault::{FileFault, TestFault, Unprepared};
 use crate::head::{Head, Opened, read_head};
 use crate::names::{path_of, read_rows_text};
 use crate::program::program_of;
@@ -27,7 +27,7 @@ use model::BusFault;
 use source_map::Places;
 use std::alloc::Global;
 use std::rt::Files;
-use t65_reader::{Line, read_rows};
+use t65_reader::{Line, points_of, read_rows};
 use t65_runner::has_test;
 use t65_values::RowFaultKind;
 
@@ -183,32 +183,43 @@ fn rows_in(
 ///   no line is a test.
 /// - `InProgram`: what the rows are run on is not loaded, as `program_of` says.
 ///
-/// An allocation that fails is `OutOfMemory` in one of them.
+/// An allocation that fails is `OutOfMemory` in one of them. Where the map is one, what the rows
+/// are worth together is told too.
 #[tactic(auto, using(crate::proofs::Ends::map_ends, crate::proofs::Ends::passed_on))]
 pub fn prepare<H: Files + AllocGlobal>(
     rt: &H,
     suite: Suite<'_>,
     steps: u32,
-) -> Result<Prepared, FileFault>
+) -> Result<Prepared, Unprepared>
     ensures prepared { IfOk result (IsPrepared steps (suite_view suite.entry)) }
-    ensures refused { IfErr result (EndsFile (suite_view suite.entry).reading) }
+    ensures refused { IfErr result
+        (λ why. EndsFile (suite_view suite.entry).reading why.points why.fault) }
 {
     let text = read_rows_text(rt, suite.rows)?;
     let opened = opened_in(&text)?;
     let map = map_of(opened.head)?;
     let path = path_of(rt.alloc(), suite, opened.head.source)?;
+    let points = points_of(opened.rest);
     match placed(rt, suite.reading, opened.head, &path, &map) {
         Ok((assembly, places)) => {
-            let rows = rows_in(rt.alloc(), &assembly, opened.next, steps, opened.rest)?;
-            Ok(Prepared {
-                text,
-                map,
-                form: suite.reading.form,
-                assembly,
-                rows,
-                places,
-            })
+            match rows_in(rt.alloc(), &assembly, opened.next, steps, opened.rest) {
+                Ok(rows) => Ok(Prepared {
+                    text,
+                    map,
+                    form: suite.reading.form,
+                    assembly,
+                    rows,
+                    places,
+                }),
+                Err(fault) => Err(Unprepared {
+                    fault: FileFault::InRows(fault),
+                    points,
+                }),
+            }
         }
-        Err(fault) => Err(FileFault::InProgram(path, fault)),
+        Err(fault) => Err(Unprepared {
+            fault: FileFault::InProgram(path, fault),
+            points,
+        }),
     }
 }

@@ -122,7 +122,8 @@ is_unreached : (manner : Manner) (suite : SuiteAsked) (count : ℕ) → IsOutcom
 unfolding unreached
 is_unreached manner suite count = inr (record {
   fault = InRows TooLarge;
-  ends = tt;
+  points = 0;
+  ends = refl;
   title = TOO_LARGE.now;
   remarks = [];
   told = record { few_words = refl; seen = ([], refl) };
@@ -200,11 +201,12 @@ tested_outcome manner suite count prepared tally p is =
           ∙ ap (λ (r : List SeenLine). rows_are r p.file.text (ground_of manner.steps suite p.file)) (sym p.rows_are)));
     })
 
-untested_outcome : (manner : Manner) (suite : SuiteAsked) (count : ℕ) (fault : FileFault) (title remarks : List ℕ) (tally : Tally) → EndsFile suite.reading fault → IsFaultText fault title remarks
-    → tally ≡ tally_after false 0 (fresh_tally count)
+untested_outcome : (manner : Manner) (suite : SuiteAsked) (count : ℕ) (points : ℕ) (fault : FileFault) (title remarks : List ℕ) (tally : Tally) → EndsFile suite.reading points fault → IsFaultText fault title remarks
+    → tally ≡ tally_after false points (fresh_tally count)
     → IsOutcome manner suite count (outcome_by manner.is_summary (name_of suite) (tap_fault tally.count (name_of suite) title remarks) tally)
-untested_outcome manner suite count fault title remarks tally ends told is = inr (record {
+untested_outcome manner suite count points fault title remarks tally ends told is = inr (record {
   fault = fault;
+  points = points;
   ends = ends;
   title = title;
   remarks = remarks;
@@ -245,24 +247,24 @@ tested_result manner suite count old new prepared (Ok tally) p is written begun 
 abbrev untested_text : Bool → List ℕ → Tally → List ℕ → List ℕ → List ℕ
 untested_text is_summary name tally title remarks = tap_fault tally.count name title remarks ++ summary_if is_summary name tally.score
 
-pub untested_result : {E : Type 0} (contents : E → Option (List ℕ)) (manner : Manner) (suite : SuiteAsked) (count : ℕ) (old new : E) (fault : FileFault) (result : Result Tally Stop)
-    → EndsFile suite.reading fault → IfOk result (λ tally. tally ≡ tally_after false 0 (fresh_tally count))
+pub untested_result : {E : Type 0} (contents : E → Option (List ℕ)) (manner : Manner) (suite : SuiteAsked) (count : ℕ) (old new : E) (points : ℕ) (fault : FileFault) (result : Result Tally Stop)
+    → EndsFile suite.reading points fault → IfOk result (λ tally. tally ≡ tally_after false points (fresh_tally count))
     → IfOk result (λ tally. (title : List ℕ) × (remarks : List ℕ) × Appends (contents old) (contents new) (untested_text manner.is_summary (name_of suite) tally title remarks) × IsFaultText fault title remarks)
     → IfErr result (λ _. (new ≡ old) ⊎ ((title : List ℕ) × (remarks : List ℕ)
-    × AppendsFront (contents old) (contents new) (untested_text manner.is_summary (name_of suite) (tally_after false 0 (fresh_tally count)) title remarks) × IsFaultText fault title remarks))
+    × AppendsFront (contents old) (contents new) (untested_text manner.is_summary (name_of suite) (tally_after false points (fresh_tally count)) title remarks) × IsFaultText fault title remarks))
     → EndsSuite manner suite count (contents old) (contents new) result
-untested_result contents manner suite count old new fault (Ok tally) ends is told begun = record {
+untested_result contents manner suite count old new points fault (Ok tally) ends is told begun = record {
   outcome = outcome_by manner.is_summary (name_of suite) (tap_fault tally.count (name_of suite) told.0 told.1) tally;
-  is = untested_outcome manner suite count fault told.0 told.1 tally ends told.3 is;
+  is = untested_outcome manner suite count points fault told.0 told.1 tally ends told.3 is;
   count_is = refl;
   passes_is = refl;
   written = told.2;
 }
-untested_result contents manner suite count old new fault (Err stop) ends is told begun = elim begun [
+untested_result contents manner suite count old new points fault (Err stop) ends is told begun = elim begun [
   | inl same ↦ subst (λ e. IsBegun manner suite count (contents old) (contents e)) (sym same) (none_begun manner suite count (contents old))
   | inr some ↦ record {
-    outcome = outcome_by manner.is_summary (name_of suite) (tap_fault (tally_after false 0 (fresh_tally count)).count (name_of suite) some.0 some.1) (tally_after false 0 (fresh_tally count));
-    is = untested_outcome manner suite count fault some.0 some.1 (tally_after false 0 (fresh_tally count)) ends some.3 refl;
+    outcome = outcome_by manner.is_summary (name_of suite) (tap_fault (tally_after false points (fresh_tally count)).count (name_of suite) some.0 some.1) (tally_after false points (fresh_tally count));
+    is = untested_outcome manner suite count points fault some.0 some.1 (tally_after false points (fresh_tally count)) ends some.3 refl;
     written = some.2;
   }
 ]

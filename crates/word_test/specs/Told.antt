@@ -48,17 +48,19 @@ pub record IsFaultText (fault : FileFault) (title remarks : List ℕ) : Type 0 w
   pub few_words : IsTitle fault title
   pub seen : IsShown remarks
 
--- A suite cannot be tested, which is a test of its own that fails: why, in a few words, and remarks.
+-- A suite cannot be tested, which is a test of its own that fails, and is worth the points of all
+-- rows: why, in a few words, and remarks.
 pub record IsUntested (manner : Manner) (suite : SuiteAsked) (count : ℕ) (outcome : Outcome)
     : Type 0 where
   pub fault : FileFault
-  pub ends : EndsFile suite.reading fault
+  pub points : ℕ
+  pub ends : EndsFile suite.reading points fault
   pub title : List ℕ
   pub remarks : List ℕ
   pub told : IsFaultText fault title remarks
   pub is : outcome ≡ outcome_by manner.is_summary (name_of suite)
-      (tap_fault (tally_after false 0 (fresh_tally count)).count (name_of suite) title remarks)
-      (tally_after false 0 (fresh_tally count))
+      (tap_fault (tally_after false points (fresh_tally count)).count (name_of suite) title remarks)
+      (tally_after false points (fresh_tally count))
 
 abbrev pub IsOutcome : Manner → SuiteAsked → ℕ → Outcome → Type 0
 IsOutcome manner suite count outcome

@@ -23,7 +23,9 @@ use std::io::Write;
 use std::rt::Files;
 use t65_reports::{Score, junit_fault, summary, tap_fault};
 use t65_runner::tests_of;
-use t65_suites::{FileFault, Prepared, Suite, is_memory, prepare, remarks_of, title_of};
+use t65_suites::{
+    FileFault, Prepared, Suite, Unprepared, is_memory, prepare, remarks_of, title_of,
+};
 
 /// How rows are run and told of.
 #[derive(Clone, Copy)]
@@ -111,11 +113,12 @@ fn untested(
     })
 }
 
-/// Returns what a suite that cannot be tested comes to, after so many tests: one that fails.
-fn untested_tally(count: u64) -> Tally
-    ensures { result ≡ tally_after false 0 (fresh_tally count) }
+/// Returns what a suite that cannot be tested comes to, after so many tests: one that fails, and is
+/// worth the points of all rows.
+fn untested_tally(points: u64, count: u64) -> Tally
+    ensures { result ≡ tally_after false points (fresh_tally count) }
 {
-    tally_after(false, 0, fresh_tally(count))
+    tally_after(false, points, fresh_tally(count))
 }
 
 /// Tells of a suite that cannot be tested, after so many tests: as a test that fails.
@@ -124,28 +127,29 @@ fn run_untested<H: Files + AllocGlobal, O: Write>(
     suite: Suite<'_>,
     is_summary: bool,
     count: u64,
-    fault: &FileFault,
+    why: &Unprepared,
     output: &mut O,
     reports: &mut Reports,
 ) -> Result<Tally, Stop>
-    ensures tally { IfOk result (λ tally. tally ≡ tally_after false 0 (fresh_tally count)) }
+    ensures tally { IfOk result
+        (λ tally. tally ≡ tally_after false why.now.points (fresh_tally count)) }
     ensures written { IfOk result (λ tally. (title : List ℕ) × (remarks : List ℕ)
         × Appends (O.contents output.old) (O.contents output.new)
         (tap_fault tally.count (name_of (suite_view suite.entry)) title remarks
         ++ summary_if is_summary (name_of (suite_view suite.entry)) tally.score)
-        × IsFaultText fault.now title remarks) }
+        × IsFaultText why.now.fault title remarks) }
     // Where memory ran out before there was a text, nothing was written.
     ensures begun { IfErr result (λ _. (output.new ≡ output.old)
         ⊎ ((title : List ℕ) × (remarks : List ℕ)
         × AppendsFront (O.contents output.old) (O.contents output.new)
-        (tap_fault (tally_after false 0 (fresh_tally count)).count
+        (tap_fault (tally_after false why.now.points (fresh_tally count)).count
         (name_of (suite_view suite.entry)) title remarks
         ++ summary_if is_summary (name_of (suite_view suite.entry))
-        (tally_after false 0 (fresh_tally count)).score)
-        × IsFaultText fault.now title remarks)) }
+        (tally_after false why.now.points (fresh_tally count)).score)
+        × IsFaultText why.now.fault title remarks)) }
 {
-    let tally = untested_tally(count);
-    let told = untested(rt.alloc(), tally.count, suite, fault)?;
+    let tally = untested_tally(why.points, count);
+    let told = untested(rt.alloc(), tally.count, suite, &why.fault)?;
     reports.junit.begin_suite(rt.alloc(), suite.name(), 1)?;
     write_told(rt, &told, output, reports)?;
     reports.junit.end_suite(rt.alloc())?;
@@ -171,11 +175,11 @@ fn run_suite<H: Files + AllocGlobal, O: Write>(
     let is_summary = manner.is_summary;
     match prepare(rt, suite, manner.steps) {
         Ok(prepared) => run_tested(rt, &prepared, suite, is_summary, count, output, reports),
-        Err(fault) => {
-            if is_memory(&fault) {
+        Err(why) => {
+            if is_memory(&why.fault) {
                 return Err(Stop::OutOfMemory);
             }
-            run_untested(rt, suite, is_summary, count, &fault, output, reports)
+            run_untested(rt, suite, is_summary, count, &why, output, reports)
         }
     }
 }

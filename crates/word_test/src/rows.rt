@@ -267,7 +267,7 @@ fn run_each<H: Files + AllocGlobal, O: Write>(
             coverage,
         )?;
         write_told(rt, &told, output, reports)?;
-        so_far = tally_after(told.passes, test.points(), so_far);
+        so_far = tally_after(told.passes, test.points() as u64, so_far);
     }
     Ok(so_far)
 }

@@ -33,15 +33,15 @@ pub fn fresh_tally(count: u64) -> Tally
 }
 
 /// Returns the score after one more test, which passes or not, and is worth so many points.
-fn scored(passes: bool, points: u32, score: Score) -> Score
+fn scored(passes: bool, points: u64, score: Score) -> Score
     ensures { result ≡ scored passes points score }
 {
-    let worth = score.worth.saturating_add(points as u64);
+    let worth = score.worth.saturating_add(points);
     if passes {
         Score {
             passed: score.passed.saturating_add(1),
             failed: score.failed,
-            earned: score.earned.saturating_add(points as u64),
+            earned: score.earned.saturating_add(points),
             worth,
         }
     } else {
@@ -55,7 +55,7 @@ fn scored(passes: bool, points: u32, score: Score) -> Score
 }
 
 /// Returns the tally after one more test, which passes or not, and is worth so many points.
-pub fn tally_after(passes: bool, points: u32, tally: Tally) -> Tally
+pub fn tally_after(passes: bool, points: u64, tally: Tally) -> Tally
     ensures { result ≡ tally_after passes points tally }
 {
     Tally {

@@ -9,4 +9,4 @@ pub returns-then-is_memory : goal.returns-then-is_memory
 returns-then-is_memory g c = none_begun c.args.manner (suite_view c.args.suite) c.args.count _
 
 pub returns-else-is_memory : goal.returns-else-is_memory
-returns-else-is_memory g c = untested_result g.O.Write.contents c.args.manner (suite_view c.args.suite) c.args.count _ _ c.in-Err.fault c.run_untested.result c.in-Err.ensures.refused c.run_untested.ensures.tally c.run_untested.ensures.written c.run_untested.ensures.begun
+returns-else-is_memory g c = untested_result g.O.Write.contents c.args.manner (suite_view c.args.suite) c.args.count _ _ c.in-Err.why.points c.in-Err.why.fault c.run_untested.result c.in-Err.ensures.refused c.run_untested.ensures.tally c.run_untested.ensures.written c.run_untested.ensures.begun
