@@ -259,6 +259,23 @@ fn push_tap_detail(tap: &mut String, detail: &str) -> Result<(), AllocError>
     Ok(())
 }
 
+/// Returns the row of TAP that tells of a row, by its number among all tests, whether it passes.
+///
+/// Errors: `AllocError` if an allocation fails.
+pub fn tap_row(
+    alloc: Global,
+    number: u64,
+    case: Case<'_>,
+    failed: bool,
+) -> Result<String, AllocError>
+    ensures { IfOk result (λ tap. string_bytes tap
+        ≡ tap_row failed number case.entry.file.now case.entry.line case.entry.text.now) }
+{
+    let mut tap = String::new(alloc);
+    push_tap_row(&mut tap, number, case, failed)?;
+    Ok(tap)
+}
+
 /// Returns what TAP tells of a row, by its number among all tests: its row, and why it fails, if it
 /// does.
 ///
@@ -294,6 +311,17 @@ fn push_tap_title(tap: &mut String, number: u64, file: &str, title: &str) -> Res
     tap.push_str(": ")?;
     push_tap_name(tap, title.as_bytes())?;
     tap.push('\n')
+}
+
+/// Returns the row of TAP of a file that cannot be tested, by the number of that test among all.
+///
+/// Errors: `AllocError` if an allocation fails.
+pub fn tap_title(alloc: Global, number: u64, file: &str, title: &str) -> Result<String, AllocError>
+    ensures { IfOk result (λ tap. string_bytes tap ≡ tap_title number file.now title.now) }
+{
+    let mut tap = String::new(alloc);
+    push_tap_title(&mut tap, number, file, title)?;
+    Ok(tap)
 }
 
 /// Returns what TAP tells of a file that cannot be tested, by the number of that test among all:

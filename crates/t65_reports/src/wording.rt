@@ -11,6 +11,14 @@ pub const PASSES: &str = "ok ";
 /// A row that fails.
 pub const FAILS: &str = "not ok ";
 
+// ---- CSV
+
+/// The names of the fields.
+pub const CSV_BEGIN: &str = "source,rows,passed,failed,points,of_points\n";
+
+/// Stands where nothing does.
+pub const NOTHING: &str = "";
+
 // ---- the XML of JUnit
 
 /// The beginning.

@@ -9,12 +9,12 @@ use Rattle.model.specs.TextLines.{lines_of}
 use Rattle.model.specs.Writers.{AppendsFront}
 use Rattle.model.proofs.Written.{front_after, front_more, front_none}
 use Rattle.t65_reader.specs.RowText.{SeenLine, line_view}
-use Rattle.t65_reports.specs.Reports.{plan_text, tap_fault}
-use Rattle.t65_reports.specs.declared.wording.TheConstants.{TAP_BEGIN}
+use Rattle.t65_reports.specs.Telling.{begin_text, end_text, fault_text}
+use Rattle.t65_reports.specs.declared.telling.Telling.{Telling}
 use Rattle.word_test.specs.Asked.{TestAsked}
 use Rattle.t65_suites.specs.Ends.{EndsFile}
 use Rattle.t65_suites.specs.Suites.{SuiteAsked, name_of, suite_view, suites_of}
-use Rattle.word_test.specs.Tested.{fresh_tally, rows_text, summary_if, tally_after, tally_rows}
+use Rattle.word_test.specs.Tested.{fresh_tally, rows_text, sum_text, tally_after, tally_rows}
 use Rattle.t65_runner.specs.Parts.{tests_of}
 use Rattle.t65_suites.specs.Prepared.{Ground, IsPrepared, ground_in, ground_of, tests_in}
 use Rattle.word_test.specs.Told.{AreBegun, AreOutcomes, AreRun, AreTested, HasBegun, IsBegun, IsFaultText, IsOutcome, IsRun, Outcome, manner_of, outcome_by}
@@ -116,7 +116,7 @@ record SomeOutcomes (manner : Manner) (count : ℕ) (suites : List SuiteAsked) :
 
 -- A suite that is not reached: its file of rows may be too large, for all that is known.
 unreached : Manner → SuiteAsked → ℕ → Outcome
-unreached manner suite count = outcome_by manner.is_summary (name_of suite) (tap_fault (tally_after false 0 (fresh_tally count)).count (name_of suite) TOO_LARGE.now []) (tally_after false 0 (fresh_tally count))
+unreached manner suite count = outcome_by manner.telling suite (fault_text manner.telling (tally_after false 0 (fresh_tally count)).count (name_of suite) TOO_LARGE.now []) (tally_after false 0 (fresh_tally count))
 
 is_unreached : (manner : Manner) (suite : SuiteAsked) (count : ℕ) → IsOutcome manner suite count (unreached manner suite count)
 unfolding unreached
@@ -188,14 +188,14 @@ none_begun manner suite count old = record {
 
 tested_outcome : (manner : Manner) (suite : SuiteAsked) (count : ℕ) (prepared : Prepared) (tally : Tally) → IsPrepared manner.steps suite prepared
     → tally ≡ tally_rows (ground_in prepared) (fresh_tally count) (tests_in prepared)
-    → IsOutcome manner suite count (outcome_by manner.is_summary (name_of suite) (rows_text (ground_in prepared) suite count 1 (lines_of prepared.text.items) (tests_in prepared)) tally)
+    → IsOutcome manner suite count (outcome_by manner.telling suite (rows_text manner.telling (ground_in prepared) suite count 1 (lines_of prepared.text.items) (tests_in prepared)) tally)
 tested_outcome manner suite count prepared tally p is =
-    let text : List ℕ = rows_text (ground_in prepared) suite count 1 (lines_of prepared.text.items) (tests_in prepared) in
-    let rows_are : List SeenLine → List ℕ → Ground → Outcome = λ rows lines bench. outcome_by manner.is_summary (name_of suite)
-    (rows_text bench suite count 1 (lines_of lines) (tests_of rows)) (tally_rows bench (fresh_tally count) (tests_of rows)) in
+    let text : List ℕ = rows_text manner.telling (ground_in prepared) suite count 1 (lines_of prepared.text.items) (tests_in prepared) in
+    let rows_are : List SeenLine → List ℕ → Ground → Outcome = λ rows lines bench. outcome_by manner.telling suite
+    (rows_text manner.telling bench suite count 1 (lines_of lines) (tests_of rows)) (tally_rows bench (fresh_tally count) (tests_of rows)) in
     inl (record {
       file = p.file;
-      is = ap (outcome_by manner.is_summary (name_of suite) text) is
+      is = ap (outcome_by manner.telling suite text) is
           ∙ (ap (λ (g : Ground). rows_are (map line_view prepared.rows.items) prepared.text.items g) (sym p.ground_is)
           ∙ (ap (λ (t : List ℕ). rows_are (map line_view prepared.rows.items) t (ground_of manner.steps suite p.file)) (sym p.text_is)
           ∙ ap (λ (r : List SeenLine). rows_are r p.file.text (ground_of manner.steps suite p.file)) (sym p.rows_are)));
@@ -203,7 +203,7 @@ tested_outcome manner suite count prepared tally p is =
 
 untested_outcome : (manner : Manner) (suite : SuiteAsked) (count : ℕ) (points : ℕ) (fault : FileFault) (title remarks : List ℕ) (tally : Tally) → EndsFile suite.reading points fault → IsFaultText fault title remarks
     → tally ≡ tally_after false points (fresh_tally count)
-    → IsOutcome manner suite count (outcome_by manner.is_summary (name_of suite) (tap_fault tally.count (name_of suite) title remarks) tally)
+    → IsOutcome manner suite count (outcome_by manner.telling suite (fault_text manner.telling tally.count (name_of suite) title remarks) tally)
 untested_outcome manner suite count points fault title remarks tally ends told is = inr (record {
   fault = fault;
   points = points;
@@ -211,7 +211,7 @@ untested_outcome manner suite count points fault title remarks tally ends told i
   title = title;
   remarks = remarks;
   told = told;
-  is = ap (λ (t : Tally). outcome_by manner.is_summary (name_of suite) (tap_fault t.count (name_of suite) title remarks) t) is;
+  is = ap (λ (t : Tally). outcome_by manner.telling suite (fault_text manner.telling t.count (name_of suite) title remarks) t) is;
 })
 
 -- How the run of a suite ends.
@@ -219,24 +219,24 @@ abbrev pub EndsSuite : Manner → SuiteAsked → ℕ → Option (List ℕ) → O
 EndsSuite manner suite count old new result = MatchResult result (IsRun manner suite count old new) (λ _. IsBegun manner suite count old new)
 
 -- What TAP tells of the tests of a suite that was prepared.
-abbrev tested_text : Prepared → Bool → SuiteAsked → ℕ → Tally → List ℕ
-tested_text prepared is_summary suite count tally = rows_text (ground_in prepared) suite count 1 (lines_of prepared.text.items) (tests_in prepared) ++ summary_if is_summary (name_of suite) tally.score
+abbrev tested_text : Prepared → Telling → SuiteAsked → ℕ → Tally → List ℕ
+tested_text prepared telling suite count tally = rows_text telling (ground_in prepared) suite count 1 (lines_of prepared.text.items) (tests_in prepared) ++ sum_text telling suite tally.score
 
 pub tested_result : (manner : Manner) (suite : SuiteAsked) (count : ℕ) (old new : Option (List ℕ)) (prepared : Prepared) (result : Result Tally Stop)
     → IsPrepared manner.steps suite prepared
     → IfOk result (λ tally. tally ≡ tally_rows (ground_in prepared) (fresh_tally count) (tests_in prepared))
-    → IfOk result (λ tally. Appends old new (tested_text prepared manner.is_summary suite count tally))
-    → IfErr result (λ _. AppendsFront old new (tested_text prepared manner.is_summary suite count (tally_rows (ground_in prepared) (fresh_tally count) (tests_in prepared))))
+    → IfOk result (λ tally. Appends old new (tested_text prepared manner.telling suite count tally))
+    → IfErr result (λ _. AppendsFront old new (tested_text prepared manner.telling suite count (tally_rows (ground_in prepared) (fresh_tally count) (tests_in prepared))))
     → EndsSuite manner suite count old new result
 tested_result manner suite count old new prepared (Err stop) p is written begun =
     let tally = tally_rows (ground_in prepared) (fresh_tally count) (tests_in prepared) in
     record {
-      outcome = outcome_by manner.is_summary (name_of suite) (rows_text (ground_in prepared) suite count 1 (lines_of prepared.text.items) (tests_in prepared)) tally;
+      outcome = outcome_by manner.telling suite (rows_text manner.telling (ground_in prepared) suite count 1 (lines_of prepared.text.items) (tests_in prepared)) tally;
       is = tested_outcome manner suite count prepared tally p refl;
       written = begun;
     }
 tested_result manner suite count old new prepared (Ok tally) p is written begun = record {
-  outcome = outcome_by manner.is_summary (name_of suite) (rows_text (ground_in prepared) suite count 1 (lines_of prepared.text.items) (tests_in prepared)) tally;
+  outcome = outcome_by manner.telling suite (rows_text manner.telling (ground_in prepared) suite count 1 (lines_of prepared.text.items) (tests_in prepared)) tally;
   is = tested_outcome manner suite count prepared tally p is;
   count_is = refl;
   passes_is = refl;
@@ -244,17 +244,17 @@ tested_result manner suite count old new prepared (Ok tally) p is written begun 
 }
 
 -- What TAP tells of a suite that cannot be tested.
-abbrev untested_text : Bool → List ℕ → Tally → List ℕ → List ℕ → List ℕ
-untested_text is_summary name tally title remarks = tap_fault tally.count name title remarks ++ summary_if is_summary name tally.score
+abbrev untested_text : Telling → SuiteAsked → Tally → List ℕ → List ℕ → List ℕ
+untested_text telling suite tally title remarks = fault_text telling tally.count (name_of suite) title remarks ++ sum_text telling suite tally.score
 
 pub untested_result : {E : Type 0} (contents : E → Option (List ℕ)) (manner : Manner) (suite : SuiteAsked) (count : ℕ) (old new : E) (points : ℕ) (fault : FileFault) (result : Result Tally Stop)
     → EndsFile suite.reading points fault → IfOk result (λ tally. tally ≡ tally_after false points (fresh_tally count))
-    → IfOk result (λ tally. (title : List ℕ) × (remarks : List ℕ) × Appends (contents old) (contents new) (untested_text manner.is_summary (name_of suite) tally title remarks) × IsFaultText fault title remarks)
+    → IfOk result (λ tally. (title : List ℕ) × (remarks : List ℕ) × Appends (contents old) (contents new) (untested_text manner.telling suite tally title remarks) × IsFaultText fault title remarks)
     → IfErr result (λ _. (new ≡ old) ⊎ ((title : List ℕ) × (remarks : List ℕ)
-    × AppendsFront (contents old) (contents new) (untested_text manner.is_summary (name_of suite) (tally_after false points (fresh_tally count)) title remarks) × IsFaultText fault title remarks))
+    × AppendsFront (contents old) (contents new) (untested_text manner.telling suite (tally_after false points (fresh_tally count)) title remarks) × IsFaultText fault title remarks))
     → EndsSuite manner suite count (contents old) (contents new) result
 untested_result contents manner suite count old new points fault (Ok tally) ends is told begun = record {
-  outcome = outcome_by manner.is_summary (name_of suite) (tap_fault tally.count (name_of suite) told.0 told.1) tally;
+  outcome = outcome_by manner.telling suite (fault_text manner.telling tally.count (name_of suite) told.0 told.1) tally;
   is = untested_outcome manner suite count points fault told.0 told.1 tally ends told.3 is;
   count_is = refl;
   passes_is = refl;
@@ -263,54 +263,54 @@ untested_result contents manner suite count old new points fault (Ok tally) ends
 untested_result contents manner suite count old new points fault (Err stop) ends is told begun = elim begun [
   | inl same ↦ subst (λ e. IsBegun manner suite count (contents old) (contents e)) (sym same) (none_begun manner suite count (contents old))
   | inr some ↦ record {
-    outcome = outcome_by manner.is_summary (name_of suite) (tap_fault (tally_after false points (fresh_tally count)).count (name_of suite) some.0 some.1) (tally_after false points (fresh_tally count));
+    outcome = outcome_by manner.telling suite (fault_text manner.telling (tally_after false points (fresh_tally count)).count (name_of suite) some.0 some.1) (tally_after false points (fresh_tally count));
     is = untested_outcome manner suite count points fault some.0 some.1 (tally_after false points (fresh_tally count)) ends some.3 refl;
     written = some.2;
   }
 ]
 
--- All of TAP.
+-- All that is written.
 pub all_told : (asked : TestAsked) (suites : List SuiteAsked) (old begun run new : Option (List ℕ)) (count : ℕ) (passes : Bool)
-    → suites ≡ suites_of asked.reading asked.sources asked.files → Appends old begun TAP_BEGIN.now → AreRun (manner_of asked) suites begun run count passes
-    → Appends run new (plan_text count) → AreTested asked old new passes
+    → suites ≡ suites_of asked.reading asked.sources asked.files → Appends old begun (begin_text asked.telling) → AreRun (manner_of asked) suites begun run count passes
+    → Appends run new (end_text asked.telling count) → AreTested asked old new passes
 all_told asked suites old begun run new count passes are first ran last =
-    let told = Appends-trans begun run new ran.all.text (plan_text ran.all.count) ran.written (subst (λ (n : ℕ). Appends run new (plan_text n)) (sym ran.count_is) last) in (
+    let told = Appends-trans begun run new ran.all.text (end_text asked.telling ran.all.count) ran.written (subst (λ (n : ℕ). Appends run new (end_text asked.telling n)) (sym ran.count_is) last) in (
       ran.all,
       subst (λ (s : List SuiteAsked). AreOutcomes (manner_of asked) 0 s ran.all) are ran.are,
       ran.passes_is,
-      Appends-trans old begun new TAP_BEGIN.now (ran.all.text ++ plan_text ran.all.count) first told,
+      Appends-trans old begun new (begin_text asked.telling) (ran.all.text ++ end_text asked.telling ran.all.count) first told,
     )
 
--- ---- beginnings of TAP
+-- ---- beginnings of it
 
 -- Nothing was written yet, or a beginning of the first line.
-pub front_of_first : (asked : TestAsked) (old new : Option (List ℕ)) → AppendsFront old new TAP_BEGIN.now → HasBegun asked old new
+pub front_of_first : (asked : TestAsked) (old new : Option (List ℕ)) → AppendsFront old new (begin_text asked.telling) → HasBegun asked old new
 front_of_first asked old new front =
     let some = some_outcomes (manner_of asked) 0 (suites_of asked.reading asked.sources asked.files) in (
       some.all,
       some.are,
-      front_more old new TAP_BEGIN.now (some.all.text ++ plan_text some.all.count) front,
+      front_more old new (begin_text asked.telling) (some.all.text ++ end_text asked.telling some.all.count) front,
     )
 
 pub nothing_told : (asked : TestAsked) (old : Option (List ℕ)) → HasBegun asked old old
-nothing_told asked old = front_of_first asked old old (front_none old TAP_BEGIN.now)
+nothing_told asked old = front_of_first asked old old (front_none old (begin_text asked.telling))
 
 -- Not all suites were run.
 pub front_of_suites : (asked : TestAsked) (suites : List SuiteAsked) (old begun new : Option (List ℕ))
-    → suites ≡ suites_of asked.reading asked.sources asked.files → Appends old begun TAP_BEGIN.now → AreBegun (manner_of asked) suites begun new → HasBegun asked old new
+    → suites ≡ suites_of asked.reading asked.sources asked.files → Appends old begun (begin_text asked.telling) → AreBegun (manner_of asked) suites begun new → HasBegun asked old new
 front_of_suites asked suites old begun new are first ran = (
   ran.all,
   subst (λ (s : List SuiteAsked). AreOutcomes (manner_of asked) 0 s ran.all) are ran.are,
-  front_after old begun new TAP_BEGIN.now (ran.all.text ++ plan_text ran.all.count) first (front_more begun new ran.all.text (plan_text ran.all.count) ran.written),
+  front_after old begun new (begin_text asked.telling) (ran.all.text ++ end_text asked.telling ran.all.count) first (front_more begun new ran.all.text (end_text asked.telling ran.all.count) ran.written),
 )
 
 -- The last line was not written whole.
 pub front_of_plan : (asked : TestAsked) (suites : List SuiteAsked) (old begun run new : Option (List ℕ)) (count : ℕ) (passes : Bool)
-    → suites ≡ suites_of asked.reading asked.sources asked.files → Appends old begun TAP_BEGIN.now → AreRun (manner_of asked) suites begun run count passes
-    → AppendsFront run new (plan_text count) → HasBegun asked old new
+    → suites ≡ suites_of asked.reading asked.sources asked.files → Appends old begun (begin_text asked.telling) → AreRun (manner_of asked) suites begun run count passes
+    → AppendsFront run new (end_text asked.telling count) → HasBegun asked old new
 front_of_plan asked suites old begun run new count passes are first ran last = (
   ran.all,
   subst (λ (s : List SuiteAsked). AreOutcomes (manner_of asked) 0 s ran.all) are ran.are,
-  front_after old begun new TAP_BEGIN.now (ran.all.text ++ plan_text ran.all.count) first
-      (front_after begun run new ran.all.text (plan_text ran.all.count) ran.written (subst (λ (n : ℕ). AppendsFront run new (plan_text n)) (sym ran.count_is) last)),
+  front_after old begun new (begin_text asked.telling) (ran.all.text ++ end_text asked.telling ran.all.count) first
+      (front_after begun run new ran.all.text (end_text asked.telling ran.all.count) ran.written (subst (λ (n : ℕ). AppendsFront run new (end_text asked.telling n)) (sym ran.count_is) last)),
 )

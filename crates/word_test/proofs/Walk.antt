@@ -13,7 +13,9 @@ use Rattle.t65_reader.specs.declared.row.Line.{Line}
 use Rattle.t65_runner.specs.Parts.{lines_seen}
 use Rattle.t65_reports.specs.Lines.{line_at, lines_after, next_after}
 use Rattle.t65_reports.specs.Junit.{ReportTold, with_test}
-use Rattle.t65_reports.specs.Reports.{junit_case, tap_case}
+use Rattle.t65_reports.specs.Reports.{junit_case}
+use Rattle.t65_reports.specs.Telling.{case_text}
+use Rattle.t65_reports.specs.declared.telling.Telling.{Telling}
 use Rattle.word_test.specs.Tested.{passes, plus, rows_reported, rows_text, tally_after, tally_rows, why}
 use Rattle.t65_suites.specs.Prepared.{Ground}
 use Rattle.t65_suites.specs.Suites.{SuiteAsked, name_of}
@@ -56,12 +58,12 @@ more_begun : (old now new : Option (List ℕ)) (left rest whole text : List ℕ)
 more_begun old now new left rest whole text t front is =
     subst (AppendsFront old new) t.left_is (front_after old now new t.text left t.written (subst (AppendsFront now new) (sym is) (front_more now new text rest front)))
 
-module _ (bench : Ground) (suite : SuiteAsked) (tests : List (Bor Line)) (i : ℕ) where
+module _ (telling : Telling) (bench : Ground) (suite : SuiteAsked) (tests : List (Bor Line)) (i : ℕ) where
   abbrev left : ℕ → ℕ → ℕ → List (List ℕ) → List ℕ
-  left j count next lines = rows_text bench suite count next lines (lines_seen (drop j tests))
+  left j count next lines = rows_text telling bench suite count next lines (lines_seen (drop j tests))
 
   text-more : (count next : ℕ) (lines : List (List ℕ)) (test other : Bor Line) → i < length tests → test ≡ get_or tests i other → left i count next lines
-      ≡ tap_case (plus count 1) (name_of suite) (line_number (line_seen test)) (line_at (line_number (line_seen test)) next lines) (why bench suite.rows (line_at (line_number (line_seen test)) next lines) (line_seen test))
+      ≡ case_text telling (plus count 1) (name_of suite) (line_number (line_seen test)) (line_at (line_number (line_seen test)) next lines) (why bench suite.rows (line_at (line_number (line_seen test)) next lines) (line_seen test))
       ++ left (i + 1) (plus count 1) (next_after (line_number (line_seen test)) next lines) (lines_after (line_number (line_seen test)) next lines)
   unfolding rows_text
   text-more count next lines test other h is = rw (drop_more tests i other h, is) refl
@@ -69,7 +71,7 @@ module _ (bench : Ground) (suite : SuiteAsked) (tests : List (Bor Line)) (i : �
   -- The next test was told of.
   pub test_told : (old now new : Option (List ℕ)) (count count_then number at next next_then : ℕ) (lines lines_then : List (List ℕ)) (test other : Bor Line) (file line tap whole : List ℕ)
       → i < length tests → test ≡ get_or tests i other → TextLeft old now (left i count next lines) whole → Appends now new tap
-      → tap ≡ tap_case number file at line (why bench suite.rows line (line_seen test)) → file ≡ name_of suite → at ≡ line_number (line_seen test)
+      → tap ≡ case_text telling number file at line (why bench suite.rows line (line_seen test)) → file ≡ name_of suite → at ≡ line_number (line_seen test)
       → number ≡ plus count 1 → line ≡ line_at at next lines
       → lines_then ≡ lines_after at next lines → next_then ≡ next_after at next lines
       → count_then ≡ plus count 1
@@ -81,7 +83,7 @@ module _ (bench : Ground) (suite : SuiteAsked) (tests : List (Bor Line)) (i : �
   -- A beginning of what is told of the next test was written.
   pub test_begun : (old now new : Option (List ℕ)) (count number at next : ℕ) (lines : List (List ℕ)) (test other : Bor Line) (file line tap whole : List ℕ)
       → i < length tests → test ≡ get_or tests i other → TextLeft old now (left i count next lines) whole → AppendsFront now new tap
-      → tap ≡ tap_case number file at line (why bench suite.rows line (line_seen test)) → file ≡ name_of suite → at ≡ line_number (line_seen test)
+      → tap ≡ case_text telling number file at line (why bench suite.rows line (line_seen test)) → file ≡ name_of suite → at ≡ line_number (line_seen test)
       → number ≡ plus count 1 → line ≡ line_at at next lines
       → AppendsFront old new whole
   test_begun old now new count number at next lines test other file line tap whole h is so_far front tap_is file_is at_is number_is line_is =

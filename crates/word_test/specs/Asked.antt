@@ -9,12 +9,14 @@ use Rattle.arguments.specs.declared.file_options.FileForm.{FileForm}
 use Rattle.arguments.specs.declared.file_options.FileForm.TheVariants.{Source}
 use Rattle.clap.specs.Words.{Text}
 use Rattle.t65_reader.specs.RowText.{most_steps}
+use Rattle.t65_reports.specs.declared.telling.Telling.{Telling}
+use Rattle.t65_reports.specs.declared.telling.Telling.TheVariants.{Csv, Quiet, Summed, Tap}
 use Rattle.t65_suites.specs.Suites.{ReadingAsked}
 
 -- The files of rows, one at least, and the files that they are run on, where those are not the
 -- files' own; how what they are run on is read; the files that a report for JUnit and one for lcov
--- go to, which have other names than these and each other; the most steps of a call; and whether a
--- line is written of each file.
+-- go to, which have other names than these and each other; the most steps of a call; and what is
+-- written of tests.
 pub record TestAsked : Type 0 where
   pub files : List Text
   pub sources : List Text
@@ -22,7 +24,7 @@ pub record TestAsked : Type 0 where
   pub junit : Option Text
   pub coverage : Option Text
   pub steps : ℕ
-  pub is_summary : Bool
+  pub telling : Telling
 
 abbrev pub has_name : Text → Text → Bool
 has_name name file = bytes_eq file name
@@ -75,12 +77,18 @@ abbrev pub reading_asked : (Text → Option Text) → Option ReadingAsked
 reading_asked value = reading_by (form_asked (is_flag (value (codes "image")))
     (value (codes "bin")) (is_flag (value (codes "prg")))) (value (codes "symbols"))
 
-abbrev pub test_of : Option Text → Option Text → Option ℕ → Option ReadingAsked → Bool → List Text
-    → List Text → Option TestAsked
-test_of junit coverage None reading is_summary sources files = None
-test_of junit coverage (Some steps) None is_summary sources files = None
-test_of junit coverage (Some steps) (Some reading) is_summary sources [] = None
-test_of junit coverage (Some steps) (Some reading) is_summary sources (file ∷ files)
+-- TAP, unless something else is asked for; CSV has no line that sums up, and no row.
+abbrev pub telling_asked : Bool → Bool → Bool → Option Telling
+telling_asked summary quiet csv = if csv then (if summary || quiet then None else Some Csv)
+    else if quiet then Some Quiet else if summary then Some Summed else Some Tap
+
+abbrev pub test_of : Option Text → Option Text → Option ℕ → Option ReadingAsked → Option Telling
+    → List Text → List Text → Option TestAsked
+test_of junit coverage None reading telling sources files = None
+test_of junit coverage (Some steps) None telling sources files = None
+test_of junit coverage (Some steps) (Some reading) None sources files = None
+test_of junit coverage (Some steps) (Some reading) (Some telling) sources [] = None
+test_of junit coverage (Some steps) (Some reading) (Some telling) sources (file ∷ files)
     = if clash junit coverage reading.symbols sources (file ∷ files) then None else Some (record {
       files = file ∷ files;
       sources = sources;
@@ -88,18 +96,21 @@ test_of junit coverage (Some steps) (Some reading) is_summary sources (file ∷ 
       junit = junit;
       coverage = coverage;
       steps = steps;
-      is_summary = is_summary;
+      telling = telling;
     })
 
-abbrev pub test_by : Option Text → Option Text → Option ℕ → Option ReadingAsked → Bool → List Text
-    → Option (List Text) → Option TestAsked
-test_by junit coverage steps reading is_summary sources None = None
-test_by junit coverage steps reading is_summary sources (Some files)
-    = test_of junit coverage steps reading is_summary sources files
+abbrev pub test_by : Option Text → Option Text → Option ℕ → Option ReadingAsked → Option Telling
+    → List Text → Option (List Text) → Option TestAsked
+test_by junit coverage steps reading telling sources None = None
+test_by junit coverage steps reading telling sources (Some files)
+    = test_of junit coverage steps reading telling sources files
+
+abbrev pub telling_in : (Text → Option Text) → Option Telling
+telling_in value = telling_asked (is_flag (value (codes "summary")))
+    (is_flag (value (codes "quiet"))) (is_flag (value (codes "csv")))
 
 -- What the first values and all values of the names ask for.
 abbrev pub test_asked : (Text → Option Text) → (Text → Option (List Text)) → Option TestAsked
 test_asked value values = test_by (value (codes "junit")) (value (codes "coverage"))
-    (limit_asked (value (codes "steps"))) (reading_asked value)
-    (is_flag (value (codes "summary"))) (sources_asked (values (codes "source")))
-    (values (codes "FILE"))
+    (limit_asked (value (codes "steps"))) (reading_asked value) (telling_in value)
+    (sources_asked (values (codes "source"))) (values (codes "FILE"))

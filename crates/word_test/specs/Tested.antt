@@ -1,5 +1,6 @@
--- What TAP tells of the tests of a suite, and what they come to. Source: mos65.
+-- What is told of the tests of a suite, and what they come to. Source: mos65.
 use Rattle.std.specs.Prelude.{◌≡◌, ℕ, ◌+◌, ◌-◌, ◌^◌, ◌&&◌, min, Bool, true, false, is_none, if◌then◌else◌, List, [], ◌∷◌, ◌++◌, Option, Some, option_map}
+use Rattle.arguments.specs.Shown.{shown_name}
 use Rattle.clap.specs.Words.{Text}
 use Rattle.t65_suites.specs.Prepared.{Ground, ground_in}
 use Rattle.t65_suites.specs.Suites.{SuiteAsked, name_of}
@@ -8,7 +9,11 @@ use Rattle.t65_failures.specs.Failures.{detail_text}
 use Rattle.t65_failures.specs.Faulty.{faulty_text}
 use Rattle.t65_reports.specs.Lines.{line_at, lines_after, next_after}
 use Rattle.t65_reports.specs.Junit.{ReportTold, with_test}
-use Rattle.t65_reports.specs.Reports.{junit_case, summary_text, tap_case}
+use Rattle.t65_reports.specs.Csv.{csv_line}
+use Rattle.t65_reports.specs.Reports.{junit_case, summary_text}
+use Rattle.t65_reports.specs.Telling.{case_text}
+use Rattle.t65_reports.specs.declared.telling.Telling.{Telling}
+use Rattle.t65_reports.specs.declared.telling.Telling.TheVariants.{Csv, Quiet, Summed, Tap}
 use Rattle.t65_reports.specs.declared.reports.Score.{Score}
 use Rattle.t65_runner.specs.Passes.{first_failed, rows_seen}
 use Rattle.t65_runner.specs.Start.{fresh}
@@ -46,15 +51,16 @@ passes bench (faulty row) = false
 abbrev pub plus : ℕ → ℕ → ℕ
 plus count more = min (count + more) (2 ^ 64 - 1)
 
--- What TAP tells of tests of a suite after so many others: of each its line of the file, whose lines
--- from the one with the number `next` on are left, and why it fails, if it does.
-unfoldable pub rows_text : Ground → SuiteAsked → ℕ → ℕ → List (List ℕ) → List SeenLine → List ℕ
-rows_text bench suite count next lines [] = []
-rows_text bench suite count next lines (test ∷ tests)
-    = tap_case (plus count 1) (name_of suite) (line_number test)
+-- What is written of tests of a suite after so many others: of each its line of the file, whose
+-- lines from the one with the number `next` on are left, and why it fails, if it does.
+unfoldable pub rows_text : Telling → Ground → SuiteAsked → ℕ → ℕ → List (List ℕ) → List SeenLine
+    → List ℕ
+rows_text telling bench suite count next lines [] = []
+rows_text telling bench suite count next lines (test ∷ tests)
+    = case_text telling (plus count 1) (name_of suite) (line_number test)
     (line_at (line_number test) next lines)
     (why bench suite.rows (line_at (line_number test) next lines) test)
-    ++ rows_text bench suite (plus count 1) (next_after (line_number test) next lines)
+    ++ rows_text telling bench suite (plus count 1) (next_after (line_number test) next lines)
     (lines_after (line_number test) next lines) tests
 
 -- What the report for JUnit gets of the same tests: of each its text, and whether it passes.
@@ -104,8 +110,17 @@ fresh_tally count = record {
   all_pass = true;
 }
 
-abbrev pub summary_if : Bool → Text → Score → List ℕ
-summary_if is_summary name score = if is_summary then summary_text name score else []
+-- The source that the words name; no byte where they name none.
+abbrev pub source_text : Option Text → Text
+source_text None = []
+source_text (Some source) = shown_name source
+
+-- What the tests of a suite have come to, where that is told: in a comment, or in a line of CSV.
+abbrev pub sum_text : Telling → SuiteAsked → Score → List ℕ
+sum_text Tap suite score = []
+sum_text Summed suite score = summary_text (name_of suite) score
+sum_text Quiet suite score = summary_text (name_of suite) score
+sum_text Csv suite score = csv_line (source_text suite.source) (shown_name suite.rows) score
 
 -- ---- a suite
 

@@ -12,5 +12,5 @@ test_view w = record {
   junit = option_map (λ f. f.now) w.junit;
   coverage = option_map (λ f. f.now) w.coverage;
   steps = w.steps;
-  is_summary = w.is_summary;
+  telling = w.telling;
 }

@@ -9,7 +9,8 @@ ghost use Rattle.t65_reader.specs.RowText.{line_view, numbered_view};
 ghost use Rattle.t65_failures.specs.Failures.{detail_text};
 ghost use Rattle.t65_failures.specs.Faulty.{faulty_text};
 ghost use Rattle.t65_reports.specs.Junit.{with_test};
-ghost use Rattle.t65_reports.specs.Reports.{junit_case, tap_case};
+ghost use Rattle.t65_reports.specs.Reports.{junit_case};
+ghost use Rattle.t65_reports.specs.Telling.{case_text};
 ghost use Rattle.t65_runner.specs.Start.{fresh};
 ghost use Rattle.word_test.specs.Covered.{told_in};
 ghost use Rattle.word_test.specs.Tested.{IsAround, failure_of, passes, plus, rows_reported};
@@ -31,13 +32,14 @@ use std::io::Write;
 use std::rt::Files;
 use t65_failures::{Bench, detail_of, faulty_text};
 use t65_reader::{Faulty, Line, Ranges, Row};
-use t65_reports::{Case, RowLines, junit_case, tap_case};
+use t65_reports::{Case, RowLines, Telling, case_text, junit_case};
 use t65_runner::{Around, HISTORY, Values, first_failed};
 use t65_suites::{Prepared, Suite};
 
 /// The texts of a test that has ended, and whether it passes.
 #[derive(Drop)]
 pub struct Told {
+    /// What the output gets.
     pub tap: String,
     pub junit: String,
     pub passes: bool,
@@ -67,12 +69,13 @@ fn detail_in(
 /// given, if one is.
 fn texts_of(
     alloc: Global,
+    telling: Telling,
     number: u64,
     case: Case<'_>,
     detail: Option<&str>,
 ) -> Result<Told, AllocError>
     ensures tap { IfOk result (λ told. string_bytes told.tap
-        ≡ tap_case number case.entry.file.now case.entry.line case.entry.text.now
+        ≡ case_text telling number case.entry.file.now case.entry.line case.entry.text.now
         (option_map (λ why. why.now) detail.entry)) }
     ensures junit { IfOk result (λ told. string_bytes told.junit
         ≡ junit_case case.entry.file.now case.entry.line case.entry.text.now
@@ -80,7 +83,7 @@ fn texts_of(
     ensures passes { IfOk result (λ told. told.passes ≡ is_none detail.entry) }
 {
     Ok(Told {
-        tap: tap_case(alloc, number, case, detail)?,
+        tap: case_text(alloc, telling, number, case, detail)?,
         junit: junit_case(alloc, case, detail)?,
         passes: detail.is_none(),
     })
@@ -107,6 +110,7 @@ fn run_row(
     session: &mut Session,
     prepared: &Prepared,
     around: &Around<'_>,
+    telling: Telling,
     number: u64,
     case: Case<'_>,
     row: &(u32, Row),
@@ -117,7 +121,7 @@ fn run_row(
     ensures back { OnOk result
         (session.new ≡ fresh prepared.now.map prepared.now.assembly.image) }
     ensures tap { IfOk result (λ told. string_bytes told.tap
-        ≡ tap_case number case.entry.file.now case.entry.line case.entry.text.now
+        ≡ case_text telling number case.entry.file.now case.entry.line case.entry.text.now
         (why_row (ground_in prepared.now) (numbered_view row.now))) }
     ensures junit { IfOk result (λ told. string_bytes told.junit
         ≡ junit_case case.entry.file.now case.entry.line case.entry.text.now
@@ -130,10 +134,10 @@ fn run_row(
     let failed = first_failed(alloc, session, prepared.map, image, &row.1, &rows)?;
     coverage.count(alloc, session, prepared, &row.1, &rows, failed)?;
     match failed {
-        None => texts_of(alloc, number, case, None),
+        None => texts_of(alloc, telling, number, case, None),
         Some(values) => {
             let detail = detail_in(alloc, prepared, row.1.ranges, &rows, values)?;
-            texts_of(alloc, number, case, Some(detail.as_str()))
+            texts_of(alloc, telling, number, case, Some(detail.as_str()))
         }
     }
 }
@@ -142,12 +146,13 @@ fn run_row(
 fn faulty_row(
     alloc: Global,
     suite: Suite<'_>,
+    telling: Telling,
     number: u64,
     case: Case<'_>,
     row: Faulty,
 ) -> Result<Told, AllocError>
     ensures tap { IfOk result (λ told. string_bytes told.tap
-        ≡ tap_case number case.entry.file.now case.entry.line case.entry.text.now
+        ≡ case_text telling number case.entry.file.now case.entry.line case.entry.text.now
         (Some (faulty_text (suite_view suite.entry).rows case.entry.text.now row.fault))) }
     ensures junit { IfOk result (λ told. string_bytes told.junit
         ≡ junit_case case.entry.file.now case.entry.line case.entry.text.now
@@ -155,7 +160,7 @@ fn faulty_row(
     ensures passes { IfOk result (λ told. told.passes ≡ false) }
 {
     let detail = faulty_text(alloc, suite.rows, case.text, row.fault)?;
-    texts_of(alloc, number, case, Some(detail.as_str()))
+    texts_of(alloc, telling, number, case, Some(detail.as_str()))
 }
 
 /// Runs a test of a suite from the start of the machine, if it can be read, goes back there, and
@@ -166,6 +171,7 @@ fn run_test(
     prepared: &Prepared,
     around: &Around<'_>,
     suite: Suite<'_>,
+    telling: Telling,
     number: u64,
     case: Case<'_>,
     test: &Line,
@@ -176,7 +182,7 @@ fn run_test(
     ensures back { OnOk result
         (session.new ≡ fresh prepared.now.map prepared.now.assembly.image) }
     ensures tap { IfOk result (λ told. string_bytes told.tap
-        ≡ tap_case number case.entry.file.now case.entry.line case.entry.text.now
+        ≡ case_text telling number case.entry.file.now case.entry.line case.entry.text.now
         (why (ground_in prepared.now) (suite_view suite.entry).rows case.entry.text.now
         (line_view test.now))) }
     ensures junit { IfOk result (λ told. string_bytes told.junit
@@ -189,17 +195,17 @@ fn run_test(
     match test {
         Line::Row(row) => {
             run_row(
-                alloc, session, prepared, around, number, case, row, coverage,
+                alloc, session, prepared, around, telling, number, case, row, coverage,
             )
         }
-        Line::Faulty(row) => faulty_row(alloc, suite, number, case, *row),
+        Line::Faulty(row) => faulty_row(alloc, suite, telling, number, case, *row),
     }
 }
 
 /// Writes the texts of a test: into the report, and then on the output, which is flushed.
 ///
 /// Where memory runs out, or the report or the output cannot be written, the output has a beginning
-/// of the text of TAP.
+/// of the text that it gets.
 pub fn write_told<H: Files + AllocGlobal, O: Write>(
     rt: &H,
     told: &Told,
@@ -227,6 +233,7 @@ fn run_each<H: Files + AllocGlobal, O: Write>(
     around: &Around<'_>,
     tests: &[&Line],
     suite: Suite<'_>,
+    telling: Telling,
     tally: Tally,
     output: &mut O,
     reports: &mut Reports,
@@ -234,7 +241,7 @@ fn run_each<H: Files + AllocGlobal, O: Write>(
     requires start { session.old ≡ fresh prepared.now.map prepared.now.assembly.image }
     requires around { IsAround prepared.now around.now }
     ensures written { Writes (O.contents output.old) (O.contents output.new)
-        (rows_text (ground_in prepared.now) (suite_view suite.entry) tally.count 1
+        (rows_text telling (ground_in prepared.now) (suite_view suite.entry) tally.count 1
         (lines_of prepared.now.text.items) (lines_seen tests.now)) result }
     ensures report { OnOk result (told_in reports.new.junit ≡ option_map
         (rows_reported (ground_in prepared.now) (suite_view suite.entry) 1
@@ -261,6 +268,7 @@ fn run_each<H: Files + AllocGlobal, O: Write>(
             prepared,
             around,
             suite,
+            telling,
             number,
             case,
             test,
@@ -284,12 +292,13 @@ pub fn run_rows<H: Files + AllocGlobal, O: Write>(
     prepared: &Prepared,
     tests: &[&Line],
     suite: Suite<'_>,
+    telling: Telling,
     tally: Tally,
     output: &mut O,
     reports: &mut Reports,
 ) -> Result<Tally, Stop>
     ensures written { Writes (O.contents output.old) (O.contents output.new)
-        (rows_text (ground_in prepared.now) (suite_view suite.entry) tally.count 1
+        (rows_text telling (ground_in prepared.now) (suite_view suite.entry) tally.count 1
         (lines_of prepared.now.text.items) (lines_seen tests.now)) result }
     ensures report { OnOk result (told_in reports.new.junit ≡ option_map
         (rows_reported (ground_in prepared.now) (suite_view suite.entry) 1
@@ -307,6 +316,7 @@ pub fn run_rows<H: Files + AllocGlobal, O: Write>(
                 &around,
                 tests,
                 suite,
+                telling,
                 tally,
                 output,
                 reports,

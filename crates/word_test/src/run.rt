@@ -21,7 +21,7 @@ use arguments::{
 use std::alloc::{AllocError, Global};
 use std::io::Write;
 use std::rt::Files;
-use t65_reports::{TAP_BEGIN, plan};
+use t65_reports::{begin_text, end_text};
 use t65_suites::{TestFault, replaced_by, suites_of};
 
 /// Runs the suites of the words, and tells of them. Returns whether all tests pass.
@@ -38,13 +38,13 @@ fn run_told<H: Files + AllocGlobal, O: Write>(
     let suites = suites_of(rt.alloc(), &words.files, &words.sources, words.reading)?;
     let manner = Manner {
         steps: words.steps,
-        is_summary: words.is_summary,
+        telling: words.telling,
     };
-    write_text(output, TAP_BEGIN.as_bytes())?;
+    write_text(output, begin_text(words.telling).as_bytes())?;
     let (count, all_pass) = run_suites(rt, &suites, manner, output, reports)?;
     reports.finish(rt)?;
-    let plan = plan(rt.alloc(), count)?;
-    write_text(output, plan.as_bytes())?;
+    let end = end_text(rt.alloc(), words.telling, count)?;
+    write_text(output, end.as_bytes())?;
     Ok(all_pass)
 }
 
@@ -239,14 +239,14 @@ fn run_words<H: Files + AllocGlobal, O: Write, E: Write>(
 /// - 0: all rows of all files pass. 1: a row fails, or a file cannot be tested.
 /// - 2: the words are wrong. 3: memory ran out. 4: reading or writing failed.
 ///
-/// TAP goes to `output`, which is flushed after each test. The report for JUnit goes to its file,
-/// if one is asked for: whole, after the first test, when a sixteenth of it or more is not there,
-/// and at the end. The file for lcov is written at the end, with a record for each suite that was
-/// run on a source. A file stays as it is until it is replaced by a whole one. Neither is a file
-/// that is read: where its name is that of a file of the words, or both have one name, the words
-/// are wrong, and where it is another name for one, or is the source that a file names, the status
-/// is 4. What cannot be read, assembled or loaded is a test that fails, and other files are tested.
-/// That `errors` cannot be written changes no status.
+/// TAP, the tests that fail, or CSV goes to `output`, which is flushed after each test. The report
+/// for JUnit goes to its file, if one is asked for: whole, after the first test, when a sixteenth
+/// of it or more is not there, and at the end. The file for lcov is written at the end, with a
+/// record for each suite that was run on a source. A file stays as it is until it is replaced by a
+/// whole one. Neither is a file that is read: where its name is that of a file of the words, or
+/// both have one name, the words are wrong, and where it is another name for one, or is the source
+/// that a file names, the status is 4. What cannot be read, assembled or loaded is a test that
+/// fails, and other files are tested. That `errors` cannot be written changes no status.
 pub fn test<H: Files + AllocGlobal, O: Write, E: Write>(
     rt: &H,
     words: &[&str],

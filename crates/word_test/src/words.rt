@@ -9,8 +9,10 @@ ghost use Rattle.arguments.specs.Words.{Fits, IsRefusalOf, all_values, texts};
 ghost use Rattle.clap.specs.Words.{app_of, first_value, found_of, kind_of};
 ghost use Rattle.clap.specs.declared.builder.command.Command.TheViews.{out-Command};
 ghost use Rattle.word_test.specs.Asked.{are_one, clash, has_name, limit_asked, reading_as};
-ghost use Rattle.word_test.specs.Asked.{reading_asked, replaces, sources_asked, test_asked, test_of};
-ghost use Rattle.word_test.specs.CommandLine.{test, test_files, with_telling, words_asked};
+ghost use Rattle.word_test.specs.Asked.{reading_asked, replaces, sources_asked, telling_asked};
+ghost use Rattle.word_test.specs.Asked.{telling_in, test_asked, test_of};
+ghost use Rattle.word_test.specs.CommandLine.{test, test_files, with_files, with_telling};
+ghost use Rattle.word_test.specs.CommandLine.{words_asked};
 ghost use Rattle.word_test.specs.Views.{test_view};
 ghost use Rattle.t65_suites.specs.Suites.{reading_view};
 
@@ -23,6 +25,7 @@ use clap::{ArgMatches, Command, Error};
 use image_files::with_image_options;
 use std::alloc::{AllocError, Global};
 use t65_reader::MOST_STEPS;
+use t65_reports::Telling;
 use t65_suites::Reading;
 
 /// What the words of `test` ask for.
@@ -42,8 +45,8 @@ pub struct TestWords<'a> {
     pub coverage: Option<&'a str>,
     /// The most steps of a call.
     pub steps: u32,
-    /// Whether a line is written of each file.
-    pub is_summary: bool,
+    /// What is written of tests.
+    pub telling: Telling,
 }
 
 /// What the help of `test` shows below its options.
@@ -52,7 +55,7 @@ const STATUSES: &str = "Exit status: 0 all rows pass, 1 a row fails, or a file c
 
 Examples:
   mos65 test crc8.t65
-  mos65 test crc8.t65 --source students/*/crc8.a65 --steps 10000 --summary
+  mos65 test crc8.t65 --source students/*/crc8.a65 --steps 10000 --csv
   mos65 test crc8.t65 --source crc8.bin --bin 0200 --symbols crc8.sym";
 
 /// Returns a command with the files, and the flag that says that they are images.
@@ -72,9 +75,10 @@ fn files_command<'a>(alloc: Global) -> Result<Command<'a>, Error>
     Ok(command)
 }
 
-/// Returns a command with the options added of the file of names, and of what is told.
-fn with_telling<'a>(alloc: Global, command: Command<'a>) -> Result<Command<'a>, Error>
-    ensures shape { IfOk result (λ c. app_of c ≡ with_telling (app_of command.entry)) }
+/// Returns a command with the options added of the file of names, of files that are written, and of
+/// the steps of a call.
+fn with_files<'a>(alloc: Global, command: Command<'a>) -> Result<Command<'a>, Error>
+    ensures shape { IfOk result (λ c. app_of c ≡ with_files (app_of command.entry)) }
     ensures local { IfOk result (λ c. (out-Command command.entry).has_globals ≡ false
         → (out-Command c).has_globals ≡ false) }
     ensures memory { IfErr result (λ e. kind_of e ≡ ErrorKind.OutOfMemory) }
@@ -83,13 +87,28 @@ fn with_telling<'a>(alloc: Global, command: Command<'a>) -> Result<Command<'a>, 
     let junit = "The file to write a report for JUnit to [default: none]";
     let coverage = "The file to write for lcov: how often each line was run [default: none]";
     let steps = "The most steps of a call [default: 10000000]";
-    let summary = "Prints a line after each file: rows that pass and fail, and points";
     let command = command
         .arg(option(alloc, "symbols", "FILE", symbols))?
         .arg(option(alloc, "junit", "FILE", junit))?
         .arg(option(alloc, "coverage", "FILE", coverage))?
-        .arg(option(alloc, "steps", "N", steps))?
-        .arg(flag(alloc, "summary", summary))?;
+        .arg(option(alloc, "steps", "N", steps))?;
+    Ok(command)
+}
+
+/// Returns a command with the flags added of what is written of tests.
+fn with_telling<'a>(alloc: Global, command: Command<'a>) -> Result<Command<'a>, Error>
+    ensures shape { IfOk result (λ c. app_of c ≡ with_telling (app_of command.entry)) }
+    ensures local { IfOk result (λ c. (out-Command command.entry).has_globals ≡ false
+        → (out-Command c).has_globals ≡ false) }
+    ensures memory { IfErr result (λ e. kind_of e ≡ ErrorKind.OutOfMemory) }
+{
+    let summary = "Prints a line after each file: rows that pass and fail, and points";
+    let quiet = "Prints the rows that fail, without why, and such a line after each file";
+    let csv = "Prints a line of CSV for each file: source, rows, passed, failed, points, of points";
+    let command = command
+        .arg(flag(alloc, "summary", summary))?
+        .arg(flag(alloc, "quiet", quiet))?
+        .arg(flag(alloc, "csv", csv))?;
     Ok(command)
 }
 
@@ -102,7 +121,7 @@ pub fn test_command<'a>(alloc: Global) -> Result<Command<'a>, Error>
     let raw = "What rows are run on is a raw image, from this address on, four hex digits";
     let prg = "What rows are run on is a PRG file: its address in two bytes, and bytes from it on";
     let command = with_image_options(alloc, files_command(alloc)?, raw, prg)?;
-    with_telling(alloc, command)
+    with_telling(alloc, with_files(alloc, command)?)
 }
 
 /// Returns whether a name is among those of files.
@@ -223,6 +242,36 @@ fn reading_asked<'a>(matches: &ArgMatches<'a>) -> Option<Reading<'a>>
     }
 }
 
+/// Returns what is written of tests, by which flags are said; `None` if one is said with CSV.
+fn telling_asked(summary: bool, quiet: bool, csv: bool) -> Option<Telling>
+    ensures { result ≡ telling_asked summary quiet csv }
+{
+    if csv {
+        if summary || quiet {
+            None
+        } else {
+            Some(Telling::Csv)
+        }
+    } else if quiet {
+        Some(Telling::Quiet)
+    } else if summary {
+        Some(Telling::Summed)
+    } else {
+        Some(Telling::Tap)
+    }
+}
+
+/// Returns what is written of tests, or `None` if a flag is said with CSV.
+fn telling_in(matches: &ArgMatches<'_>) -> Option<Telling>
+    ensures { result ≡ telling_in (first_value (found_of matches.now)) }
+{
+    telling_asked(
+        is_given(matches, "summary"),
+        is_given(matches, "quiet"),
+        is_given(matches, "csv"),
+    )
+}
+
 /// Returns what files and options ask for, or `None` if there is no file, a value is wrong, or a
 /// report would replace a file.
 fn test_of<'a>(
@@ -231,19 +280,22 @@ fn test_of<'a>(
     coverage: Option<&'a str>,
     steps: Option<u32>,
     reading: Option<Reading<'a>>,
-    is_summary: bool,
+    telling: Option<Telling>,
     sources: &[&'a str],
     files: &[&'a str],
 ) -> Result<Option<TestWords<'a>>, AllocError>
     ensures { IfOk result (λ w. option_map test_view w
         ≡ test_of (option_map (λ f. f.now) junit.entry) (option_map (λ f. f.now) coverage.entry)
-        steps (option_map reading_view reading.entry) is_summary
+        steps (option_map reading_view reading.entry) telling
         (map (λ f. f.now) sources.now) (map (λ f. f.now) files.now)) }
 {
     let Some(steps) = steps else {
         return Ok(None);
     };
     let Some(reading) = reading else {
+        return Ok(None);
+    };
+    let Some(telling) = telling else {
         return Ok(None);
     };
     if files.is_empty() || clash(junit, coverage, reading.symbols, sources, files) {
@@ -256,7 +308,7 @@ fn test_of<'a>(
         junit,
         coverage,
         steps,
-        is_summary,
+        telling,
     }))
 }
 
@@ -274,7 +326,7 @@ fn asked<'a>(alloc: Global, matches: &ArgMatches<'a>) -> Result<Option<TestWords
             matches.get_str("coverage"),
             limit_asked(matches.get_str("steps")),
             reading_asked(matches),
-            is_given(matches, "summary"),
+            telling_in(matches),
             sources_asked(matches.get_strs("source")),
             files,
         ),
@@ -313,6 +365,8 @@ fn wrong_words(matches: &ArgMatches<'_>) -> &'static str {
         "--bin takes four hex digits; only one of --image, --bin and --prg can be said"
     } else if reading_asked(matches).is_none() {
         "--symbols is for an image; a source has its own names"
+    } else if telling_in(matches).is_none() {
+        "--csv has no rows and no line that sums up: leave --summary and --quiet out"
     } else {
         clashing_words(matches)
     }
@@ -325,8 +379,9 @@ fn wrong_words(matches: &ArgMatches<'_>) -> &'static str {
 /// - `Help` if they ask for help, and `Usage` if they do not fit the command line, with `clap`'s
 ///   text.
 /// - `Wrong` if they name no file, a number of steps is wrong, more than one form of an image is
-///   said, an address is wrong, a file of names is named and no form of an image is said, or a
-///   report has the name of a file that is read or of the other report.
+///   said, an address is wrong, a file of names is named and no form of an image is said, CSV is
+///   asked for with another flag of what is written, or a report has the name of a file that is
+///   read or of the other report.
 /// - `OutOfMemory` if an allocation failed.
 pub fn read_words<'a>(alloc: Global, words: &'a [&'a str]) -> Result<TestWords<'a>, WordsFault>
     ensures asked { IfOk result

@@ -1,7 +1,6 @@
-use Rattle.std.proofs.Common.{◌∙◌, ap, subst, sym, Bool}
+use Rattle.std.proofs.Common.{◌∙◌, subst}
 use Rattle.model.specs.Writers.{AppendsFront}
 use Rattle.model.proofs.Written.{front_none}
-use Rattle.word_test.specs.Tested.{summary_if}
 use Rattle.word_test.proofs.Facts.{stopped}
 use Rattle.word_test.proofs.files.write_summary.Goals as goal
 
@@ -10,6 +9,5 @@ returns-in_err-line g c = stopped _ _ _ c.from_residual.ensures.0 (front_none _ 
 
 pub returns-in_err-write_text : goal.returns-in_err-write_text
 returns-in_err-write_text g c =
-    let line = c.as_bytes.ensures.value ∙ (c.in_ok-line.ensures ∙ sym (ap (λ (b : Bool). summary_if b c.args.name.now c.args.score) c.if-not-is_summary.false)) in
     stopped _ _ _ c.from_residual-in_err-write_text.ensures.0
-    (subst (AppendsFront (g.O.Write.contents c.args.output.now) (g.O.Write.contents c.write_text.new.output)) line c.in_err-write_text.ensures)
+    (subst (AppendsFront (g.O.Write.contents c.args.output.now) (g.O.Write.contents c.write_text.new.output)) (c.as_bytes.ensures.value ∙ c.in_ok-line.ensures) c.in_err-write_text.ensures)
