@@ -4,7 +4,7 @@ use Rattle.std.specs.Char.{is_ascii_whitespace}
 use Rattle.std.specs.Option.{is_some}
 use Rattle.std.specs.Str.Lines.{lines}
 use Rattle.std.specs.List.{flat_map, prefix_len, suffix_len}
-use Rattle.t65_reports.specs.declared.wording.TheConstants.{CASE, CASE_END, CASE_FAILS, CASE_PASSES, FAILS, FAILURES, FAULT_NAME, LINE, PASSES, QUOTE, SUITE, TAG_END, TESTS}
+use Rattle.t65_reports.specs.declared.wording.TheConstants.{AT_LINE, CASE, CASE_END, CASE_FAILS, CASE_PASSES, FAILS, FAILURES, FAULT_NAME, IN_FILE, LINE, PASSES, QUOTE, SUITE, TAG_END, TESTS}
 use Rattle.t65_values.specs.Visible.{visible}
 use Rattle.t65_reports.specs.declared.reports.Score.{Score}
 
@@ -126,17 +126,24 @@ case_end (Some why) = case_fails (first_line why) why
 abbrev pub line_text : ℕ → List ℕ
 line_text line = LINE.now ++ decimal line ++ codes ": "
 
-unfoldable pub case_front : List ℕ → ℕ → List ℕ → List ℕ
-case_front file line text = CASE.now ++ xml_value file
-    ++ line_text line ++ xml_value (row_of text)
+-- The place of a test: a file of rows, and a line of it.
+abbrev pub place_text : List ℕ → ℕ → List ℕ
+place_text rows line = IN_FILE.now ++ xml_value rows ++ AT_LINE.now ++ decimal line
 
--- What is told of a row: the file, the line, its text, and why it fails, if it does.
-abbrev pub junit_case : List ℕ → ℕ → List ℕ → Option (List ℕ) → List ℕ
-junit_case file line text why = case_front file line text ++ case_end why
+unfoldable pub case_front : List ℕ → List ℕ → ℕ → List ℕ → List ℕ
+case_front file rows line text = CASE.now ++ xml_value file
+    ++ line_text line ++ xml_value (row_of text) ++ place_text rows line
 
-abbrev pub fault_front : List ℕ → List ℕ
-fault_front file = CASE.now ++ xml_value file ++ FAULT_NAME.now
+-- What is told of a row: the suite, the file of rows, the line, its text, and why it fails, if it
+-- does.
+abbrev pub junit_case : List ℕ → List ℕ → ℕ → List ℕ → Option (List ℕ) → List ℕ
+junit_case file rows line text why = case_front file rows line text ++ case_end why
+
+abbrev pub fault_front : List ℕ → List ℕ → ℕ → List ℕ
+fault_front file rows line
+    = CASE.now ++ xml_value file ++ FAULT_NAME.now ++ place_text rows line
 
 -- What is told of a file that cannot be tested: a test of its own, which fails.
-abbrev pub junit_fault : List ℕ → List ℕ → List ℕ → List ℕ
-junit_fault file title remarks = fault_front file ++ case_fails title remarks
+abbrev pub junit_fault : List ℕ → List ℕ → ℕ → List ℕ → List ℕ → List ℕ
+junit_fault file rows line title remarks
+    = fault_front file rows line ++ case_fails title remarks

@@ -6,15 +6,16 @@ ghost use Rattle.std.specs.List.{prefix_len};
 ghost use Rattle.std.specs.Option.{option_map};
 ghost use Rattle.t65_reports.specs.Reports.{before_comment, case_end, case_fails, case_front};
 ghost use Rattle.t65_reports.specs.Reports.{fault_front, first_line, junit_case};
-ghost use Rattle.t65_reports.specs.Reports.{junit_fault, line_text, numbers_text, plan_text, row_of, score_text};
+ghost use Rattle.t65_reports.specs.Reports.{junit_fault, line_text, numbers_text, place_text};
+ghost use Rattle.t65_reports.specs.Reports.{plan_text, row_of, score_text};
 ghost use Rattle.t65_reports.specs.Reports.{suite_head, summary_text, tap_byte, tap_case};
 ghost use Rattle.t65_reports.specs.Reports.{tap_comment, tap_detail, tap_fault, tap_name, tap_row};
 ghost use Rattle.t65_reports.specs.Reports.{tap_text, tap_title, value_byte, xml, xml_byte};
 ghost use Rattle.t65_reports.specs.Reports.{xml_value};
 
 use crate::wording::{
-    CASE, CASE_END, CASE_FAILS, CASE_PASSES, FAILS, FAILURES, FAULT_NAME, LINE, PASSES, QUOTE,
-    SUITE, TAG_END, TESTS,
+    AT_LINE, CASE, CASE_END, CASE_FAILS, CASE_PASSES, FAILS, FAILURES, FAULT_NAME, IN_FILE, LINE,
+    PASSES, QUOTE, SUITE, TAG_END, TESTS,
 };
 use std::alloc::{AllocError, Global};
 use t65_values::push_visible;
@@ -22,8 +23,10 @@ use t65_values::push_visible;
 /// A row that was run, as it is told of.
 #[derive(Clone, Copy)]
 pub struct Case<'a> {
-    /// The name of the file of rows.
+    /// The name of the suite.
     pub file: &'a str,
+    /// The name of the file of rows.
+    pub rows: &'a str,
     /// The number of the row's line.
     pub line: u32,
     /// The row's line.
@@ -381,15 +384,27 @@ pub fn plan(alloc: Global, count: u64) -> Result<String, AllocError>
     Ok(tap)
 }
 
+/// Appends the place of a test: a file of rows, and a line of it.
+fn push_place(junit: &mut String, rows: &str, line: u32) -> Result<(), AllocError>
+    ensures { OnOk result (string_bytes junit.new
+        ≡ string_bytes junit.old ++ place_text rows.now line) }
+{
+    junit.push_str(IN_FILE)?;
+    push_name(junit, rows)?;
+    write!(junit, "{}{line}", AT_LINE)
+}
+
 /// Appends the beginning of what the report for JUnit tells of a row.
 fn push_case_front(junit: &mut String, case: Case<'_>) -> Result<(), AllocError>
     ensures { OnOk result (string_bytes junit.new ≡ string_bytes junit.old
-        ++ case_front case.entry.file.now case.entry.line case.entry.text.now) }
+        ++ case_front case.entry.file.now case.entry.rows.now case.entry.line
+        case.entry.text.now) }
 {
     junit.push_str(CASE)?;
     push_name(junit, case.file)?;
     push_line(junit, case.line)?;
     push_xml_row(junit, case.text)?;
+    push_place(junit, case.rows, case.line)?;
     Ok(())
 }
 
@@ -423,7 +438,7 @@ fn push_case_end(junit: &mut String, detail: Option<&str>) -> Result<(), AllocEr
 /// Errors: `AllocError` if an allocation fails.
 pub fn junit_case(alloc: Global, case: Case<'_>, detail: Option<&str>) -> Result<String, AllocError>
     ensures { IfOk result (λ junit. string_bytes junit
-        ≡ junit_case case.entry.file.now case.entry.line case.entry.text.now
+        ≡ junit_case case.entry.file.now case.entry.rows.now case.entry.line case.entry.text.now
         (option_map (λ why. why.now) detail.entry)) }
 {
     let mut junit = String::new(alloc);
@@ -433,30 +448,34 @@ pub fn junit_case(alloc: Global, case: Case<'_>, detail: Option<&str>) -> Result
 }
 
 /// Appends the beginning of what the report for JUnit tells of a file that cannot be tested.
-fn push_fault_front(junit: &mut String, file: &str) -> Result<(), AllocError>
+fn push_fault_front(junit: &mut String, file: &str, rows: &str, line: u32) -> Result<(), AllocError>
     ensures { OnOk result (string_bytes junit.new
-        ≡ string_bytes junit.old ++ fault_front file.now) }
+        ≡ string_bytes junit.old ++ fault_front file.now rows.now line) }
 {
     junit.push_str(CASE)?;
     push_name(junit, file)?;
     junit.push_str(FAULT_NAME)?;
+    push_place(junit, rows, line)?;
     Ok(())
 }
 
-/// Returns what the report for JUnit tells of a file that cannot be tested.
+/// Returns what the report for JUnit tells of a suite that cannot be tested, with the line of its
+/// file of rows that is to blame.
 ///
 /// Errors: `AllocError` if an allocation fails.
 pub fn junit_fault(
     alloc: Global,
     file: &str,
+    rows: &str,
+    line: u32,
     title: &str,
     remarks: &str,
 ) -> Result<String, AllocError>
     ensures { IfOk result (λ junit. string_bytes junit
-        ≡ junit_fault file.now title.now remarks.now) }
+        ≡ junit_fault file.now rows.now line title.now remarks.now) }
 {
     let mut junit = String::new(alloc);
-    push_fault_front(&mut junit, file)?;
+    push_fault_front(&mut junit, file, rows, line)?;
     push_failure(&mut junit, title.as_bytes(), remarks)?;
     Ok(junit)
 }

@@ -48,6 +48,12 @@ pub const LINE: &str = "\" name=\"line ";
 /// What stands behind the name of a file that cannot be tested.
 pub const FAULT_NAME: &str = "\" name=\"rows and source";
 
+/// What stands before the file of a place.
+pub const IN_FILE: &str = "\" file=\"";
+
+/// What stands before the line of a place.
+pub const AT_LINE: &str = "\" line=\"";
+
 /// Ends a row that passes.
 pub const CASE_PASSES: &str = "\"/>\n";
 

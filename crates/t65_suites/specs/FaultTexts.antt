@@ -39,6 +39,19 @@ abbrev pub is_memory : FileFault → Bool
 is_memory (InRows fault) = is_out_of_rows fault
 is_memory (InProgram path fault) = is_out_of_program fault
 
+-- ---- places
+
+abbrev pub line_in_rows : TestFault → ℕ
+line_in_rows (Rows fault) = fault.line
+line_in_rows TooLarge = 1
+line_in_rows NoRow = 1
+line_in_rows (Refused refusal) = 1
+
+-- The line of the file of rows that is to blame: that of the fault, or the first one.
+abbrev pub line_of : FileFault → ℕ
+line_of (InRows fault) = line_in_rows fault
+line_of (InProgram path fault) = 1
+
 -- ---- texts
 
 -- Lines end where they do.

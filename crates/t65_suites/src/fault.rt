@@ -2,6 +2,7 @@
 
 ghost use Rattle.std.specs.Prelude.{◌≡◌};
 ghost use Rattle.t65_suites.specs.FaultTexts.{is_memory, is_out, is_out_of_rows};
+ghost use Rattle.t65_suites.specs.FaultTexts.{line_in_rows, line_of};
 ghost use Rattle.t65_suites.specs.FaultTexts.{is_out_of_file, is_out_of_program};
 ghost use Rattle.t65_suites.specs.declared.fault.FileFault.TheVariants.{InRows};
 ghost use Rattle.t65_suites.specs.declared.fault.TestFault.TheVariants.{Refused};
@@ -93,6 +94,25 @@ fn is_out_of_program(fault: &NamedFault) -> bool
         NamedFault::OfFile(fault) => is_out_of_file(fault),
         NamedFault::OfNames(refusal) => is_out(*refusal),
         NamedFault::HasSource => false,
+    }
+}
+
+fn line_in_rows(fault: TestFault) -> u32
+    ensures { result ≡ line_in_rows fault }
+{
+    match fault {
+        TestFault::Rows(fault) => fault.line,
+        TestFault::TooLarge | TestFault::NoRow | TestFault::Refused(_) => 1,
+    }
+}
+
+/// Returns the line of the file of rows that is to blame: that of the fault, or the first one.
+pub fn line_of(fault: &FileFault) -> u32
+    ensures { result ≡ line_of fault.now }
+{
+    match fault {
+        FileFault::InRows(fault) => line_in_rows(*fault),
+        FileFault::InProgram(_, _) => 1,
     }
 }
 

@@ -18,7 +18,7 @@ mod replaced;
 mod suites;
 mod wording;
 
-pub use fault::{FileFault, TestFault, Unprepared, is_memory};
+pub use fault::{FileFault, TestFault, Unprepared, is_memory, line_of};
 pub use fault_words::{remarks_of, title_of};
 pub use head::{Head, Opened};
 pub use prepared::{Prepared, prepare};

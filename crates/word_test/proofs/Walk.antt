@@ -100,7 +100,7 @@ module _ (telling : Telling) (bench : Ground) (suite : SuiteAsked) (tests : List
 
   reported-more : (next : ℕ) (lines : List (List ℕ)) (test other : Bor Line) (report : ReportTold) → i < length tests → test ≡ get_or tests i other → reported_left i next lines report
       ≡ reported_left (i + 1) (next_after (line_number (line_seen test)) next lines) (lines_after (line_number (line_seen test)) next lines)
-      (with_test (passes bench (line_seen test)) (junit_case (name_of suite) (line_number (line_seen test)) (line_at (line_number (line_seen test)) next lines) (why bench suite.rows (line_at (line_number (line_seen test)) next lines) (line_seen test))) report)
+      (with_test (passes bench (line_seen test)) (junit_case (name_of suite) suite.rows (line_number (line_seen test)) (line_at (line_number (line_seen test)) next lines) (why bench suite.rows (line_at (line_number (line_seen test)) next lines) (line_seen test))) report)
   unfolding rows_reported
   reported-more next lines test other report h is = rw (drop_more tests i other h, is) refl
 
@@ -108,7 +108,7 @@ module _ (telling : Telling) (bench : Ground) (suite : SuiteAsked) (tests : List
   pub one_reported : (now new whole : Option ReportTold) (at next next_then : ℕ) (lines lines_then : List (List ℕ)) (passing : Bool) (test other : Bor Line) (file line junit : List ℕ)
       → i < length tests → test ≡ get_or tests i other → new ≡ option_map (with_test passing junit) now
       → passing ≡ passes bench (line_seen test)
-      → junit ≡ junit_case file at line (why bench suite.rows line (line_seen test)) → file ≡ name_of suite → at ≡ line_number (line_seen test)
+      → junit ≡ junit_case file suite.rows at line (why bench suite.rows line (line_seen test)) → file ≡ name_of suite → at ≡ line_number (line_seen test)
       → line ≡ line_at at next lines
       → lines_then ≡ lines_after at next lines → next_then ≡ next_after at next lines
       → option_map (reported_left i next lines) now ≡ whole → option_map (reported_left (i + 1) next_then lines_then) new ≡ whole

@@ -70,7 +70,8 @@ rows_reported bench suite next lines [] report = report
 rows_reported bench suite next lines (test ∷ tests) report = rows_reported bench suite
     (next_after (line_number test) next lines) (lines_after (line_number test) next lines) tests
     (with_test (passes bench test)
-    (junit_case (name_of suite) (line_number test) (line_at (line_number test) next lines)
+    (junit_case (name_of suite) suite.rows (line_number test)
+    (line_at (line_number test) next lines)
     (why bench suite.rows (line_at (line_number test) next lines) test)) report)
 
 -- ---- what they come to

@@ -9,6 +9,7 @@ ghost use Rattle.arguments.specs.Shown.{shown_name};
 ghost use Rattle.t65_reports.specs.Csv.{csv_line};
 ghost use Rattle.t65_reports.specs.Reports.{junit_fault, summary_text};
 ghost use Rattle.t65_reports.specs.Telling.{fault_text};
+ghost use Rattle.t65_suites.specs.FaultTexts.{line_of};
 ghost use Rattle.t65_suites.specs.Suites.{name_of, suite_view};
 ghost use Rattle.word_test.specs.Tested.{fresh_tally, rows_text, source_text, sum_text};
 ghost use Rattle.word_test.specs.Tested.{tally_after};
@@ -28,7 +29,7 @@ use std::rt::Files;
 use t65_reports::{Score, Telling, csv_line, fault_text, junit_fault, summary};
 use t65_runner::tests_of;
 use t65_suites::{
-    FileFault, Prepared, Suite, Unprepared, is_memory, prepare, remarks_of, title_of,
+    FileFault, Prepared, Suite, Unprepared, is_memory, line_of, prepare, remarks_of, title_of,
 };
 
 /// How rows are run and told of.
@@ -160,14 +161,16 @@ fn untested(
         ≡ fault_text telling number (name_of (suite_view suite.entry)) title remarks)
         × IsFaultText fault.now title remarks
         × (string_bytes told.junit
-        ≡ junit_fault (name_of (suite_view suite.entry)) title remarks)) }
+        ≡ junit_fault (name_of (suite_view suite.entry)) (suite_view suite.entry).rows
+        (line_of fault.now) title remarks)) }
     ensures fails { IfOk result (λ told. told.passes ≡ false) }
 {
     let title = title_of(alloc, fault)?;
     let remarks = remarks_of(alloc, suite, fault)?;
+    let line = line_of(fault);
     Ok(Told {
         tap: fault_text(alloc, telling, number, suite.name(), &title, &remarks)?,
-        junit: junit_fault(alloc, suite.name(), &title, &remarks)?,
+        junit: junit_fault(alloc, suite.name(), suite.rows, line, &title, &remarks)?,
         passes: false,
     })
 }

@@ -78,7 +78,7 @@ fn texts_of(
         ≡ case_text telling number case.entry.file.now case.entry.line case.entry.text.now
         (option_map (λ why. why.now) detail.entry)) }
     ensures junit { IfOk result (λ told. string_bytes told.junit
-        ≡ junit_case case.entry.file.now case.entry.line case.entry.text.now
+        ≡ junit_case case.entry.file.now case.entry.rows.now case.entry.line case.entry.text.now
         (option_map (λ why. why.now) detail.entry)) }
     ensures passes { IfOk result (λ told. told.passes ≡ is_none detail.entry) }
 {
@@ -124,7 +124,7 @@ fn run_row(
         ≡ case_text telling number case.entry.file.now case.entry.line case.entry.text.now
         (why_row (ground_in prepared.now) (numbered_view row.now))) }
     ensures junit { IfOk result (λ told. string_bytes told.junit
-        ≡ junit_case case.entry.file.now case.entry.line case.entry.text.now
+        ≡ junit_case case.entry.file.now case.entry.rows.now case.entry.line case.entry.text.now
         (why_row (ground_in prepared.now) (numbered_view row.now))) }
     ensures passes { IfOk result (λ told. told.passes
         ≡ is_none (failure_of (ground_in prepared.now) (numbered_view row.now))) }
@@ -155,7 +155,7 @@ fn faulty_row(
         ≡ case_text telling number case.entry.file.now case.entry.line case.entry.text.now
         (Some (faulty_text (suite_view suite.entry).rows case.entry.text.now row.fault))) }
     ensures junit { IfOk result (λ told. string_bytes told.junit
-        ≡ junit_case case.entry.file.now case.entry.line case.entry.text.now
+        ≡ junit_case case.entry.file.now case.entry.rows.now case.entry.line case.entry.text.now
         (Some (faulty_text (suite_view suite.entry).rows case.entry.text.now row.fault))) }
     ensures passes { IfOk result (λ told. told.passes ≡ false) }
 {
@@ -186,7 +186,7 @@ fn run_test(
         (why (ground_in prepared.now) (suite_view suite.entry).rows case.entry.text.now
         (line_view test.now))) }
     ensures junit { IfOk result (λ told. string_bytes told.junit
-        ≡ junit_case case.entry.file.now case.entry.line case.entry.text.now
+        ≡ junit_case case.entry.file.now case.entry.rows.now case.entry.line case.entry.text.now
         (why (ground_in prepared.now) (suite_view suite.entry).rows case.entry.text.now
         (line_view test.now))) }
     ensures passes { IfOk result (λ told. told.passes
@@ -257,6 +257,7 @@ fn run_each<H: Files + AllocGlobal, O: Write>(
         let text = lines.walk_to(line);
         let case = Case {
             file: suite.name(),
+            rows: suite.rows,
             line,
             text,
         };
