@@ -1,4 +1,4 @@
-use Rattle.std.proofs.Common.{◌∙◌, sym, ap, arith}
+use Rattle.std.proofs.Common.{◌∙◌, ◌+◌, sym, ap, arith}
 use Rattle.model.specs.TextLines.{lines_of}
 use Rattle.t65_reader.specs.RowText.{points_of}
 use Rattle.t65_reader.proofs.Rows.{no_points, points_more}
