@@ -52,8 +52,9 @@ fn rows_of(alloc: Global, lines: &[Line], part: Part) -> Result<Vec<&(u32, Row)>
 {
     let mut found = Vec::new(alloc);
     for line in lines {
-        if let Some(row) = row_in(part, line) {
-            found.push(row)?;
+        match row_in(part, line) {
+            Some(row) => found.push(row)?,
+            None => {}
         }
     }
     Ok(found)
