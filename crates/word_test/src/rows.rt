@@ -16,7 +16,7 @@ ghost use Rattle.word_test.specs.Covered.{told_in};
 ghost use Rattle.word_test.specs.Tested.{IsAround, failure_of, passes, plus, rows_reported};
 ghost use Rattle.word_test.specs.Tested.{rows_text, run_of};
 ghost use Rattle.t65_suites.specs.Prepared.{ground_in};
-ghost use Rattle.t65_suites.specs.Suites.{name_of, suite_view};
+ghost use Rattle.t65_suites.specs.Suites.{suite_view};
 ghost use Rattle.word_test.specs.Tested.{tally_rows, why, why_row};
 ghost use Rattle.t65_runner.specs.Parts.{lines_seen};
 ghost use Rattle.t65_runner.specs.Passes.{rows_seen};

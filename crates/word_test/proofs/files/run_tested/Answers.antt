@@ -1,4 +1,4 @@
-use Rattle.std.proofs.Common.{◌∙◌, ap, ap₂, subst, List, ℕ, map}
+use Rattle.std.proofs.Common.{◌∙◌, ap, ap₂, subst, List, map}
 use Rattle.std.specs.Io.KnownBytes.{Appends}
 use Rattle.model.specs.TextLines.{lines_of}
 use Rattle.model.specs.Writers.{AppendsFront}

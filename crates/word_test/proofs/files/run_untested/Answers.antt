@@ -1,5 +1,5 @@
 use Rattle.std.proofs.KnownBytes.{Appends-trans}
-use Rattle.std.proofs.Common.{◌++◌, inl, inr, refl, subst, List, ℕ}
+use Rattle.std.proofs.Common.{◌++◌, inl, inr, refl, subst}
 use Rattle.std.specs.Io.KnownBytes.{Appends}
 use Rattle.model.specs.Writers.{AppendsFront}
 use Rattle.model.proofs.Written.{front_after, front_more, front_none}

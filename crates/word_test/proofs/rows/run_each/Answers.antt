@@ -1,4 +1,4 @@
-use Rattle.std.proofs.Common.{◌∙◌, ◌+◌, ℕ, List, ap, arith, drop, refl}
+use Rattle.std.proofs.Common.{◌∙◌, ℕ, List, ap, arith, refl}
 use Rattle.model.specs.TextLines.{lines_of}
 use Rattle.t65_reports.specs.Lines.{lines_left}
 use Rattle.std.specs.Option.{option_map}
