@@ -30,7 +30,7 @@ pub no_test : (steps : ℕ) (names : Definitions) (next : ℕ) (lines : List (Li
     → EndsRows steps names next lines NoRow
 no_test steps names next lines rows read none = (rows, read, none)
 
-is_too_large : TestFault → Bool
+abbrev is_too_large : TestFault → Bool
 is_too_large TooLarge = true
 is_too_large fault = false
 

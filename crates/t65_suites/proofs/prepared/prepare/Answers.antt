@@ -2,7 +2,7 @@ use Rattle.std.proofs.Common.{◌∙◌, refl}
 use Rattle.model.specs.TextLines.{lines_of}
 use Rattle.t65_suites.specs.HeadText.{head_view}
 use Rattle.t65_suites.specs.Suites.{suite_view}
-use Rattle.t65_suites.proofs.Ends.{passed_on, program_ends, rows_end}
+use Rattle.t65_suites.proofs.Ends.{map_ends, passed_on, program_ends, rows_end}
 use Rattle.t65_suites.proofs.Ready.{ready}
 use Rattle.t65_suites.proofs.prepared.prepare.Goals as goal
 
@@ -12,6 +12,12 @@ returns-in_err-text-clause-refused g c = passed_on c.from_residual.result (suite
 pub returns-in_err-opened-clause-refused : goal.returns-in_err-opened-clause-refused
 returns-in_err-opened-clause-refused g c =
     passed_on c.from_residual-in_err-opened.result (suite_view c.args.suite).reading c.in_err-opened.field-0.0 c.from_residual-in_err-opened.ensures.1 c.in_err-opened.ensures.refused
+
+pub returns-in_err-map-clause-refused : goal.returns-in_err-map-clause-refused
+returns-in_err-map-clause-refused g c =
+    passed_on c.from_residual-in_err-map.result (suite_view c.args.suite).reading c.in_err-map.field-0.0 c.from_residual-in_err-map.ensures.1
+    (map_ends c.deref.result.now (head_view c.in_ok-opened.opened.head) c.in_ok-opened.opened.next (lines_of c.in_ok-opened.opened.rest.now) c.in_err-map.field-0.0
+    c.in_ok-opened.ensures.head c.in_err-map.ensures.none.0 c.in_err-map.ensures.none.1)
 
 pub returns-in_err-path-clause-refused : goal.returns-in_err-path-clause-refused
 returns-in_err-path-clause-refused g c =
