@@ -1,6 +1,8 @@
+pub mod Above
 pub mod Diagnostics
 pub mod Kinds
 pub mod Lists
+pub mod Markdown
 pub mod Marks
 pub mod Meanings
 pub mod Names

@@ -1,12 +1,15 @@
 -- What is meant at a place. Source: Language Server Protocol 3.17, "Hover Request"; of what is said
 -- where, mos65.
-use Rattle.std.specs.Prelude.{ℕ, ◌-◌, ◌&&◌, nat_le, nat_lt, is_some, Bool, true, false, List, [], length, Option, Some, None, option_and_then, slice_get}
+use Rattle.std.specs.Prelude.{ℕ, ◌-◌, ◌&&◌, nat_le, nat_lt, is_some, if◌then◌else◌, Bool, true, false, List, [], codes, length, Option, Some, None, option_and_then, slice_get}
 use Rattle.std.specs.List.{find}
 use Rattle.std.specs.Option.{option_map}
 use Rattle.std.specs.Str.Lossy.{utf8_lossy}
+use Rattle.lsp_answers.specs.Above.{name_lines}
+use Rattle.lsp_answers.specs.Markdown.{markdown as marked_words}
 use Rattle.lsp_answers.specs.Said.{instruction_words, name_words}
 use Rattle.lsp_answers.specs.Texts.{TextView, line_at, name_at, number_in, range_in, use_range}
 use Rattle.lsp_messages.specs.Columns.{column_of}
+use Rattle.lsp_messages.specs.TextPlaces.{lines_between}
 use Rattle.lsp_messages.specs.Values.{hover_data}
 use Rattle.model.specs.AllFaults.{Found, fixed_by, found_lines, smallest}
 use Rattle.model.specs.Layout.{Content, no_bytes, byte_list, word_list, word_list_high_first, code}
@@ -61,40 +64,51 @@ abbrev pub mnemonic_on : Profile → ℕ → List ℕ → Option Lexeme
 mnemonic_on profile column line
     = find (is_mnemonic_on profile column) (tokens_or_none (tokens_of line))
 
--- ---- what is meant
+-- ---- what is meant, in Markdown or in plain text, of a text that its client has as `written`
 
--- Words that are said of a range.
-abbrev pub said : List ℕ → Data → Data
-said words range = hover_data (utf8_lossy words) range
+-- Words that are said of a range, in Markdown behind lines of the source.
+abbrev pub said : Bool → List ℕ → List ℕ → Data → Data
+said markdown lines words range = if markdown
+    then hover_data (codes "markdown") (utf8_lossy (marked_words lines words)) range
+    else hover_data (codes "plaintext") (utf8_lossy words) range
 
 -- Of a name, its number and where it is defined.
-abbrev pub of_name : TextView → Use → Data
-of_name t u = said (name_words (numbers_in t) t.uses u.text) (use_range t u)
+abbrev pub of_name : Bool → List ℕ → Definitions → TextView → Use → Data
+of_name markdown written numbers t u = said markdown (name_lines written t u)
+    (name_words numbers t.uses u.text) (use_range t u)
+
+-- A line by its number, counted from 1.
+abbrev pub line_alone : List ℕ → ℕ → List ℕ
+line_alone written number = lines_between written (number - 1) (number - 1)
 
 -- Of a mnemonic, the instruction of its line, if there is one.
-abbrev pub of_words : TextView → ℕ → Lexeme → Option (List ℕ) → Data
-of_words t number token None = null
-of_words t number token (Some words)
-    = said words (range_in t number token.start (length token.text))
+abbrev pub of_words : Bool → List ℕ → TextView → ℕ → Lexeme → Option (List ℕ) → Data
+of_words markdown written t number token None = null
+of_words markdown written t number token (Some words) = said markdown (line_alone written number)
+    words (range_in t number token.start (length token.text))
 
-abbrev pub of_token : TextView → ℕ → Option Lexeme → Data
-of_token t number None = null
-of_token t number (Some token) = of_words t number token (said_on t.profile (found_in t) number)
+abbrev pub of_token : Bool → List ℕ → TextView → ℕ → Option Lexeme → Data
+of_token markdown written t number None = null
+of_token markdown written t number (Some token)
+    = of_words markdown written t number token (said_on t.profile (found_in t) number)
 
-abbrev pub of_line : TextView → ℕ → Option ℕ → Data
-of_line t character None = null
-of_line t character (Some number) = of_token t number
+abbrev pub of_line : Bool → List ℕ → TextView → ℕ → Option ℕ → Data
+of_line markdown written t character None = null
+of_line markdown written t character (Some number) = of_token markdown written t number
     (mnemonic_on t.profile (column_of character (line_at t number)) (line_at t number))
 
-abbrev pub of_place : TextView → ℕ → ℕ → Option Use → Data
-of_place t line character None = of_line t character (number_in t line)
-of_place t line character (Some u) = of_name t u
+abbrev pub of_place : Bool → List ℕ → TextView → ℕ → ℕ → Option Use → Data
+of_place markdown written t line character None
+    = of_line markdown written t character (number_in t line)
+of_place markdown written t line character (Some u) = of_name markdown written (numbers_in t) t u
 
-abbrev pub meaning_by : Bool → TextView → ℕ → ℕ → Data
-meaning_by true t line character = null
-meaning_by false t line character = of_place t line character (name_at t line character)
+abbrev pub meaning_by : Bool → Bool → List ℕ → TextView → ℕ → ℕ → Data
+meaning_by true markdown written t line character = null
+meaning_by false markdown written t line character
+    = of_place markdown written t line character (name_at t line character)
 
 -- What is meant at a place: of a name, or else of a mnemonic; `null` where neither stands, and in a
 -- source that is too long.
-abbrev pub meaning_of : TextView → ℕ → ℕ → Data
-meaning_of t line character = meaning_by (nat_lt 1048576 (length t.source)) t line character
+abbrev pub meaning_of : Bool → List ℕ → TextView → ℕ → ℕ → Data
+meaning_of markdown written t line character
+    = meaning_by (nat_lt 1048576 (length t.source)) markdown written t line character

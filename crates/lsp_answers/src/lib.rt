@@ -3,24 +3,29 @@
 //!
 //! `Text` is a source with its lines and names (`specs/Texts.antt`). Each other call makes an
 //! answer's value of it: `marks` (`Marks.antt`), `meanings` (`Meanings.antt`) with what is `said`
-//! of names and instructions (`Said.antt`), `names` (`Names.antt`), `renaming` (`Renames.antt`),
-//! and `lists` (`Lists.antt`) with the directives, which may be `written` in any source.
+//! of names and instructions (`Said.antt`), in Markdown (`markdown`, `Markdown.antt`) with lines of
+//! the source (`above`, `Above.antt`), `names` (`Names.antt`), `renaming` (`Renames.antt`), and
+//! `lists` (`Lists.antt`) with the directives, which may be `written` in any source. `texts` makes
+//! texts of words.
 //!
 //! `diagnostics` (`finding`) is what is marked, and finds the same as `check`: all faults
 //! (`fault_marks`), and the warnings (`warning_marks`) where there is none. `Diagnostics.antt` says
 //! which these are, and which bytes each means.
 #![tactic(auto)]
 
+mod above;
 mod fault_marks;
 mod finding;
 mod kinds;
 mod lists;
+mod markdown;
 mod marks;
 mod meanings;
 mod names;
 mod renaming;
 mod said;
 mod source_text;
+mod texts;
 mod warning_marks;
 mod wording;
 mod written;
@@ -33,3 +38,4 @@ pub use meanings::hover;
 pub use names::{definition, highlights, references};
 pub use renaming::{prepare_rename, rename};
 pub use source_text::Text;
+pub use texts::text_of;

@@ -2,44 +2,51 @@
 
 ghost use Rattle.std.specs.Prelude.{◌≡◌, ℕ, IfOk, List};
 ghost use Rattle.std.specs.Option.{option_map};
-ghost use Rattle.std.specs.Str.Lossy.{utf8_lossy};
 ghost use Rattle.line_parts.specs.Lexemes.{lexeme_of};
-ghost use Rattle.lsp_answers.specs.Meanings.{found_in, meaning_of, mnemonic_on, of_line};
-ghost use Rattle.lsp_answers.specs.Meanings.{said_of, said_on};
+ghost use Rattle.lsp_answers.specs.Meanings.{found_in, line_alone, meaning_of, mnemonic_on};
+ghost use Rattle.lsp_answers.specs.Meanings.{of_line, of_name, said, said_of, said_on};
 ghost use Rattle.lsp_answers.specs.Said.{instruction_words};
 ghost use Rattle.lsp_answers.specs.Texts.{text_view};
-ghost use Rattle.lsp_messages.specs.Values.{hover_data};
+ghost use Rattle.name_uses.specs.Views.{use_view};
 ghost use Rattle.serde_json.specs.Data.{Data};
 ghost use Rattle.serde_json.specs.View.{view};
 ghost use Rattle.source_faults.specs.Views.{found_all, found_view};
 
+use crate::above::name_lines;
+use crate::markdown::words_marked;
 use crate::said::{Placed, instruction_words, name_words};
 use crate::source_text::{SOURCE_SIZE, Text};
+use crate::texts::text_of;
 use lexer::tokens;
 use line_parts::{Statement, Token};
-use lsp_messages::{column_of, hover as hover_of};
+use lsp_messages::{column_of, hover as hover_of, lines_between};
 use model::{LineFault, Profile};
+use name_uses::NameUse;
 use optable::{decode_in, mnemonic_in};
 use serde_json::Value;
 use source_faults::{Found, Mending, lay_out};
 use std::alloc::{AllocError, Global};
 use symbols::Symbols;
 
-/// Returns what is said at a place, in these words, with the range that it is said of.
+/// Returns what is said at a place, in these words, with the range that it is said of: in Markdown
+/// with lines of the source before them, or in plain text.
 fn said(
     alloc: Global,
+    markdown: bool,
+    lines: &[u8],
     words: Result<Vec<u8>, AllocError>,
     range: Result<Value, AllocError>,
 ) -> Result<Value, AllocError>
     ensures { (text : List ℕ) (r : Data) → IfOk words (λ w. w.items ≡ text)
         → IfOk range (λ v. view v ≡ r)
-        → IfOk result (λ v. view v ≡ hover_data (utf8_lossy text) r) }
+        → IfOk result (λ v. view v ≡ said markdown lines.now text r) }
 {
-    let words = match words {
-        Ok(words) => String::from_utf8_lossy(alloc, &words),
-        Err(error) => Err(error),
-    };
-    hover_of(alloc, words, range)
+    if markdown {
+        let words = text_of(alloc, words_marked(alloc, lines, words));
+        hover_of(alloc, "markdown", words, range)
+    } else {
+        hover_of(alloc, "plaintext", text_of(alloc, words), range)
+    }
 }
 
 /// Returns the first token of a line that is a mnemonic, and has a column or ends there. A line
@@ -90,6 +97,14 @@ fn placed_in(profile: Profile, found: &Found<'_>) -> Option<Placed>
     }
 }
 
+/// Returns the line of a text by its number, counted from 1.
+fn line_alone(written: &[u8], number: u32) -> &[u8]
+    ensures { result.now ≡ line_alone written.now number }
+{
+    let row = (number as u64).saturating_sub(1);
+    lines_between(written, row, row)
+}
+
 /// Returns the instruction of a line by its number, if it has one.
 fn placed_on(profile: Profile, found: &[Found<'_>], number: u32) -> Option<Placed>
     ensures { option_map (λ p. instruction_words profile p.opcode p.address p.row) result
@@ -105,13 +120,16 @@ fn placed_on(profile: Profile, found: &[Found<'_>], number: u32) -> Option<Place
 /// column; `null` if none is there, and where there is no such line or no instruction in it.
 fn line_said(
     alloc: Global,
+    markdown: bool,
+    written: &[u8],
     text: &Text<'_>,
     found: &[Found<'_>],
     number: Option<u32>,
     character: u64,
 ) -> Result<Value, AllocError>
     requires { found_all found.now ≡ found_in (text_view text.now) }
-    ensures { IfOk result (λ v. view v ≡ of_line (text_view text.now) character number) }
+    ensures { IfOk result (λ v. view v
+        ≡ of_line markdown written.now (text_view text.now) character number) }
 {
     let Some(number) = number else {
         return Ok(Value::Null);
@@ -124,18 +142,50 @@ fn line_said(
         (Some(token), Some(placed)) => {
             let words = instruction_words(alloc, text.profile, placed);
             let range = text.range(alloc, number, token.start, token.text.len());
-            said(alloc, words, range)
+            said(alloc, markdown, line_alone(written, number), words, range)
         }
         _ => Ok(Value::Null),
     }
 }
 
-/// Returns what is meant at a place: of a name its number and where it is defined, of an
-/// instruction its form, address, opcode, bytes and cycles, and the flags that it may change;
-/// `null` elsewhere, and of a source that is too long. The only error is that a request for memory
-/// was refused.
-pub fn hover(alloc: Global, text: &Text<'_>, line: u64, character: u64) -> Result<Value, AllocError>
-    ensures { IfOk result (λ v. view v ≡ meaning_of (text_view text.now) line character) }
+/// Returns what is said of a name, by the numbers of the names.
+fn name_said(
+    alloc: Global,
+    markdown: bool,
+    written: &[u8],
+    text: &Text<'_>,
+    symbols: &Symbols,
+    one: &NameUse<'_>,
+) -> Result<Value, AllocError>
+    ensures { IfOk result (λ v. view v ≡ of_name markdown written.now symbols.now
+        (text_view text.now) (use_view one.now)) }
+{
+    let words = name_words(alloc, &text.uses, symbols, one.text);
+    let range = text.range_of(alloc, one);
+    said(
+        alloc,
+        markdown,
+        name_lines(written, text, one),
+        words,
+        range,
+    )
+}
+
+/// Returns what is meant at a place of a text, which its client has as `written`: of a name its
+/// number and where it is defined, of an instruction its form, address, opcode, bytes and cycles,
+/// and the flags that it may change; `null` elsewhere, and of a source that is too long. In Markdown
+/// the line of the instruction stands before it, and before a name the line that defines it, with
+/// the comments above. The only error is that a request for memory was refused.
+pub fn hover(
+    alloc: Global,
+    markdown: bool,
+    written: &[u8],
+    text: &Text<'_>,
+    line: u64,
+    character: u64,
+) -> Result<Value, AllocError>
+    ensures { IfOk result (λ v. view v
+        ≡ meaning_of markdown written.now (text_view text.now) line character) }
 {
     if text.source.len() > SOURCE_SIZE {
         return Ok(Value::Null);
@@ -146,10 +196,10 @@ pub fn hover(alloc: Global, text: &Text<'_>, line: u64, character: u64) -> Resul
         return Err(AllocError);
     };
     match text.name_at(line, character) {
-        Some(one) => {
-            let words = name_words(alloc, &text.uses, &symbols, one.text);
-            said(alloc, words, text.range_of(alloc, &one))
+        Some(one) => name_said(alloc, markdown, written, text, &symbols, &one),
+        None => {
+            let number = text.number(line);
+            line_said(alloc, markdown, written, text, &found, number, character)
         }
-        None => line_said(alloc, text, &found, text.number(line), character),
     }
 }

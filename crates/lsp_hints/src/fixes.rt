@@ -8,10 +8,9 @@ ghost use Rattle.serde_json.specs.Data.{Data};
 ghost use Rattle.serde_json.specs.View.{view};
 
 use crate::hints::is_between;
-use crate::values::text_of;
 use bus::MapSpec;
 use json_messages::{Object, ValueList};
-use lsp_answers::{Diagnostic, Text, diagnostics};
+use lsp_answers::{Diagnostic, Text, diagnostics, text_of};
 use lsp_messages::{changes, edit};
 use serde_json::Value;
 use source_notes::concat;

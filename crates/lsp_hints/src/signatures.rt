@@ -9,11 +9,12 @@ ghost use Rattle.serde_json.specs.Data.{Data};
 ghost use Rattle.serde_json.specs.View.{view};
 
 use crate::operation::{Operation, operation_at};
-use crate::values::{signature, text_of};
+use crate::values::signature;
 use crate::wording::{
     BYTE_FORM, DBYTE_FORM, DEFINITION_FORM, END_FORM, ORIGIN_FORM, RES_FORM, WORD_FORM,
 };
 use json_messages::{Object, ValueList};
+use lsp_answers::text_of;
 use lsp_messages::column_of;
 use model::{Mnemonic, Mode, Profile};
 use opcode_facts::{all_modes, operand_form};

@@ -1,5 +1,5 @@
 -- What a message asks for. Source: Language Server Protocol 3.17.
-use Rattle.std.specs.Prelude.{ℕ, bytes_eq, false, if◌then◌else◌, List, codes, Option, Some, None, unwrap_or}
+use Rattle.std.specs.Prelude.{ℕ, bytes_eq, Bool, false, if◌then◌else◌, List, codes, Option, Some, None, unwrap_or}
 use Rattle.serde_json.specs.Data.{Data, Items}
 use Rattle.json_messages.specs.Fields.{flag_at, text_at}
 use Rattle.lsp_messages.specs.Fields.{changes_in, lines_of, position_of, uri_of}
@@ -31,10 +31,20 @@ pub data RequestView : Type 0 where
 
 -- ---- what a client can do, where it says so
 
+-- The forms that a client lists for what is said at a place begin with the one that it likes best.
+abbrev pub is_markdown : Option (List ℕ) → Bool
+is_markdown None = false
+is_markdown (Some form) = bytes_eq form (codes "markdown")
+
+abbrev pub takes_markdown : Data → Bool
+takes_markdown message = is_markdown
+    (text_at (codes "/params/capabilities/textDocument/hover/contentFormat/0") message)
+
 abbrev pub client_of : Data → Client
 client_of message = record {
   prepares = unwrap_or (flag_at
       (codes "/params/capabilities/textDocument/rename/prepareSupport") message) false;
+  markdown = takes_markdown message;
 }
 
 -- ---- by what a method needs: without it a message is invalid

@@ -1,8 +1,8 @@
 -- Places in a text. Source: Language Server Protocol 3.17, "Text Documents" (lines end with LF, CR LF
 -- or CR), "Position".
-use Rattle.std.specs.Prelude.{ℕ, zero, suc, ◌+◌, ◌-◌, ◌==◌, ◌||◌, Bool, not, if◌then◌else◌, List, [], ◌∷◌, length, take, drop}
+use Rattle.std.specs.Prelude.{ℕ, zero, suc, ◌+◌, ◌-◌, ◌==◌, ◌||◌, nat_le, Bool, not, if◌then◌else◌, List, [], ◌∷◌, length, take, drop, slice_range}
 use Rattle.std.specs.List.{prefix_len}
-use Rattle.lsp_messages.specs.Columns.{column_of}
+use Rattle.lsp_messages.specs.Columns.{column_of, most}
 use Rattle.lsp_messages.specs.declared.text_places.Place.{Place}
 
 -- ---- lines
@@ -47,3 +47,17 @@ place_from size character rest = (size - length rest) + column_in character rest
 -- How many bytes of a text stand before a place. A line behind the last one is the end of the text.
 abbrev pub place_in : List ℕ → Place → ℕ
 place_in text place = place_from (length text) place.character (from_line place.line text)
+
+-- ---- lines of a text, counted from 0
+
+-- How many bytes of a text stand before a line, and before its end.
+abbrev pub start_of_line : List ℕ → ℕ → ℕ
+start_of_line text line = place_in text (record { line = line; character = 0 })
+
+abbrev pub end_of_line : List ℕ → ℕ → ℕ
+end_of_line text line = place_in text (record { line = line; character = most })
+
+-- The lines from one to another, without the end of the last one.
+abbrev pub lines_between : List ℕ → ℕ → ℕ → List ℕ
+lines_between text first last = if nat_le (start_of_line text first) (end_of_line text last)
+    then slice_range text (start_of_line text first) (end_of_line text last) else []

@@ -37,10 +37,11 @@ abbrev pub ready_data : List ℕ → Data → Data
 ready_data name range
     = object_of ((codes "placeholder", word name) ∷ (codes "range", range) ∷ [])
 
-abbrev pub hover_data : List ℕ → Data → Data
-hover_data words range = object_of ((
+-- What is said, in a form: `plaintext` or `markdown`.
+abbrev pub hover_data : List ℕ → List ℕ → Data → Data
+hover_data form words range = object_of ((
   codes "contents",
-  object_of ((codes "kind", word (codes "plaintext")) ∷ (codes "value", word words) ∷ []),
+  object_of ((codes "kind", word form) ∷ (codes "value", word words) ∷ []),
 ) ∷ (codes "range", range) ∷ [])
 
 abbrev pub item_data : List ℕ → ℕ → List ℕ → Data

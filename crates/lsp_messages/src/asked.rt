@@ -56,6 +56,8 @@ pub enum Question {
 pub struct Client {
     /// It asks whether a name may get another one before it asks for the other name.
     pub prepares: bool,
+    /// It would rather have Markdown than plain text where something is said at a place.
+    pub markdown: bool,
 }
 
 /// What a message asks for.

@@ -25,3 +25,4 @@ pub use places::{location, position, range};
 pub use replies::{Failure, failure_reply, notice, result_reply};
 pub use requests::read_request;
 pub use text_changes::changed_text;
+pub use text_places::lines_between;

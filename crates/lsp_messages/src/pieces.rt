@@ -70,17 +70,18 @@ pub fn ready(
         .build()
 }
 
-/// Returns what is said at a place, with the range that it is said of.
+/// Returns what is said at a place in a form of the protocol, with the range that it is said of.
 pub fn hover(
     alloc: Global,
+    form: &str,
     words: Result<String, AllocError>,
     range: Result<Value, AllocError>,
 ) -> Result<Value, AllocError>
     ensures { (text : List ℕ) (r : Data) → IfOk words (λ s. string_bytes s ≡ text)
-        → IfOk range (λ v. view v ≡ r) → IfOk result (λ v. view v ≡ hover_data text r) }
+        → IfOk range (λ v. view v ≡ r) → IfOk result (λ v. view v ≡ hover_data form.now text r) }
 {
     let contents = Object::new(alloc)
-        .word("kind", "plaintext")
+        .word("kind", form)
         .text("value", words)
         .build();
     Object::new(alloc)

@@ -7,6 +7,7 @@ ghost use Rattle.lsp_messages.specs.Fields.{changes_in, uri_of};
 ghost use Rattle.lsp_messages.specs.Requests.{asked_at, asked_of, asked_within, change_of};
 ghost use Rattle.lsp_messages.specs.Requests.{client_of, open_by, position_by_method, prepare_of};
 ghost use Rattle.lsp_messages.specs.Requests.{question_by_method, rename_of, request_of};
+ghost use Rattle.lsp_messages.specs.Requests.{takes_markdown};
 ghost use Rattle.lsp_messages.specs.Views.{request_view};
 
 use crate::asked::{At, Client, Question, Request, Whole, Within};
@@ -19,12 +20,26 @@ const URI: &str = "/params/textDocument/uri";
 /// The path of what a client says of renames.
 const PREPARES: &str = "/params/capabilities/textDocument/rename/prepareSupport";
 
+/// The path of the form that a client likes best for what is said at a place.
+const BEST_FORM: &str = "/params/capabilities/textDocument/hover/contentFormat/0";
+
+/// Returns whether a client would rather have Markdown than plain text.
+fn takes_markdown(message: &Value) -> bool
+    ensures { result ≡ takes_markdown (view message.now) }
+{
+    match text_at(message, BEST_FORM) {
+        Some(form) => form == "markdown",
+        None => false,
+    }
+}
+
 /// Reads what a client says that it can do.
 fn client_of(message: &Value) -> Client
     ensures { result ≡ client_of (view message.now) }
 {
     Client {
         prepares: flag_or(message, PREPARES, false),
+        markdown: takes_markdown(message),
     }
 }
 

@@ -1,6 +1,7 @@
 //! Places in a text, as the protocol counts them.
 
 ghost use Rattle.std.specs.Prelude.{◌≡◌, ◌≤◌, length};
+ghost use Rattle.lsp_messages.specs.TextPlaces.{end_of_line, lines_between, start_of_line};
 ghost use Rattle.lsp_messages.specs.TextPlaces.{behind_end, behind_line, column_in, from_line};
 ghost use Rattle.lsp_messages.specs.TextPlaces.{is_in_line, line_size, place_in, without_feed};
 
@@ -97,4 +98,36 @@ pub fn place_in(text: &[u8], place: Place) -> usize
     let rest = from_line(text, place.line);
     let before = text.len() - rest.len();
     before + column_in(rest, place.character)
+}
+
+/// Returns how many bytes of a text stand before a line, counted from 0.
+fn start_of_line(text: &[u8], line: u64) -> usize
+    ensures start { result ≡ start_of_line text.now line }
+    ensures within { result ≤ length text.now }
+{
+    place_in(text, Place { line, character: 0 })
+}
+
+/// Returns how many bytes of a text stand before the end of a line, counted from 0.
+fn end_of_line(text: &[u8], line: u64) -> usize
+    ensures end { result ≡ end_of_line text.now line }
+    ensures within { result ≤ length text.now }
+{
+    place_in(
+        text,
+        Place {
+            line,
+            character: u64::MAX,
+        },
+    )
+}
+
+/// Returns the lines of a text from one to another, both counted from 0, without the end of the
+/// last one.
+pub fn lines_between(text: &[u8], first: u64, last: u64) -> &[u8]
+    ensures { result.now ≡ lines_between text.now first last }
+{
+    let start = start_of_line(text, first);
+    let end = end_of_line(text, last);
+    if start <= end { &text[start..end] } else { &[] }
 }

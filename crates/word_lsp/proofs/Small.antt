@@ -12,7 +12,7 @@ use Rattle.serde_json.specs.Data.{Data}
 
 small_in : (phase : Phase) → status_in phase ≤ 1
 small_in Fresh = omega arith
-small_in Running = omega arith
+small_in (Running client) = omega arith
 small_in ShutDown = omega arith
 
 small_if : (ends : Bool) (phase : Phase) (status : ℕ) → (if ends then Some (status_in phase) else None) ≡ Some status → status ≤ 1

@@ -1,8 +1,8 @@
 -- What is answered to requests. Source: Language Server Protocol 3.17; JSON-RPC 2.0.
-use Rattle.std.specs.Prelude.{◌≡◌, ◌⊎◌, ℕ, Bool, true, false, List}
+use Rattle.std.specs.Prelude.{◌≡◌, ◌⊎◌, ℕ, List}
 use Rattle.word_lsp.specs.Capabilities.{capabilities}
 use Rattle.word_lsp.specs.Shown.{colours_in, folds_in, hints_in, signatures_in}
-use Rattle.word_lsp.specs.State.{Opened, State, source_in}
+use Rattle.word_lsp.specs.State.{Opened, State, source_in, written_in}
 use Rattle.word_lsp.specs.declared.phase.Phase.{Phase}
 use Rattle.word_lsp.specs.declared.phase.Phase.TheVariants.{Fresh, Running, ShutDown}
 use Rattle.lsp_answers.specs.Lists.{completion_of, symbols_of}
@@ -13,6 +13,7 @@ use Rattle.lsp_answers.specs.Texts.{TextView, name_at, text_of}
 use Rattle.lsp_hints.specs.Fixes.{AreFixes}
 use Rattle.lsp_messages.specs.Requests.{RequestView, initialize, shutdown, asks, prepares, renames, invalid, unknown}
 use Rattle.lsp_messages.specs.declared.asked.At.{At}
+use Rattle.lsp_messages.specs.declared.asked.Client.{Client}
 use Rattle.lsp_messages.specs.declared.asked.At.TheVariants as positions
 use Rattle.lsp_messages.specs.declared.asked.Question.{Question}
 use Rattle.lsp_messages.specs.declared.asked.Question.TheVariants as questions
@@ -40,33 +41,44 @@ text_on bus_map ds uri = text_of bus_map.profile (source_in ds uri)
 
 -- ---- the results of questions about a document with this name and this text
 
+-- A client asks of a document, by its name, which has a text as the client has it.
+pub record Asked : Type 0 where
+  pub client : Client
+  pub uri : List ℕ
+  pub written : List ℕ
+
+abbrev pub asked_by : Client → List Opened → List ℕ → Asked
+asked_by client ds uri
+    = record { client = client; uri = uri; written = written_in ds uri }
+
 abbrev pub of_document : TextView → Whole → Data
 of_document t documents.Symbols = symbols_of t
 of_document t documents.Completion = completion_of t
 of_document t documents.Colours = colours_in t
 of_document t documents.Folds = folds_in t
 
-abbrev pub IsOfPosition : List ℕ → TextView → ℕ → ℕ → At → Data → Type 0
-IsOfPosition uri t line character positions.Hover given = given ≡ meaning_of t line character
-IsOfPosition uri t line character positions.Definition given
-    = given ≡ definition_at uri t line character
-IsOfPosition uri t line character (positions.References declares) given
-    = given ≡ references_at uri t line character declares
-IsOfPosition uri t line character positions.Highlights given
+abbrev pub IsOfPosition : Asked → TextView → ℕ → ℕ → At → Data → Type 0
+IsOfPosition asked t line character positions.Hover given
+    = given ≡ meaning_of asked.client.markdown asked.written t line character
+IsOfPosition asked t line character positions.Definition given
+    = given ≡ definition_at asked.uri t line character
+IsOfPosition asked t line character (positions.References declares) given
+    = given ≡ references_at asked.uri t line character declares
+IsOfPosition asked t line character positions.Highlights given
     = given ≡ highlights_at t line character
-IsOfPosition uri t line character positions.Signatures given
+IsOfPosition asked t line character positions.Signatures given
     = given ≡ signatures_in t line character
 
 abbrev pub IsOfLines : Map → List ℕ → TextView → ℕ × ℕ → Within → Data → Type 0
 IsOfLines bus_map uri t lines ranges.Hints given = given ≡ hints_in t lines
 IsOfLines bus_map uri t lines ranges.Fixes given = AreFixes bus_map uri t lines given
 
-abbrev pub IsAnswerTo : Map → List ℕ → TextView → Question → Data → Type 0
-IsAnswerTo bus_map uri t (questions.Whole what) given = given ≡ of_document t what
-IsAnswerTo bus_map uri t (questions.At what line character) given
-    = IsOfPosition uri t line character what given
-IsAnswerTo bus_map uri t (questions.Within what from to) given
-    = IsOfLines bus_map uri t (from, to) what given
+abbrev pub IsAnswerTo : Map → Asked → TextView → Question → Data → Type 0
+IsAnswerTo bus_map asked t (questions.Whole what) given = given ≡ of_document t what
+IsAnswerTo bus_map asked t (questions.At what line character) given
+    = IsOfPosition asked t line character what given
+IsAnswerTo bus_map asked t (questions.Within what from to) given
+    = IsOfLines bus_map asked.uri t (from, to) what given
 
 -- ---- the answers to requests
 
@@ -84,21 +96,17 @@ IsRenamed bus_map uri t line character name id v =
     ⊎ (IsKeptAt bus_map t (name_at t line character) name × IsFailure id failures.Refused v)
 
 -- The answer of a server that is in use.
-abbrev pub IsRunning : Map → List Opened → Data → RequestView → Data → Type 0
-IsRunning bus_map ds id (asks uri question) v
-    = IsResult id (IsAnswerTo bus_map uri (text_on bus_map ds uri) question) v
-IsRunning bus_map ds id (prepares uri line character) v
+abbrev pub IsRunning : Map → Client → List Opened → Data → RequestView → Data → Type 0
+IsRunning bus_map client ds id (asks uri question) v = IsResult id
+    (IsAnswerTo bus_map (asked_by client ds uri) (text_on bus_map ds uri) question) v
+IsRunning bus_map client ds id (prepares uri line character) v
     = IsPrepared bus_map (text_on bus_map ds uri) line character id v
-IsRunning bus_map ds id (renames uri line character name) v
+IsRunning bus_map client ds id (renames uri line character name) v
     = IsRenamed bus_map uri (text_on bus_map ds uri) line character name id v
-IsRunning bus_map ds id shutdown v = v ≡ result_data id null
-IsRunning bus_map ds id invalid v = IsFailure id failures.WrongParameters v
-IsRunning bus_map ds id unknown v = IsFailure id failures.UnknownMethod v
-IsRunning bus_map ds id request v = IsFailure id failures.NoRequest v
-
-abbrev pub is_initialize : RequestView → Bool
-is_initialize (initialize client) = true
-is_initialize request = false
+IsRunning bus_map client ds id shutdown v = v ≡ result_data id null
+IsRunning bus_map client ds id invalid v = IsFailure id failures.WrongParameters v
+IsRunning bus_map client ds id unknown v = IsFailure id failures.UnknownMethod v
+IsRunning bus_map client ds id request v = IsFailure id failures.NoRequest v
 
 -- The answer of a server of which nothing was asked: `initialize` comes first.
 abbrev pub IsFresh : Data → RequestView → Data → Type 0
@@ -108,7 +116,7 @@ IsFresh id request v = IsFailure id failures.NotInitialized v
 -- The answer in each phase. After `shutdown` each request fails.
 abbrev pub IsReplyIn : Map → Phase → List Opened → Data → RequestView → Data → Type 0
 IsReplyIn bus_map Fresh ds id request v = IsFresh id request v
-IsReplyIn bus_map Running ds id request v = IsRunning bus_map ds id request v
+IsReplyIn bus_map (Running client) ds id request v = IsRunning bus_map client ds id request v
 IsReplyIn bus_map ShutDown ds id request v = IsFailure id failures.NoRequest v
 
 -- The answer to a request.

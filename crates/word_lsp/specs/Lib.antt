@@ -5,4 +5,5 @@ pub mod Messages
 pub mod Sessions
 pub mod Shown
 pub mod State
+pub mod Views
 pub mod Writing

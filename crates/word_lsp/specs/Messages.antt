@@ -4,13 +4,13 @@
 -- an answer.
 use Rattle.std.specs.Prelude.{◌≡◌, ℕ, ◌&&◌, ◌||◌, not, is_some, Bool, true, false, if◌then◌else◌, List, [], ◌∷◌, codes, Option, Some, None}
 use Rattle.clean_source.specs.Cleaned.{cleaned}
-use Rattle.word_lsp.specs.Answers.{IsFailure, IsReply, is_initialize}
+use Rattle.word_lsp.specs.Answers.{IsFailure, IsReply}
 use Rattle.word_lsp.specs.State.{Opened, State, closed, known, opened, text_in}
 use Rattle.word_lsp.specs.declared.phase.Phase.{Phase}
 use Rattle.word_lsp.specs.declared.phase.Phase.TheVariants.{Fresh, Running, ShutDown}
 use Rattle.lsp_answers.specs.Marks.{AreMarks}
 use Rattle.lsp_answers.specs.Texts.{text_of}
-use Rattle.lsp_messages.specs.Requests.{RequestView, shutdown, exit, opens, changes, closes, request_of}
+use Rattle.lsp_messages.specs.Requests.{RequestView, initialize, shutdown, exit, opens, changes, closes, request_of}
 use Rattle.lsp_messages.specs.TextChanges.{changed_text}
 use Rattle.lsp_messages.specs.Replies.{notice_data}
 use Rattle.json_messages.specs.Values.{list_of}
@@ -27,10 +27,15 @@ abbrev pub is_shutdown : RequestView → Bool
 is_shutdown shutdown = true
 is_shutdown request = false
 
+-- A client that comes says what it can do.
+abbrev pub phase_begun : RequestView → Phase
+phase_begun (initialize client) = Running client
+phase_begun request = Fresh
+
 -- How far a client has come after a request.
 abbrev pub phase_after : Phase → RequestView → Phase
-phase_after Fresh request = if is_initialize request then Running else Fresh
-phase_after Running request = if is_shutdown request then ShutDown else Running
+phase_after Fresh request = phase_begun request
+phase_after (Running client) request = if is_shutdown request then ShutDown else Running client
 phase_after ShutDown request = ShutDown
 
 -- The text of a document after changes, if it is known then.
@@ -47,7 +52,7 @@ documents_after ds request = ds
 
 -- A notice counts while the server is in use.
 abbrev pub documents_in : Phase → List Opened → RequestView → List Opened
-documents_in Running ds request = documents_after ds request
+documents_in (Running client) ds request = documents_after ds request
 documents_in Fresh ds request = ds
 documents_in ShutDown ds request = ds
 
@@ -91,7 +96,7 @@ AreTold bus_map ds (closes uri) vs = vs ≡ published (marks_data uri (list_of [
 AreTold bus_map ds request vs = vs ≡ []
 
 abbrev pub AreToldIn : Map → Phase → List Opened → RequestView → List Data → Type 0
-AreToldIn bus_map Running ds request vs = AreTold bus_map ds request vs
+AreToldIn bus_map (Running client) ds request vs = AreTold bus_map ds request vs
 AreToldIn bus_map Fresh ds request vs = vs ≡ []
 AreToldIn bus_map ShutDown ds request vs = vs ≡ []
 
@@ -142,7 +147,7 @@ is_exit request = false
 abbrev pub status_in : Phase → ℕ
 status_in ShutDown = 0
 status_in Fresh = 1
-status_in Running = 1
+status_in (Running client) = 1
 
 -- The exit status that a message asks for, if it asks for the end.
 abbrev pub end_of : State → Data → Option ℕ

@@ -34,6 +34,14 @@ known uri (Some text) ds = opened uri text ds
 abbrev pub text_in : List Opened → List ℕ → Option (List ℕ)
 text_in ds uri = option_map (λ d. d.1) (find (is_named uri) ds)
 
+abbrev pub written_by : Option (List ℕ) → List ℕ
+written_by None = []
+written_by (Some text) = text
+
+-- The text of a document as its client has it; an empty one where it is not open.
+abbrev pub written_in : List Opened → List ℕ → List ℕ
+written_in ds uri = written_by (text_in ds uri)
+
 abbrev pub source_by : Option (List ℕ) → List ℕ
 source_by None = []
 source_by (Some text) = cleaned text

@@ -1,19 +1,20 @@
 //! What is answered to requests.
 
 ghost use Rattle.std.specs.Prelude.{IfOk};
-ghost use Rattle.word_lsp.specs.Answers.{IsFailure, IsReplyIn, IsRunning};
+ghost use Rattle.word_lsp.specs.Answers.{IsFailure, IsPrepared, IsRenamed, IsReplyIn};
+ghost use Rattle.word_lsp.specs.Answers.{IsRunning, text_on};
 ghost use Rattle.word_lsp.specs.State.{documents_view};
-ghost use Rattle.lsp_messages.specs.Requests.{asks, prepares, renames};
+ghost use Rattle.lsp_messages.specs.Requests.{asks};
 ghost use Rattle.lsp_messages.specs.Views.{request_view};
 ghost use Rattle.serde_json.specs.View.{view};
 
 use crate::capabilities::capabilities;
 use crate::documents::Documents;
 use crate::phase::Phase;
-use crate::questions::answer_to;
+use crate::questions::{Asked, answer_to};
 use bus::MapSpec;
 use lsp_answers::{Text, prepare_rename, rename};
-use lsp_messages::{Failure, Question, Request, failure_reply, result_reply};
+use lsp_messages::{Client, Failure, Question, Request, failure_reply, result_reply};
 use serde_json::Value;
 use std::alloc::{AllocError, Global};
 
@@ -21,13 +22,14 @@ use std::alloc::{AllocError, Global};
 fn question_reply(
     alloc: Global,
     map: &MapSpec,
+    client: Client,
     documents: &Documents,
     id: &Value,
     uri: &str,
     question: Question,
 ) -> Result<Value, AllocError>
-    ensures { IfOk result (λ v. IsRunning map.now (documents_view documents.now) (view id.now)
-        (asks uri.now question) (view v)) }
+    ensures { IfOk result (λ v. IsRunning map.now client (documents_view documents.now)
+        (view id.now) (asks uri.now question) (view v)) }
 {
     let Ok(source) = documents.source_of(alloc, uri) else {
         return Err(AllocError);
@@ -35,7 +37,12 @@ fn question_reply(
     let Ok(text) = Text::read(alloc, map.profile(), &source) else {
         return Err(AllocError);
     };
-    match answer_to(alloc, map, uri, &text, question) {
+    let asked = Asked {
+        client,
+        uri,
+        written: documents.written(uri),
+    };
+    match answer_to(alloc, map, &asked, &text, question) {
         Ok(given) => result_reply(alloc, id, given),
         Err(error) => Err(error),
     }
@@ -52,8 +59,9 @@ fn prepare_reply(
     line: u64,
     character: u64,
 ) -> Result<Value, AllocError>
-    ensures { IfOk result (λ v. IsRunning map.now (documents_view documents.now) (view id.now)
-        (prepares uri.now line character) (view v)) }
+    ensures { IfOk result (λ v. IsPrepared map.now
+        (text_on map.now (documents_view documents.now) uri.now) line character (view id.now)
+        (view v)) }
 {
     let Ok(source) = documents.source_of(alloc, uri) else {
         return Err(AllocError);
@@ -80,8 +88,9 @@ fn rename_reply(
     character: u64,
     name: &str,
 ) -> Result<Value, AllocError>
-    ensures { IfOk result (λ v. IsRunning map.now (documents_view documents.now) (view id.now)
-        (renames uri.now line character name.now) (view v)) }
+    ensures { IfOk result (λ v. IsRenamed map.now uri.now
+        (text_on map.now (documents_view documents.now) uri.now) line character name.now
+        (view id.now) (view v)) }
 {
     let Ok(source) = documents.source_of(alloc, uri) else {
         return Err(AllocError);
@@ -119,16 +128,17 @@ pub fn failed(alloc: Global, id: &Value, failure: Failure) -> Result<Value, Allo
 fn running_reply(
     alloc: Global,
     map: &MapSpec,
+    client: Client,
     documents: &Documents,
     id: &Value,
     request: Request<'_>,
 ) -> Result<Value, AllocError>
-    ensures { IfOk result (λ v. IsRunning map.now (documents_view documents.now) (view id.now)
-        (request_view request.entry) (view v)) }
+    ensures { IfOk result (λ v. IsRunning map.now client (documents_view documents.now)
+        (view id.now) (request_view request.entry) (view v)) }
 {
     match request {
         Request::Question { uri, question } => {
-            question_reply(alloc, map, documents, id, uri, question)
+            question_reply(alloc, map, client, documents, id, uri, question)
         }
         Request::Prepare {
             uri,
@@ -173,7 +183,7 @@ pub fn reply(
             },
             _ => failed(alloc, id, Failure::NotInitialized),
         },
-        Phase::Running => running_reply(alloc, map, documents, id, request),
+        Phase::Running(client) => running_reply(alloc, map, client, documents, id, request),
         Phase::ShutDown => failed(alloc, id, Failure::NoRequest),
     }
 }

@@ -4,6 +4,7 @@ ghost use Rattle.std.specs.Prelude.{◌≡◌, IfOk, OnOk};
 ghost use Rattle.std.specs.Option.{option_map};
 ghost use Rattle.lsp_messages.specs.TextChanges.{text_view};
 ghost use Rattle.word_lsp.specs.State.{closed, documents_view, known, source_in, text_in};
+ghost use Rattle.word_lsp.specs.State.{written_in};
 
 use clean_source::clean_source;
 use std::alloc::{AllocError, Global};
@@ -58,6 +59,16 @@ impl Documents {
             }
         }
         None
+    }
+
+    /// Returns the text of a document as its client has it; an empty one where it is not open.
+    pub fn written(&self, uri: &str) -> &[u8]
+        ensures { result.now ≡ written_in (documents_view self.now) uri.now }
+    {
+        match self.text_of(uri) {
+            Some(text) => text,
+            None => &[],
+        }
     }
 
     /// Returns the source that is read in the place of the text of a document; an empty one where

@@ -4,15 +4,15 @@ ghost use Rattle.std.specs.Prelude.{◌≡◌};
 ghost use Rattle.word_lsp.specs.Messages.{phase_after};
 ghost use Rattle.lsp_messages.specs.Views.{request_view};
 
-use lsp_messages::Request;
+use lsp_messages::{Client, Request};
 
 /// How far a client has come.
 #[derive(Clone, Copy)]
 pub enum Phase {
     /// Nothing was asked for yet.
     Fresh,
-    /// The server is in use.
-    Running,
+    /// The server is in use, by a client that can do this.
+    Running(Client),
     /// `shutdown` was asked for.
     ShutDown,
 }
@@ -23,10 +23,12 @@ impl Phase {
         ensures { result ≡ phase_after self (request_view request.entry) }
     {
         match self {
-            Phase::Fresh if matches!(request, Request::Initialize { .. }) => Phase::Running,
-            Phase::Fresh => Phase::Fresh,
-            Phase::Running if matches!(request, Request::Shutdown) => Phase::ShutDown,
-            Phase::Running => Phase::Running,
+            Phase::Fresh => match request {
+                Request::Initialize { client } => Phase::Running(client),
+                _ => Phase::Fresh,
+            },
+            Phase::Running(_) if matches!(request, Request::Shutdown) => Phase::ShutDown,
+            Phase::Running(client) => Phase::Running(client),
             Phase::ShutDown => Phase::ShutDown,
         }
     }

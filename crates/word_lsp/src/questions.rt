@@ -2,6 +2,7 @@
 
 ghost use Rattle.std.specs.Prelude.{◌≡◌, IfOk};
 ghost use Rattle.word_lsp.specs.Answers.{IsAnswerTo};
+ghost use Rattle.word_lsp.specs.Views.{asked_view};
 ghost use Rattle.word_lsp.specs.Shown.{line_in};
 ghost use Rattle.lsp_answers.specs.Texts.{text_view};
 ghost use Rattle.serde_json.specs.View.{view};
@@ -9,7 +10,7 @@ ghost use Rattle.serde_json.specs.View.{view};
 use bus::MapSpec;
 use lsp_answers::{Text, completion, definition, highlights, hover, references, symbols};
 use lsp_hints::{fixes_in, folded, hints_in, painted, signatures_at};
-use lsp_messages::{At, Question, Whole, Within};
+use lsp_messages::{At, Client, Question, Whole, Within};
 use serde_json::Value;
 use std::alloc::{AllocError, Global};
 
@@ -23,18 +24,28 @@ fn line_in<'a>(text: &Text<'a>, line: u64) -> &'a [u8]
     }
 }
 
+/// A client that asks of a document.
+pub struct Asked<'a> {
+    pub client: Client,
+    /// The name of the document.
+    pub uri: &'a str,
+    /// Its text as the client has it.
+    pub written: &'a [u8],
+}
+
 /// Returns what is answered to a question about a document with this text. The only error is that
 /// a request for memory was refused.
 pub fn answer_to(
     alloc: Global,
     map: &MapSpec,
-    uri: &str,
+    asked: &Asked<'_>,
     text: &Text<'_>,
     question: Question,
 ) -> Result<Value, AllocError>
-    ensures { IfOk result
-        (λ v. IsAnswerTo map.now uri.now (text_view text.now) question (view v)) }
+    ensures { IfOk result (λ v. IsAnswerTo map.now (asked_view asked.now) (text_view text.now)
+        question (view v)) }
 {
+    let uri = asked.uri;
     match question {
         Question::Whole(what) => match what {
             Whole::Symbols => symbols(alloc, text),
@@ -47,7 +58,14 @@ pub fn answer_to(
             line,
             character,
         } => match what {
-            At::Hover => hover(alloc, text, line, character),
+            At::Hover => hover(
+                alloc,
+                asked.client.markdown,
+                asked.written,
+                text,
+                line,
+                character,
+            ),
             At::Definition => definition(alloc, uri, text, line, character),
             At::References { declares } => references(alloc, uri, text, line, character, declares),
             At::Highlights => highlights(alloc, text, line, character),

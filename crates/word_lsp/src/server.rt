@@ -141,7 +141,7 @@ fn note(
         (each view vs.items)) }
 {
     match phase {
-        Phase::Running => {}
+        Phase::Running(_) => {}
         Phase::Fresh | Phase::ShutDown => return Ok(Vec::new(alloc)),
     }
     match request {
@@ -236,7 +236,7 @@ pub fn asks_for_end(server: &Server, message: &Value) -> Option<u8>
     match read_request(message) {
         Request::Exit => match server.phase {
             Phase::ShutDown => Some(0),
-            Phase::Fresh | Phase::Running => Some(1),
+            Phase::Fresh | Phase::Running(_) => Some(1),
         },
         _ => None,
     }

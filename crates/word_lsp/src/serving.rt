@@ -120,7 +120,7 @@ fn attend<R: Read, O: Write>(
             },
             Ok(None) => match server.phase {
                 Phase::ShutDown => return Ok(0),
-                Phase::Fresh | Phase::Running => return Err(StreamFault::Cut),
+                Phase::Fresh | Phase::Running(_) => return Err(StreamFault::Cut),
             },
             Err(fault) => return Err(fault),
         }

@@ -19,4 +19,4 @@ returns-in-Some-Some c =
     let words : said_on t.profile (found_in t) n ≡ Some (instruction_words t.profile p.opcode p.address p.row) =
     sym (ap (λ (fs : List Found). said_on t.profile fs n) c.requires) ∙ sym c.placed_on.ensures
     ∙ ap (option_map (λ (p : Placed). instruction_words t.profile p.opcode p.address p.row)) c.in-Some-Some.is-1 in
-    rw (c.in-Some.is, token, words) (c.said.ensures _ _ c.instruction_words-words.ensures c.range-range.ensures)
+    rw (c.in-Some.is, token, words, ← c.line_alone.ensures) (c.said.ensures _ _ c.instruction_words-words.ensures c.range-range.ensures)
