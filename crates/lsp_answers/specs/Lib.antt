@@ -2,6 +2,7 @@ pub mod Above
 pub mod Diagnostics
 pub mod Kinds
 pub mod Lists
+pub mod Literals
 pub mod Markdown
 pub mod Marks
 pub mod Meanings

@@ -5,6 +5,7 @@ use Rattle.std.specs.List.{find}
 use Rattle.std.specs.Option.{option_map}
 use Rattle.std.specs.Str.Lossy.{utf8_lossy}
 use Rattle.lsp_answers.specs.Above.{name_lines}
+use Rattle.lsp_answers.specs.Literals.{directive_words, literal_words}
 use Rattle.lsp_answers.specs.Markdown.{markdown as marked_words}
 use Rattle.lsp_answers.specs.Said.{instruction_words, name_words}
 use Rattle.lsp_answers.specs.Texts.{TextView, line_at, name_at, number_in, range_in, use_range}
@@ -18,6 +19,8 @@ use Rattle.model.specs.Names.{Definitions}
 use Rattle.model.specs.OpcodeTable.{row_at}
 use Rattle.model.specs.Source.{first_context, read_lines}
 use Rattle.model.specs.Token.{Lexeme, tokens_of}
+use Rattle.model.specs.declared.expression.TokenKind.{TokenKind}
+use Rattle.model.specs.declared.expression.TokenKind.TheVariants.{Word, Directive, Number, Char, Str, Symbol}
 use Rattle.model.specs.declared.instruction.Profile.{Profile}
 use Rattle.name_uses.specs.Uses.{Use}
 use Rattle.serde_json.specs.Data.{Data, null}
@@ -50,19 +53,41 @@ said_of profile f = said_by profile f.place.address f.place.content
 abbrev pub said_on : Profile → List Found → ℕ → Option (List ℕ)
 said_on profile found number = option_and_then (said_of profile) (slice_get found (number - 1))
 
--- ---- the mnemonic at a column of a line
+-- ---- the token at a column of a line
 
-abbrev pub is_mnemonic_on : Profile → ℕ → Lexeme → Bool
-is_mnemonic_on profile column t = nat_le t.start column
-    && nat_le (column - t.start) (length t.text) && is_some (mnemonic_named profile t.text)
+-- Something is said of a mnemonic, a directive, a number and a character.
+abbrev pub is_told : Profile → TokenKind → List ℕ → Bool
+is_told profile Word text = is_some (mnemonic_named profile text)
+is_told profile Directive text = true
+is_told profile Number text = true
+is_told profile Char text = true
+is_told profile Str text = false
+is_told profile Symbol text = false
+
+abbrev pub is_told_on : Profile → ℕ → Lexeme → Bool
+is_told_on profile column t = nat_le t.start column
+    && nat_le (column - t.start) (length t.text) && is_told profile t.kind t.text
 
 abbrev pub tokens_or_none : Option (List Lexeme) → List Lexeme
 tokens_or_none None = []
 tokens_or_none (Some ts) = ts
 
-abbrev pub mnemonic_on : Profile → ℕ → List ℕ → Option Lexeme
-mnemonic_on profile column line
-    = find (is_mnemonic_on profile column) (tokens_or_none (tokens_of line))
+abbrev pub token_on : Profile → ℕ → List ℕ → Option Lexeme
+token_on profile column line
+    = find (is_told_on profile column) (tokens_or_none (tokens_of line))
+
+-- What is said of it: of a word the instruction of its line, if there is one; of a directive what it
+-- does; of a number or a character its number.
+abbrev pub words_in : TokenKind → Profile → List Found → ℕ → Lexeme → Option (List ℕ)
+words_in Word profile found number t = said_on profile found number
+words_in Directive profile found number t = directive_words t.text
+words_in Number profile found number t = literal_words t
+words_in Char profile found number t = literal_words t
+words_in Str profile found number t = None
+words_in Symbol profile found number t = None
+
+abbrev pub token_words : Profile → List Found → ℕ → Lexeme → Option (List ℕ)
+token_words profile found number t = words_in t.kind profile found number t
 
 -- ---- what is meant, in Markdown or in plain text, of a text that its client has as `written`
 
@@ -81,7 +106,7 @@ of_name markdown written numbers t u = said markdown (name_lines written t u)
 abbrev pub line_alone : List ℕ → ℕ → List ℕ
 line_alone written number = lines_between written (number - 1) (number - 1)
 
--- Of a mnemonic, the instruction of its line, if there is one.
+-- Of a token, if something is said of it.
 abbrev pub of_words : Bool → List ℕ → TextView → ℕ → Lexeme → Option (List ℕ) → Data
 of_words markdown written t number token None = null
 of_words markdown written t number token (Some words) = said markdown (line_alone written number)
@@ -90,12 +115,12 @@ of_words markdown written t number token (Some words) = said markdown (line_alon
 abbrev pub of_token : Bool → List ℕ → TextView → ℕ → Option Lexeme → Data
 of_token markdown written t number None = null
 of_token markdown written t number (Some token)
-    = of_words markdown written t number token (said_on t.profile (found_in t) number)
+    = of_words markdown written t number token (token_words t.profile (found_in t) number token)
 
 abbrev pub of_line : Bool → List ℕ → TextView → ℕ → Option ℕ → Data
 of_line markdown written t character None = null
 of_line markdown written t character (Some number) = of_token markdown written t number
-    (mnemonic_on t.profile (column_of character (line_at t number)) (line_at t number))
+    (token_on t.profile (column_of character (line_at t number)) (line_at t number))
 
 abbrev pub of_place : Bool → List ℕ → TextView → ℕ → ℕ → Option Use → Data
 of_place markdown written t line character None
@@ -107,8 +132,8 @@ meaning_by true markdown written t line character = null
 meaning_by false markdown written t line character
     = of_place markdown written t line character (name_at t line character)
 
--- What is meant at a place: of a name, or else of a mnemonic; `null` where neither stands, and in a
--- source that is too long.
+-- What is meant at a place: of a name, or else of a token; `null` where nothing is said of either,
+-- and in a source that is too long.
 abbrev pub meaning_of : Bool → List ℕ → TextView → ℕ → ℕ → Data
 meaning_of markdown written t line character
     = meaning_by (nat_lt 1048576 (length t.source)) markdown written t line character

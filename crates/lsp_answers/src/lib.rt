@@ -3,7 +3,8 @@
 //!
 //! `Text` is a source with its lines and names (`specs/Texts.antt`). Each other call makes an
 //! answer's value of it: `marks` (`Marks.antt`), `meanings` (`Meanings.antt`) with what is `said`
-//! of names and instructions (`Said.antt`), in Markdown (`markdown`, `Markdown.antt`) with lines of
+//! of names and instructions (`Said.antt`), of numbers and directives (`literals`,
+//! `Literals.antt`), in Markdown (`markdown`, `Markdown.antt`) with lines of
 //! the source (`above`, `Above.antt`), `names` (`Names.antt`), `renaming` (`Renames.antt`), and
 //! `lists` (`Lists.antt`) with the directives, which may be `written` in any source. `texts` makes
 //! texts of words.
@@ -18,6 +19,7 @@ mod fault_marks;
 mod finding;
 mod kinds;
 mod lists;
+mod literals;
 mod markdown;
 mod marks;
 mod meanings;

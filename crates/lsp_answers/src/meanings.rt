@@ -1,10 +1,11 @@
 //! What is meant at a place.
 
-ghost use Rattle.std.specs.Prelude.{◌≡◌, ℕ, IfOk, List};
+ghost use Rattle.std.specs.Prelude.{◌≡◌, ℕ, IfOk, List, Some};
 ghost use Rattle.std.specs.Option.{option_map};
 ghost use Rattle.line_parts.specs.Lexemes.{lexeme_of};
-ghost use Rattle.lsp_answers.specs.Meanings.{found_in, line_alone, meaning_of, mnemonic_on};
+ghost use Rattle.lsp_answers.specs.Meanings.{found_in, is_told, line_alone, meaning_of};
 ghost use Rattle.lsp_answers.specs.Meanings.{of_line, of_name, said, said_of, said_on};
+ghost use Rattle.lsp_answers.specs.Meanings.{token_on, token_words};
 ghost use Rattle.lsp_answers.specs.Said.{instruction_words};
 ghost use Rattle.lsp_answers.specs.Texts.{text_view};
 ghost use Rattle.name_uses.specs.Views.{use_view};
@@ -13,6 +14,7 @@ ghost use Rattle.serde_json.specs.View.{view};
 ghost use Rattle.source_faults.specs.Views.{found_all, found_view};
 
 use crate::above::name_lines;
+use crate::literals::{directive_words, literal_words};
 use crate::markdown::words_marked;
 use crate::said::{Placed, instruction_words, name_words};
 use crate::source_text::{SOURCE_SIZE, Text};
@@ -20,11 +22,12 @@ use crate::texts::text_of;
 use lexer::tokens;
 use line_parts::{Statement, Token};
 use lsp_messages::{column_of, hover as hover_of, lines_between};
-use model::{LineFault, Profile};
+use model::{LineFault, Profile, TokenKind};
 use name_uses::NameUse;
 use optable::{decode_in, mnemonic_in};
 use serde_json::Value;
 use source_faults::{Found, Mending, lay_out};
+use source_notes::phrase;
 use std::alloc::{AllocError, Global};
 use symbols::Symbols;
 
@@ -49,16 +52,28 @@ fn said(
     }
 }
 
-/// Returns the first token of a line that is a mnemonic, and has a column or ends there. A line
-/// that is not made of tokens has none.
-fn mnemonic_on<'a>(
+/// Returns whether something is said of a token: of a mnemonic, a directive, a number and a
+/// character.
+fn is_told(profile: Profile, token: &Token<'_>) -> bool
+    ensures { result ≡ is_told profile token.now.kind token.now.text.now }
+{
+    match token.kind {
+        TokenKind::Word => mnemonic_in(profile, token.text).is_some(),
+        TokenKind::Directive | TokenKind::Number | TokenKind::Char => true,
+        TokenKind::Str | TokenKind::Symbol => false,
+    }
+}
+
+/// Returns the first token of a line of which something is said, and that has a column or ends
+/// there. A line that is not made of tokens has none.
+fn token_on<'a>(
     alloc: Global,
     profile: Profile,
     column: usize,
     line: &'a [u8],
 ) -> Result<Option<Token<'a>>, AllocError>
     ensures { IfOk result
-        (λ token. option_map lexeme_of token ≡ mnemonic_on profile column line.now) }
+        (λ token. option_map lexeme_of token ≡ token_on profile column line.now) }
 {
     let found = match tokens(alloc, line) {
         Ok(found) => found,
@@ -68,7 +83,7 @@ fn mnemonic_on<'a>(
     for token in &found {
         if token.start <= column
             && column - token.start <= token.text.len()
-            && mnemonic_in(profile, token.text).is_some()
+            && is_told(profile, token)
         {
             return Ok(Some(*token));
         }
@@ -116,8 +131,45 @@ fn placed_on(profile: Profile, found: &[Found<'_>], number: u32) -> Option<Place
     }
 }
 
-/// Returns what is said of the instruction of a line by its number, where a mnemonic is at a
-/// column; `null` if none is there, and where there is no such line or no instruction in it.
+/// Returns words that there are, if memory did not run out for them.
+fn some_words(words: Result<Vec<u8>, AllocError>) -> Result<Option<Vec<u8>>, AllocError>
+    ensures { (text : List ℕ) → IfOk words (λ w. w.items ≡ text)
+        → IfOk result (λ found. option_map (λ w. w.items) found ≡ Some text) }
+{
+    match words {
+        Ok(words) => Ok(Some(words)),
+        Err(error) => Err(error),
+    }
+}
+
+/// Returns what is said of a token of a line, by what is found of the lines: of a word the
+/// instruction of the line, of a directive what it does, and of a number or a character its number.
+fn token_words(
+    alloc: Global,
+    profile: Profile,
+    found: &[Found<'_>],
+    number: u32,
+    token: Token<'_>,
+) -> Result<Option<Vec<u8>>, AllocError>
+    ensures { IfOk result (λ words. option_map (λ w. w.items) words
+        ≡ token_words profile (found_all found.now) number (lexeme_of token.entry)) }
+{
+    match token.kind {
+        TokenKind::Word => match placed_on(profile, found, number) {
+            Some(placed) => some_words(instruction_words(alloc, profile, placed)),
+            None => Ok(None),
+        },
+        TokenKind::Directive => match directive_words(token.text) {
+            Some(words) => some_words(phrase(alloc, words)),
+            None => Ok(None),
+        },
+        TokenKind::Number | TokenKind::Char => literal_words(alloc, token),
+        TokenKind::Str | TokenKind::Symbol => Ok(None),
+    }
+}
+
+/// Returns what is said of the token at a column of a line, by the number of the line; `null` where
+/// there is no such line or token, and where nothing is said of it.
 fn line_said(
     alloc: Global,
     markdown: bool,
@@ -135,16 +187,25 @@ fn line_said(
         return Ok(Value::Null);
     };
     let line = text.line(number);
-    let Ok(token) = mnemonic_on(alloc, text.profile, column_of(line, character), line) else {
+    let Ok(token) = token_on(alloc, text.profile, column_of(line, character), line) else {
         return Err(AllocError);
     };
-    match (token, placed_on(text.profile, found, number)) {
-        (Some(token), Some(placed)) => {
-            let words = instruction_words(alloc, text.profile, placed);
+    let Some(token) = token else {
+        return Ok(Value::Null);
+    };
+    match token_words(alloc, text.profile, found, number, token) {
+        Ok(Some(words)) => {
             let range = text.range(alloc, number, token.start, token.text.len());
-            said(alloc, markdown, line_alone(written, number), words, range)
+            said(
+                alloc,
+                markdown,
+                line_alone(written, number),
+                Ok(words),
+                range,
+            )
         }
-        _ => Ok(Value::Null),
+        Ok(None) => Ok(Value::Null),
+        Err(error) => Err(error),
     }
 }
 
@@ -172,10 +233,11 @@ fn name_said(
 }
 
 /// Returns what is meant at a place of a text, which its client has as `written`: of a name its
-/// number and where it is defined, of an instruction its form, address, opcode, bytes and cycles,
-/// and the flags that it may change; `null` elsewhere, and of a source that is too long. In Markdown
-/// the line of the instruction stands before it, and before a name the line that defines it, with
-/// the comments above. The only error is that a request for memory was refused.
+/// number and where it is defined; of an instruction its form, address, opcode, bytes and cycles,
+/// and the flags that it may change; of a directive what it does; of a number or a character its
+/// number. It is `null` elsewhere, and of a source that is too long. In Markdown the line stands
+/// before it, and before a name the line that defines it, with the comments above. The only error
+/// is that a request for memory was refused.
 pub fn hover(
     alloc: Global,
     markdown: bool,

@@ -1,8 +1,0 @@
-use Rattle.std.proofs.Common.{◌≡◌, drop}
-use Rattle.std.specs.List.{find}
-use Rattle.line_parts.specs.Lexemes.{lexemes}
-use Rattle.lsp_answers.specs.Meanings.{is_mnemonic_on, mnemonic_on}
-use Rattle.lsp_answers.proofs.meanings.mnemonic_on.Given as goal
-
-abbrev pub invariant-loop-token : goal.invariant-loop-token
-invariant-loop-token l = mnemonic_on l.profile l.column l.line ≡ find (is_mnemonic_on l.profile l.column) (lexemes (drop l.token-index l.token-items))
