@@ -3,12 +3,12 @@ use Rattle.std.proofs.Common.{Bor, ℕ, ◌+◌, ◌<◌, ◌≤◌, ◌∙◌, 
 use Rattle.std.proofs.lemmas.List.{map-append, take_all, take_more}
 use Rattle.json_messages.specs.ValueLists.{HasValues}
 use Rattle.json_messages.specs.declared.value_list.ValueList.{ValueList}
-use Rattle.lsp_messages.specs.Values.{item_data}
+use Rattle.lsp_answers.specs.Written.{directive_item as directive_data}
 use Rattle.serde_json.specs.Data.{Data}
 
 -- what may be written for a directive, with what it does
 abbrev pub directive_item : Bor (List ℕ) × Bor (List ℕ) → Data
-directive_item d = item_data d.0.now 14 d.1.now
+directive_item d = directive_data d.0.now d.1.now
 
 -- none yet
 pub none_behind : (ds : List Data) (list : ValueList) → HasValues ds list → HasValues (ds ++ []) list

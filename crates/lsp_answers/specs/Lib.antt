@@ -1,11 +1,14 @@
 pub mod Above
+pub mod Completion
 pub mod Diagnostics
+pub mod Items
 pub mod Kinds
 pub mod Lists
 pub mod Literals
 pub mod Markdown
 pub mod Marks
 pub mod Meanings
+pub mod Named
 pub mod Names
 pub mod Renames
 pub mod Said

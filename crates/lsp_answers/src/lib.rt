@@ -4,10 +4,10 @@
 //! `Text` is a source with its lines and names (`specs/Texts.antt`). Each other call makes an
 //! answer's value of it: `marks` (`Marks.antt`), `meanings` (`Meanings.antt`) with what is `said`
 //! of names and instructions (`Said.antt`), of numbers and directives (`literals`,
-//! `Literals.antt`), in Markdown (`markdown`, `Markdown.antt`) with lines of
-//! the source (`above`, `Above.antt`), `names` (`Names.antt`), `renaming` (`Renames.antt`), and
-//! `lists` (`Lists.antt`) with the directives, which may be `written` in any source. `texts` makes
-//! texts of words.
+//! `Literals.antt`), in Markdown (`markdown`, `Markdown.antt`) with lines of the source (`above`,
+//! `Above.antt`), `names` (`Names.antt`), `renaming` (`Renames.antt`), `lists` of the names
+//! (`Lists.antt`), and `completion` (`Completion.antt`) with the directives, which may be `written`
+//! in any source. `named` has the kinds of names, `texts` makes texts of words.
 //!
 //! `diagnostics` (`finding`) is what is marked, and finds the same as `check`: all faults
 //! (`fault_marks`), and the warnings (`warning_marks`) where there is none. `Diagnostics.antt` says
@@ -15,6 +15,7 @@
 #![tactic(auto)]
 
 mod above;
+mod completion;
 mod fault_marks;
 mod finding;
 mod kinds;
@@ -23,6 +24,7 @@ mod literals;
 mod markdown;
 mod marks;
 mod meanings;
+mod named;
 mod names;
 mod renaming;
 mod said;
@@ -32,9 +34,10 @@ mod warning_marks;
 mod wording;
 mod written;
 
+pub use completion::{Spot, completion};
 pub use finding::diagnostics;
 pub use kinds::Diagnostic;
-pub use lists::{completion, symbols};
+pub use lists::symbols;
 pub use marks::published;
 pub use meanings::hover;
 pub use names::{definition, highlights, references};

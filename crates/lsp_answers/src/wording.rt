@@ -6,6 +6,9 @@ pub const NO_NUMBER: &str = " has no number";
 
 pub const DEFINED: &str = "\ndefined on line ";
 
+// A name that may be written.
+pub const NO_VALUE: &str = "no number";
+
 // How operands are written.
 pub const FORM_IMP: &str = "no operand";
 

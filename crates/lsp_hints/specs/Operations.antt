@@ -1,9 +1,12 @@
 -- The operation that is written in a line, which need not be whole. Source: mos65.
-use Rattle.std.specs.Prelude.{ℕ, ◌+◌, ◌==◌, ◌&&◌, not, nat_le, Bool, false, if◌then◌else◌, List, [], ◌∷◌, codes, drop, take, Option, Some, None}
+use Rattle.std.specs.Prelude.{ℕ, ◌+◌, ◌==◌, ◌&&◌, not, nat_le, nat_lt, Bool, false, if◌then◌else◌, List, [], ◌∷◌, codes, drop, take, Option, Some, None}
 use Rattle.std.specs.List.{prefix_len}
 use Rattle.std.specs.Str.{str_eq_ignore_ascii_case}
 use Rattle.lsp_hints.specs.declared.operation.Operation.{Operation}
 use Rattle.lsp_hints.specs.declared.operation.Operation.TheVariants.{Instruction, Bytes, Words, WordsHighFirst, Reserve, Finish, Origin, Definition}
+use Rattle.lsp_answers.specs.declared.completion.Spot.{Spot}
+use Rattle.lsp_answers.specs.declared.completion.Spot.TheVariants.{Operation as InOperation, Operand, Comment}
+use Rattle.lsp_messages.specs.Columns.{column_of}
 use Rattle.model.specs.Mnemonics.{mnemonic_named}
 use Rattle.model.specs.Token.{is_blank, is_word_byte}
 use Rattle.model.specs.declared.instruction.Mnemonic.{Mnemonic}
@@ -70,3 +73,14 @@ operation_at profile line column =
     let size = word_size rest in
     if nat_le (start_of line + size) column && nat_le column (first_size line)
     then operation_of profile (take size rest) (drop size rest) else None
+
+-- ---- where a place of a line is
+
+-- Up to the end of the word of its operation, behind that, or behind the first `;`.
+abbrev pub spot_by : List ℕ → ℕ → Spot
+spot_by line column = if nat_lt (first_size line) column then Comment
+    else if nat_le column (start_of line + word_size (drop (start_of line) line)) then InOperation
+    else Operand
+
+abbrev pub spot_at : List ℕ → ℕ → Spot
+spot_at line character = spot_by line (column_of character line)

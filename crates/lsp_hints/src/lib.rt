@@ -3,9 +3,9 @@
 //! tokens, and the folds of labels and comments.
 //!
 //! `hints` has what stands behind lines, in the words of `cycles`. `signatures` has the forms of
-//! the operation at a place, which `operation` finds in a line. `fixes` has the change for a fault
-//! whose note has the right word. The definitions are `Hints.antt`, `Operations.antt`,
-//! `Signatures.antt` and `Fixes.antt`.
+//! the operation at a place, which `operation` finds in a line. `operation` also says at which spot
+//! of a line a place is. `fixes` has the change for a fault whose note has the right word. The
+//! definitions are `Hints.antt`, `Operations.antt`, `Signatures.antt` and `Fixes.antt`.
 //!
 //! `painted` has the colours as the protocol counts them: `colour` gives each token one, `paint`
 //! finds where they stand, `numbers` counts from one to the next. `folded` has the folds; `labels`
@@ -29,4 +29,5 @@ pub use fixes::fixes_in;
 pub use folds::folded;
 pub use hints::hints_in;
 pub use numbers::painted;
+pub use operation::spot_at;
 pub use signatures::signatures_at;

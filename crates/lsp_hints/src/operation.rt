@@ -3,8 +3,10 @@
 ghost use Rattle.std.specs.Prelude.{◌≡◌, ◌≤◌, length};
 ghost use Rattle.lsp_hints.specs.Operations.{begins_with, blanks_after};
 ghost use Rattle.lsp_hints.specs.Operations.{directive_of, first_size, operation_at, operation_of};
-ghost use Rattle.lsp_hints.specs.Operations.{start_of, word_after, word_size};
+ghost use Rattle.lsp_hints.specs.Operations.{spot_at, start_of, word_after, word_size};
 
+use lsp_answers::Spot;
+use lsp_messages::column_of;
 use model::{Mnemonic, Profile};
 use optable::mnemonic_in;
 use source_notes::{after, blank_run, word_run};
@@ -150,5 +152,22 @@ pub fn operation_at(profile: Profile, line: &[u8], column: usize) -> Option<Oper
         operation_of(profile, &rest[..size], &rest[size..])
     } else {
         None
+    }
+}
+
+/// Returns where in a line a place is, counted in units of UTF-16: up to the end of the word of its
+/// operation, behind that, or behind a `;`.
+pub fn spot_at(line: &[u8], character: u64) -> Spot
+    ensures { result ≡ spot_at line.now character }
+{
+    let column = column_of(line, character);
+    let start = start_of(line);
+    let size = word_size(after(line, start));
+    if column > first_size(line) {
+        Spot::Comment
+    } else if column <= start + size {
+        Spot::Operation
+    } else {
+        Spot::Operand
     }
 }

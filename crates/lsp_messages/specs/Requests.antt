@@ -118,14 +118,14 @@ position_by_method method message =
     asked_at positions.Highlights message
     else if bytes_eq method (codes "textDocument/signatureHelp") then
     asked_at positions.Signatures message
+    else if bytes_eq method (codes "textDocument/completion") then
+    asked_at positions.Completion message
     else unknown
 
 -- What is asked of a document.
 unfoldable pub question_by_method : List ℕ → Data → RequestView
 question_by_method method message =
     if bytes_eq method (codes "textDocument/documentSymbol") then asked_of documents.Symbols message
-    else if bytes_eq method (codes "textDocument/completion") then
-    asked_of documents.Completion message
     else if bytes_eq method (codes "textDocument/semanticTokens/full") then
     asked_of documents.Colours message
     else if bytes_eq method (codes "textDocument/foldingRange") then

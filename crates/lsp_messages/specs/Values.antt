@@ -44,13 +44,14 @@ hover_data form words range = object_of ((
   object_of ((codes "kind", word form) ∷ (codes "value", word words) ∷ []),
 ) ∷ (codes "range", range) ∷ [])
 
-abbrev pub item_data : List ℕ → ℕ → List ℕ → Data
-item_data label kind detail = object_of ((codes "detail", word detail)
-    ∷ (codes "kind", count kind) ∷ (codes "label", word label) ∷ [])
+abbrev pub item_data : List ℕ → ℕ → List ℕ → List ℕ → Data
+item_data label kind detail place = object_of ((codes "detail", word detail)
+    ∷ (codes "kind", count kind) ∷ (codes "label", word label)
+    ∷ (codes "sortText", word place) ∷ [])
 
--- A name of a document: a variable, which has the number 13.
-abbrev pub symbol_data : List ℕ → Data → Data → Data
-symbol_data name range selected = object_of ((codes "kind", count 13)
+-- A name of a document.
+abbrev pub symbol_data : ℕ → List ℕ → Data → Data → Data
+symbol_data kind name range selected = object_of ((codes "kind", count kind)
     ∷ (codes "name", word name) ∷ (codes "range", range) ∷ (codes "selectionRange", selected) ∷ [])
 
 -- ---- marks

@@ -7,8 +7,6 @@ use serde_json::Value;
 pub enum Whole {
     /// `textDocument/documentSymbol`
     Symbols,
-    /// `textDocument/completion`
-    Completion,
     /// `textDocument/semanticTokens/full`
     Colours,
     /// `textDocument/foldingRange`
@@ -28,6 +26,8 @@ pub enum At {
     Highlights,
     /// `textDocument/signatureHelp`
     Signatures,
+    /// `textDocument/completion`
+    Completion,
 }
 
 /// What is asked of some lines of a document.

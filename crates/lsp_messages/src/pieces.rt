@@ -90,36 +90,43 @@ pub fn hover(
         .build()
 }
 
-/// Returns something that may be written, of a kind of the protocol, with what it is.
+/// Returns something that may be written, of a kind of the protocol, with what it is, and with the
+/// text by which it has its place among others.
 pub fn item(
     alloc: Global,
     label: Result<String, AllocError>,
     kind: u64,
-    detail: &str,
+    detail: Result<String, AllocError>,
+    place: Result<String, AllocError>,
 ) -> Result<Value, AllocError>
-    ensures { (text : List ℕ) → IfOk label (λ s. string_bytes s ≡ text)
-        → IfOk result (λ v. view v ≡ item_data text kind detail.now) }
+    ensures { (text : List ℕ) (told : List ℕ) (key : List ℕ)
+        → IfOk label (λ s. string_bytes s ≡ text) → IfOk detail (λ s. string_bytes s ≡ told)
+        → IfOk place (λ s. string_bytes s ≡ key)
+        → IfOk result (λ v. view v ≡ item_data text kind told key) }
 {
     Object::new(alloc)
-        .word("detail", detail)
+        .text("detail", detail)
         .count("kind", kind)
         .text("label", label)
+        .text("sortText", place)
         .build()
 }
 
-/// Returns a name of a document, with its range as both ranges that are asked for.
+/// Returns a name of a document, of a kind of the protocol, with its range as both ranges that are
+/// asked for.
 pub fn symbol(
     alloc: Global,
+    kind: u64,
     name: Result<String, AllocError>,
     range: Result<Value, AllocError>,
     selected: Result<Value, AllocError>,
 ) -> Result<Value, AllocError>
     ensures { (text : List ℕ) (r : Data) (s : Data) → IfOk name (λ s. string_bytes s ≡ text)
         → IfOk range (λ v. view v ≡ r) → IfOk selected (λ v. view v ≡ s)
-        → IfOk result (λ v. view v ≡ symbol_data text r s) }
+        → IfOk result (λ v. view v ≡ symbol_data kind text r s) }
 {
     Object::new(alloc)
-        .count("kind", 13)
+        .count("kind", kind)
         .text("name", name)
         .member("range", range)
         .member("selectionRange", selected)

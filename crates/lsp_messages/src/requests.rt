@@ -193,6 +193,7 @@ fn position_by_method<'a>(method: &str, message: &'a Value) -> Request<'a>
         }
         "textDocument/documentHighlight" => asked_at(At::Highlights, message),
         "textDocument/signatureHelp" => asked_at(At::Signatures, message),
+        "textDocument/completion" => asked_at(At::Completion, message),
         _ => Request::Unknown,
     }
 }
@@ -204,7 +205,6 @@ fn question_by_method<'a>(method: &str, message: &'a Value) -> Request<'a>
 {
     match method {
         "textDocument/documentSymbol" => asked_of(Whole::Symbols, message),
-        "textDocument/completion" => asked_of(Whole::Completion, message),
         "textDocument/semanticTokens/full" => asked_of(Whole::Colours, message),
         "textDocument/foldingRange" => asked_of(Whole::Folds, message),
         "textDocument/inlayHint" => asked_within(Within::Hints, message),

@@ -1,11 +1,11 @@
 -- What is answered to requests. Source: Language Server Protocol 3.17; JSON-RPC 2.0.
 use Rattle.std.specs.Prelude.{◌≡◌, ◌⊎◌, ℕ, List}
 use Rattle.word_lsp.specs.Capabilities.{capabilities}
-use Rattle.word_lsp.specs.Shown.{colours_in, folds_in, hints_in, signatures_in}
+use Rattle.word_lsp.specs.Shown.{colours_in, completion_in, folds_in, hints_in, signatures_in}
 use Rattle.word_lsp.specs.State.{Opened, State, source_in, written_in}
 use Rattle.word_lsp.specs.declared.phase.Phase.{Phase}
 use Rattle.word_lsp.specs.declared.phase.Phase.TheVariants.{Fresh, Running, ShutDown}
-use Rattle.lsp_answers.specs.Lists.{completion_of, symbols_of}
+use Rattle.lsp_answers.specs.Lists.{symbols_of}
 use Rattle.lsp_answers.specs.Meanings.{meaning_of}
 use Rattle.lsp_answers.specs.Names.{definition_at, highlights_at, references_at}
 use Rattle.lsp_answers.specs.Renames.{IsKeptAt, IsReadyAt, IsRenameAt}
@@ -53,7 +53,6 @@ asked_by client ds uri
 
 abbrev pub of_document : TextView → Whole → Data
 of_document t documents.Symbols = symbols_of t
-of_document t documents.Completion = completion_of t
 of_document t documents.Colours = colours_in t
 of_document t documents.Folds = folds_in t
 
@@ -68,6 +67,8 @@ IsOfPosition asked t line character positions.Highlights given
     = given ≡ highlights_at t line character
 IsOfPosition asked t line character positions.Signatures given
     = given ≡ signatures_in t line character
+IsOfPosition asked t line character positions.Completion given
+    = given ≡ completion_in t line character
 
 abbrev pub IsOfLines : Map → List ℕ → TextView → ℕ × ℕ → Within → Data → Type 0
 IsOfLines bus_map uri t lines ranges.Hints given = given ≡ hints_in t lines

@@ -1,7 +1,9 @@
 -- What an editor shows of a text. Source: Language Server Protocol 3.17.
 use Rattle.std.specs.Prelude.{ℕ, List, [], Option, Some, None}
+use Rattle.lsp_answers.specs.Completion.{completion_of}
 use Rattle.lsp_answers.specs.Texts.{TextView, line_at, number_in}
 use Rattle.lsp_hints.specs.Hints.{hints_of}
+use Rattle.lsp_hints.specs.Operations.{spot_at}
 use Rattle.lsp_hints.specs.Signatures.{signatures_of}
 use Rattle.lsp_hints.specs.Folds.{folded}
 use Rattle.lsp_hints.specs.Painted.{painted}
@@ -26,3 +28,6 @@ line_in t line = line_by t (number_in t line)
 
 abbrev pub signatures_in : TextView → ℕ → ℕ → Data
 signatures_in t line character = signatures_of t.profile (line_in t line) character
+
+abbrev pub completion_in : TextView → ℕ → ℕ → Data
+completion_in t line character = completion_of t (spot_at (line_in t line) character)

@@ -9,7 +9,7 @@ ghost use Rattle.serde_json.specs.View.{view};
 
 use bus::MapSpec;
 use lsp_answers::{Text, completion, definition, highlights, hover, references, symbols};
-use lsp_hints::{fixes_in, folded, hints_in, painted, signatures_at};
+use lsp_hints::{fixes_in, folded, hints_in, painted, signatures_at, spot_at};
 use lsp_messages::{At, Client, Question, Whole, Within};
 use serde_json::Value;
 use std::alloc::{AllocError, Global};
@@ -49,7 +49,6 @@ pub fn answer_to(
     match question {
         Question::Whole(what) => match what {
             Whole::Symbols => symbols(alloc, text),
-            Whole::Completion => completion(alloc, text),
             Whole::Colours => painted(alloc, text.profile, &text.lines),
             Whole::Folds => folded(alloc, text.profile, &text.lines),
         },
@@ -70,6 +69,7 @@ pub fn answer_to(
             At::References { declares } => references(alloc, uri, text, line, character, declares),
             At::Highlights => highlights(alloc, text, line, character),
             At::Signatures => signatures_at(alloc, text.profile, line_in(text, line), character),
+            At::Completion => completion(alloc, text, spot_at(line_in(text, line), character)),
         },
         Question::Within { what, from, to } => match what {
             Within::Hints => hints_in(alloc, text.profile, text.source, &text.lines, (from, to)),

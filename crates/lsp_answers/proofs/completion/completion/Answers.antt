@@ -1,0 +1,10 @@
+use Rattle.lsp_answers.proofs.completion.completion.Goals as goal
+
+pub returns-in-Ok : goal.returns-in-Ok
+returns-in-Ok c = rw (c.in-Operation.is) (c.build.ensures _ (c.with_directives.ensures _ (c.with_mnemonics.ensures _ c.in-Ok.ensures)))
+
+pub returns-in-Ok-2 : goal.returns-in-Ok-2
+returns-in-Ok-2 c = rw (c.in-Operand.is) (c.build.ensures _ c.in-Ok.ensures)
+
+pub returns-in-Comment : goal.returns-in-Comment
+returns-in-Comment c = rw (c.in-Comment.is) (c.build.ensures _ c.new.ensures)
