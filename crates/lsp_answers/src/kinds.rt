@@ -1,7 +1,8 @@
 //! A fault or a warning.
 
-ghost use Rattle.std.specs.Prelude.{IfOk};
+ghost use Rattle.std.specs.Prelude.{◌≡◌, IfOk};
 ghost use Rattle.lsp_answers.specs.Diagnostics.{IsPut};
+ghost use Rattle.lsp_answers.specs.Kinds.{is_far_branch, lacks_mark};
 
 use model::AsmFaultKind;
 use source_notes::Note;
@@ -15,6 +16,28 @@ pub enum DiagnosticKind {
     Fault(AsmFaultKind),
     /// What may be meant otherwise, in a source without a fault.
     Warning(WarningKind),
+}
+
+impl DiagnosticKind {
+    /// Returns whether a number lacks the `#` with which it would be no address.
+    pub fn lacks_mark(self) -> bool
+        ensures { result ≡ lacks_mark self }
+    {
+        match self {
+            DiagnosticKind::Warning(WarningKind::PlainNumber) => true,
+            _ => false,
+        }
+    }
+
+    /// Returns whether a branch does not reach its target.
+    pub fn is_far_branch(self) -> bool
+        ensures { result ≡ is_far_branch self }
+    {
+        match self {
+            DiagnosticKind::Fault(AsmFaultKind::BranchRange) => true,
+            _ => false,
+        }
+    }
 }
 
 /// A fault or a warning of a source.

@@ -36,7 +36,7 @@ mod written;
 
 pub use completion::{Spot, completion};
 pub use finding::diagnostics;
-pub use kinds::Diagnostic;
+pub use kinds::{Diagnostic, DiagnosticKind};
 pub use lists::symbols;
 pub use marks::published;
 pub use meanings::hover;

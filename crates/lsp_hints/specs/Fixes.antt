@@ -1,10 +1,14 @@
 -- The changes that an editor offers for faults. Source: Language Server Protocol 3.17, "Code Action
 -- Request"; for which faults, mos65.
-use Rattle.std.specs.Prelude.{◌≡◌, ℕ, ◌-◌, max, if◌then◌else◌, List, [], ◌∷◌, ◌++◌, codes, Option, Some, None}
+use Rattle.std.specs.Prelude.{◌≡◌, ℕ, ◌+◌, ◌-◌, max, min, if◌then◌else◌, Bool, List, [], ◌∷◌, ◌++◌, codes, Option, Some, None}
 use Rattle.std.specs.List.{flat_map}
 use Rattle.std.specs.Str.Lossy.{utf8_lossy}
-use Rattle.lsp_answers.specs.Texts.{TextView, range_in}
+use Rattle.lsp_answers.specs.Kinds.{lacks_mark}
+use Rattle.lsp_answers.specs.Texts.{TextView, line_at, range_in}
+use Rattle.lsp_hints.specs.Branches.{far_of, far_title, far_words}
 use Rattle.lsp_hints.specs.Hints.{is_between}
+use Rattle.lsp_hints.specs.declared.branches.Far.{Far}
+use Rattle.lsp_messages.specs.Columns.{most}
 use Rattle.json_messages.specs.Values.{list_of, object_of, word}
 use Rattle.lsp_messages.specs.Values.{changes_data, edit_data}
 use Rattle.model.specs.AllFaults.{faults_of}
@@ -21,22 +25,52 @@ action_data title edit = object_of ((codes "edit", edit) ∷ (codes "kind", word
 abbrev pub title_of : List ℕ → List ℕ
 title_of right = codes "write " ++ right
 
--- A word in place of the bytes that are meant, which are those that are marked.
-abbrev pub edit_of : TextView → Diagnostic → List ℕ → Data
-edit_of t d right
-    = edit_data (utf8_lossy right) (range_in t (max d.line 1) d.note.start d.note.width)
+-- Words in place of bytes of a line: of so many from one on.
+abbrev pub edit_of : TextView → ℕ → ℕ × ℕ → List ℕ → Data
+edit_of t number place words
+    = edit_data (utf8_lossy words) (range_in t number place.0 place.1)
 
-abbrev pub fix_of : List ℕ → TextView → Diagnostic → List ℕ → Data
-fix_of uri t d right = action_data (utf8_lossy (title_of right))
-    (changes_data uri (list_of (edit_of t d right ∷ [])))
+abbrev pub change_data : List ℕ → TextView → ℕ → ℕ × ℕ → List ℕ → List ℕ → Data
+change_data uri t number place words title = action_data (utf8_lossy title)
+    (changes_data uri (list_of (edit_of t number place words ∷ [])))
 
-abbrev pub fixes_by : List ℕ → TextView → Diagnostic → Option (List ℕ) → List Data
-fixes_by uri t d None = []
-fixes_by uri t d (Some right) = fix_of uri t d right ∷ []
+-- ---- a word
 
--- The change for a fault or a warning, if its note has the right word.
+abbrev pub word_by : Option (List ℕ) → Bool → ℕ → Option (ℕ × List ℕ)
+word_by (Some right) lacks width = Some (width, right)
+word_by None lacks width = if lacks then Some (0, codes "#") else None
+
+-- The right word of a note in place of the bytes that are meant, or a `#` before a number that lacks
+-- it.
+abbrev pub word_of : Diagnostic → Option (ℕ × List ℕ)
+word_of d = word_by (right_of d.note) (lacks_mark d.kind) d.note.width
+
+abbrev pub word_fix : List ℕ → TextView → Diagnostic → ℕ → List ℕ → Data
+word_fix uri t d width word
+    = change_data uri t (max d.line 1) (d.note.start, width) word (title_of word)
+
+-- ---- a branch that does not reach its target
+
+-- From where it starts to where its operand ends.
+abbrev pub far_place : Far → ℕ × ℕ
+far_place far = (far.start, min (far.from + far.width) most - far.start)
+
+abbrev pub far_fix : List ℕ → TextView → ℕ → Far → Data
+far_fix uri t number far = change_data uri t number (far_place far)
+    (far_words (line_at t number) far) (far_title (line_at t number) far)
+
+-- ---- which changes there are
+
+abbrev pub fixes_by : List ℕ → TextView → Diagnostic → Option (ℕ × List ℕ) → Option Far
+    → List Data
+fixes_by uri t d (Some word) far = word_fix uri t d word.0 word.1 ∷ []
+fixes_by uri t d None (Some far) = far_fix uri t (max d.line 1) far ∷ []
+fixes_by uri t d None None = []
+
+-- The change for a fault or a warning, if there is one.
 abbrev pub fixes_of : List ℕ → TextView → Diagnostic → List Data
-fixes_of uri t d = fixes_by uri t d (right_of d.note)
+fixes_of uri t d = fixes_by uri t d (word_of d)
+    (far_of t.profile (line_at t (max d.line 1)) d)
 
 -- Its line is between the first and the last of those that are asked for, counted from 0.
 abbrev pub fixes_between : List ℕ → TextView → ℕ × ℕ → Diagnostic → List Data

@@ -1,3 +1,4 @@
+pub mod Branches
 pub mod Colours
 pub mod Fixes
 pub mod Folds

@@ -1,12 +1,15 @@
-//! The changes for faults.
+//! The changes for faults and warnings.
 
-ghost use Rattle.std.specs.Prelude.{◌≡◌, ◌++◌, IfOk, List};
+ghost use Rattle.std.specs.Prelude.{◌≡◌, ◌++◌, ℕ, IfOk, List};
+ghost use Rattle.std.specs.Option.{option_map};
 ghost use Rattle.json_messages.specs.ValueLists.{HasValues};
 ghost use Rattle.lsp_answers.specs.Texts.{text_view};
-ghost use Rattle.lsp_hints.specs.Fixes.{AreFixes, fix_of, fixes_between};
+ghost use Rattle.lsp_hints.specs.Fixes.{AreFixes, change_data, far_fix, fixes_between, fixes_of};
+ghost use Rattle.lsp_hints.specs.Fixes.{word_fix, word_of};
 ghost use Rattle.serde_json.specs.Data.{Data};
 ghost use Rattle.serde_json.specs.View.{view};
 
+use crate::branches::{Far, far_of, far_title, far_words};
 use crate::hints::is_between;
 use bus::MapSpec;
 use json_messages::{Object, ValueList};
@@ -16,26 +19,29 @@ use serde_json::Value;
 use source_notes::concat;
 use std::alloc::{AllocError, Global};
 
-/// Returns the change of a document that puts a word in place of the bytes that a fault or a
-/// warning means, with its title.
-fn fix_of(
+/// Returns the change of a document that puts words in place of some bytes of a line, by the number
+/// of the first one and how many they are; with its title.
+fn change_of(
     alloc: Global,
     uri: &str,
     text: &Text<'_>,
-    one: &Diagnostic,
-    word: &[u8],
+    number: u32,
+    place: (usize, usize),
+    words: Result<Vec<u8>, AllocError>,
+    title: Result<Vec<u8>, AllocError>,
 ) -> Result<Value, AllocError>
-    ensures { IfOk result
-        (λ v. view v ≡ fix_of uri.now (text_view text.now) one.now word.now) }
+    ensures { (written : List ℕ) (called : List ℕ) → IfOk words (λ w. w.items ≡ written)
+        → IfOk title (λ w. w.items ≡ called) → IfOk result (λ v. view v
+        ≡ change_data uri.now (text_view text.now) number place written called) }
 {
-    let Ok(written) = String::from_utf8_lossy(alloc, word) else {
+    let Ok(written) = text_of(alloc, words) else {
         return Err(AllocError);
     };
-    let range = text.range(alloc, one.line.max(1), one.note.start, one.note.width);
+    let range = text.range(alloc, number, place.0, place.1);
     let edits = ValueList::new(alloc)
         .with(edit(alloc, written.as_str(), range))
         .build();
-    let title = text_of(alloc, concat(alloc, &[b"write ", word]));
+    let title = text_of(alloc, title);
     Object::new(alloc)
         .member("edit", changes(alloc, uri, edits))
         .word("kind", "quickfix")
@@ -43,8 +49,79 @@ fn fix_of(
         .build()
 }
 
-/// Puts the change for a fault or a warning between two lines behind others, if its note has the
-/// right word.
+/// Returns the word that is right in place of the first bytes that a fault or a warning means, and
+/// how many they are: the right word of its note, or a `#` in place of none.
+fn word_of(one: &Diagnostic) -> Option<(usize, &[u8])>
+    ensures { option_map (λ w. (w.0, w.1.now)) result ≡ word_of one.now }
+{
+    match &one.note.right {
+        Some(word) => Some((one.note.width, word)),
+        None => if one.kind.lacks_mark() {
+            Some((0, b"#"))
+        } else {
+            None
+        },
+    }
+}
+
+/// Returns the change of a document that writes a word in place of so many bytes from where a fault
+/// or a warning is.
+fn word_fix(
+    alloc: Global,
+    uri: &str,
+    text: &Text<'_>,
+    one: &Diagnostic,
+    width: usize,
+    word: &[u8],
+) -> Result<Value, AllocError>
+    ensures { IfOk result
+        (λ v. view v ≡ word_fix uri.now (text_view text.now) one.now width word.now) }
+{
+    let words = Vec::from_slice(alloc, word);
+    let title = concat(alloc, &[b"write ", word]);
+    let place = (one.note.start, width);
+    change_of(alloc, uri, text, one.line.max(1), place, words, title)
+}
+
+/// Returns the change of a document that turns a branch round a jump.
+fn far_fix(
+    alloc: Global,
+    uri: &str,
+    text: &Text<'_>,
+    number: u32,
+    far: Far,
+) -> Result<Value, AllocError>
+    ensures { IfOk result
+        (λ v. view v ≡ far_fix uri.now (text_view text.now) number far) }
+{
+    let line = text.line(number);
+    let words = far_words(alloc, line, far);
+    let title = far_title(alloc, line, far);
+    let end = far.from.saturating_add(far.width);
+    let place = (far.start, end.saturating_sub(far.start));
+    change_of(alloc, uri, text, number, place, words, title)
+}
+
+/// Puts the change for a fault or a warning behind others, if there is one.
+fn with_change(
+    alloc: Global,
+    fixes: ValueList,
+    uri: &str,
+    text: &Text<'_>,
+    one: &Diagnostic,
+) -> ValueList
+    ensures { (ds : List Data) → HasValues ds fixes
+        → HasValues (ds ++ fixes_of uri.now (text_view text.now) one.now) result }
+{
+    let number = one.line.max(1);
+    match (word_of(one), far_of(text.profile, text.line(number), one)) {
+        (Some((width, word)), _) => fixes.with(word_fix(alloc, uri, text, one, width, word)),
+        (None, Some(far)) => fixes.with(far_fix(alloc, uri, text, number, far)),
+        (None, None) => fixes,
+    }
+}
+
+/// Puts the change for a fault or a warning between two lines behind others, if there is one.
 fn with_fix(
     alloc: Global,
     fixes: ValueList,
@@ -56,18 +133,17 @@ fn with_fix(
     ensures { (ds : List Data) → HasValues ds fixes → HasValues
         (ds ++ fixes_between uri.now (text_view text.now) between one.now) result }
 {
-    if !is_between(between, (one.line as u64).saturating_sub(1)) {
-        return fixes;
-    }
-    match &one.note.right {
-        Some(word) => fixes.with(fix_of(alloc, uri, text, one, word)),
-        None => fixes,
+    if is_between(between, (one.line as u64).saturating_sub(1)) {
+        with_change(alloc, fixes, uri, text, one)
+    } else {
+        fixes
     }
 }
 
 /// Returns the changes for the faults of a document on a map, or for its warnings, from one line to
 /// another, counted from 0: for each whose note has the right word, that word in place of the bytes
-/// that it means. The only error is that a request for memory was refused.
+/// that it means; for a number that lacks its `#`, that; and for a branch that does not reach its
+/// target, the opposite one round a jump. The only error is that a request for memory was refused.
 pub fn fixes_in(
     alloc: Global,
     map: &MapSpec,

@@ -61,7 +61,7 @@ fn word_after(line: &[u8], place: usize) -> usize
 }
 
 /// Returns where the operation of a line starts: behind its label, if it has one.
-fn start_of(line: &[u8]) -> usize
+pub fn start_of(line: &[u8]) -> usize
     ensures start { result ≡ start_of line.now }
     ensures within { result ≤ length line.now }
 {
@@ -75,7 +75,7 @@ fn start_of(line: &[u8]) -> usize
 }
 
 /// Returns how many bytes the word of an operation has: a `.` or a `*` belongs to it.
-fn word_size(bytes: &[u8]) -> usize
+pub fn word_size(bytes: &[u8]) -> usize
     ensures size { result ≡ word_size bytes.now }
     ensures within { result ≤ length bytes.now }
 {
