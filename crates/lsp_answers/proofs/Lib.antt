@@ -1,7 +1,8 @@
 mod AboveSteps
 pub mod Behind
 pub mod DefinedSteps
-mod FlatSteps
+pub mod FlatSteps
 pub mod Marking
 mod SaidSteps
+mod SearchSteps
 mod StillFaulty

@@ -12,5 +12,6 @@ pub mod Named
 pub mod Names
 pub mod Renames
 pub mod Said
+pub mod Search
 pub mod Texts
 pub mod Written

@@ -6,8 +6,9 @@
 //! of names and instructions (`Said.antt`), of numbers and directives (`literals`,
 //! `Literals.antt`), in Markdown (`markdown`, `Markdown.antt`) with lines of the source (`above`,
 //! `Above.antt`), `names` (`Names.antt`), `renaming` (`Renames.antt`), `lists` of the names
-//! (`Lists.antt`), and `completion` (`Completion.antt`) with the directives, which may be `written`
-//! in any source. `named` has the kinds of names, `texts` makes texts of words.
+//! (`Lists.antt`), names by letters (`search`, `Search.antt`), and `completion`
+//! (`Completion.antt`) with the directives, which may be `written` in any source. `named` has the
+//! kinds of names, `texts` makes texts of words.
 //!
 //! `diagnostics` (`finding`) is what is marked, and finds the same as `check`: all faults
 //! (`fault_marks`), and the warnings (`warning_marks`) where there is none. `Diagnostics.antt` says
@@ -28,6 +29,7 @@ mod named;
 mod names;
 mod renaming;
 mod said;
+mod search;
 mod source_text;
 mod texts;
 mod warning_marks;
@@ -42,5 +44,6 @@ pub use marks::published;
 pub use meanings::hover;
 pub use names::{definition, highlights, references};
 pub use renaming::{prepare_rename, rename};
+pub use search::with_names;
 pub use source_text::Text;
 pub use texts::text_of;

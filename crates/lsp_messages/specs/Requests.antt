@@ -14,7 +14,8 @@ use Rattle.lsp_messages.specs.declared.asked.Within.{Within}
 use Rattle.lsp_messages.specs.declared.asked.Within.TheVariants as ranges
 
 -- A client says what it can do; a document has a text, another one by changes, or none any more;
--- something is asked of a document; the name at a position is to get another one, or gets it.
+-- something is asked of a document; names are searched for by letters; the name at a position is to
+-- get another one, or gets it.
 pub data RequestView : Type 0 where
   initialize : Client → RequestView
   shutdown : RequestView
@@ -23,6 +24,7 @@ pub data RequestView : Type 0 where
   changes : List ℕ → Option Items → RequestView
   closes : List ℕ → RequestView
   asks : List ℕ → Question → RequestView
+  searches : List ℕ → RequestView
   prepares : List ℕ → ℕ → ℕ → RequestView
   renames : List ℕ → ℕ → ℕ → List ℕ → RequestView
   invalid : RequestView
@@ -63,6 +65,10 @@ change_of message = change_by (uri_of message) message
 abbrev pub close_by : Option (List ℕ) → RequestView
 close_by (Some uri) = closes uri
 close_by None = invalid
+
+abbrev pub search_by : Option (List ℕ) → RequestView
+search_by (Some query) = searches query
+search_by None = invalid
 
 abbrev pub of_document : Whole → Option (List ℕ) → RequestView
 of_document what (Some uri) = asks uri (questions.Whole what)
@@ -145,6 +151,8 @@ by_method method message =
     (text_at (codes "/params/textDocument/text") message)
     else if bytes_eq method (codes "textDocument/didChange") then change_of message
     else if bytes_eq method (codes "textDocument/didClose") then close_by (uri_of message)
+    else if bytes_eq method (codes "workspace/symbol") then
+    search_by (text_at (codes "/params/query") message)
     else question_by_method method message
 
 abbrev pub request_by : Option (List ℕ) → Data → RequestView

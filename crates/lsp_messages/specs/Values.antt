@@ -1,7 +1,7 @@
 -- The values of answers. The members of an object stand in the order of their names. Source:
 -- Language Server Protocol 3.17, "Range", "Location", "TextEdit", "WorkspaceEdit",
 -- "DocumentHighlight", "Prepare Rename Request", "Hover", "CompletionItem", "DocumentSymbol",
--- "Diagnostic", "PublishDiagnosticsParams".
+-- "SymbolInformation", "Diagnostic", "PublishDiagnosticsParams".
 use Rattle.std.specs.Prelude.{ℕ, List, [], ◌∷◌, codes}
 use Rattle.json_messages.specs.Values.{count, object_of, word}
 use Rattle.serde_json.specs.Data.{Data}
@@ -53,6 +53,11 @@ item_data label kind detail place = object_of ((codes "detail", word detail)
 abbrev pub symbol_data : ℕ → List ℕ → Data → Data → Data
 symbol_data kind name range selected = object_of ((codes "kind", count kind)
     ∷ (codes "name", word name) ∷ (codes "range", range) ∷ (codes "selectionRange", selected) ∷ [])
+
+-- A name of some document.
+abbrev pub found_symbol_data : ℕ → List ℕ → Data → Data
+found_symbol_data kind name place = object_of ((codes "kind", count kind)
+    ∷ (codes "location", place) ∷ (codes "name", word name) ∷ [])
 
 -- ---- marks
 

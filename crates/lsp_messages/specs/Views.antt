@@ -1,6 +1,6 @@
 -- Requests without where their texts lie in memory.
 use Rattle.std.specs.Option.{option_map}
-use Rattle.lsp_messages.specs.Requests.{RequestView, initialize, shutdown, exit, opens, changes, closes, asks, prepares, renames, invalid, unknown, no_method}
+use Rattle.lsp_messages.specs.Requests.{RequestView, initialize, shutdown, exit, opens, changes, closes, asks, searches, prepares, renames, invalid, unknown, no_method}
 use Rattle.lsp_messages.specs.declared.asked.Request.{Request}
 use Rattle.lsp_messages.specs.declared.asked.Request.TheVariants as requests
 use Rattle.serde_json.specs.View.{items_view}
@@ -14,6 +14,7 @@ request_view (requests.Change uri given)
     = changes uri.now (option_map (λ vs. items_view vs.now) given)
 request_view (requests.Close uri) = closes uri.now
 request_view (requests.Question uri question) = asks uri.now question
+request_view (requests.Search query) = searches query.now
 request_view (requests.Prepare uri line character) = prepares uri.now line character
 request_view (requests.Rename uri line character name) = renames uri.now line character name.now
 request_view requests.Invalid = invalid

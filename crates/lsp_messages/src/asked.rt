@@ -90,6 +90,10 @@ pub enum Request<'a> {
         uri: &'a str,
         question: Question,
     },
+    /// `workspace/symbol`: the names of all documents that have the letters of a query.
+    Search {
+        query: &'a str,
+    },
     /// `textDocument/prepareRename`: whether the name at a position may get another one.
     Prepare {
         uri: &'a str,

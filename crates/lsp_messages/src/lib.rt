@@ -20,7 +20,7 @@ mod text_places;
 
 pub use asked::{At, Client, Question, Request, Whole, Within};
 pub use columns::{character_of, column_of};
-pub use pieces::{changes, edit, highlight, hover, item, mark, marks, ready, symbol};
+pub use pieces::{changes, edit, found_symbol, highlight, hover, item, mark, marks, ready, symbol};
 pub use places::{location, position, range};
 pub use replies::{Failure, failure_reply, notice, result_reply};
 pub use requests::read_request;

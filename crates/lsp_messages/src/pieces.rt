@@ -4,7 +4,7 @@
 ghost use Rattle.std.specs.Prelude.{◌≡◌, ℕ, IfOk, List, string_bytes};
 ghost use Rattle.lsp_messages.specs.Values.{changes_data, edit_data, highlight_data, hover_data};
 ghost use Rattle.lsp_messages.specs.Values.{item_data, mark_data, marks_data, ready_data};
-ghost use Rattle.lsp_messages.specs.Values.{symbol_data};
+ghost use Rattle.lsp_messages.specs.Values.{found_symbol_data, symbol_data};
 ghost use Rattle.serde_json.specs.Data.{Data};
 ghost use Rattle.serde_json.specs.View.{view};
 
@@ -130,6 +130,24 @@ pub fn symbol(
         .text("name", name)
         .member("range", range)
         .member("selectionRange", selected)
+        .build()
+}
+
+/// Returns a name of some document, of a kind of the protocol, with where it is.
+pub fn found_symbol(
+    alloc: Global,
+    kind: u64,
+    name: Result<String, AllocError>,
+    place: Result<Value, AllocError>,
+) -> Result<Value, AllocError>
+    ensures { (text : List ℕ) (p : Data) → IfOk name (λ s. string_bytes s ≡ text)
+        → IfOk place (λ v. view v ≡ p)
+        → IfOk result (λ v. view v ≡ found_symbol_data kind text p) }
+{
+    Object::new(alloc)
+        .count("kind", kind)
+        .member("location", place)
+        .text("name", name)
         .build()
 }
 

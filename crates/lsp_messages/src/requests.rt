@@ -7,7 +7,7 @@ ghost use Rattle.lsp_messages.specs.Fields.{changes_in, uri_of};
 ghost use Rattle.lsp_messages.specs.Requests.{asked_at, asked_of, asked_within, change_of};
 ghost use Rattle.lsp_messages.specs.Requests.{client_of, open_by, position_by_method, prepare_of};
 ghost use Rattle.lsp_messages.specs.Requests.{question_by_method, rename_of, request_of};
-ghost use Rattle.lsp_messages.specs.Requests.{takes_markdown};
+ghost use Rattle.lsp_messages.specs.Requests.{search_by, takes_markdown};
 ghost use Rattle.lsp_messages.specs.Views.{request_view};
 
 use crate::asked::{At, Client, Question, Request, Whole, Within};
@@ -179,6 +179,16 @@ fn rename_of(message: &Value) -> Request<'_>
     }
 }
 
+/// Reads `workspace/symbol`: names by the letters of a query.
+fn search_by<'a>(query: Option<&'a str>) -> Request<'a>
+    ensures { request_view result ≡ search_by (option_map (λ s. s.now) query.entry) }
+{
+    match query {
+        Some(query) => Request::Search { query },
+        None => Request::Invalid,
+    }
+}
+
 /// Reads a message that asks something of a position.
 #[tactic(auto, unfolding(crate::specs::Requests::position_by_method))]
 fn position_by_method<'a>(method: &str, message: &'a Value) -> Request<'a>
@@ -237,6 +247,7 @@ pub fn read_request(message: &Value) -> Request<'_>
             Some(uri) => Request::Close { uri },
             None => Request::Invalid,
         },
+        "workspace/symbol" => search_by(text_at(message, "/params/query")),
         method => question_by_method(method, message),
     }
 }

@@ -1,6 +1,7 @@
 -- What is answered to requests. Source: Language Server Protocol 3.17; JSON-RPC 2.0.
 use Rattle.std.specs.Prelude.{◌≡◌, ◌⊎◌, ℕ, List}
 use Rattle.word_lsp.specs.Capabilities.{capabilities}
+use Rattle.word_lsp.specs.Searches.{found_in_all}
 use Rattle.word_lsp.specs.Shown.{colours_in, completion_in, folds_in, hints_in, signatures_in}
 use Rattle.word_lsp.specs.State.{Opened, State, source_in, written_in}
 use Rattle.word_lsp.specs.declared.phase.Phase.{Phase}
@@ -11,7 +12,7 @@ use Rattle.lsp_answers.specs.Names.{definition_at, highlights_at, references_at}
 use Rattle.lsp_answers.specs.Renames.{IsKeptAt, IsReadyAt, IsRenameAt}
 use Rattle.lsp_answers.specs.Texts.{TextView, name_at, text_of}
 use Rattle.lsp_hints.specs.Fixes.{AreFixes}
-use Rattle.lsp_messages.specs.Requests.{RequestView, initialize, shutdown, asks, prepares, renames, invalid, unknown}
+use Rattle.lsp_messages.specs.Requests.{RequestView, initialize, shutdown, asks, searches, prepares, renames, invalid, unknown}
 use Rattle.lsp_messages.specs.declared.asked.At.{At}
 use Rattle.lsp_messages.specs.declared.asked.Client.{Client}
 use Rattle.lsp_messages.specs.declared.asked.At.TheVariants as positions
@@ -100,6 +101,8 @@ IsRenamed bus_map uri t line character name id v =
 abbrev pub IsRunning : Map → Client → List Opened → Data → RequestView → Data → Type 0
 IsRunning bus_map client ds id (asks uri question) v = IsResult id
     (IsAnswerTo bus_map (asked_by client ds uri) (text_on bus_map ds uri) question) v
+IsRunning bus_map client ds id (searches query) v
+    = IsResult id (λ given. given ≡ found_in_all bus_map.profile query ds) v
 IsRunning bus_map client ds id (prepares uri line character) v
     = IsPrepared bus_map (text_on bus_map ds uri) line character id v
 IsRunning bus_map client ds id (renames uri line character name) v

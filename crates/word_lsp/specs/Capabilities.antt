@@ -48,7 +48,7 @@ served client = object_of ((codes "codeActionProvider", fixes)
     ∷ (codes "inlayHintProvider", yes) ∷ (codes "positionEncoding", word (codes "utf-16"))
     ∷ (codes "referencesProvider", yes) ∷ (codes "renameProvider", renames client)
     ∷ (codes "semanticTokensProvider", colours) ∷ (codes "signatureHelpProvider", signatures)
-    ∷ (codes "textDocumentSync", sync) ∷ [])
+    ∷ (codes "textDocumentSync", sync) ∷ (codes "workspaceSymbolProvider", yes) ∷ [])
 
 abbrev pub capabilities : Client → Data
 capabilities client = object_of ((codes "capabilities", served client)

@@ -2,6 +2,7 @@ pub mod Answers
 pub mod Capabilities
 pub mod CommandLine
 pub mod Messages
+pub mod Searches
 pub mod Sessions
 pub mod Shown
 pub mod State

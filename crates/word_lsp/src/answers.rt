@@ -1,8 +1,9 @@
 //! What is answered to requests.
 
-ghost use Rattle.std.specs.Prelude.{IfOk};
+ghost use Rattle.std.specs.Prelude.{◌≡◌, IfOk};
 ghost use Rattle.word_lsp.specs.Answers.{IsFailure, IsPrepared, IsRenamed, IsReplyIn};
-ghost use Rattle.word_lsp.specs.Answers.{IsRunning, text_on};
+ghost use Rattle.word_lsp.specs.Answers.{IsResult, IsRunning, text_on};
+ghost use Rattle.word_lsp.specs.Searches.{found_in_all};
 ghost use Rattle.word_lsp.specs.State.{documents_view};
 ghost use Rattle.lsp_messages.specs.Requests.{asks};
 ghost use Rattle.lsp_messages.specs.Views.{request_view};
@@ -12,6 +13,7 @@ use crate::capabilities::capabilities;
 use crate::documents::Documents;
 use crate::phase::Phase;
 use crate::questions::{Asked, answer_to};
+use crate::searching::found_in_all;
 use bus::MapSpec;
 use lsp_answers::{Text, prepare_rename, rename};
 use lsp_messages::{Client, Failure, Question, Request, failure_reply, result_reply};
@@ -43,6 +45,23 @@ fn question_reply(
         written: documents.written(uri),
     };
     match answer_to(alloc, map, &asked, &text, question) {
+        Ok(given) => result_reply(alloc, id, given),
+        Err(error) => Err(error),
+    }
+}
+
+/// Answers a search of all documents.
+fn search_reply(
+    alloc: Global,
+    map: &MapSpec,
+    documents: &Documents,
+    id: &Value,
+    query: &str,
+) -> Result<Value, AllocError>
+    ensures { IfOk result (λ v. IsResult (view id.now) (λ given. given
+        ≡ found_in_all map.now.profile query.now (documents_view documents.now)) (view v)) }
+{
+    match found_in_all(alloc, map.profile(), documents, query) {
         Ok(given) => result_reply(alloc, id, given),
         Err(error) => Err(error),
     }
@@ -140,6 +159,7 @@ fn running_reply(
         Request::Question { uri, question } => {
             question_reply(alloc, map, client, documents, id, uri, question)
         }
+        Request::Search { query } => search_reply(alloc, map, documents, id, query),
         Request::Prepare {
             uri,
             line,

@@ -82,6 +82,7 @@ fn served(alloc: Global, client: Client) -> Result<Value, AllocError>
         .member("semanticTokensProvider", colours(alloc))
         .member("signatureHelpProvider", signatures)
         .member("textDocumentSync", sync)
+        .flag("workspaceSymbolProvider", true)
         .build()
 }
 

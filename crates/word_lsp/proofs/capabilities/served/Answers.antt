@@ -12,4 +12,4 @@ returns c =
     let m10 = c.flag-8.ensures _ (c.word.ensures _ m8) in
     let m11 = c.member-5.ensures _ _ m10 c.renames.ensures in
     let m13 = c.member-7.ensures _ _ (c.member-6.ensures _ _ m11 c.colours.ensures) forms in
-    c.build-2.ensures _ (c.member-8.ensures _ _ m13 texts)
+    c.build-2.ensures _ (c.flag-9.ensures _ (c.member-8.ensures _ _ m13 texts))
