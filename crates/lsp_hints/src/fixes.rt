@@ -54,13 +54,14 @@ fn change_of(
 fn word_of(one: &Diagnostic) -> Option<(usize, &[u8])>
     ensures { option_map (λ w. (w.0, w.1.now)) result ≡ word_of one.now }
 {
-    match &one.note.right {
-        Some(word) => Some((one.note.width, word)),
-        None => if one.kind.lacks_mark() {
-            Some((0, b"#"))
-        } else {
-            None
-        },
+    if let Some(word) = &one.note.right {
+        return Some((one.note.width, word.as_slice()));
+    }
+    if one.kind.lacks_mark() {
+        let mark: &[u8] = b"#";
+        Some((0, mark))
+    } else {
+        None
     }
 }
 

@@ -25,6 +25,7 @@ fn line_in<'a>(text: &Text<'a>, line: u64) -> &'a [u8]
 }
 
 /// A client that asks of a document.
+#[derive(Clone, Copy)]
 pub struct Asked<'a> {
     pub client: Client,
     /// The name of the document.
