@@ -9,8 +9,8 @@ use Rattle.lsp_answers.specs.Meanings.{numbers_in}
 use Rattle.lsp_answers.specs.Named.{item_kind}
 use Rattle.lsp_answers.specs.Texts.{TextView}
 use Rattle.lsp_answers.specs.Written.{directive_items}
-use Rattle.lsp_answers.specs.declared.completion.Spot.{Spot}
-use Rattle.lsp_answers.specs.declared.completion.Spot.TheVariants.{Operation, Operand, Comment}
+use Rattle.lsp_answers.specs.declared.completing.Spot.{Spot}
+use Rattle.lsp_answers.specs.declared.completing.Spot.TheVariants.{Operation, Operand, Comment}
 use Rattle.lsp_answers.specs.declared.wording.TheConstants.{NO_VALUE}
 use Rattle.model.specs.Listing.{number_text}
 use Rattle.model.specs.Mnemonics.{mnemonic_text, mnemonics}

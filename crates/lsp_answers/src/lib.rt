@@ -6,7 +6,7 @@
 //! of names and instructions (`Said.antt`), of numbers and directives (`literals`,
 //! `Literals.antt`), in Markdown (`markdown`, `Markdown.antt`) with lines of the source (`above`,
 //! `Above.antt`), `names` (`Names.antt`), `renaming` (`Renames.antt`), `lists` of the names
-//! (`Lists.antt`), names by letters (`search`, `Search.antt`), and `completion`
+//! (`Lists.antt`), names by letters (`search`, `Search.antt`), and `completing`
 //! (`Completion.antt`) with the directives, which may be `written` in any source. `named` has the
 //! kinds of names, `texts` makes texts of words.
 //!
@@ -16,7 +16,7 @@
 #![tactic(auto)]
 
 mod above;
-mod completion;
+mod completing;
 mod fault_marks;
 mod finding;
 mod kinds;
@@ -36,7 +36,7 @@ mod warning_marks;
 mod wording;
 mod written;
 
-pub use completion::{Spot, completion};
+pub use completing::{Spot, completion};
 pub use finding::diagnostics;
 pub use kinds::{Diagnostic, DiagnosticKind};
 pub use lists::symbols;

@@ -4,8 +4,8 @@ use Rattle.std.specs.List.{prefix_len}
 use Rattle.std.specs.Str.{str_eq_ignore_ascii_case}
 use Rattle.lsp_hints.specs.declared.operation.Operation.{Operation}
 use Rattle.lsp_hints.specs.declared.operation.Operation.TheVariants.{Instruction, Bytes, Words, WordsHighFirst, Reserve, Finish, Origin, Definition}
-use Rattle.lsp_answers.specs.declared.completion.Spot.{Spot}
-use Rattle.lsp_answers.specs.declared.completion.Spot.TheVariants.{Operation as InOperation, Operand, Comment}
+use Rattle.lsp_answers.specs.declared.completing.Spot.{Spot}
+use Rattle.lsp_answers.specs.declared.completing.Spot.TheVariants.{Operation as InOperation, Operand, Comment}
 use Rattle.lsp_messages.specs.Columns.{column_of}
 use Rattle.model.specs.Mnemonics.{mnemonic_named}
 use Rattle.model.specs.Token.{is_blank, is_word_byte}

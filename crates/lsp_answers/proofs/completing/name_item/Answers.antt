@@ -6,7 +6,7 @@ use Rattle.lsp_answers.specs.Texts.{text_view}
 use Rattle.model.specs.Names.{number_in}
 use Rattle.name_uses.specs.Views.{use_view}
 use Rattle.serde_json.specs.View.{view}
-use Rattle.lsp_answers.proofs.completion.name_item.Goals as goal
+use Rattle.lsp_answers.proofs.completing.name_item.Goals as goal
 
 pub returns : goal.returns
 returns c =

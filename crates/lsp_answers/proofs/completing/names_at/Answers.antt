@@ -5,7 +5,7 @@ use Rattle.lsp_answers.specs.Lists.{defined}
 use Rattle.lsp_answers.specs.Meanings.{numbers_in}
 use Rattle.lsp_answers.specs.Texts.{text_view}
 use Rattle.model.specs.Names.{Definitions}
-use Rattle.lsp_answers.proofs.completion.names_at.Goals as goal
+use Rattle.lsp_answers.proofs.completing.names_at.Goals as goal
 
 pub lay_out-requires-clause-empty : goal.lay_out-requires-clause-empty
 lay_out-requires-clause-empty c = c.new-symbols.ensures

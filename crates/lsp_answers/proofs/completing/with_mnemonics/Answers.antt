@@ -3,7 +3,7 @@ use Rattle.json_messages.specs.ValueLists.{HasValues}
 use Rattle.lsp_answers.proofs.Behind.{all_behind, next_behind, none_behind}
 use Rattle.lsp_answers.specs.Completion.{mnemonic_item}
 use Rattle.model.specs.declared.instruction.Mnemonic.{Mnemonic}
-use Rattle.lsp_answers.proofs.completion.with_mnemonics.Goals as goal
+use Rattle.lsp_answers.proofs.completing.with_mnemonics.Goals as goal
 
 pub loop-mnemonic-init : goal.loop-mnemonic-init
 loop-mnemonic-init c ds has = none_behind ds c.args.items has

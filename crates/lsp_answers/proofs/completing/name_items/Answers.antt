@@ -6,8 +6,8 @@ use Rattle.lsp_answers.specs.Lists.{defined}
 use Rattle.lsp_answers.specs.Texts.{text_view}
 use Rattle.name_uses.specs.Views.{use_views}
 use Rattle.name_uses.specs.declared.name_use.NameUse.{NameUse}
-use Rattle.lsp_answers.proofs.completion.name_items.Goals.{then-one, else-one}
-use Rattle.lsp_answers.proofs.completion.name_items.Goals as goal
+use Rattle.lsp_answers.proofs.completing.name_items.Goals.{then-one, else-one}
+use Rattle.lsp_answers.proofs.completing.name_items.Goals as goal
 
 pub loop-one-preserved : goal.loop-one-preserved
 loop-one-preserved c =

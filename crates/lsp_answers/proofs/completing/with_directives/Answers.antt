@@ -1,5 +1,5 @@
 use Rattle.lsp_answers.proofs.Behind.{all_behind, directive_item, next_behind, none_behind}
-use Rattle.lsp_answers.proofs.completion.with_directives.Goals as goal
+use Rattle.lsp_answers.proofs.completing.with_directives.Goals as goal
 
 pub loop-directive-init : goal.loop-directive-init
 loop-directive-init c ds has = none_behind ds c.args.items has

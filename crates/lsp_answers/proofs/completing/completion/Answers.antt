@@ -1,4 +1,4 @@
-use Rattle.lsp_answers.proofs.completion.completion.Goals as goal
+use Rattle.lsp_answers.proofs.completing.completion.Goals as goal
 
 pub returns-in-Ok : goal.returns-in-Ok
 returns-in-Ok c = rw (c.in-Operation.is) (c.build.ensures _ (c.with_directives.ensures _ (c.with_mnemonics.ensures _ c.in-Ok.ensures)))
