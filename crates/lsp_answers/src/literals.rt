@@ -72,14 +72,13 @@ fn push_byte_words(words: &mut Vec<u8>, byte: u8) -> Result<(), AllocError>
 fn push_word_words(words: &mut Vec<u8>, number: u16) -> Result<(), AllocError>
     ensures { OnOk result (words.new.items ≡ words.old.items ++ word_words number) }
 {
-    let [high, low] = number.to_be_bytes();
     push_text(words, "$")?;
     push_address(words, number)?;
     push_text(words, " = ")?;
     push_count(words, number as u64)?;
     push_text(words, " = %")?;
-    words.extend_from_slice(&bits(high))?;
-    words.extend_from_slice(&bits(low))
+    words.extend_from_slice(&bits((number / 256) as u8))?;
+    words.extend_from_slice(&bits((number % 256) as u8))
 }
 
 /// Appends what is said of a number.
