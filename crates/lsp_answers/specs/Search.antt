@@ -1,5 +1,5 @@
 -- Names by letters. Source: Language Server Protocol 3.17, "Workspace Symbols Request".
-use Rattle.std.specs.Prelude.{ℕ, ◌==◌, ◌&&◌, Bool, true, false, if◌then◌else◌, List, [], ◌∷◌}
+use Rattle.std.specs.Prelude.{ℕ, ◌==◌, ◌&&◌, Bool, if◌then◌else◌, List, [], ◌∷◌, length}
 use Rattle.std.specs.Char.{to_ascii_lowercase}
 use Rattle.std.specs.Str.Lossy.{utf8_lossy}
 use Rattle.lsp_answers.specs.Named.{symbol_kind}
@@ -19,13 +19,9 @@ unfoldable pub left_of : List ℕ → List ℕ → List ℕ
 left_of query [] = query
 left_of query (b ∷ name) = left_of (without_letter query b) name
 
-abbrev pub is_none : List ℕ → Bool
-is_none [] = true
-is_none (q ∷ query) = false
-
 -- The letters of a query stand in a name in their order.
 abbrev pub has_letters : List ℕ → List ℕ → Bool
-has_letters query name = is_none (left_of query name)
+has_letters query name = length (left_of query name) == 0
 
 abbrev pub is_found : List ℕ → Use → Bool
 is_found query u = u.defines && has_letters query u.text
