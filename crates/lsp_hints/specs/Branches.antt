@@ -69,5 +69,5 @@ far_words line far = mnemonic_text far.opposite ++ codes " *+5\n" ++ indent_of l
     ++ codes "JMP " ++ operand_in line far.from far.width
 
 abbrev pub far_title : List ℕ → Far → List ℕ
-far_title line far = codes "write " ++ mnemonic_text far.opposite ++ codes " *+5 and JMP "
+far_title line far = mnemonic_text far.opposite ++ codes " *+5 and JMP "
     ++ operand_in line far.from far.width

@@ -120,5 +120,5 @@ pub fn far_title(alloc: Global, line: &[u8], far: Far) -> Result<Vec<u8>, AllocE
 {
     let letters = letters_of(far.opposite);
     let operand = operand_in(line, far.from, far.width);
-    concat(alloc, &[b"write ", &letters, b" *+5 and JMP ", operand])
+    concat(alloc, &[&letters, b" *+5 and JMP ", operand])
 }
