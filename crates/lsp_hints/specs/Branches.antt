@@ -6,6 +6,7 @@ use Rattle.lsp_answers.specs.Kinds.{is_far_branch as is_far}
 use Rattle.lsp_answers.specs.declared.kinds.Diagnostic.{Diagnostic}
 use Rattle.lsp_hints.specs.Operations.{start_of, word_size}
 use Rattle.lsp_hints.specs.declared.branches.Far.{Far}
+use Rattle.lsp_hints.specs.declared.wording.TheConstants.{AND_JUMP}
 use Rattle.model.specs.Mnemonics.{mnemonic_named, mnemonic_text}
 use Rattle.model.specs.Token.{is_blank}
 use Rattle.model.specs.declared.instruction.Mnemonic.{Mnemonic}
@@ -69,5 +70,5 @@ far_words line far = mnemonic_text far.opposite ++ codes " *+5\n" ++ indent_of l
     ++ codes "JMP " ++ operand_in line far.from far.width
 
 abbrev pub far_title : List ℕ → Far → List ℕ
-far_title line far = mnemonic_text far.opposite ++ codes " *+5 and JMP "
-    ++ operand_in line far.from far.width
+far_title line far
+    = mnemonic_text far.opposite ++ AND_JUMP.now ++ operand_in line far.from far.width

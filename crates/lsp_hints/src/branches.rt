@@ -6,6 +6,7 @@ ghost use Rattle.lsp_hints.specs.Branches.{far_of, far_title, far_words, has_her
 ghost use Rattle.lsp_hints.specs.Branches.{is_star, operand_in, opposite, turned};
 
 use crate::operation::{start_of, word_size};
+use crate::wording::AND_JUMP;
 use lsp_answers::Diagnostic;
 use model::{Mnemonic, Profile};
 use optable::{letters_of, mnemonic_in};
@@ -120,5 +121,5 @@ pub fn far_title(alloc: Global, line: &[u8], far: Far) -> Result<Vec<u8>, AllocE
 {
     let letters = letters_of(far.opposite);
     let operand = operand_in(line, far.from, far.width);
-    concat(alloc, &[&letters, b" *+5 and JMP ", operand])
+    concat(alloc, &[&letters, AND_JUMP.as_bytes(), operand])
 }

@@ -1,4 +1,4 @@
-//! How operations are written.
+//! How operations are written, and what a change is called.
 
 pub const ORIGIN_FORM: &str = "*= EXPRESSION";
 
@@ -13,3 +13,6 @@ pub const DBYTE_FORM: &str = ".DBYTE EXPRESSION, ..";
 pub const RES_FORM: &str = ".RES EXPRESSION";
 
 pub const END_FORM: &str = ".END";
+
+/// Stands between a branch and the target of the jump behind it.
+pub const AND_JUMP: &str = " *+5 and JMP ";
