@@ -59,7 +59,7 @@
   (lsp--flush-delayed-changes)
   (wait-for (lambda () (null (marks))) "it goes when the line is mended"))
 (let ((meant (ask "textDocument/hover")))
-  (want (and meant (string-prefix-p name (gethash "value" (gethash "contents" meant)))) "hover on a name"))
+  (want (and meant (string-match-p (concat "\n" (regexp-quote name)) (concat "\n" (gethash "value" (gethash "contents" meant))))) "hover on a name"))
 (let ((places (ask "textDocument/definition")))
   (want (and (= (length places) 1)
              (= (1+ (gethash "line" (gethash "start" (gethash "range" (elt places 0)))))

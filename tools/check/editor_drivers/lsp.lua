@@ -68,7 +68,7 @@ local function ask(method, more)
   return got and got[client] and got[client].result
 end
 local meant = ask("textDocument/hover")
-want(meant and meant.contents.value:find(name, 1, true) == 1, "hover on a name")
+want(meant and ("\n" .. meant.contents.value):find("\n" .. name, 1, true), "hover on a name")
 local places = ask("textDocument/definition")
 want(places and #places == 1 and places[1].range.start.line == defined - 1, "its definition")
 local function shown(method, more)
