@@ -1,3 +1,6 @@
 pub mod Mending
+pub mod RecordMending
+pub mod RecordParts
+pub mod RecordReports
 pub mod Reported
 pub mod Word

@@ -1,15 +1,23 @@
-//! `mend TAPE OUT`: a tape with a right end record, from one whose data records are right.
+//! `mend TAPE OUT`: a tape with a right end record, from one whose data records are right; Intel
+//! HEX or S-records with right checksums and an end record.
 //!
-//! `mend_text` has the theorem: what it returns denotes the image of the data records as they
-//! stand. `tape_mend` is the word: it reads its words and the tape, says what was mended, and
-//! writes OUT.
+//! `mend_text` has the theorem of tapes: what it returns denotes the image of the data records as
+//! they stand. That of `mend_records` is that what it returns denotes an image, and has all but the
+//! wrong checksums from the text, digit by digit. `tape_mend` is the word: it reads its words and
+//! the file, whose first record tells the form, says what was mended, and writes OUT.
 #![tactic(auto)]
 
+mod checksums;
 mod mending;
 mod parts;
+mod record_reports;
+mod records;
 mod reporting;
 mod run;
 mod wording;
 
+pub use checksums::{Checksums, WrongSum, wrong_sums};
 pub use mending::{Mended, mend_text};
+pub use record_reports::{push_sums, record_line};
+pub use records::{MendedRecords, mend_records};
 pub use run::tape_mend;

@@ -1,21 +1,30 @@
 //! What the word `mend` does.
 
-ghost use Rattle.std.specs.Prelude.{◌≡◌, ◌≤◌, ◌⊎◌, IfErr, IfOk, None, false, true};
+ghost use Rattle.std.specs.Prelude.{◌≡◌, ◌≤◌, ◌⊎◌, Err, IfErr, IfOk, IfSome, None, Ok, Some, string_bytes, true};
 ghost use Rattle.arguments.specs.Files.{EndsWriting};
 ghost use Rattle.arguments.specs.Streams.{Tells, TellsFront};
 ghost use Rattle.arguments.specs.Words.{AsksForHelp, Fits, Misfits, texts};
+ghost use Rattle.image_reader.specs.Images.{IsTextFault};
+ghost use Rattle.image_reader.specs.Texts.{text_image};
+ghost use Rattle.image_reader.specs.declared.fault.ImageFault.TheVariants as image_fault;
 ghost use Rattle.model.specs.Tape.{FirstFault, TapeDenotes};
 ghost use Rattle.model.specs.TapeFault.{out_of_memory};
 ghost use Rattle.word_mend.specs.Mending.{HasRecords, IsMendedText, mended_text};
+ghost use Rattle.word_mend.specs.RecordMending.{AreMendedLines, lacked_end, mended_lines};
+ghost use Rattle.word_mend.specs.RecordMending.{text_form};
 ghost use Rattle.word_mend.specs.Reported.{ends_before, moved, place_in};
-ghost use Rattle.word_mend.specs.Word.{Asks, EndsMend, IsAbout, IsSaid};
+ghost use Rattle.word_mend.specs.Word.{Asks, EndsMend, IsAbout, IsSaid, IsSaidOfMended};
 ghost use Rattle.tape_words.specs.Asked.{mend_asked, mend_view};
 ghost use Rattle.tape_words.specs.CommandLines.{mend};
 
 use crate::mending::{Mended, mend_text};
 use crate::parts::is_kept;
+use crate::record_reports::{record_line, records_report};
+use crate::records::{MendedRecords, mend_records};
 use crate::reporting::report;
 use arguments::{FileRefusal, Refusal, refused_words, write_output};
+use image_files::form_by;
+use image_reader::{Form, ImageFault, RecordFault, TextForm};
 use model::{TapeFault, TapeFaultKind};
 use std::alloc::{AllocError, Global};
 use std::io::Write;
@@ -72,7 +81,8 @@ fn still_wrong(
     text: &[u8],
     fault: TapeFault,
 ) -> Result<Answer, AllocError>
-    requires { FirstFault (mended_text text.now) fault.kind fault.offset }
+    requires form { text_form text.now ≡ None }
+    requires first { FirstFault (mended_text text.now) fault.kind fault.offset }
     ensures { IfOk result (IsAbout (mend_view words.now)) }
 {
     let text = fault_text(alloc, words.tape, text, moved(text, fault))?;
@@ -89,12 +99,54 @@ fn not_mended(
     text: &[u8],
     fault: TapeFault,
 ) -> Result<Answer, AllocError>
-    requires { (fault ≡ out_of_memory) ⊎ FirstFault (mended_text text.now) fault.kind fault.offset }
+    requires form { text_form text.now ≡ None }
+    requires first { (fault ≡ out_of_memory)
+        ⊎ FirstFault (mended_text text.now) fault.kind fault.offset }
     ensures { IfOk result (IsAbout (mend_view words.now)) }
 {
     match fault.kind {
         TapeFaultKind::OutOfMemory => Err(AllocError),
         _ => still_wrong(alloc, words, text, fault),
+    }
+}
+
+/// Returns the answer for Intel HEX or S-records of which more is wrong. The only error is that an
+/// allocation failed.
+fn records_still_wrong(
+    alloc: Global,
+    words: &MendWords<'_>,
+    form: TextForm,
+    text: &[u8],
+    fault: RecordFault,
+) -> Result<Answer, AllocError>
+    requires form { text_form text.now ≡ Some form }
+    requires first { text_image form (mended_lines form text.now) ≡ Err fault }
+    ensures { IfOk result (IsAbout (mend_view words.now)) }
+{
+    let text = record_line(alloc, words.tape, fault)?;
+    Ok(Answer {
+        text,
+        is_right: false,
+    })
+}
+
+/// Returns the answer for Intel HEX or S-records that are not mended. The only error is that an
+/// allocation failed.
+fn records_not_mended(
+    alloc: Global,
+    words: &MendWords<'_>,
+    form: TextForm,
+    text: &[u8],
+    fault: ImageFault,
+) -> Result<Answer, AllocError>
+    requires form { text_form text.now ≡ Some form }
+    requires first { (fault ≡ image_fault.OutOfMemory)
+        ⊎ IsTextFault (text_image form (mended_lines form text.now)) fault }
+    ensures { IfOk result (IsAbout (mend_view words.now)) }
+{
+    match fault {
+        ImageFault::Record(fault) => records_still_wrong(alloc, words, form, text, fault),
+        _ => Err(AllocError),
     }
 }
 
@@ -111,28 +163,26 @@ fn write_out<H: Files + AllocGlobal>(
     write_output(rt, words.out, &[Some(words.tape)], text)
 }
 
-/// Writes OUT, and returns what is said of a tape that is mended. If OUT is the tape under another
+/// Writes OUT, and returns what is said of a text that is mended. If OUT is the tape under another
 /// name, nothing is written.
 fn put_out<'a, H: Files + AllocGlobal>(
     rt: &H,
     words: &MendWords<'a>,
-    text: &[u8],
-    mended: &Mended,
+    said: Result<String, AllocError>,
+    out: &[u8],
 ) -> Result<Answer, FileRefusal<'a>>
-    requires text { IsMendedText text.now mended.now.text.items mended.now.fault }
-    requires denotes { TapeDenotes mended.now.text.items mended.now.image }
-    requires records { HasRecords text.now mended.now.image }
+    requires { IfOk said (λ said. IsSaidOfMended (string_bytes said)) }
     ensures about { IfOk result (IsAbout (mend_view words.now)) }
     ensures refused { IfErr result (λ why. EndsWriting why.refusal) }
 {
     let file = words.out;
-    let Ok(said) = report(rt.alloc(), text, mended) else {
+    let Ok(said) = said else {
         return Err(FileRefusal {
             file,
             refusal: Refusal::OutOfMemory,
         });
     };
-    match write_out(rt, words, &mended.text) {
+    match write_out(rt, words, out) {
         Ok(()) => Ok(Answer {
             text: said,
             is_right: true,
@@ -141,17 +191,48 @@ fn put_out<'a, H: Files + AllocGlobal>(
     }
 }
 
+/// Returns what is said of a tape that is mended.
+fn tape_said(alloc: Global, text: &[u8], mended: &Mended) -> Result<String, AllocError>
+    requires form { text_form text.now ≡ None }
+    requires text { IsMendedText text.now mended.now.text.items mended.now.fault }
+    requires denotes { TapeDenotes mended.now.text.items mended.now.image }
+    requires records { HasRecords text.now mended.now.image }
+    ensures { IfOk result (λ said. IsSaidOfMended (string_bytes said)) }
+{
+    report(alloc, text, mended)
+}
+
+/// Returns what is said of Intel HEX or of S-records that are mended.
+fn records_said(
+    alloc: Global,
+    form: TextForm,
+    text: &[u8],
+    mended: &MendedRecords,
+) -> Result<String, AllocError>
+    requires form { text_form text.now ≡ Some form }
+    requires text { AreMendedLines form text.now mended.now.text.items mended.now.fault }
+    requires denotes { text_image form mended.now.text.items ≡ Ok mended.now.image }
+    requires end { IfSome mended.now.fault (λ _. mended.now.lacked_end ≡ lacked_end form text.now) }
+    ensures { IfOk result (λ said. IsSaidOfMended (string_bytes said)) }
+{
+    records_report(alloc, form, text, mended)
+}
+
 /// Mends the text of a tape: what is said of it. OUT is written only if the tape is mended.
-fn mended<'a, H: Files + AllocGlobal>(
+fn mended_tape<'a, H: Files + AllocGlobal>(
     rt: &H,
     words: &MendWords<'a>,
     text: &[u8],
 ) -> Result<Answer, FileRefusal<'a>>
+    requires { text_form text.now ≡ None }
     ensures about { IfOk result (IsAbout (mend_view words.now)) }
     ensures refused { IfErr result (λ why. EndsWriting why.refusal) }
 {
     match mend_text(rt.alloc(), text) {
-        Ok(mended) => put_out(rt, words, text, &mended),
+        Ok(mended) => {
+            let said = tape_said(rt.alloc(), text, &mended);
+            put_out(rt, words, said, &mended.text)
+        }
         Err(fault) => {
             not_mended(rt.alloc(), words, text, fault).map_err(|_| FileRefusal {
                 file: words.tape,
@@ -161,7 +242,64 @@ fn mended<'a, H: Files + AllocGlobal>(
     }
 }
 
-/// Mends a tape's file: what is said of it.
+/// Mends a text of Intel HEX or of S-records: what is said of it. OUT is written only if the text
+/// is mended.
+fn mended_records<'a, H: Files + AllocGlobal>(
+    rt: &H,
+    words: &MendWords<'a>,
+    form: TextForm,
+    text: &[u8],
+) -> Result<Answer, FileRefusal<'a>>
+    requires { text_form text.now ≡ Some form }
+    ensures about { IfOk result (IsAbout (mend_view words.now)) }
+    ensures refused { IfErr result (λ why. EndsWriting why.refusal) }
+{
+    match mend_records(rt.alloc(), form, text) {
+        Ok(mended) => {
+            let said = records_said(rt.alloc(), form, text, &mended);
+            put_out(rt, words, said, &mended.text)
+        }
+        Err(fault) => {
+            records_not_mended(rt.alloc(), words, form, text, fault).map_err(|_| FileRefusal {
+                file: words.tape,
+                refusal: Refusal::OutOfMemory,
+            })
+        }
+    }
+}
+
+/// Returns the form of records that the first record of a text tells, if it is no tape.
+fn text_form(text: &[u8]) -> Option<TextForm>
+    ensures { result ≡ text_form text.now }
+{
+    match form_by(None, text) {
+        Ok(form) => match form {
+            Form::Text(form) => Some(form),
+            Form::Tape => None,
+            Form::Raw(_) => None,
+            Form::Prg => None,
+        },
+        Err(_) => None,
+    }
+}
+
+/// Mends a text in the form that its first record tells: what is said of it. A text that tells none
+/// is mended as a tape.
+fn mended<'a, H: Files + AllocGlobal>(
+    rt: &H,
+    words: &MendWords<'a>,
+    text: &[u8],
+) -> Result<Answer, FileRefusal<'a>>
+    ensures about { IfOk result (IsAbout (mend_view words.now)) }
+    ensures refused { IfErr result (λ why. EndsWriting why.refusal) }
+{
+    match text_form(text) {
+        None => mended_tape(rt, words, text),
+        Some(form) => mended_records(rt, words, form, text),
+    }
+}
+
+/// Mends the text of a file: what is said of it.
 fn done<'a, H: Files + AllocGlobal>(
     rt: &H,
     words: &MendWords<'a>,
@@ -175,7 +313,7 @@ fn done<'a, H: Files + AllocGlobal>(
 
 /// Does what the words after `mend` ask for, and returns the exit status.
 ///
-/// - 0: OUT was written. 1: more is wrong with the tape.
+/// - 0: OUT was written. 1: more is wrong with the text.
 /// - 2: the words are wrong. 3: memory ran out.
 /// - 4: reading or writing failed, or OUT is the tape under another name.
 ///
@@ -188,16 +326,16 @@ pub fn tape_mend<H: Files + AllocGlobal, O: Write, E: Write>(
     errors: &mut E,
 ) -> u8
     ensures status { result ≤ 4 }
-    // Where a tape was mended nothing is said on the error stream.
+    // Where a text was mended nothing is said on the error stream.
     ensures quiet { result ≡ 0 → errors.new ≡ errors.old }
     // Words that are refused leave the output as it was, and so it is where memory ran out.
     ensures untouched { 2 ≤ result → result ≤ 3 → output.new ≡ output.old }
-    // 0 means that some tape was mended and what was wrong with it was written, or the help that is
+    // 0 means that some text was mended and what was wrong with it was written, or the help that is
     // asked for.
     ensures right { result ≡ 0 → AsksForHelp mend (texts words.entry.now)
         ⊎ Asks (texts words.entry.now) (λ asked. Tells (IsSaid asked) true
         (O.contents output.old) (O.contents output.new)) }
-    // 1 means that a fault was written that some tape still has, or that the file is too long.
+    // 1 means that a fault was written that some text still has, or that the file is too long.
     ensures wrong { result ≡ 1 → Asks (texts words.entry.now)
         (λ asked. Tells (IsSaid asked) false (O.contents output.old) (O.contents output.new)
         ⊎ (output.new ≡ output.old)) }
@@ -205,7 +343,7 @@ pub fn tape_mend<H: Files + AllocGlobal, O: Write, E: Write>(
     ensures refused { result ≡ 2 → Misfits mend (texts words.entry.now)
         ⊎ (Fits mend (texts words.entry.now)
         × (mend_asked (texts words.entry.now) ≡ None)) }
-    // 4 means that a beginning was written of what is said of some tape, or nothing; or help is
+    // 4 means that a beginning was written of what is said of some text, or nothing; or help is
     // asked for.
     ensures begun { result ≡ 4 → AsksForHelp mend (texts words.entry.now)
         ⊎ Asks (texts words.entry.now) (λ asked. TellsFront (IsSaid asked)

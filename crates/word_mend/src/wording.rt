@@ -11,3 +11,9 @@ pub const END_RECORD_WAS_MISSING: &str = "end record: it was missing\n";
 pub const SUM_WAS_WRONG: &str = "end record: its sum was wrong\n";
 
 pub const END_RECORD_COUNTED: &str = "end record: it counted ";
+
+pub const LINE: &str = "line ";
+
+pub const THE_CHECKSUM_WAS: &str = ": the checksum was ";
+
+pub const AND_IS_NOW: &str = ", and is now ";
