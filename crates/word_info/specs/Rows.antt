@@ -16,8 +16,7 @@ use Rattle.word_info.specs.Facts.{gap_size}
 use Rattle.image_files.specs.Told.{what_of}
 use Rattle.image_files.specs.declared.refusal.NoImage.{NoImage}
 use Rattle.image_files.specs.declared.refusal.NoImage.TheVariants.{Record}
-use Rattle.image_reader.specs.RecordFault.{record_fault_name, record_fault_number}
-use Rattle.image_reader.specs.declared.fault.RecordFaultKind.{RecordFaultKind}
+use Rattle.word_mend.specs.RecordReports.{record_line}
 use Rattle.word_info.specs.declared.checksum.Sums.{Sums}
 use Rattle.word_info.specs.declared.fact_list.Facts.{Facts}
 use Rattle.word_info.specs.declared.gaps.Gap.{Gap}
@@ -198,17 +197,7 @@ rows_of profile image port facts records overlaps = tape_row facts records ++ ra
 
 -- ---- what is no image
 
--- Where a fault of a text of records is: `rom.hex:2:14: `.
-unfoldable pub place_text : List ℕ → ℕ → ℕ → List ℕ
-place_text file line column = shown_name file ++ codes ":" ++ decimal line ++ codes ":" ++ decimal column
-    ++ codes ": "
-
--- Its name and number.
-unfoldable pub kind_text : RecordFaultKind → List ℕ
-kind_text kind = record_fault_name kind ++ codes " " ++ decimal (record_fault_number kind)
-    ++ codes "\n"
-
 -- What is wrong with a file: in which line and column of a text of records, or a sentence.
 unfoldable pub no_image_text : List ℕ → NoImage → List ℕ
-no_image_text file (Record f) = place_text file f.line f.column ++ kind_text f.kind
+no_image_text file (Record f) = record_line file f
 no_image_text file no_image = shown_name file ++ codes ": " ++ what_of no_image ++ codes "\n"

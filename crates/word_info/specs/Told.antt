@@ -1,5 +1,6 @@
 -- What `info` says of a tape. Source: mos65. No clause can say which tape a file has.
-use Rattle.std.specs.Prelude.{◌≡◌, ◌⊎◌, ℕ, Bool, true, false, List, [], ◌++◌, Option, None, Some, Result, Ok, codes}
+use Rattle.std.specs.Prelude.{◌≡◌, ◌⊎◌, ℕ, Bool, true, false, List, [], ◌++◌, Option, None, Some, Result, Ok, Err, codes}
+use Rattle.std.specs.List.{flat_map}
 use Rattle.dump_faults.specs.Faults.{stuck_lines}
 use Rattle.dump_faults.specs.Regions.{regions_of}
 use Rattle.image_files.specs.Bytes.{IsImage, IsNoImage, form_by}
@@ -7,14 +8,19 @@ use Rattle.image_files.specs.FreeBase.{IsFreeBase}
 use Rattle.image_files.specs.declared.refusal.ImageRefusal.TheVariants as why
 use Rattle.image_files.specs.declared.refusal.NoImage.{NoImage}
 use Rattle.image_reader.specs.EndRecords.{as_read, has_count_twice}
+use Rattle.image_reader.specs.Texts.{text_image}
+use Rattle.image_reader.specs.declared.fault.RecordFault.{RecordFault}
 use Rattle.image_reader.specs.declared.form.Form.{Form}
 use Rattle.image_reader.specs.declared.form.Form.TheVariants.{Tape, Text}
+use Rattle.image_reader.specs.declared.form.TextForm.{TextForm}
 use Rattle.image_files.specs.declared.form.OtherText.{OtherText}
 use Rattle.model.specs.State.{memory_of}
 use Rattle.model.specs.Tape.{FirstFault, TapeDenotes}
 use Rattle.model.specs.declared.instruction.Profile.{Profile}
 use Rattle.model.specs.declared.tape.TapeFault.{TapeFault}
 use Rattle.word_mend.specs.Mending.{IsMendedText, mended_text}
+use Rattle.word_mend.specs.RecordMending.{AreMendedLines, mended_lines, wrong_sums}
+use Rattle.word_mend.specs.RecordReports.{sum_text}
 use Rattle.tape_words.specs.Asked.{InfoAsked}
 use Rattle.tape_words.specs.Meanings.{fault_line}
 use Rattle.tape_words.specs.declared.wording.TheConstants.{COUNT_TWICE}
@@ -23,7 +29,7 @@ use Rattle.word_info.specs.Overlaps.{AreTextOverlaps, overlaps_of}
 use Rattle.word_info.specs.Rows.{no_image_text, rows_of}
 use Rattle.word_info.specs.declared.fact_list.Facts.{Facts}
 use Rattle.word_info.specs.declared.ranges.Range.{Range}
-use Rattle.word_info.specs.declared.wording.TheConstants.{MEND_MENDS_IT, MENDED_FOR_DEBUG}
+use Rattle.word_info.specs.declared.wording.TheConstants.{AND_SHOULD_BE, MEND_MENDS_IT, MENDED_FOR_DEBUG, THE_CHECKSUM_IS}
 
 -- The facts of an image, with those of a map's port.
 pub record AreFacts (image : List (Option ℕ)) (port : ℕ) (f : Facts) : Type 0 where
@@ -116,9 +122,34 @@ pub record IsWrongTape (asked : InfoAsked) (said : List ℕ) : Type 0 where
   pub first : FirstFault (as_read text) fault.kind fault.offset
   pub told : IsFaultText asked.tape text fault said
 
+-- `mend` makes a right text of Intel HEX or of S-records.
+abbrev pub AreMendable : TextForm → List ℕ → Type 0
+AreMendable form bytes = (out : List ℕ) × (image : List (Option ℕ)) × (fault : Option RecordFault)
+    × AreMendedLines form bytes out fault × (text_image form out ≡ Ok image)
+
+-- The mended text still has a fault.
+abbrev pub AreBeyondMending : TextForm → List ℕ → Type 0
+AreBeyondMending form bytes = (fault : RecordFault)
+    × (text_image form (mended_lines form bytes) ≡ Err fault)
+
+-- Whether `mend` mends such a text.
+abbrev pub IsRecordsHint : TextForm → List ℕ → List ℕ → Type 0
+IsRecordsHint form bytes hint = ((hint ≡ MEND_MENDS_IT.now) × AreMendable form bytes)
+    ⊎ ((hint ≡ []) × AreBeyondMending form bytes)
+
+-- A line for each wrong checksum of such a text, and whether `mend` mends it; nothing of bytes in
+-- another form, or that tell none.
+abbrev pub IsSumsText : Result Form OtherText → List ℕ → List ℕ → Type 0
+IsSumsText (Ok (Text form)) bytes sums = (hint : List ℕ) × IsRecordsHint form bytes hint
+    × (sums ≡ flat_map (sum_text THE_CHECKSUM_IS.now AND_SHOULD_BE.now) (wrong_sums form bytes)
+    ++ hint)
+IsSumsText told bytes sums = sums ≡ []
+
 -- What is said of bytes that denote no image in another form, or that tell none.
 pub record IsOther (asked : InfoAsked) (said : List ℕ) : Type 0 where
   pub bytes : List ℕ
   pub no_image : NoImage
   pub is : IsNoImage asked.form bytes (why.NoImage no_image)
-  pub told : said ≡ no_image_text asked.tape no_image
+  pub behind : List ℕ
+  pub sums : IsSumsText (form_by asked.form bytes) bytes behind
+  pub told : said ≡ no_image_text asked.tape no_image ++ behind

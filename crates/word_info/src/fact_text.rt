@@ -2,13 +2,12 @@
 
 ghost use Rattle.std.specs.Prelude.{◌≡◌, ◌++◌, IfOk, OnOk, string_bytes};
 ghost use Rattle.word_info.specs.Rows.{amount_text, base_text, between_text, byte_count, clash_text};
-ghost use Rattle.word_info.specs.Rows.{gap_row, kind_text, overlap_row, overlap_rows, place_text};
+ghost use Rattle.word_info.specs.Rows.{gap_row, overlap_row, overlap_rows};
 ghost use Rattle.word_info.specs.Rows.{known_gap_row, part_row, part_rows, port_row, range_row};
 ghost use Rattle.word_info.specs.Rows.{range_rows, records_text, rows_of, stretch_text, sum_text};
 ghost use Rattle.word_info.specs.Rows.{image_name, no_image_text, tape_row, target_text, vector_rows};
 ghost use Rattle.word_info.specs.Rows.{address_line_row, data_line_row, line_row, line_rows};
 ghost use Rattle.word_info.specs.Rows.{region_row, region_rows, value_text};
-ghost use Rattle.image_files.specs.declared.refusal.NoImage.TheVariants.{Record};
 
 use crate::checksum::Sums;
 use crate::fact_list::Facts;
@@ -18,11 +17,11 @@ use crate::wording;
 use arguments::shown_name;
 use dump_faults::{Bus, Region, Stuck, block_of};
 use image_files::NoImage;
-use image_reader::{RecordFault, RecordFaultKind};
 use memory_map::{Image, MapSpec};
 use model::Profile;
 use std::alloc::{AllocError, Global};
 use tape_words::{BYTE, BYTES, RECORD, RECORDS, push_count, push_instruction};
+use word_mend::record_line;
 
 /// What is to be known of an image's records.
 #[derive(Drop)]
@@ -434,52 +433,6 @@ pub fn image_text(
     Ok(words)
 }
 
-/// Appends where a fault of a text of records is.
-#[tactic(auto, unfolding(crate::specs::Rows::place_text))]
-fn push_place(
-    words: &mut String,
-    alloc: Global,
-    file: &str,
-    line: u64,
-    column: u64,
-) -> Result<(), AllocError>
-    ensures { OnOk result (string_bytes words.new
-        ≡ string_bytes words.old ++ place_text file.now line column) }
-{
-    let file = shown_name(alloc, file)?;
-    write!(words, "{file}:{line}:{column}: ")
-}
-
-/// Appends the name and the number of a fault, and ends the line.
-#[tactic(auto, unfolding(crate::specs::Rows::kind_text))]
-fn push_kind(words: &mut String, kind: RecordFaultKind) -> Result<(), AllocError>
-    ensures { OnOk result
-        (string_bytes words.new ≡ string_bytes words.old ++ kind_text kind) }
-{
-    let (name, number) = (kind.name(), kind.number());
-    writeln!(words, "{name} {number}")
-}
-
-/// Returns what is wrong with a text of records of a file.
-///
-/// Errors: `AllocError` if an allocation fails.
-#[tactic(auto, unfolding(crate::specs::Rows::no_image_text))]
-fn record_text(alloc: Global, file: &str, fault: RecordFault) -> Result<String, AllocError>
-    ensures { IfOk result
-        (λ words. string_bytes words ≡ no_image_text file.now (Record fault)) }
-{
-    let mut words = String::new(alloc);
-    push_place(
-        &mut words,
-        alloc,
-        file,
-        fault.line as u64,
-        fault.column as u64,
-    )?;
-    push_kind(&mut words, fault.kind)?;
-    Ok(words)
-}
-
 /// Returns what is wrong with a file that is no image.
 ///
 /// Errors: `AllocError` if an allocation fails.
@@ -489,7 +442,7 @@ pub fn no_image_text(alloc: Global, file: &str, why: NoImage) -> Result<String, 
 {
     let what = why.what();
     match why {
-        NoImage::Record(fault) => record_text(alloc, file, fault),
+        NoImage::Record(fault) => record_line(alloc, file, fault),
         NoImage::PastEnd | NoImage::NoAddress | NoImage::Looks(_) | NoImage::TooLong => {
             let file = shown_name(alloc, file)?;
             let mut words = String::new(alloc);

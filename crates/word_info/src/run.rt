@@ -1,15 +1,16 @@
 //! What the word `info` does.
 
-ghost use Rattle.std.specs.Prelude.{◌≡◌, ◌≤◌, ◌⊎◌, IfErr, IfOk, None, false, string_bytes, true};
+ghost use Rattle.std.specs.Prelude.{◌≡◌, ◌≤◌, ◌⊎◌, IfErr, IfOk, None, Ok, false, string_bytes, true};
 ghost use Rattle.arguments.specs.Streams.{Tells, TellsFront};
 ghost use Rattle.arguments.specs.Words.{AsksForHelp, Fits, Misfits, texts};
 ghost use Rattle.model.specs.State.{is_map};
 ghost use Rattle.image_files.specs.Bytes.{IsImage, IsNoImage, form_by};
 ghost use Rattle.image_files.specs.declared.refusal.ImageRefusal.TheVariants as why_not;
 ghost use Rattle.image_reader.specs.EndRecords.{as_read};
+ghost use Rattle.image_reader.specs.declared.form.Form.TheVariants.{Text};
 ghost use Rattle.model.specs.Tape.{FirstFault, TapeDenotes};
 ghost use Rattle.word_info.specs.Told.{AreOverlaps, AreRows, IsEndText, IsFaultText, IsHint};
-ghost use Rattle.word_info.specs.Told.{is_count_twice, is_tape, records_in};
+ghost use Rattle.word_info.specs.Told.{IsRecordsHint, IsSumsText, is_count_twice, is_tape, records_in};
 ghost use Rattle.word_info.specs.Word.{Asks, EndsInfo, IsAbout, IsSaid};
 ghost use Rattle.tape_words.specs.Asked.{info_asked, info_view};
 ghost use Rattle.tape_words.specs.CommandLines.{info};
@@ -21,7 +22,7 @@ use crate::ranges::Range;
 use crate::wording;
 use arguments::{FileRefusal, Refusal, refused_words};
 use image_files::{ImageRefusal, NoImage, OtherText, form_by, image_of_bytes};
-use image_reader::{Form, has_count_twice, with_end_sum};
+use image_reader::{Form, ImageFault, TextForm, has_count_twice, with_end_sum};
 use memory_map::{Image, MapSpec};
 use model::{TapeFault, TapeFaultKind};
 use papertape::read_tape;
@@ -31,7 +32,7 @@ use std::rt::Files;
 use tape_words::{
     Answer, COUNT_TWICE, InfoWords, answered, fault_text, read_info_words, read_text,
 };
-use word_mend::mend_text;
+use word_mend::{mend_records, mend_text, push_sums, wrong_sums};
 
 /// Returns what is in an image, and in the records if it is a tape.
 fn image_rows(
@@ -244,6 +245,54 @@ fn tape_answer(
     }
 }
 
+/// Returns what is to be said of `mend`, where records have a fault.
+fn records_hint(alloc: Global, form: TextForm, bytes: &[u8]) -> Result<&'static str, AllocError>
+    ensures { IfOk result (λ hint. IsRecordsHint form bytes.now hint.now) }
+{
+    match mend_records(alloc, form, bytes) {
+        Ok(_) => Ok(wording::MEND_MENDS_IT),
+        Err(ImageFault::Record(_)) => Ok(""),
+        Err(_) => Err(AllocError),
+    }
+}
+
+/// Returns a line for each wrong checksum of records that have a fault, and whether `mend` mends
+/// them.
+fn records_sums(alloc: Global, form: TextForm, bytes: &[u8]) -> Result<String, AllocError>
+    ensures { IfOk result (λ said. IsSumsText (Ok (Text form)) bytes.now (string_bytes said)) }
+{
+    let mut said = String::new(alloc);
+    let sums = wrong_sums(alloc, form, bytes)?;
+    push_sums(
+        &mut said,
+        &sums,
+        wording::THE_CHECKSUM_IS,
+        wording::AND_SHOULD_BE,
+    )?;
+    let hint = records_hint(alloc, form, bytes)?;
+    said.push_str(hint)?;
+    Ok(said)
+}
+
+/// Returns what is said of the checksums of bytes that are no image, if they are records.
+fn sums_text(
+    alloc: Global,
+    told: Result<Form, OtherText>,
+    bytes: &[u8],
+) -> Result<String, AllocError>
+    ensures { IfOk result (λ said. IsSumsText told bytes.now (string_bytes said)) }
+{
+    match told {
+        Ok(form) => match form {
+            Form::Text(form) => records_sums(alloc, form, bytes),
+            Form::Tape => Ok(String::new(alloc)),
+            Form::Raw(_) => Ok(String::new(alloc)),
+            Form::Prg => Ok(String::new(alloc)),
+        },
+        Err(_) => Ok(String::new(alloc)),
+    }
+}
+
 /// Returns what is to be said of bytes that are no image. The only error is that an allocation
 /// failed.
 fn other_answer(
@@ -255,7 +304,9 @@ fn other_answer(
     requires { IsNoImage words.now.form bytes.now (why_not.NoImage why) }
     ensures { IfOk result (IsAbout (info_view words.now)) }
 {
-    let text = no_image_text(alloc, words.tape, why)?;
+    let mut text = no_image_text(alloc, words.tape, why)?;
+    let sums = sums_text(alloc, form_by(words.form, bytes), bytes)?;
+    text.push_str(sums.as_str())?;
     Ok(Answer {
         text,
         is_right: false,

@@ -63,3 +63,7 @@ pub const NO_BASE: &str = " of the image; no base is free, try --port none\n";
 pub const MEND_MENDS_IT: &str = "`mend` mends it\n";
 
 pub const MENDED_FOR_DEBUG: &str = "`mend` mends it for `dis TAPE` and `debug --tape`\n";
+
+pub const THE_CHECKSUM_IS: &str = ": the checksum is ";
+
+pub const AND_SHOULD_BE: &str = ", and should be ";
