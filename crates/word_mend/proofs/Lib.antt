@@ -1,7 +1,7 @@
 pub mod Appended
-pub mod Checksums
 pub mod Found
 pub mod Read
 pub mod RecordLines
+pub mod RecordSums
 pub mod Stripped
 pub mod Word
