@@ -1,7 +1,7 @@
 -- The lines of a text of records, one after another, and what its end is.
 use Rattle.std.proofs.Common.{◌≡◌, ◌∙◌, ℕ, ◌+◌, false, List, [], ◌∷◌, ◌++◌, length, Option, Result, Ok, Err, refl, sym, ap, arith, codes, append-nil, append_assoc}
 use Rattle.std.specs.List.{flat_map}
-use Rattle.model.specs.TextLines.{lines_of}
+use Rattle.model.specs.TextLines.{lines_from, lines_of}
 use Rattle.image_files.specs.Looks.{lacks_end}
 use Rattle.image_reader.specs.Texts.{text_image}
 use Rattle.image_reader.specs.declared.fault.RecordFault.{RecordFault}
@@ -14,6 +14,7 @@ use Rattle.word_mend.specs.RecordMending.{ended, right_line, sum_at, sums_from, 
 use Rattle.word_mend.specs.declared.checksums.WrongSum.{WrongSum}
 
 no_lines : (text : List ℕ) → length text ≡ 0 → lines_of text ≡ []
+unfolding lines_from
 no_lines [] h = refl
 no_lines (b ∷ text) h = absurd (omega (arith, h))
 

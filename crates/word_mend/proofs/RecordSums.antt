@@ -1,5 +1,5 @@
 -- When the checksum of a record alone is wrong.
-use Rattle.std.proofs.Common.{◌≡◌, ◌≢◌, ◌∙◌, ℕ, ◌+◌, ◌*◌, ◌/◌, ◌%◌, ◌<◌, ◌≤◌, ◌&&◌, ◌==◌, Bool, true, false, not, List, [], ◌∷◌, length, slice_index, sum, Option, None, Some, is_some, Result, Ok, Err, inl, inr, refl, sym, ap, arith}
+use Rattle.std.proofs.Common.{◌≡◌, ◌≢◌, ◌∙◌, ℕ, zero, suc, ◌+◌, ◌-◌, ◌*◌, ◌/◌, ◌%◌, ◌<◌, ◌≤◌, ◌&&◌, ◌==◌, Bool, true, false, not, List, [], ◌∷◌, drop, length, slice_index, sum, take, Option, None, Some, is_some, Result, Ok, Err, inl, inr, refl, sym, ap, arith}
 use Rattle.std.specs.Prelude.{if◌then◌else◌, nat_lt}
 use Rattle.std.specs.List.{list_all, prefix_len}
 use Rattle.std.proofs.lemmas.Bool.{and_from, and_parts, cases_Bool, eq-eqb, eqb-true, ltb-false, ltb-true, ne_eqb}
@@ -108,7 +108,7 @@ module _ (front extra total : ℕ) (digits : List ℕ) where
   found = checksums_if (is_sum_fault (record_bytes front extra total digits)) total (bytes_of_digits digits)
 
   none_if : is_sum_fault (record_bytes front extra total digits) ≡ false → None ≡ found
-  none_if no = rw no refl
+  none_if none = rw none refl
 
   are_pairs_if : length digits ≡ wanted extra digits → list_all is_hex_byte digits ≡ true → are_pairs digits ≡ true
   are_pairs_if size all =
@@ -116,7 +116,7 @@ module _ (front extra total : ℕ) (digits : List ℕ) where
       and_from (length digits % 2 == 0) (list_all is_hex_byte digits) (eq-eqb (length digits % 2) 0 (omega (arith, size, even))) all
 
   pub no_pairs : are_pairs digits ≡ false → None ≡ found
-  no_pairs no = none_if (not_all front extra total digits (λ size all. no_truth (sym (are_pairs_if size all) ∙ no)))
+  no_pairs none = none_if (not_all front extra total digits (λ size all. no_truth (sym (are_pairs_if size all) ∙ none)))
 
   module _ (bytes : List ℕ) (pairs : are_pairs digits ≡ true) (are : bytes ≡ bytes_of_digits digits) where
     even : length digits % 2 ≡ 0
@@ -126,7 +126,7 @@ module _ (front extra total : ℕ) (digits : List ℕ) where
     hex = (and_parts (length digits % 2 == 0) (list_all is_hex_byte digits) pairs).1
 
     pub no_record : is_whole extra bytes ≡ false → None ≡ found
-    no_record no = none_if (not_all front extra total digits (λ size all. not_sized extra digits even (sym (ap (is_whole extra) are) ∙ no) size))
+    no_record none = none_if (not_all front extra total digits (λ size all. not_sized extra digits even (sym (ap (is_whole extra) are) ∙ none) size))
 
     pub whole_record : is_whole extra bytes ≡ true → checksums_if (not (sum bytes % 256 == total)) total bytes ≡ found
     whole_record is =
@@ -156,8 +156,8 @@ either false x y p q = q
 
 -- what a step does afterwards has no wrong checksum
 after : {A B : Type 0} (r : Result A LineFault) (f : A → Result B LineFault) → ((x : A) → is_sum_fault (f x) ≡ false) → is_sum_fault (r >>= f) ≡ is_sum_fault r
-after (Ok x) f no = no x
-after (Err e) f no = refl
+after (Ok x) f none = none x
+after (Err e) f none = refl
 
 stored_right : (column address : ℕ) (bytes : List ℕ) (s : Progress) → is_sum_fault (stored column address bytes s) ≡ false
 unfolding stored
@@ -214,8 +214,8 @@ s_unmarked mark digit digits other = rw (ne_eqb mark 83 other) refl
 
 pub s_untyped : (mark digit : ℕ) (digits : List ℕ) → is_type digit ≡ false → None ≡ wrong_sum SRecord (mark ∷ digit ∷ digits)
 unfolding wrong_sum s_line
-s_untyped mark digit digits no = elim (eqb_tells mark 83) [
-  | inl e ↦ rw (e.0, untyped (start SRecord) digits (kind_of digit) no) refl
+s_untyped mark digit digits none = elim (eqb_tells mark 83) [
+  | inl e ↦ rw (e.0, untyped (start SRecord) digits (kind_of digit) none) refl
   | inr e ↦ rw e.0 refl
 ]
 
@@ -229,3 +229,34 @@ s_short mark = elim (eqb_tells mark 83) [
   | inl e ↦ rw e.0 refl
   | inr e ↦ rw e.0 refl
 ]
+
+-- ---- the same by places in the line
+
+taken : (line : List ℕ) (n : ℕ) → n ≡ length line → take n line ≡ line
+taken [] n all = rw all refl
+taken (b ∷ line) zero all = absurd (omega (arith, all))
+taken (b ∷ line) (suc n) all = ap (λ (t : List ℕ). b ∷ t) (taken line n (omega (arith, all)))
+
+pub hex_none : (line : List ℕ) → length line < 1 → None ≡ wrong_sum Hex line
+hex_none [] few = hex_empty
+hex_none (b ∷ line) few = absurd (omega (arith, few))
+
+pub hex_there : (line : List ℕ) → 1 ≤ length line → slice_index line 0 ≡ 58
+    → checksums_if (is_sum_fault (record_bytes 1 5 0 (take (length line - 1) (drop 1 line)))) 0 (bytes_of_digits (take (length line - 1) (drop 1 line))) ≡ wrong_sum Hex line
+hex_there [] some is = absurd (omega (arith, some))
+hex_there (b ∷ line) some is = rw (is, taken line (length (b ∷ line) - 1) (omega arith)) (hex_marked line)
+
+pub s_none : (line : List ℕ) → length line < 1 → None ≡ wrong_sum SRecord line
+s_none [] few = s_empty
+s_none (b ∷ line) few = absurd (omega (arith, few))
+
+pub s_one : (line : List ℕ) → 1 ≤ length line → length line < 2 → None ≡ wrong_sum SRecord line
+s_one [] some few = absurd (omega (arith, some))
+s_one (b ∷ []) some few = s_short b
+s_one (b ∷ c ∷ line) some few = absurd (omega (arith, few))
+
+pub s_there : (line : List ℕ) → 2 ≤ length line → slice_index line 0 ≡ 83 → is_type (slice_index line 1) ≡ true
+    → checksums_if (is_sum_fault (record_bytes 2 1 255 (take (length line - 2) (drop 2 line)))) 255 (bytes_of_digits (take (length line - 2) (drop 2 line))) ≡ wrong_sum SRecord line
+s_there [] some is there = absurd (omega (arith, some))
+s_there (b ∷ []) some is there = absurd (omega (arith, some))
+s_there (b ∷ c ∷ line) some is there = rw (is, taken line (length (b ∷ c ∷ line) - 2) (omega arith)) (s_marked c line there)

@@ -109,7 +109,6 @@ fn are_pairs(digits: &[u8]) -> bool
 }
 
 /// Returns the checksum of a record by its digits, and the right one, if it alone is wrong.
-#[tactic(auto, using(crate::proofs::RecordSums::no_pairs, crate::proofs::RecordSums::decoded, crate::proofs::RecordSums::no_record, crate::proofs::RecordSums::whole_record))]
 fn wrong_in(alloc: Global, form: TextForm, digits: &[u8]) -> Result<Option<Checksums>, AllocError>
     ensures { IfOk result (λ found. found ≡ checksums_if (is_sum_fault (record_bytes
         (mark_len form) (extra_of form) (total_of form) digits.now)) (total_of form)
@@ -128,7 +127,7 @@ fn wrong_in(alloc: Global, form: TextForm, digits: &[u8]) -> Result<Option<Check
 }
 
 /// Returns the checksum of a line of Intel HEX, and the right one, if it alone is wrong.
-#[tactic(auto, using(crate::proofs::RecordSums::hex_empty, crate::proofs::RecordSums::hex_marked, crate::proofs::RecordSums::hex_unmarked))]
+#[tactic(auto, using(crate::proofs::RecordSums::hex_unmarked))]
 fn hex_sum(alloc: Global, line: &[u8]) -> Result<Option<Checksums>, AllocError>
     ensures { IfOk result (λ found. found ≡ wrong_sum Hex line.now) }
 {
@@ -155,7 +154,7 @@ fn is_type(digit: u8) -> bool
 }
 
 /// Returns the checksum of a line of S-records, and the right one, if it alone is wrong.
-#[tactic(auto, using(crate::proofs::RecordSums::s_empty, crate::proofs::RecordSums::s_short, crate::proofs::RecordSums::s_marked, crate::proofs::RecordSums::s_unmarked, crate::proofs::RecordSums::s_untyped))]
+#[tactic(auto, using(crate::proofs::RecordSums::s_unmarked, crate::proofs::RecordSums::s_untyped))]
 fn s_sum(alloc: Global, line: &[u8]) -> Result<Option<Checksums>, AllocError>
     ensures { IfOk result (λ found. found ≡ wrong_sum SRecord line.now) }
 {
