@@ -1,5 +1,5 @@
 -- The lines of a text of records, one after another, and what its end is.
-use Rattle.std.proofs.Common.{◌≡◌, ◌∙◌, ℕ, ◌+◌, false, List, [], ◌∷◌, ◌++◌, length, Option, Result, Ok, Err, refl, sym, ap, arith, codes, append-nil, append_assoc}
+use Rattle.std.proofs.Common.{◌≡◌, ◌∙◌, ℕ, ◌+◌, false, List, [], ◌∷◌, ◌++◌, length, Option, Result, Ok, Err, OnOk, is_ok, if◌then◌else◌, refl, sym, ap, arith, codes, append-nil, append_assoc}
 use Rattle.std.specs.List.{flat_map}
 use Rattle.model.specs.TextLines.{lines_from, lines_of}
 use Rattle.image_files.specs.Looks.{lacks_end}
@@ -45,6 +45,10 @@ hex_end = refl
 pub s_end : codes "S9030000FC\r\n" ≡ end_text SRecord
 unfolding encode_with
 s_end = refl
+
+pub end_put : {X E : Type 0} (result : Result X E) (old new text end : List ℕ) → new ≡ (if is_ok result then old ++ text else old) → text ≡ end → OnOk result (new ≡ old ++ end)
+end_put (Ok done) old new text end is same = is ∙ ap (λ (t : List ℕ). old ++ t) same
+end_put (Err fault) old new text end is same = tt
 
 pub same_image : (given : Result (List (Option ℕ)) RecordFault) (one other : List (Option ℕ)) → given ≡ Ok one → given ≡ Ok other → one ≡ other
 same_image given one other p q = cc

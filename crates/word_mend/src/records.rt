@@ -74,7 +74,6 @@ fn right_lines(alloc: Global, form: TextForm, text: &[u8]) -> Result<Vec<u8>, Al
 }
 
 /// Appends the end record.
-#[tactic(auto, using(crate::proofs::RecordLines::hex_end, crate::proofs::RecordLines::s_end))]
 fn push_end(out: &mut Vec<u8>, form: TextForm) -> Result<(), AllocError>
     ensures { OnOk result (out.new.items ≡ out.old.items ++ end_text form) }
 {
