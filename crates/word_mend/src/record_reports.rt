@@ -66,9 +66,9 @@ fn records_text(
     alloc: Global,
     form: TextForm,
     text: &[u8],
-    lacked_end: bool,
+    was_endless: bool,
 ) -> Result<String, AllocError>
-    requires { lacked_end ≡ lacked_end form text.now }
+    requires { was_endless ≡ lacked_end form text.now }
     ensures { IfOk result (λ said. string_bytes said ≡ records_text form text.now) }
 {
     let mut words = String::new(alloc);
@@ -79,7 +79,7 @@ fn records_text(
         wording::THE_CHECKSUM_WAS,
         wording::AND_IS_NOW,
     )?;
-    if lacked_end {
+    if was_endless {
         words.push_str(wording::END_RECORD_WAS_MISSING)?;
     }
     Ok(words)
