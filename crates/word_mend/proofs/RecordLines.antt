@@ -1,5 +1,5 @@
 -- The lines of a text of records, one after another, and what its end is.
-use Rattle.std.proofs.Common.{◌≡◌, ◌∙◌, ℕ, ◌+◌, false, List, [], ◌∷◌, ◌++◌, length, Option, Result, Ok, Err, OnOk, is_ok, if◌then◌else◌, refl, sym, ap, arith, codes, append-nil, append_assoc}
+use Rattle.std.proofs.Common.{◌≡◌, ◌∙◌, ℕ, false, List, [], ◌∷◌, ◌++◌, length, Option, Result, Ok, Err, OnOk, is_ok, if◌then◌else◌, refl, ap, arith, codes, append-nil}
 use Rattle.std.specs.List.{flat_map}
 use Rattle.model.specs.TextLines.{lines_from, lines_of}
 use Rattle.image_files.specs.Looks.{lacks_end}
@@ -10,7 +10,7 @@ use Rattle.image_reader.specs.declared.form.TextForm.{TextForm}
 use Rattle.image_reader.specs.declared.form.TextForm.TheVariants.{Hex, SRecord}
 use Rattle.image_writer.specs.ImageTexts.{end_text}
 use Rattle.hex.specs.Hex.{encode_with}
-use Rattle.word_mend.specs.RecordMending.{ended, right_line, sum_at, sums_from, wrong_sum}
+use Rattle.word_mend.specs.RecordMending.{ended, right_line, sums_from}
 use Rattle.word_mend.specs.declared.checksums.WrongSum.{WrongSum}
 
 no_lines : (text : List ℕ) → length text ≡ 0 → lines_of text ≡ []
@@ -23,18 +23,8 @@ no_lines (b ∷ text) h = absurd (omega (arith, h))
 pub lines_end : (form : TextForm) (out rest : List ℕ) → length rest ≡ 0 → out ++ flat_map (right_line form) (lines_of rest) ≡ out
 lines_end form out rest h = ap (λ (ls : List (List ℕ)). out ++ flat_map (right_line form) ls) (no_lines rest h) ∙ append-nil out
 
-pub line_more : (form : TextForm) (out new rest line more whole : List ℕ) → lines_of rest ≡ line ∷ lines_of more → new ≡ out ++ right_line form line
-    → out ++ flat_map (right_line form) (lines_of rest) ≡ whole → new ++ flat_map (right_line form) (lines_of more) ≡ whole
-line_more form out new rest line more whole cut put w =
-    rw put (append_assoc out (right_line form line) (flat_map (right_line form) (lines_of more)) ∙ rw cut at w)
-
 pub sums_end : (form : TextForm) (number : ℕ) (sums : List WrongSum) (rest : List ℕ) → length rest ≡ 0 → sums ++ sums_from form number (lines_of rest) ≡ sums
 sums_end form number sums rest h = ap (λ (ls : List (List ℕ)). sums ++ sums_from form number ls) (no_lines rest h) ∙ append-nil sums
-
-pub sums_more : (form : TextForm) (number : ℕ) (sums new whole : List WrongSum) (rest line more : List ℕ) → lines_of rest ≡ line ∷ lines_of more → new ≡ sums ++ sum_at number (wrong_sum form line)
-    → sums ++ sums_from form number (lines_of rest) ≡ whole → new ++ sums_from form (number + 1) (lines_of more) ≡ whole
-sums_more form number sums new whole rest line more cut put w =
-    rw put (append_assoc sums (sum_at number (wrong_sum form line)) (sums_from form (number + 1) (lines_of more)) ∙ rw cut at w)
 
 -- ---- the end
 
@@ -49,9 +39,6 @@ s_end = refl
 pub end_put : {X E : Type 0} (result : Result X E) (old new text end : List ℕ) → new ≡ (if is_ok result then old ++ text else old) → text ≡ end → OnOk result (new ≡ old ++ end)
 end_put (Ok done) old new text end is same = is ∙ ap (λ (t : List ℕ). old ++ t) same
 end_put (Err fault) old new text end is same = tt
-
-pub same_image : (given : Result (List (Option ℕ)) RecordFault) (one other : List (Option ℕ)) → given ≡ Ok one → given ≡ Ok other → one ≡ other
-same_image given one other p q = cc
 
 -- a text that has an image, or another fault than that its end is missing, stays as it is
 pub whole_text : (form : TextForm) (text : List ℕ) (cells : List (Option ℕ)) → text_image form text ≡ Ok cells → ended form text ≡ text

@@ -2,14 +2,13 @@
 
 ghost use Rattle.std.specs.Prelude.{◌≡◌, ◌⊎◌, ◌++◌, ◌-◌, ◌∷◌, [], ℕ, List, Option, Ok, Err, IfErr, IfOk, IfSome};
 ghost use Rattle.std.specs.Prelude.{MatchResult, None, OnOk, length, take, true};
-ghost use Rattle.std.specs.List.{flat_map};
 ghost use Rattle.hex.specs.Hex.{encode_upper};
 ghost use Rattle.image_reader.specs.Images.{IsTextFault};
 ghost use Rattle.image_reader.specs.Texts.{text_image};
 ghost use Rattle.image_reader.specs.declared.fault.ImageFault.TheVariants.{OutOfMemory};
 ghost use Rattle.image_reader.specs.declared.fault.RecordFault.{RecordFault};
 ghost use Rattle.image_writer.specs.ImageTexts.{end_text};
-ghost use Rattle.word_mend.specs.RecordMending.{AreMendedLines, is_endless, lacked_end};
+ghost use Rattle.word_mend.specs.RecordMending.{AreMendedLines, lacked_end};
 ghost use Rattle.word_mend.specs.RecordMending.{mended_lines, right_line, right_lines};
 
 use crate::checksums::wrong_sum;
