@@ -5,7 +5,7 @@ use Rattle.std.specs.List.{list_all}
 use Rattle.std.specs.Str.{bytes_eq, str_eq_ignore_ascii_case}
 use Rattle.mon_line_parts.specs.declared.topic.Topic.{Topic}
 use Rattle.mon_line_parts.specs.declared.topic.Topic.TheVariants as topic
-use Rattle.mon_line_parts.specs.declared.topic.TheConstants.{WORDS}
+use Rattle.mon_line_parts.specs.declared.topic.TheConstants.{ALIASES, NEAREST, SUBJECTS, WORDS}
 
 -- A word, and what a line is about that begins with it.
 abbrev pub TopicWord : Type 0
@@ -15,10 +15,21 @@ TopicWord = List ℕ × Topic
 abbrev pub row_view : Bor (List ℕ) × Topic → TopicWord
 row_view row = (row.0.now, row.1)
 
--- The words, but for `?`, and for `exit`, which is not to be shortened. They stand in the code, in the
--- table `WORDS`.
+-- The words, but for `?`. They stand in the code, in the table `WORDS`.
 unfoldable pub words : List TopicWord
 words = map (λ row. (row.0.now, row.1)) WORDS
+
+-- Words of other debuggers, which are not to be shortened: those that mean what a word does, and those
+-- that no word does the same as, each with the one that comes nearest.
+unfoldable pub aliases : List TopicWord
+aliases = map (λ row. (row.0.now, row.1)) ALIASES
+
+unfoldable pub nearest : List TopicWord
+nearest = map (λ row. (row.0.now, row.1)) NEAREST
+
+-- What stands behind `info` of gdb.
+unfoldable pub subjects : List TopicWord
+subjects = map (λ row. (row.0.now, row.1)) SUBJECTS
 
 -- ---- the topic of a first word
 
@@ -96,10 +107,27 @@ or_common None topics = common topics
 abbrev pub by_words : List ℕ → List TopicWord → Option Topic × Bool
 by_words text rows = or_common (whole text rows) (begun text rows)
 
+abbrev pub or_words : Option Topic → Option Topic × Bool → Option Topic × Bool
+or_words (Some one) other = (Some one, false)
+or_words None other = other
+
+-- A word of another debugger counts as it is written.
+abbrev pub by_tables : List ℕ → Option Topic × Bool
+by_tables text = or_words (whole text aliases) (by_words text words)
+
 -- The topic of a first word. A text without a byte begins none.
 unfoldable pub topic_of : List ℕ → Option Topic × Bool
 topic_of text =
     if bytes_eq text (codes "?") then (Some topic.Help, false)
     else if length text == 0 then (None, false)
-    else if str_eq_ignore_ascii_case text (codes "exit") then (Some topic.Quit, false)
-    else by_words text words
+    else by_tables text
+
+-- ---- words of other debuggers
+
+-- The topic of the word that comes nearest to one that no word does the same as.
+unfoldable pub nearest_of : List ℕ → Option Topic
+nearest_of text = whole text nearest
+
+-- The topic of what `info` shows with a word behind it.
+unfoldable pub subject_of : List ℕ → Option Topic
+subject_of text = whole text subjects

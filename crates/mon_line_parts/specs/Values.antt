@@ -3,8 +3,7 @@ use Rattle.std.specs.Prelude.{ℕ, zero, suc, ◌+◌, ℤ, pos, negsuc, ◌+ℤ
 use Rattle.std.specs.Int.{saturate_signed, w64}
 use Rattle.std.specs.Option.{option_or}
 use Rattle.std.specs.Str.{byte, str_eq_ignore_ascii_case}
-pub use Rattle.source_map.specs.Names.{Named}
-use Rattle.source_map.specs.Names.{address_of}
+pub use Rattle.source_map.specs.Names.{Named, address_of}
 use Rattle.mon_line_parts.specs.Reading.{Reads, SeenFlaw, missing, unreadable, no_name, range, many, after, after_image_word, after_word, and_then, character_of, image_word, is_empty, is_next, number_in, past, quoted_next, word_of}
 use Rattle.mon_line_parts.specs.declared.slip.Lack.{Lack}
 use Rattle.mon_line_parts.specs.declared.slip.Lack.TheVariants as lacking

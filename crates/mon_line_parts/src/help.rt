@@ -15,7 +15,11 @@ pub struct Help {
 pub const HELP: [(&str, &str, &str); 36] = [
     ("step [N]", "makes N steps, or 1", "step 3"),
     ("over", "makes a JSR as one step", "over"),
-    ("out", "steps until this subroutine has returned", "out"),
+    (
+        "out",
+        "steps until this subroutine has returned; also finish",
+        "out",
+    ),
     ("until WHERE", "runs to an address", "until $0210"),
     (
         "go [N]",
@@ -33,7 +37,7 @@ pub const HELP: [(&str, &str, &str); 36] = [
         "rback",
     ),
     ("redo [N]", "makes N undone steps again, or all", "redo"),
-    ("where", "shows the calls on the stack", "where"),
+    ("where", "shows the calls on the stack; also bt", "where"),
     ("history [N]", "shows the last N steps, or 10", "history 5"),
     (
         "break WHERE [if TESTS] [times N]",

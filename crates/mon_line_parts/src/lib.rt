@@ -17,5 +17,5 @@ pub use numbers::number_in;
 pub use scan::{after, after_word, file_of, is_empty, is_next, is_word, past, skip, word_of};
 pub use slip::{Flaw, Lack};
 pub use source_map::{Names, Places, is_same_word};
-pub use topic::{TOPICS, Topic, all_words, begins_with, topic_of};
+pub use topic::{TOPICS, Topic, all_words, begins_with, nearest_of, subject_of, topic_of};
 pub use values::{address_of, bit_of, byte_of, bytes_of, count_of, word_value};

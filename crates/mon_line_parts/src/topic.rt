@@ -2,8 +2,9 @@
 
 ghost use Rattle.std.specs.Prelude.{◌≡◌, ◌≤◌, map};
 ghost use Rattle.mon_line_parts.specs.Help.{effect_of, example_of, form_of, help_rows, help_view};
-ghost use Rattle.mon_line_parts.specs.Topics.{begins_with, begun, by_words, common, is_same, row_view};
-ghost use Rattle.mon_line_parts.specs.Topics.{topic_of, whole, words};
+ghost use Rattle.mon_line_parts.specs.Topics.{aliases, begins_with, begun, by_tables, by_words, common};
+ghost use Rattle.mon_line_parts.specs.Topics.{is_same, nearest, nearest_of, row_view, subject_of};
+ghost use Rattle.mon_line_parts.specs.Topics.{subjects, topic_of, whole, words};
 
 use crate::help::{HELP, Help};
 use source_map::is_same_word;
@@ -49,8 +50,8 @@ pub enum Topic {
     Page,
 }
 
-/// The first words, each with its topic, but for `exit`, which is not to be shortened. A word of
-/// one letter or two is an abbreviation that two words would have in common.
+/// The first words, each with its topic. A word of one letter or two is an abbreviation that two
+/// words would have in common.
 pub const WORDS: [(&[u8], Topic); 55] = [
     (b"step", Topic::Step),
     (b"s", Topic::Step),
@@ -107,6 +108,58 @@ pub const WORDS: [(&[u8], Topic); 55] = [
     (b"quit", Topic::Quit),
     (b"q", Topic::Quit),
     (b"trace", Topic::Trace),
+];
+
+/// Words of other debuggers, each with the topic of the word that does the same. None is to be
+/// shortened, so that no word and no abbreviation changes its topic by them.
+pub const ALIASES: [(&[u8], Topic); 21] = [
+    (b"exit", Topic::Quit),
+    (b"stepi", Topic::Step),
+    (b"si", Topic::Step),
+    (b"nexti", Topic::Over),
+    (b"ni", Topic::Over),
+    (b"finish", Topic::Out),
+    (b"return", Topic::Out),
+    (b"ret", Topic::Out),
+    (b"advance", Topic::Until),
+    (b"undo", Topic::Back),
+    (b"bt", Topic::Where),
+    (b"backtrace", Topic::Where),
+    (b"bk", Topic::Break),
+    (b"bp", Topic::Break),
+    (b"clear", Topic::Delete),
+    (b"x", Topic::Mem),
+    (b"memory", Topic::Mem),
+    (b"dump", Topic::Mem),
+    (b"disassemble", Topic::Dis),
+    (b"hunt", Topic::Find),
+    (b"breakpoints", Topic::List),
+];
+
+/// Words of other debuggers that no word does the same as, each with the topic of the word that
+/// comes nearest.
+pub const NEAREST: [(&[u8], Topic); 8] = [
+    (b"z", Topic::Step),
+    (b"tbreak", Topic::Until),
+    (b"reverse", Topic::Back),
+    (b"frame", Topic::Where),
+    (b"rwatch", Topic::Watch),
+    (b"awatch", Topic::Watch),
+    (b"jump", Topic::Set),
+    (b"goto", Topic::Set),
+];
+
+/// What stands behind `info` of gdb, each with the topic of the word that shows it.
+pub const SUBJECTS: [(&[u8], Topic); 9] = [
+    (b"registers", Topic::Regs),
+    (b"regs", Topic::Regs),
+    (b"reg", Topic::Regs),
+    (b"r", Topic::Regs),
+    (b"breakpoints", Topic::List),
+    (b"break", Topic::List),
+    (b"b", Topic::List),
+    (b"watchpoints", Topic::List),
+    (b"stack", Topic::Where),
 ];
 
 /// The topics, in the order in which help lists them.
@@ -234,6 +287,30 @@ pub fn all_words() -> &'static [(&'static [u8], Topic)]
     &WORDS
 }
 
+/// Returns the words of other debuggers, each with the topic of the word that does the same.
+#[tactic(auto, unfolding(crate::specs::Topics::aliases))]
+fn all_aliases() -> &'static [(&'static [u8], Topic)]
+    ensures { map row_view result.now ≡ aliases }
+{
+    &ALIASES
+}
+
+/// Returns the words of other debuggers that no word does the same as.
+#[tactic(auto, unfolding(crate::specs::Topics::nearest))]
+fn all_nearest() -> &'static [(&'static [u8], Topic)]
+    ensures { map row_view result.now ≡ nearest }
+{
+    &NEAREST
+}
+
+/// Returns what stands behind `info` of gdb.
+#[tactic(auto, unfolding(crate::specs::Topics::subjects))]
+fn all_subjects() -> &'static [(&'static [u8], Topic)]
+    ensures { map row_view result.now ≡ subjects }
+{
+    &SUBJECTS
+}
+
 /// Returns the topic of the word that a text is, otherwise of the words that it begins.
 fn by_words(text: &[u8], words: &[(&[u8], Topic)]) -> (Option<Topic>, bool)
     ensures { result ≡ by_words text.now (map row_view words.now) }
@@ -244,9 +321,20 @@ fn by_words(text: &[u8], words: &[(&[u8], Topic)]) -> (Option<Topic>, bool)
     }
 }
 
-/// Returns the topic of a first word: of the word that it is, otherwise of the words that it
-/// begins, if they have one topic. `None` and `false` if it begins none, `None` and `true` if they
-/// have more than one topic. A text without a byte begins none.
+/// Returns the topic of the word of another debugger that a text is, otherwise of the word that it
+/// is, otherwise of the words that it begins.
+fn by_tables(text: &[u8]) -> (Option<Topic>, bool)
+    ensures { result ≡ by_tables text.now }
+{
+    match whole(text, all_aliases()) {
+        Some(topic) => (Some(topic), false),
+        None => by_words(text, all_words()),
+    }
+}
+
+/// Returns the topic of a first word: of the word that it is, of `mon` or of another debugger,
+/// otherwise of the words that it begins, if they have one topic. `None` and `false` if it begins
+/// none, `None` and `true` if they have more than one topic. A text without a byte begins none.
 #[tactic(auto, unfolding(crate::specs::Topics::topic_of))]
 pub fn topic_of(text: &[u8]) -> (Option<Topic>, bool)
     ensures { result ≡ topic_of text.now }
@@ -257,8 +345,23 @@ pub fn topic_of(text: &[u8]) -> (Option<Topic>, bool)
     if text.is_empty() {
         return (None, false);
     }
-    if is_same_word(text, b"exit") {
-        return (Some(Topic::Quit), false);
-    }
-    by_words(text, all_words())
+    by_tables(text)
+}
+
+/// Returns the topic of the word that comes nearest to a word of another debugger, if the word is
+/// one that no word of `mon` does the same as.
+#[tactic(auto, unfolding(crate::specs::Topics::nearest_of))]
+pub fn nearest_of(text: &[u8]) -> Option<Topic>
+    ensures { result ≡ nearest_of text.now }
+{
+    whole(text, all_nearest())
+}
+
+/// Returns the topic of what `info` of gdb shows with a word behind it, if that is one that `mon`
+/// shows.
+#[tactic(auto, unfolding(crate::specs::Topics::subject_of))]
+pub fn subject_of(text: &[u8]) -> Option<Topic>
+    ensures { result ≡ subject_of text.now }
+{
+    whole(text, all_subjects())
 }

@@ -1,5 +1,5 @@
 -- What a line asks for. Source: mos65.
-use Rattle.std.specs.Prelude.{ℕ, ◌==◌, ◌&&◌, ◌||◌, nat_lt, is_some, Bool, true, false, codes, if◌then◌else◌, List, [], length, Option, Some, None, unwrap_or, Result, Ok, Err}
+use Rattle.std.specs.Prelude.{ℕ, ◌==◌, ◌&&◌, ◌||◌, nat_lt, not, is_none, is_some, Bool, true, false, codes, if◌then◌else◌, List, [], length, Option, Some, None, unwrap_or, Result, Ok, Err}
 use Rattle.std.specs.Option.{option_copied}
 use Rattle.std.specs.Str.{byte}
 use Rattle.model.specs.Mnemonics.{mnemonic_named}
@@ -7,9 +7,9 @@ use Rattle.model.specs.declared.event.Setting.{Setting}
 use Rattle.model.specs.declared.instruction.Mnemonic.{Mnemonic}
 use Rattle.model.specs.declared.instruction.Profile.TheVariants.{C}
 use Rattle.mon_line_parts.specs.Reading.{Reads, SeenFlaw, unknown, several, missing, behind, long, after, after_word, and_then, file_of, is_empty, is_next, is_word, number_in, past, skip, flaw_view, word_of}
-use Rattle.mon_line_parts.specs.Values.{Named, bit_of, bytes_of, count_of}
-use Rattle.mon_lines.specs.Parts.{address_at, ends_of, flag_of, kind_of, level_of, setting_of, shown_of, stretch_of, tests_of, times_of, undoing_of, watched_register}
-use Rattle.mon_line_parts.specs.Topics.{topic_of}
+use Rattle.mon_line_parts.specs.Values.{Named, address_of, bit_of, bytes_of, count_of}
+use Rattle.mon_lines.specs.Parts.{address_at, ends_of, flag_of, is_register_or_flag, kind_of, level_of, setting_of, shown_of, stretch_of, tests_of, times_of, undoing_of, watched_register}
+use Rattle.mon_line_parts.specs.Topics.{nearest_of, subject_of, topic_of}
 use Rattle.mon_lines.specs.declared.command.Command.{Command}
 use Rattle.mon_lines.specs.declared.command.Command.TheVariants as command
 use Rattle.opcode_facts.specs.declared.flag.Flag.{Flag}
@@ -165,6 +165,18 @@ set_by names pc text None =
 abbrev pub set_from : List Named → ℕ → List ℕ → Reads SeenCommand
 set_from names pc text = set_by names pc text (flag_of (word_of text))
 
+-- A register or a flag that is named alone, by a word that is no name of the program. `PC` is an
+-- address.
+abbrev pub asks_for_registers : List Named → List ℕ → Bool
+asks_for_registers names text = is_register_or_flag (word_of text)
+    && not (is_word (codes "PC") text)
+    && is_none (address_of names (word_of text)) && is_empty (after_word text)
+
+-- What is shown of memory. A register or a flag is shown by all registers.
+abbrev pub shown_from : List Named → ℕ → List ℕ → Reads SeenCommand
+shown_from names pc text = if asks_for_registers names text then Ok (regs, after_word text)
+    else and_then (shown_of names pc text) (λ stretch rest. Ok (mem stretch, rest))
+
 -- A place, the program counter if nothing is left, and a count, 10 if there is none.
 abbrev pub place_or : List Named → ℕ → List ℕ → Reads ℕ
 place_or names pc text = if is_empty text then Ok (pc, text) else address_at names pc text
@@ -254,8 +266,7 @@ seeing names pc text topic.Display = displayed_from names pc text
 seeing names pc text topic.Undisplay = undisplayed_from names pc text
 seeing names pc text topic.Regs = Ok (regs, text)
 seeing names pc text topic.Flags = Ok (flags, text)
-seeing names pc text topic.Mem =
-    and_then (shown_of names pc text) (λ stretch rest. Ok (mem stretch, rest))
+seeing names pc text topic.Mem = shown_from names pc text
 seeing names pc text topic.Dis = instructions_from names pc text
 seeing names pc text topic.Find =
     and_then (bytes_of names text) (λ bytes rest. Ok (find bytes, rest))
@@ -297,26 +308,39 @@ whole_line about (Ok read) = if is_empty read.1 then Ok read.0
     else Err (slip_about about, behind read.1)
 whole_line about (Err why) = Err (slip_about about, why)
 
--- The rest of a line behind its first word, by the topic of the word.
+-- The rest of a line behind its first word, by the topic of the word. The slip of a word that begins
+-- none is about the word that comes nearest, if it is one of another debugger.
 abbrev pub line_by : List Named → ℕ → List ℕ → List ℕ → List ℕ
     → Option Topic × Bool → Result SeenCommand SeenSlip
 line_by names pc line word rest (Some about, many) = whole_line about (moving names pc rest about)
 line_by names pc line word rest (None, true) = Err (None, several word)
 line_by names pc line word rest (None, false) =
-    Err (None, unknown (if is_empty word then line else word))
+    Err (nearest_of word, unknown (if is_empty word then line else word))
 
 -- `b` alone undoes an event. With a place behind it, it is `break`.
 abbrev pub is_back : List ℕ → Bool
 is_back text = is_word (codes "b") text && is_empty (after_word text)
 
--- A line: nothing, or a first word or `?` and what follows it.
+-- What follows `info`: a word of what is shown.
+abbrev pub info_by : List Named → ℕ → List ℕ → List ℕ → Result SeenCommand SeenSlip
+info_by names pc line text =
+    line_by names pc line (word_of text) (after_word text) (subject_of (word_of text), false)
+
+-- A first word, or `?`, and what follows it. Behind `info` the next word counts.
+abbrev pub by_first_word : List Named → ℕ → List ℕ → List ℕ → Result SeenCommand SeenSlip
+by_first_word names pc line text =
+    if is_next (byte "?") text
+    then line_by names pc line (codes "?") (after 1 text) (topic_of (codes "?"))
+    else if is_word (codes "info") text
+    then info_by names pc line (after_word text)
+    else line_by names pc line (word_of text) (after_word text) (topic_of (word_of text))
+
+-- A line: nothing, or a first word and what follows it.
 abbrev pub line_from : List Named → ℕ → List ℕ → List ℕ → Result SeenCommand SeenSlip
 line_from names pc line text =
     if is_empty text then Ok nothing
     else if is_back text then Ok (back (Events 1))
-    else if is_next (byte "?") text
-    then line_by names pc line (codes "?") (after 1 text) (topic_of (codes "?"))
-    else line_by names pc line (word_of text) (after_word text) (topic_of (word_of text))
+    else by_first_word names pc line text
 
 -- A line of more than 255 bytes asks for nothing.
 abbrev pub is_long : List ℕ → Bool

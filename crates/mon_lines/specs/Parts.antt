@@ -1,5 +1,5 @@
 -- The parts of what a line asks for: tests, stretches of memory, settings. Source: mos65.
-use Rattle.std.specs.Prelude.{ℕ, zero, suc, ◌+◌, ◌-◌, ◌==◌, ◌&&◌, ◌||◌, min, nat_lt, nat_le, Bool, true, false, codes, if◌then◌else◌, List, [], ◌∷◌, ◌++◌, length, Option, Some, None, unwrap_or, Ok, Err}
+use Rattle.std.specs.Prelude.{ℕ, zero, suc, ◌+◌, ◌-◌, ◌==◌, ◌&&◌, ◌||◌, min, nat_lt, nat_le, is_some, Bool, true, false, codes, if◌then◌else◌, List, [], ◌∷◌, ◌++◌, length, Option, Some, None, unwrap_or, Ok, Err}
 use Rattle.std.specs.Str.{byte, bytes_eq, str_eq_ignore_ascii_case}
 use Rattle.model.specs.declared.event.Setting.{Setting}
 use Rattle.model.specs.declared.event.Setting.TheVariants as setting
@@ -51,6 +51,10 @@ flag_of word =
     else if str_eq_ignore_ascii_case word (codes "Z") then Some flag.Z
     else if str_eq_ignore_ascii_case word (codes "C") then Some flag.C
     else None
+
+-- Whether a word is the name of a register or a flag.
+abbrev pub is_register_or_flag : List ℕ → Bool
+is_register_or_flag word = is_some (register_of word) || is_some (flag_of word)
 
 -- What stands on the left side of a test: a register, a flag, or a byte of memory. A register or a
 -- flag counts before a name of the program.

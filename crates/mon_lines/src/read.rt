@@ -3,12 +3,14 @@
 ghost use Rattle.std.specs.Prelude.{◌≡◌, [], IfErr, IfOk};
 ghost use Rattle.std.specs.Option.{option_copied};
 ghost use Rattle.mon_line_parts.specs.Reading.{flaw_view};
-ghost use Rattle.mon_lines.specs.Parts.{level_of, setting_by, setting_of, undoing_of, value_of};
-ghost use Rattle.mon_lines.specs.Lines.{assembled_from, break_from, bytes_watched_from};
+ghost use Rattle.mon_lines.specs.Parts.{is_register_or_flag, level_of, setting_by, setting_of};
+ghost use Rattle.mon_lines.specs.Parts.{undoing_of, value_of};
+ghost use Rattle.mon_lines.specs.Lines.{asks_for_registers, assembled_from, break_from};
+ghost use Rattle.mon_lines.specs.Lines.{by_first_word, bytes_watched_from};
 ghost use Rattle.mon_lines.specs.Lines.{command_view, decimal_address, deleted_from, displayed_from};
 ghost use Rattle.mon_lines.specs.Lines.{going_from, helped_from, helped_on, instructions_from};
-ghost use Rattle.mon_lines.specs.Lines.{is_back, is_long, line_of, paged_from, set_from};
-ghost use Rattle.mon_lines.specs.Lines.{slip_about, undisplayed_from};
+ghost use Rattle.mon_lines.specs.Lines.{is_back, is_long, line_of, paged_from};
+ghost use Rattle.mon_lines.specs.Lines.{set_from, shown_from, slip_about, undisplayed_from};
 ghost use Rattle.mon_lines.specs.Lines.{has_address, is_short_decimal, line_by, put_from, putting};
 ghost use Rattle.mon_lines.specs.Lines.{moving, saved_from, saved_in, seeing, until_from};
 ghost use Rattle.mon_lines.specs.Lines.{watched_from, whole_line};
@@ -21,7 +23,8 @@ use crate::tests::{flag_of, register_of, tests_of, times_of};
 use model::Setting;
 use mon_line_parts::{
     Flaw, Lack, Names, Places, Topic, address_of, after, after_word, bit_of, byte_of, bytes_of,
-    count_of, file_of, is_empty, is_next, is_word, number_in, past, skip, topic_of, word_of,
+    count_of, file_of, is_empty, is_next, is_word, nearest_of, number_in, past, skip, subject_of,
+    topic_of, word_of,
 };
 use optable::{Mnemonic, Profile, mnemonic_in};
 
@@ -174,6 +177,37 @@ fn set<'a>(names: &Names, pc: u16, text: &'a [u8]) -> Result<(Command<'a>, &'a [
             Ok((Command::Set(setting), rest))
         }
     }
+}
+
+/// Returns whether a word is the name of a register or a flag.
+fn is_register_or_flag(word: &[u8]) -> bool
+    ensures { result ≡ is_register_or_flag word.now }
+{
+    register_of(word).is_some() || flag_of(word).is_some()
+}
+
+/// Returns whether a text is the name of a register or a flag alone, and names no address.
+fn asks_for_registers(names: &Names, text: &[u8]) -> bool
+    ensures { result ≡ asks_for_registers names.now text.now }
+{
+    let word = word_of(text);
+    is_register_or_flag(word)
+        && !is_word(b"PC", text)
+        && names.address_of(word).is_none()
+        && is_empty(after_word(text))
+}
+
+/// Reads what is shown of memory. A register or a flag is shown by all registers.
+fn shown<'a>(names: &Names, pc: u16, text: &'a [u8]) -> Result<(Command<'a>, &'a [u8]), Flaw<'a>>
+    ensures ok { IfOk result (λ p. shown_from names.now pc text.now
+        ≡ Ok (command_view p.0, p.1.now)) }
+    ensures err { IfErr result (λ why. shown_from names.now pc text.now ≡ Err (flaw_view why)) }
+{
+    if asks_for_registers(names, text) {
+        return Ok((Command::Regs, after_word(text)));
+    }
+    let (stretch, rest) = shown_of(names, pc, text)?;
+    Ok((Command::Mem(stretch), rest))
 }
 
 /// Reads `on` or `off`, or a 1 or a 0.
@@ -418,10 +452,7 @@ fn seeing<'a>(
         Topic::Undisplay => undisplayed(names, pc, text),
         Topic::Regs => Ok((Command::Regs, text)),
         Topic::Flags => Ok((Command::Flags, text)),
-        Topic::Mem => {
-            let (stretch, rest) = shown_of(names, pc, text)?;
-            Ok((Command::Mem(stretch), rest))
-        }
+        Topic::Mem => shown(names, pc, text),
         Topic::Dis => instructions(names, pc, text),
         Topic::Find => {
             let (bytes, rest) = bytes_of(names, text)?;
@@ -546,27 +577,28 @@ fn line_about<'a>(
     }
 }
 
-/// Reads a line by its first word and the text behind the word.
+/// Reads a line by its first word, the topic of the word and the text behind it.
 fn line_by<'a>(
     names: &Names,
     pc: u16,
     line: &'a [u8],
     word: &'a [u8],
     rest: &'a [u8],
+    topics: (Option<Topic>, bool),
 ) -> Result<Command<'a>, Slip<'a>>
     ensures ok { IfOk result (λ command. line_by names.now pc line.now word.now rest.now
-        (topic_of word.now) ≡ Ok (command_view command)) }
+        topics ≡ Ok (command_view command)) }
     ensures err { IfErr result (λ slip. line_by names.now pc line.now word.now rest.now
-        (topic_of word.now) ≡ Err (slip.topic, flaw_view slip.flaw)) }
+        topics ≡ Err (slip.topic, flaw_view slip.flaw)) }
 {
-    match topic_of(word) {
+    match topics {
         (Some(topic), _) => line_about(topic, names, pc, rest),
         (None, true) => Err(Slip {
             topic: None,
             flaw: Flaw::Several(word),
         }),
         (None, false) => Err(Slip {
-            topic: None,
+            topic: nearest_of(word),
             flaw: Flaw::Unknown(if is_empty(word) { line } else { word }),
         }),
     }
@@ -577,6 +609,31 @@ fn is_back(text: &[u8]) -> bool
     ensures { result ≡ is_back text.now }
 {
     is_word(b"b", text) && is_empty(after_word(text))
+}
+
+/// Reads a line by its first word, or `?`. Behind `info` the next word counts.
+fn by_first_word<'a>(
+    names: &Names,
+    pc: u16,
+    line: &'a [u8],
+    text: &'a [u8],
+) -> Result<Command<'a>, Slip<'a>>
+    ensures ok { IfOk result (λ command. by_first_word names.now pc line.now text.now
+        ≡ Ok (command_view command)) }
+    ensures err { IfErr result (λ slip. by_first_word names.now pc line.now text.now
+        ≡ Err (slip.topic, flaw_view slip.flaw)) }
+{
+    if is_next(b'?', text) {
+        return line_by(names, pc, line, b"?", after(1, text), topic_of(b"?"));
+    }
+    let word = word_of(text);
+    let rest = after_word(text);
+    if is_word(b"info", text) {
+        let subject = word_of(rest);
+        let topics = (subject_of(subject), false);
+        return line_by(names, pc, line, subject, after_word(rest), topics);
+    }
+    line_by(names, pc, line, word, rest, topic_of(word))
 }
 
 /// Returns what a line asks for, or what is missing or wrong in it. Names are those of the places,
@@ -602,9 +659,5 @@ pub fn read_line<'a>(line: &'a [u8], places: &Places, pc: u16) -> Result<Command
     if is_back(text) {
         return Ok(Command::Back(Undoing::Events(1)));
     }
-    if is_next(b'?', text) {
-        line_by(names, pc, line, b"?", after(1, text))
-    } else {
-        line_by(names, pc, line, word_of(text), after_word(text))
-    }
+    by_first_word(names, pc, line, text)
 }
