@@ -75,7 +75,7 @@ pub const HELP: [(&str, &str, &str); 36] = [
     ("stack", "shows the bytes on the stack", "stack"),
     (
         "set REGISTER VALUE",
-        "sets A, X, Y, S, P, PC or a flag",
+        "sets A, X, Y, S, P, PC or a flag; so does A=$41",
         "set A $41, set PC $0200, set C 1",
     ),
     (

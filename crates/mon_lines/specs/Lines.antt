@@ -321,6 +321,10 @@ line_by names pc line word rest (None, false) =
 abbrev pub is_back : List ℕ → Bool
 is_back text = is_word (codes "b") text && is_empty (after_word text)
 
+-- A register or a flag and `=`: what follows `set`.
+abbrev pub is_setting : List ℕ → Bool
+is_setting text = is_register_or_flag (word_of text) && is_next (byte "=") (after_word text)
+
 -- What follows `info`: a word of what is shown.
 abbrev pub info_by : List Named → ℕ → List ℕ → List ℕ → Result SeenCommand SeenSlip
 info_by names pc line text =
@@ -335,11 +339,12 @@ by_first_word names pc line text =
     then info_by names pc line (after_word text)
     else line_by names pc line (word_of text) (after_word text) (topic_of (word_of text))
 
--- A line: nothing, or a first word and what follows it.
+-- A line: nothing, a setting, or a first word and what follows it.
 abbrev pub line_from : List Named → ℕ → List ℕ → List ℕ → Result SeenCommand SeenSlip
 line_from names pc line text =
     if is_empty text then Ok nothing
     else if is_back text then Ok (back (Events 1))
+    else if is_setting text then whole_line topic.Set (moving names pc text topic.Set)
     else by_first_word names pc line text
 
 -- A line of more than 255 bytes asks for nothing.

@@ -9,7 +9,7 @@ ghost use Rattle.mon_lines.specs.Lines.{asks_for_registers, assembled_from, brea
 ghost use Rattle.mon_lines.specs.Lines.{by_first_word, bytes_watched_from};
 ghost use Rattle.mon_lines.specs.Lines.{command_view, decimal_address, deleted_from, displayed_from};
 ghost use Rattle.mon_lines.specs.Lines.{going_from, helped_from, helped_on, instructions_from};
-ghost use Rattle.mon_lines.specs.Lines.{is_back, is_long, line_of, paged_from};
+ghost use Rattle.mon_lines.specs.Lines.{is_back, is_long, is_setting, line_of, paged_from};
 ghost use Rattle.mon_lines.specs.Lines.{set_from, shown_from, slip_about, undisplayed_from};
 ghost use Rattle.mon_lines.specs.Lines.{has_address, is_short_decimal, line_by, put_from, putting};
 ghost use Rattle.mon_lines.specs.Lines.{moving, saved_from, saved_in, seeing, until_from};
@@ -611,6 +611,13 @@ fn is_back(text: &[u8]) -> bool
     is_word(b"b", text) && is_empty(after_word(text))
 }
 
+/// Returns whether a text begins with a register or a flag and `=`.
+fn is_setting(text: &[u8]) -> bool
+    ensures { result ≡ is_setting text.now }
+{
+    is_register_or_flag(word_of(text)) && is_next(b'=', after_word(text))
+}
+
 /// Reads a line by its first word, or `?`. Behind `info` the next word counts.
 fn by_first_word<'a>(
     names: &Names,
@@ -658,6 +665,9 @@ pub fn read_line<'a>(line: &'a [u8], places: &Places, pc: u16) -> Result<Command
     }
     if is_back(text) {
         return Ok(Command::Back(Undoing::Events(1)));
+    }
+    if is_setting(text) {
+        return line_about(Topic::Set, names, pc, text);
     }
     by_first_word(names, pc, line, text)
 }
