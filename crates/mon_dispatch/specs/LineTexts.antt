@@ -33,11 +33,11 @@ line_text line.Nothing mon
 line_text (line.Step count) mon
     = some_steps_text count (watches_of mon) mon.places (stand_of mon)
 line_text line.Over mon = over_text (watches_of mon) mon.places (stand_of mon)
-line_text line.Out mon = out_text (watches_of mon) mon.places.names (stand_of mon)
+line_text line.Out mon = out_text (watches_of mon) mon.places (stand_of mon)
 line_text (line.Until address) mon
-    = until_text address (watches_of mon) mon.places.names (stand_of mon)
+    = until_text address (watches_of mon) mon.places (stand_of mon)
 line_text (line.Go count) mon
-    = run_text count (watches_of mon) mon.places.names (stand_of mon)
+    = run_text count (watches_of mon) mon.places (stand_of mon)
 line_text (line.Back undoing) mon = undo_text undoing mon.places (course_of mon)
 line_text line.Rback mon
     = undo_to_stop_text mon.stops mon.places (course_of mon)

@@ -16,7 +16,7 @@ use Rattle.mon_runs.specs.declared.watches.Watch.{Watch}
 pub later-none : (a : Arrival) → a ≡ later 0 a
 later-none a =
     let sum : a.0.did ≡ 0 + a.0.did = omega arith in
-    λ i. (record { did = sum i; why = a.0.why }, a.1)
+    λ i. (record { did = sum i; why = a.0.why; from = a.0.from }, a.1)
 
 pub looked-begin : (w : List Watch) (g : Goal) (u : Option ℕ) (limit : ℕ) (p : Place)
     → looked_run w g u limit p ≡ later 0 (looked_run w g u (limit - 0) p)
@@ -27,44 +27,49 @@ looked-begin w g u limit p =
 pub later-more : (j k : ℕ) (a : Arrival) → later j (later k a) ≡ later (j + k) a
 later-more j k a =
     let sum : j + (k + a.0.did) ≡ (j + k) + a.0.did = omega arith in
-    λ i. (record { did = sum i; why = a.0.why }, a.1)
+    λ i. (record { did = sum i; why = a.0.why; from = a.0.from }, a.1)
 
 -- ---- by the first step
 
-first : (w : List Watch) (g : Goal) (u : Option ℕ) (n d : ℕ) (p q : Place) (y : Option EndWhy)
-    → d ≡ (run_end 1 p.0).did → y ≡ why_of_step w g u p → q ≡ after_stretch u 1 p
-    → looked_run w g u (suc n) p ≡ ended_or y d q (looked_run w g u n q)
+first : (w : List Watch) (g : Goal) (u : Option ℕ) (n d f : ℕ) (p q : Place) (y : Option EndWhy)
+    → d ≡ (run_end 1 p.0).did → f ≡ p.0.current.regs.pc → y ≡ why_of_step w g u p
+    → q ≡ after_stretch u 1 p
+    → looked_run w g u (suc n) p ≡ ended_or y d (Some f) q (looked_run w g u n q)
 unfolding looked_run
-first w g u n d p q y did why after
-    = λ i. ended_or (sym why i) (sym did i) (sym after i) (looked_run w g u n (sym after i))
+first w g u n d f p q y did from why after
+    = λ i. ended_or (sym why i) (sym did i) (Some (sym from i)) (sym after i) (looked_run w g u n (sym after i))
 
-pub looked-ends : (w : List Watch) (g : Goal) (u : Option ℕ) (left n did d : ℕ) (p q : Place)
+pub looked-ends : (w : List Watch) (g : Goal) (u : Option ℕ) (left n did d f : ℕ) (p q : Place)
     (why : EndWhy) (y : Option EndWhy) (whole : Arrival)
     → whole ≡ later did (looked_run w g u left p) → left ≡ suc n
-    → d ≡ (run_end 1 p.0).did → y ≡ why_of_step w g u p → q ≡ after_stretch u 1 p
-    → y ≡ Some why → whole ≡ (record { did = did + d; why = why }, q)
-looked-ends w g u left n did d p q why y whole h more made reason after some =
+    → d ≡ (run_end 1 p.0).did → f ≡ p.0.current.regs.pc → y ≡ why_of_step w g u p
+    → q ≡ after_stretch u 1 p
+    → y ≡ Some why → whole ≡ (record { did = did + d; why = why; from = Some f }, q)
+looked-ends w g u left n did d f p q why y whole h more made from reason after some =
     h ∙ ap (λ j. later did (looked_run w g u j p)) more
-    ∙ ap (later did) (first w g u n d p q y made reason after ∙ ap (λ o. ended_or o d q (looked_run w g u n q)) some)
+    ∙ ap (later did) (first w g u n d f p q y made from reason after
+    ∙ ap (λ o. ended_or o d (Some f) q (looked_run w g u n q)) some)
 
-pub looked-goes : (w : List Watch) (g : Goal) (u : Option ℕ) (left n did d : ℕ) (p q : Place)
+pub looked-goes : (w : List Watch) (g : Goal) (u : Option ℕ) (left n did d f : ℕ) (p q : Place)
     (y : Option EndWhy) (whole : Arrival)
     → whole ≡ later did (looked_run w g u left p) → left ≡ suc n
-    → d ≡ (run_end 1 p.0).did → y ≡ why_of_step w g u p → q ≡ after_stretch u 1 p
+    → d ≡ (run_end 1 p.0).did → f ≡ p.0.current.regs.pc → y ≡ why_of_step w g u p
+    → q ≡ after_stretch u 1 p
     → y ≡ None → whole ≡ later (did + d) (looked_run w g u n q)
-looked-goes w g u left n did d p q y whole h more made reason after none =
+looked-goes w g u left n did d f p q y whole h more made from reason after none =
     h ∙ ap (λ j. later did (looked_run w g u j p)) more
-    ∙ ap (later did) (first w g u n d p q y made reason after ∙ ap (λ o. ended_or o d q (looked_run w g u n q)) none)
+    ∙ ap (later did) (first w g u n d f p q y made from reason after
+    ∙ ap (λ o. ended_or o d (Some f) q (looked_run w g u n q)) none)
     ∙ later-more did d (looked_run w g u n q)
 
 pub looked-over : (w : List Watch) (g : Goal) (u : Option ℕ) (left did : ℕ) (p : Place)
     (whole : Arrival) → whole ≡ later did (looked_run w g u left p) → left ≡ 0
-    → whole ≡ (record { did = did; why = end_why.Many }, p)
+    → whole ≡ (record { did = did; why = end_why.Many; from = None }, p)
 unfolding looked_run
 looked-over w g u left did p whole h none =
     let sum : did + 0 ≡ did = omega arith in
     h ∙ ap (λ j. later did (looked_run w g u j p)) none
-    ∙ (λ i. (record { did = sum i; why = end_why.Many }, p))
+    ∙ (λ i. (record { did = sum i; why = end_why.Many; from = None }, p))
 
 -- ---- what is pushed
 
@@ -105,11 +110,11 @@ pushed-begin w stack pushes =
 abbrev LeadsFrom : Session → Arrival → Type 0
 LeadsFrom s arrival = arrival.1.0 ≡ after_steps arrival.0.did s
 
-ended-leads : (why : Option EndWhy) (k : ℕ) (s : Session) (breaks : List Break) (rest : Arrival)
-    → LeadsFrom (after_steps k s) rest
-    → LeadsFrom s (ended_or why k (after_steps k s, breaks) rest)
-ended-leads (Some why) k s breaks rest h = refl
-ended-leads None k s breaks rest h = h ∙ sym (after_steps-add k rest.0.did s (step s.current) refl)
+ended-leads : (why : Option EndWhy) (k : ℕ) (from : Option ℕ) (s : Session) (breaks : List Break)
+    (rest : Arrival) → LeadsFrom (after_steps k s) rest
+    → LeadsFrom s (ended_or why k from (after_steps k s, breaks) rest)
+ended-leads (Some why) k from s breaks rest h = refl
+ended-leads None k from s breaks rest h = h ∙ sym (after_steps-add k rest.0.did s (step s.current) refl)
 
 pub looked_runs_are_steps : LookedRunsAreSteps
 unfolding looked_run
@@ -117,4 +122,4 @@ looked_runs_are_steps watches goal until zero place = sym (after_steps-zero step
 looked_runs_are_steps watches goal until (suc n) place =
     let next = after_stretch until 1 place in
     let rest : LeadsFrom next.0 (looked_run watches goal until n next) = looked_runs_are_steps watches goal until n next in
-    ended-leads (why_of_step watches goal until place) (run_end 1 place.0).did place.0 next.1 (looked_run watches goal until n next) rest
+    ended-leads (why_of_step watches goal until place) (run_end 1 place.0).did (Some place.0.current.regs.pc) place.0 next.1 (looked_run watches goal until n next) rest

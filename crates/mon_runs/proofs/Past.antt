@@ -16,19 +16,19 @@ stretch-begin count left p =
 
 stretch-first : (n left d : ℕ) (p q : Place) (y : Option Why) → d ≡ (run_end left p.0).did
     → y ≡ why_of_stretch left p → q ≡ after_stretch None left p
-    → run_past (suc n) left p ≡ ended_or (option_map as_stopped y) d q (run_past n (left - d) q)
+    → run_past (suc n) left p ≡ ended_or (option_map as_stopped y) d None q (run_past n (left - d) q)
 unfolding run_past
 stretch-first n left d p q y made why after = λ i.
-    ended_or (option_map as_stopped (sym why i)) (sym made i) (sym after i) (run_past n (left - sym made i) (sym after i))
+    ended_or (option_map as_stopped (sym why i)) (sym made i) None (sym after i) (run_past n (left - sym made i) (sym after i))
 
 pub stretch-ends : (rest n left did d : ℕ) (p q : Place) (why : Why) (y : Option Why)
     (whole : Arrival) → whole ≡ later did (run_past rest left p) → rest ≡ suc n
     → d ≡ (run_end left p.0).did → y ≡ why_of_stretch left p → q ≡ after_stretch None left p
-    → y ≡ Some why → whole ≡ (record { did = did + d; why = end_why.Stopped why }, q)
+    → y ≡ Some why → whole ≡ (record { did = did + d; why = end_why.Stopped why; from = None }, q)
 stretch-ends rest n left did d p q why y whole h more made reason after some =
     h ∙ ap (λ j. later did (run_past j left p)) more
     ∙ ap (later did) (stretch-first n left d p q y made reason after
-    ∙ ap (λ o. ended_or (option_map as_stopped o) d q (run_past n (left - d) q)) some)
+    ∙ ap (λ o. ended_or (option_map as_stopped o) d None q (run_past n (left - d) q)) some)
 
 pub stretch-goes : (rest n left did d : ℕ) (p q : Place) (y : Option Why) (whole : Arrival)
     → whole ≡ later did (run_past rest left p) → rest ≡ suc n
@@ -37,14 +37,14 @@ pub stretch-goes : (rest n left did d : ℕ) (p q : Place) (y : Option Why) (who
 stretch-goes rest n left did d p q y whole h more made reason after none =
     h ∙ ap (λ j. later did (run_past j left p)) more
     ∙ ap (later did) (stretch-first n left d p q y made reason after
-    ∙ ap (λ o. ended_or (option_map as_stopped o) d q (run_past n (left - d) q)) none)
+    ∙ ap (λ o. ended_or (option_map as_stopped o) d None q (run_past n (left - d) q)) none)
     ∙ later-more did d (run_past n (left - d) q)
 
 pub stretch-over : (rest left did : ℕ) (p : Place) (whole : Arrival)
     → whole ≡ later did (run_past rest left p) → rest ≡ 0
-    → whole ≡ (record { did = did; why = end_why.Many }, p)
+    → whole ≡ (record { did = did; why = end_why.Many; from = None }, p)
 unfolding run_past
 stretch-over rest left did p whole h none =
     let sum : did + 0 ≡ did = omega arith in
     h ∙ ap (λ j. later did (run_past j left p)) none
-    ∙ (λ i. (record { did = sum i; why = end_why.Many }, p))
+    ∙ (λ i. (record { did = sum i; why = end_why.Many; from = None }, p))

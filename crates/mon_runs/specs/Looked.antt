@@ -131,19 +131,23 @@ after_stretch until k place = (
 
 -- So many steps more before a run ends.
 abbrev pub later : ℕ → Arrival → Arrival
-later k arrival = (record { did = k + arrival.0.did; why = arrival.0.why }, arrival.1)
+later k arrival = (
+  record { did = k + arrival.0.did; why = arrival.0.why; from = arrival.0.from },
+  arrival.1,
+)
 
--- A run that made so many steps ends, or goes on.
-abbrev pub ended_or : Option EndWhy → ℕ → Place → Arrival → Arrival
-ended_or (Some why) k place rest = (record { did = k; why = why }, place)
-ended_or None k place rest = later k rest
+-- A run that made so many steps ends, or goes on. `from` is the program counter before the last of
+-- them, if the run looked at each step.
+abbrev pub ended_or : Option EndWhy → ℕ → Option ℕ → Place → Arrival → Arrival
+ended_or (Some why) k from place rest = (record { did = k; why = why; from = from }, place)
+ended_or None k from place rest = later k rest
 
 -- Up to n steps, until one ends the run.
 unfoldable pub looked_run : List Watch → Goal → Option ℕ → ℕ → Place → Arrival
 looked_run watches goal until zero place
-    = (record { did = 0; why = end_why.Many }, place)
+    = (record { did = 0; why = end_why.Many; from = None }, place)
 looked_run watches goal until (suc n) place = ended_or (why_of_step watches goal until place)
-    (run_end 1 place.0).did (after_stretch until 1 place)
+    (run_end 1 place.0).did (Some place.0.current.regs.pc) (after_stretch until 1 place)
     (looked_run watches goal until n (after_stretch until 1 place))
 
 -- A run leads where as many steps of the session lead: whatever its goal and its stops are, they

@@ -32,9 +32,9 @@ as_stopped reason = end_why.Stopped reason
 
 -- A run of `left` steps in up to n stretches.
 unfoldable pub run_past : ℕ → ℕ → Place → Arrival
-run_past zero left place = (record { did = 0; why = end_why.Many }, place)
+run_past zero left place = (record { did = 0; why = end_why.Many; from = None }, place)
 run_past (suc n) left place = ended_or (option_map as_stopped (why_of_stretch left place))
-    (run_end left place.0).did (after_stretch None left place)
+    (run_end left place.0).did None (after_stretch None left place)
     (run_past n (left - (run_end left place.0).did) (after_stretch None left place))
 
 -- ---- the runs
@@ -83,6 +83,7 @@ all_made count arrival = (
   record {
     did = arrival.0.did;
     why = if_all (arrival.0.did == count) arrival.0.why;
+    from = arrival.0.from;
   },
   arrival.1,
 )

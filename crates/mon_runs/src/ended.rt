@@ -32,4 +32,6 @@ pub enum EndWhy {
 pub struct Ended {
     pub did: u64,
     pub why: EndWhy,
+    /// The program counter before the step that ended the run, if the run looked at each step.
+    pub from: Option<u16>,
 }

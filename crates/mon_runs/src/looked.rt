@@ -41,11 +41,13 @@ struct Sight {
     access: Access,
 }
 
-/// How a step ended: whether it was made, and why the run ends with it, if it does.
+/// How a step ended: whether it was made, why the run ends with it, if it does, and the program
+/// counter before it.
 #[derive(Clone, Copy)]
 pub struct Made {
     pub did: u32,
     pub why: Option<EndWhy>,
+    pub from: u16,
 }
 
 /// Returns what a run sees before a step.
@@ -237,6 +239,7 @@ fn make_step(session: &mut Session, stops: &mut Stops, goal: Goal, until: Option
     ensures did { result.did ≡ (run_end 1 session.old).did }
     ensures why { result.why ≡ why_of_step stops.old.watches.items goal until
         (session.old, stops.old.breaks.items) }
+    ensures from { result.from ≡ session.old.current.regs.pc }
     ensures after { (session.new, stops.new.breaks.items)
         ≡ after_stretch until 1 (session.old, stops.old.breaks.items) }
     ensures watches { stops.new.watches ≡ stops.old.watches }
@@ -249,7 +252,11 @@ fn make_step(session: &mut Session, stops: &mut Stops, goal: Goal, until: Option
     } else {
         end_of(session, stops, goal, before)
     };
-    Made { did: end.did, why }
+    Made {
+        did: end.did,
+        why,
+        from: before.regs.pc,
+    }
 }
 
 /// Makes up to `limit` steps, each of which is looked at, until one meets the goal or ends the run.
@@ -273,11 +280,16 @@ pub fn lead(
         let made = make_step(session, stops, goal, until);
         did += made.did as u64;
         if let Some(why) = made.why {
-            return Ended { did, why };
+            return Ended {
+                did,
+                why,
+                from: Some(made.from),
+            };
         }
     }
     Ended {
         did,
         why: EndWhy::Many,
+        from: None,
     }
 }

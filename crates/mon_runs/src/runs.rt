@@ -119,6 +119,7 @@ pub fn run(session: &mut Session, stops: &mut Stops, count: u32) -> Ended
         Ended {
             did: end.did,
             why: why_of_all(end, count),
+            from: end.from,
         }
     }
 }

@@ -56,6 +56,7 @@ pub fn run_on(session: &mut Session, stops: &mut Stops, count: u32) -> Ended
             return Ended {
                 did,
                 why: EndWhy::Stopped(why),
+                from: None,
             };
         }
         left -= made.did;
@@ -63,5 +64,6 @@ pub fn run_on(session: &mut Session, stops: &mut Stops, count: u32) -> Ended
     Ended {
         did,
         why: EndWhy::Many,
+        from: None,
     }
 }

@@ -1,4 +1,5 @@
 pub mod RunLines
+pub mod Strays
 pub mod Reasons
 pub mod RunTexts
 pub mod BackLines

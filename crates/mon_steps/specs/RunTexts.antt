@@ -43,13 +43,13 @@ since_text state names begun = output_since begun.output state.bus.out
     ++ shown_text state names (Some begun.cycles)
 
 -- How a run has ended, and what it led to.
-abbrev pub shown_end_text : State → List Named → Ended → Begun → List ℕ
-shown_end_text state names end begun
-    = end_line state names end ++ since_text state names begun
+abbrev pub shown_end_text : State → PlacesView → Ended → Begun → List ℕ
+shown_end_text state places end begun
+    = end_line state places end ++ since_text state places.names begun
 
-abbrev pub arrival_text : List Named → Begun → Arrival → List ℕ
-arrival_text names begun arrival
-    = shown_end_text arrival.1.0.current names arrival.0 begun
+abbrev pub arrival_text : PlacesView → Begun → Arrival → List ℕ
+arrival_text places begun arrival
+    = shown_end_text arrival.1.0.current places arrival.0 begun
 
 -- Where a line begins.
 abbrev pub begun_at : Stand → Begun
@@ -62,14 +62,14 @@ run_of None watches stand = go_run watches (start_of stand)
 run_of (Some count) watches stand = count_run count watches (start_of stand)
 
 -- A run that is given a number of steps, or none.
-abbrev pub run_text : Option ℕ → List Watch → List Named → Stand → List ℕ
-run_text count watches names stand
-    = arrival_text names (begun_at stand) (run_of count watches stand)
+abbrev pub run_text : Option ℕ → List Watch → PlacesView → Stand → List ℕ
+run_text count watches places stand
+    = arrival_text places (begun_at stand) (run_of count watches stand)
 
 -- The way out of a subroutine.
-abbrev pub out_text : List Watch → List Named → Stand → List ℕ
-out_text watches names stand
-    = arrival_text names (begun_at stand) (out_run watches (start_of stand))
+abbrev pub out_text : List Watch → PlacesView → Stand → List ℕ
+out_text watches places stand
+    = arrival_text places (begun_at stand) (out_run watches (start_of stand))
 
 -- Whether a run ended at a break at an address.
 abbrev pub is_there : ℕ → EndWhy → Bool
@@ -87,33 +87,33 @@ is_there address end_why.NoHandler = false
 is_there address end_why.Waits = false
 
 -- A run to an address that came there, or ended before.
-abbrev pub shown_end_at_text : ℕ → State → List Named → Ended → Begun → List ℕ
-shown_end_at_text address state names end begun = if is_there address end.why
-    then here_text names address end.did ++ since_text state names begun
-    else shown_end_text state names end begun
+abbrev pub shown_end_at_text : ℕ → State → PlacesView → Ended → Begun → List ℕ
+shown_end_at_text address state places end begun = if is_there address end.why
+    then here_text places.names address end.did ++ since_text state places.names begun
+    else shown_end_text state places end begun
 
-abbrev pub if_arrived_text : ℕ → List Named → Begun → Result Arrival SessionFault → List ℕ
-if_arrived_text address names begun (Ok arrival)
-    = shown_end_at_text address arrival.1.0.current names arrival.0 begun
-if_arrived_text address names begun (Err fault)
+abbrev pub if_arrived_text : ℕ → PlacesView → Begun → Result Arrival SessionFault → List ℕ
+if_arrived_text address places begun (Ok arrival)
+    = shown_end_at_text address arrival.1.0.current places arrival.0 begun
+if_arrived_text address places begun (Err fault)
     = BREAKS_FULL.now
 
 -- A run to an address.
-abbrev pub until_text : ℕ → List Watch → List Named → Stand → List ℕ
-until_text address watches names stand = if_arrived_text address names (begun_at stand)
+abbrev pub until_text : ℕ → List Watch → PlacesView → Stand → List ℕ
+until_text address watches places stand = if_arrived_text address places (begun_at stand)
     (until_run address watches (start_of stand))
 
 -- ---- steps one by one
 
 -- What is said behind the row of a step: nothing if the step met nothing.
-abbrev pub behind_row : State → List Named → Ended → List ℕ
-behind_row after names end = if is_limit end.why then [] else end_line after names end
+abbrev pub behind_row : State → PlacesView → Ended → List ℕ
+behind_row after places end = if is_limit end.why then [] else end_line after places end
 
 -- The row of a step that was made, or the interrupt that was entered in its place, and what the
 -- step met.
-abbrev pub made_text : Bool → State → List Named → Ended → List ℕ → List ℕ
-made_text is_entry after names end row
-    = row_or_entry is_entry after names row ++ behind_row after names end
+abbrev pub made_text : Bool → State → PlacesView → Ended → List ℕ → List ℕ
+made_text is_entry after places end row
+    = row_or_entry is_entry after places.names row ++ behind_row after places end
 
 -- Why a step was rejected, if it was.
 abbrev pub fault_in : EndWhy → Option EventFault
@@ -135,9 +135,9 @@ if_made None names said = said
 if_made (Some fault) names said = rejected_text names fault
 
 -- A step that was made, or why it was rejected.
-abbrev pub step_text : Bool → State → List Named → Ended → List ℕ → List ℕ
-step_text is_entry after names end row
-    = if_made (fault_in end.why) names (made_text is_entry after names end row)
+abbrev pub step_text : Bool → State → PlacesView → Ended → List ℕ → List ℕ
+step_text is_entry after places end row
+    = if_made (fault_in end.why) places.names (made_text is_entry after places end row)
 
 -- The row of an instruction that was made, with what it has stored.
 unfoldable pub step_row : State → State → PlacesView → List ℕ
@@ -148,7 +148,7 @@ abbrev pub one_step_text : List Watch → PlacesView → Stand → List ℕ
 one_step_text watches places stand =
     let before = stand.0.0.current in
     let arrival = count_run 1 watches (start_of stand) in
-    step_text (entry_due before) arrival.1.0.current places.names arrival.0
+    step_text (entry_due before) arrival.1.0.current places arrival.0
     (step_row before arrival.1.0.current places)
 
 -- Up to n steps, to the first that is rejected or meets something.
@@ -167,23 +167,23 @@ abbrev pub shows_them_text : ℕ → ℕ → List ℕ
 shows_them_text did held = if nat_lt 0 did && nat_le did held
     then HISTORY.now ++ decimal did ++ SHOWS_THEM.now else []
 
-abbrev pub many_end_text : Session → List Named → Ended → List ℕ
-many_end_text session names end = end_line session.current names end
+abbrev pub many_end_text : Session → PlacesView → Ended → List ℕ
+many_end_text session places end = end_line session.current places end
     ++ shows_them_text end.did (length session.earlier)
 
-abbrev pub many_shown_text : Session → List Named → Ended → Begun → List ℕ
-many_shown_text session names end begun
-    = many_end_text session names end ++ since_text session.current names begun
+abbrev pub many_shown_text : Session → PlacesView → Ended → Begun → List ℕ
+many_shown_text session places end begun
+    = many_end_text session places end ++ since_text session.current places.names begun
 
 -- More steps, which are not shown.
-abbrev pub many_steps_text : ℕ → List Watch → List Named → Stand → List ℕ
-many_steps_text count watches names stand =
+abbrev pub many_steps_text : ℕ → List Watch → PlacesView → Stand → List ℕ
+many_steps_text count watches places stand =
     let arrival = count_run count watches (start_of stand) in
-    many_shown_text arrival.1.0 names arrival.0 (begun_at stand)
+    many_shown_text arrival.1.0 places arrival.0 (begun_at stand)
 
 abbrev pub some_steps_text : ℕ → List Watch → PlacesView → Stand → List ℕ
 some_steps_text count watches places stand = if nat_lt 20 count
-    then many_steps_text count watches places.names stand
+    then many_steps_text count watches places stand
     else few_steps_text count watches places stand
 
 -- ---- a JSR as one step
@@ -202,7 +202,7 @@ called_row watches places stand =
 
 abbrev pub call_text : List Watch → PlacesView → Stand → List ℕ
 call_text watches places stand = called_row watches places stand
-    ++ arrival_text places.names (begun_at stand) (over_run watches (start_of stand))
+    ++ arrival_text places (begun_at stand) (over_run watches (start_of stand))
 
 -- A JSR, or one step.
 abbrev pub over_text : List Watch → PlacesView → Stand → List ℕ

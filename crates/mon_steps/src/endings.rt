@@ -39,7 +39,7 @@ impl Begun {
 pub fn tell_end(mon: &mut MonState, end: Ended) -> Result<(), AllocError>
     ensures shows { ShowsOnly mon.old mon.new }
     ensures text { OnOk result (mon.new.text.items ≡ mon.old.text.items
-        ++ end_line mon.old.session.current mon.old.places.names end) }
+        ++ end_line mon.old.session.current mon.old.places end) }
 {
     push_end(&mut mon.text, &mon.session, &mon.places, end)
 }
@@ -58,7 +58,7 @@ pub fn show_since(mon: &mut MonState, begun: Begun) -> Result<(), AllocError>
 pub fn show_end(mon: &mut MonState, end: Ended, begun: Begun) -> Result<(), AllocError>
     ensures shows { ShowsOnly mon.old mon.new }
     ensures text { OnOk result (mon.new.text.items ≡ mon.old.text.items
-        ++ shown_end_text mon.old.session.current mon.old.places.names end begun) }
+        ++ shown_end_text mon.old.session.current mon.old.places end begun) }
 {
     tell_end(mon, end)?;
     show_since(mon, begun)
@@ -107,7 +107,7 @@ pub fn show_end_at(
 ) -> Result<(), AllocError>
     ensures shows { ShowsOnly mon.old mon.new }
     ensures text { OnOk result (mon.new.text.items ≡ mon.old.text.items
-        ++ shown_end_at_text address mon.old.session.current mon.old.places.names end begun) }
+        ++ shown_end_at_text address mon.old.session.current mon.old.places end begun) }
 {
     if !is_there(end.why, address) {
         return show_end(mon, end, begun);

@@ -6,9 +6,10 @@ ghost use Rattle.mon_steps.specs.Reasons.{after_text, break_text, change_text, e
 ghost use Rattle.mon_steps.specs.Reasons.{stop_text, why_text};
 ghost use Rattle.mon_instructions.specs.Places.{place_text};
 
+use crate::strays::push_unserved;
 use crate::wording::{
-    AFTER, AND_IS_NOW, DONE, IS_NOW, NO_HANDLER, NO_STOP, RETURNED, STEP, STEPS, STUCK, WAITS, WAS,
-    WATCH, WATCHED_READ, WATCHED_WRITE,
+    AFTER, AND_IS_NOW, DONE, IS_NOW, NO_STOP, RETURNED, STEP, STEPS, STUCK, WAITS, WAS, WATCH,
+    WATCHED_READ, WATCHED_WRITE,
 };
 use formatting::{push_byte, push_count, push_text};
 use mon_instructions::push_place;
@@ -106,15 +107,16 @@ fn push_change(text: &mut Vec<u8>, change: RegisterChange) -> Result<(), AllocEr
     push_number(text, change.after)
 }
 
-/// Appends why a run has ended.
+/// Appends why a run has ended, whose last step was made at `from`, if that is known.
 fn push_why(
     text: &mut Vec<u8>,
     session: &Session,
     places: &Places,
+    from: Option<u16>,
     why: EndWhy,
 ) -> Result<(), AllocError>
     ensures { OnOk result (text.new.items ≡ text.old.items
-        ++ why_text session.now.current.bus.memory places.now.names why) }
+        ++ why_text session.now.current places.now from why) }
 {
     match why {
         EndWhy::Met => push_text(text, RETURNED),
@@ -124,7 +126,7 @@ fn push_why(
         EndWhy::Written(at) => push_words_at(text, places, WATCHED_WRITE, at),
         EndWhy::Changed(change) => push_change(text, change),
         EndWhy::Stuck => push_text(text, STUCK),
-        EndWhy::NoHandler => push_text(text, NO_HANDLER),
+        EndWhy::NoHandler => push_unserved(text, places, from, session.regs().pc),
         EndWhy::Waits => push_text(text, WAITS),
     }
 }
@@ -137,8 +139,8 @@ pub fn push_end(
     end: Ended,
 ) -> Result<(), AllocError>
     ensures ok { OnOk result (text.new.items ≡ text.old.items
-        ++ end_line session.now.current places.now.names end) }
+        ++ end_line session.now.current places.now end) }
 {
-    push_why(text, session, places, end.why)?;
+    push_why(text, session, places, end.from, end.why)?;
     push_after(text, end.did)
 }

@@ -82,7 +82,7 @@ pub fn step_out(mon: &mut MonState) -> Result<(), AllocError>
     ensures stand { stand_of mon.new ≡ returned (watches_of mon.old) (stand_of mon.old) }
     ensures watches { KeepsWatches mon.old mon.new }
     ensures text { OnOk result (mon.new.text.items ≡ mon.old.text.items
-        ++ out_text (watches_of mon.old) mon.old.places.names (stand_of mon.old)) }
+        ++ out_text (watches_of mon.old) mon.old.places (stand_of mon.old)) }
 {
     let begun = Begun::at(mon);
     let end = make_return(mon);
@@ -97,7 +97,7 @@ pub fn run(mon: &mut MonState, count: Option<u32>) -> Result<(), AllocError>
     ensures stand { stand_of mon.new ≡ ran_by count (watches_of mon.old) (stand_of mon.old) }
     ensures watches { KeepsWatches mon.old mon.new }
     ensures text { OnOk result (mon.new.text.items ≡ mon.old.text.items
-        ++ run_text count (watches_of mon.old) mon.old.places.names (stand_of mon.old)) }
+        ++ run_text count (watches_of mon.old) mon.old.places (stand_of mon.old)) }
 {
     let begun = Begun::at(mon);
     match count {
@@ -142,7 +142,7 @@ pub fn run_until(mon: &mut MonState, address: u16) -> Result<(), AllocError>
         (stand_of mon.new ≡ ran_until address (watches_of mon.old) (stand_of mon.old)) }
     ensures watches { KeepsWatches mon.old mon.new }
     ensures text { OnOk result (mon.new.text.items ≡ mon.old.text.items
-        ++ until_text address (watches_of mon.old) mon.old.places.names (stand_of mon.old)) }
+        ++ until_text address (watches_of mon.old) mon.old.places (stand_of mon.old)) }
 {
     let begun = Begun::at(mon);
     match make_until(mon, address) {

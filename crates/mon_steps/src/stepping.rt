@@ -39,7 +39,7 @@ fn tell_met(mon: &mut MonState, end: Ended) -> Result<bool, AllocError>
     ensures shows { ShowsOnly mon.old mon.new }
     ensures on { IfOk result (λ is_on. is_on ≡ is_limit end.why) }
     ensures text { OnOk result (mon.new.text.items ≡ mon.old.text.items
-        ++ behind_row mon.old.session.current mon.old.places.names end) }
+        ++ behind_row mon.old.session.current mon.old.places end) }
 {
     if is_limit(end.why) {
         return Ok(true);
@@ -59,7 +59,7 @@ fn tell_made(
     ensures shows { ShowsOnly mon.old mon.new }
     ensures on { IfOk result (λ is_on. is_on ≡ is_limit end.why) }
     ensures text { OnOk result (mon.new.text.items ≡ take length mon.old.text.items
-        ++ made_text is_entry mon.old.session.current mon.old.places.names end
+        ++ made_text is_entry mon.old.session.current mon.old.places end
         (drop length mon.old.text.items)) }
 {
     mon.tell_entry(length, is_entry)?;
@@ -88,7 +88,7 @@ fn tell_step(
     ensures shows { ShowsOnly mon.old mon.new }
     ensures on { IfOk result (λ is_on. is_on ≡ is_limit end.why) }
     ensures text { OnOk result (mon.new.text.items ≡ take length mon.old.text.items
-        ++ step_text is_entry mon.old.session.current mon.old.places.names end
+        ++ step_text is_entry mon.old.session.current mon.old.places end
         (drop length mon.old.text.items)) }
 {
     match fault_in(end.why) {
@@ -188,7 +188,7 @@ fn tell_history(mon: &mut MonState, did: u64) -> Result<(), AllocError>
 fn tell_many(mon: &mut MonState, end: Ended) -> Result<(), AllocError>
     ensures shows { ShowsOnly mon.old mon.new }
     ensures text { OnOk result (mon.new.text.items ≡ mon.old.text.items
-        ++ many_end_text mon.old.session mon.old.places.names end) }
+        ++ many_end_text mon.old.session mon.old.places end) }
 {
     tell_end(mon, end)?;
     tell_history(mon, end.did)
@@ -198,7 +198,7 @@ fn tell_many(mon: &mut MonState, end: Ended) -> Result<(), AllocError>
 fn show_many(mon: &mut MonState, end: Ended, begun: Begun) -> Result<(), AllocError>
     ensures shows { ShowsOnly mon.old mon.new }
     ensures text { OnOk result (mon.new.text.items ≡ mon.old.text.items
-        ++ many_shown_text mon.old.session mon.old.places.names end begun) }
+        ++ many_shown_text mon.old.session mon.old.places end begun) }
 {
     tell_many(mon, end)?;
     show_since(mon, begun)
@@ -210,8 +210,7 @@ fn many_steps(mon: &mut MonState, count: u32) -> Result<(), AllocError>
     ensures stand { stand_of mon.new ≡ ran count (watches_of mon.old) (stand_of mon.old) }
     ensures watches { KeepsWatches mon.old mon.new }
     ensures text { OnOk result (mon.new.text.items ≡ mon.old.text.items
-        ++ many_steps_text count (watches_of mon.old) mon.old.places.names
-        (stand_of mon.old)) }
+        ++ many_steps_text count (watches_of mon.old) mon.old.places (stand_of mon.old)) }
 {
     let begun = Begun::at(mon);
     let end = make_steps(mon, count);

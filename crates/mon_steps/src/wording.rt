@@ -5,6 +5,17 @@ pub const STUCK: &str = "nothing is left to do: the instruction jumps to itself"
 
 pub const NO_HANDLER: &str = "BRK comes next, and it has no handler at FFFE";
 
+// The same with its place.
+pub const BRK_AT: &str = "BRK at ";
+
+pub const ENDED_IT: &str = " ended the program: it has no handler at FFFE";
+
+pub const RAN_INTO: &str = "ran into ";
+
+pub const NOTHING_STANDS: &str = ", where nothing stands";
+
+pub const FROM: &str = ", from ";
+
 pub const WAITS: &str = "the program waits for input: type \"TEXT\"";
 
 pub const RETURNED: &str = "the subroutine has returned";

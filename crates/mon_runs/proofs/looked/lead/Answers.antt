@@ -24,9 +24,9 @@ returns-in-Some-clause-run c =
     let some : c.args.limit - c.loop.counter ≡ suc n = omega (arith, c.loop-test.true) in
     let p : Place = (c.loop.session, c.loop.stops.breaks.items) in
     let why = c.make_step-made.ensures.why ∙ ap (λ w. why_of_step w.items c.args.goal c.args.until p) c.loop.invariant.watches in
-    looked-ends c.args.stops.now.watches.items c.args.goal c.args.until (c.args.limit - c.loop.counter) n c.loop.did c.make_step-made.result.did
+    looked-ends c.args.stops.now.watches.items c.args.goal c.args.until (c.args.limit - c.loop.counter) n c.loop.did c.make_step-made.result.did c.make_step-made.result.from
     p (c.make_step-made.new.session, c.make_step-made.new.stops.breaks.items) _ c.make_step-made.result.why _
-    c.loop.invariant.left some c.make_step-made.ensures.did why c.make_step-made.ensures.after c.in-Some.is
+    c.loop.invariant.left some c.make_step-made.ensures.did c.make_step-made.ensures.from why c.make_step-made.ensures.after c.in-Some.is
 
 pub returns-clause-run : goal.returns-clause-run
 returns-clause-run c =
@@ -43,9 +43,9 @@ loop-preserved c =
     record {
       small = omega (arith, c.loop.invariant.small);
       made = steps_more c.loop.did c.make_step-made.result.did c.args.session.now c.loop.session c.make_step-made.new.session c.loop.invariant.made c.make_step-made.ensures.steps;
-      left = looked-goes c.args.stops.now.watches.items c.args.goal c.args.until (c.args.limit - c.loop.counter) n c.loop.did c.make_step-made.result.did
+      left = looked-goes c.args.stops.now.watches.items c.args.goal c.args.until (c.args.limit - c.loop.counter) n c.loop.did c.make_step-made.result.did c.make_step-made.result.from
           p (c.make_step-made.new.session, c.make_step-made.new.stops.breaks.items) c.make_step-made.result.why _
-          c.loop.invariant.left some c.make_step-made.ensures.did why c.make_step-made.ensures.after c.in_default.is;
+          c.loop.invariant.left some c.make_step-made.ensures.did c.make_step-made.ensures.from why c.make_step-made.ensures.after c.in_default.is;
       watches = c.make_step-made.ensures.watches ∙ c.loop.invariant.watches;
       changes = c.make_step-made.ensures.changes ∙ c.loop.invariant.changes;
     }

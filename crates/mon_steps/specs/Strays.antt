@@ -1,0 +1,57 @@
+-- Where a program ends before a BRK that has no handler. Source: mos65.
+use Rattle.std.specs.Prelude.{ℕ, ◌+◌, ◌%◌, ◌&&◌, ◌||◌, Bool, false, not, nat_lt, if◌then◌else◌, List, [], ◌++◌, length, Option, None, Some, codes, decimal}
+use Rattle.model.specs.Text.{hex_address}
+use Rattle.mon_instructions.specs.Places.{place_text}
+use Rattle.source_map.specs.Lines.{PlacesView, data_left, line_at, row_at}
+use Rattle.source_map.specs.declared.rows.Row.{Row}
+use Rattle.mon_steps.specs.declared.wording.TheConstants.{BRK_AT, ENDED_IT, FROM, NOTHING_STANDS, RAN_INTO}
+
+-- ---- whether anything stands at an address
+
+-- Whether there is a line and it has more than so many bytes.
+abbrev pub reaches : ℕ → Option Row → Bool
+reaches behind None = false
+reaches behind (Some row) = nat_lt behind row.count
+
+-- Whether a line of the source has a byte at an address: one that begins there, an instruction of
+-- two or three bytes that begins before it, or data.
+abbrev pub is_in_line : List Row → ℕ → Bool
+is_in_line lines address = reaches 0 (row_at lines address)
+    || reaches 1 (row_at lines ((address + 65535) % 65536))
+    || reaches 2 (row_at lines ((address + 65534) % 65536))
+    || nat_lt 0 (data_left lines address)
+
+-- Whether lines of a source are known, and none has a byte at an address.
+abbrev pub is_stray : List Row → ℕ → Bool
+is_stray lines address = nat_lt 0 (length lines) && not (is_in_line lines address)
+
+-- ---- what is said
+
+-- A line of a file, if there is one: `, hunt.a65:8`.
+abbrev pub line_words : List ℕ → Option ℕ → List ℕ
+line_words file None = []
+line_words file (Some line) = codes ", " ++ file ++ codes ":" ++ decimal line
+
+-- An address, with its name and the line that begins there: `020B sub+3, hunt.a65:8`.
+abbrev pub site_text : PlacesView → ℕ → List ℕ
+site_text places address
+    = place_text places.names address ++ line_words places.file (line_at places.lines address)
+
+-- From where the program came, if that is known.
+abbrev pub from_text : PlacesView → Option ℕ → List ℕ
+from_text places None = []
+from_text places (Some address) = FROM.now ++ site_text places address
+
+-- That nothing stands at an address, and from where the program came there.
+abbrev pub stray_text : PlacesView → Option ℕ → ℕ → List ℕ
+stray_text places from pc
+    = RAN_INTO.now ++ hex_address pc ++ NOTHING_STANDS.now ++ from_text places from
+
+-- That a BRK at an address ended the program.
+abbrev pub brk_text : PlacesView → ℕ → List ℕ
+brk_text places pc = BRK_AT.now ++ site_text places pc ++ ENDED_IT.now
+
+-- What is said of a BRK at an address that has no handler.
+unfoldable pub unserved_text : PlacesView → Option ℕ → ℕ → List ℕ
+unserved_text places from pc = if is_stray places.lines pc then stray_text places from pc
+    else brk_text places pc

@@ -1,0 +1,113 @@
+//! Where a program ends before a BRK that has no handler.
+
+ghost use Rattle.std.specs.Prelude.{◌≡◌, ◌++◌, OnOk};
+ghost use Rattle.mon_steps.specs.Strays.{brk_text, from_text, is_in_line, is_stray, line_words};
+ghost use Rattle.mon_steps.specs.Strays.{reaches, site_text, stray_text, unserved_text};
+
+use crate::wording::{BRK_AT, ENDED_IT, FROM, NOTHING_STANDS, RAN_INTO};
+use formatting::{push_address, push_count, push_text};
+use mon_instructions::push_place;
+use source_map::{Places, Row};
+use std::alloc::AllocError;
+
+/// Returns whether there is a line and it has more than so many bytes.
+fn reaches(row: Option<Row>, behind: u32) -> bool
+    ensures { result ≡ reaches behind row }
+{
+    match row {
+        None => false,
+        Some(row) => behind < row.count,
+    }
+}
+
+/// Returns whether a line of the source has a byte at an address.
+fn is_in_line(places: &Places, address: u16) -> bool
+    ensures { result ≡ is_in_line places.now.lines address }
+{
+    reaches(places.row_at(address), 0)
+        || reaches(places.row_at(address.wrapping_sub(1)), 1)
+        || reaches(places.row_at(address.wrapping_sub(2)), 2)
+        || places.data_left(address) > 0
+}
+
+/// Returns whether lines of a source are known, and none has a byte at an address.
+pub fn is_stray(places: &Places, address: u16) -> bool
+    ensures { result ≡ is_stray places.now.lines address }
+{
+    places.has_lines() && !is_in_line(places, address)
+}
+
+/// Appends a line of a file, if there is one.
+fn push_line(text: &mut Vec<u8>, file: &[u8], line: Option<u32>) -> Result<(), AllocError>
+    ensures { OnOk result (text.new.items ≡ text.old.items ++ line_words file.now line) }
+{
+    let Some(line) = line else {
+        return Ok(());
+    };
+    push_text(text, ", ")?;
+    text.extend_from_slice(file)?;
+    push_text(text, ":")?;
+    push_count(text, line as u64)
+}
+
+/// Appends an address, with its name and the line that begins there.
+fn push_site(text: &mut Vec<u8>, places: &Places, address: u16) -> Result<(), AllocError>
+    ensures { OnOk result (text.new.items ≡ text.old.items ++ site_text places.now address) }
+{
+    push_place(text, places, address)?;
+    push_line(text, places.file(), places.line_at(address))
+}
+
+/// Appends from where the program came, if that is known.
+fn push_from(text: &mut Vec<u8>, places: &Places, from: Option<u16>) -> Result<(), AllocError>
+    ensures { OnOk result (text.new.items ≡ text.old.items ++ from_text places.now from) }
+{
+    let Some(from) = from else {
+        return Ok(());
+    };
+    push_text(text, FROM)?;
+    push_site(text, places, from)
+}
+
+/// Appends that nothing stands at an address, and from where the program came there.
+fn push_stray(
+    text: &mut Vec<u8>,
+    places: &Places,
+    from: Option<u16>,
+    pc: u16,
+) -> Result<(), AllocError>
+    ensures { OnOk result (text.new.items ≡ text.old.items ++ stray_text places.now from pc) }
+{
+    push_text(text, RAN_INTO)?;
+    push_address(text, pc)?;
+    push_text(text, NOTHING_STANDS)?;
+    push_from(text, places, from)
+}
+
+/// Appends that a BRK at an address ended the program.
+fn push_brk(text: &mut Vec<u8>, places: &Places, pc: u16) -> Result<(), AllocError>
+    ensures { OnOk result (text.new.items ≡ text.old.items ++ brk_text places.now pc) }
+{
+    push_text(text, BRK_AT)?;
+    push_site(text, places, pc)?;
+    push_text(text, ENDED_IT)
+}
+
+/// Appends what is said of a BRK at an address that has no handler. `from` is where the step was
+/// made that led there, if that is known.
+#[tactic(auto, unfolding(crate::specs::Strays::unserved_text))]
+pub fn push_unserved(
+    text: &mut Vec<u8>,
+    places: &Places,
+    from: Option<u16>,
+    pc: u16,
+) -> Result<(), AllocError>
+    ensures { OnOk result (text.new.items ≡ text.old.items
+        ++ unserved_text places.now from pc) }
+{
+    if is_stray(places, pc) {
+        push_stray(text, places, from, pc)
+    } else {
+        push_brk(text, places, pc)
+    }
+}
