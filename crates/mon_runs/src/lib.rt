@@ -36,6 +36,7 @@ pub use debugger::{Event, RunEnd, Session, SessionFault, Why};
 pub use ended::{EndWhy, Ended};
 pub use mon_lines::WatchKind;
 pub use recall::{back_to_stop, make_again};
+pub use rests::has_no_handler;
 pub use runs::{go, out, over, run, until};
 pub use stops::Stops;
 pub use watches::Watch;

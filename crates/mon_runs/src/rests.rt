@@ -22,8 +22,8 @@ fn waits(session: &Session) -> bool
     !input_waits(session) && looks(session)
 }
 
-/// Returns whether a BRK comes next, and nothing stands at FFFE.
-fn has_no_handler(session: &Session) -> bool
+/// Returns whether a BRK comes next, and nothing stands at FFFE: both bytes of its vector are 0.
+pub fn has_no_handler(session: &Session) -> bool
     ensures { result ≡ has_no_handler session.now.current }
 {
     session.peek(session.regs().pc) == BRK

@@ -19,6 +19,7 @@ use Rattle.mon_instructions.specs.Places.{place_text}
 use Rattle.mon_texts.specs.Screen.{output_since}
 use Rattle.mon_instructions.specs.Stores.{stores_text}
 use Rattle.mon_steps.specs.Reasons.{after_text, end_line}
+use Rattle.mon_steps.specs.Strays.{ended_text}
 use Rattle.mon_runs.specs.Goals.{opcode_at_pc}
 use Rattle.source_map.specs.Lines.{PlacesView}
 use Rattle.source_map.specs.Names.{Named}
@@ -63,13 +64,13 @@ run_of (Some count) watches stand = count_run count watches (start_of stand)
 
 -- A run that is given a number of steps, or none.
 abbrev pub run_text : Option ℕ → List Watch → PlacesView → Stand → List ℕ
-run_text count watches places stand
-    = arrival_text places (begun_at stand) (run_of count watches stand)
+run_text count watches places stand = ended_text stand.0.0.current places
+    ++ arrival_text places (begun_at stand) (run_of count watches stand)
 
 -- The way out of a subroutine.
 abbrev pub out_text : List Watch → PlacesView → Stand → List ℕ
-out_text watches places stand
-    = arrival_text places (begun_at stand) (out_run watches (start_of stand))
+out_text watches places stand = ended_text stand.0.0.current places
+    ++ arrival_text places (begun_at stand) (out_run watches (start_of stand))
 
 -- Whether a run ended at a break at an address.
 abbrev pub is_there : ℕ → EndWhy → Bool
@@ -100,8 +101,8 @@ if_arrived_text address places begun (Err fault)
 
 -- A run to an address.
 abbrev pub until_text : ℕ → List Watch → PlacesView → Stand → List ℕ
-until_text address watches places stand = if_arrived_text address places (begun_at stand)
-    (until_run address watches (start_of stand))
+until_text address watches places stand = ended_text stand.0.0.current places
+    ++ if_arrived_text address places (begun_at stand) (until_run address watches (start_of stand))
 
 -- ---- steps one by one
 
@@ -181,10 +182,14 @@ many_steps_text count watches places stand =
     let arrival = count_run count watches (start_of stand) in
     many_shown_text arrival.1.0 places arrival.0 (begun_at stand)
 
-abbrev pub some_steps_text : ℕ → List Watch → PlacesView → Stand → List ℕ
-some_steps_text count watches places stand = if nat_lt 20 count
+abbrev pub steps_text : ℕ → List Watch → PlacesView → Stand → List ℕ
+steps_text count watches places stand = if nat_lt 20 count
     then many_steps_text count watches places stand
     else few_steps_text count watches places stand
+
+abbrev pub some_steps_text : ℕ → List Watch → PlacesView → Stand → List ℕ
+some_steps_text count watches places stand
+    = ended_text stand.0.0.current places ++ steps_text count watches places stand
 
 -- ---- a JSR as one step
 
@@ -207,4 +212,5 @@ call_text watches places stand = called_row watches places stand
 -- A JSR, or one step.
 abbrev pub over_text : List Watch → PlacesView → Stand → List ℕ
 over_text watches places stand = if opcode_at_pc stand.0.0.current == 0x20
-    then call_text watches places stand else few_steps_text 1 watches places stand
+    then call_text watches places stand
+    else ended_text stand.0.0.current places ++ few_steps_text 1 watches places stand

@@ -1,10 +1,12 @@
 -- Where a program ends before a BRK that has no handler. Source: mos65.
 use Rattle.std.specs.Prelude.{ℕ, ◌+◌, ◌%◌, ◌&&◌, ◌||◌, Bool, false, not, nat_lt, if◌then◌else◌, List, [], ◌++◌, length, Option, None, Some, codes, decimal}
+use Rattle.model.specs.State.{State}
 use Rattle.model.specs.Text.{hex_address}
 use Rattle.mon_instructions.specs.Places.{place_text}
+use Rattle.mon_runs.specs.Rests.{has_no_handler}
 use Rattle.source_map.specs.Lines.{PlacesView, data_left, line_at, row_at}
 use Rattle.source_map.specs.declared.rows.Row.{Row}
-use Rattle.mon_steps.specs.declared.wording.TheConstants.{BRK_AT, ENDED_IT, FROM, NOTHING_STANDS, RAN_INTO}
+use Rattle.mon_steps.specs.declared.wording.TheConstants.{BRK_AT, ENDED_IT, FROM, NOTHING_AT, NOTHING_STANDS, NO_SERVICE, RAN_INTO, WAYS_ON}
 
 -- ---- whether anything stands at an address
 
@@ -55,3 +57,15 @@ brk_text places pc = BRK_AT.now ++ site_text places pc ++ ENDED_IT.now
 unfoldable pub unserved_text : PlacesView → Option ℕ → ℕ → List ℕ
 unserved_text places from pc = if is_stray places.lines pc then stray_text places from pc
     else brk_text places pc
+
+-- ---- before further steps
+
+-- That the program has ended before a BRK at an address, and what can be done then.
+abbrev pub over_words : PlacesView → ℕ → List ℕ
+over_words places pc = (if is_stray places.lines pc then NOTHING_AT.now ++ hex_address pc
+    else NO_SERVICE.now) ++ WAYS_ON.now
+
+-- What is said before steps are made: that the program has ended, if a BRK comes next that has no
+-- handler.
+unfoldable pub ended_text : State → PlacesView → List ℕ
+ended_text state places = if has_no_handler state then over_words places state.regs.pc else []

@@ -1,13 +1,16 @@
 //! What lines say of how a run has ended.
 
 ghost use Rattle.std.specs.Prelude.{◌≡◌, ◌++◌, OnOk};
-ghost use Rattle.mon_session.specs.Course.{ShowsOnly};
+ghost use Rattle.mon_session.specs.Course.{ShowsOnly, course_of};
+ghost use Rattle.mon_steps.specs.RunLines.{HasRun};
 ghost use Rattle.mon_steps.specs.RunTexts.{begun_of, here_text, is_there, shown_end_at_text};
 ghost use Rattle.mon_steps.specs.RunTexts.{shown_end_text, since_text};
 ghost use Rattle.mon_steps.specs.Reasons.{after_text, end_line};
+ghost use Rattle.mon_steps.specs.Strays.{ended_text};
 ghost use Rattle.mon_instructions.specs.Places.{place_text};
 
 use crate::reasons::{push_after, push_end};
+use crate::strays::push_ended;
 use crate::wording::HERE;
 use formatting::push_text;
 use mon_instructions::push_place;
@@ -42,6 +45,17 @@ pub fn tell_end(mon: &mut MonState, end: Ended) -> Result<(), AllocError>
         ++ end_line mon.old.session.current mon.old.places end) }
 {
     push_end(&mut mon.text, &mon.session, &mon.places, end)
+}
+
+/// Says that the program has ended, if a BRK comes next that has no handler.
+#[tactic(auto, using(crate::proofs::Chains::run_none))]
+pub fn tell_ended(mon: &mut MonState) -> Result<(), AllocError>
+    ensures shows { ShowsOnly mon.old mon.new }
+    ensures course { HasRun (course_of mon.old) (course_of mon.new) }
+    ensures text { OnOk result (mon.new.text.items ≡ mon.old.text.items
+        ++ ended_text mon.old.session.current mon.old.places) }
+{
+    push_ended(&mut mon.text, &mon.session, &mon.places)
 }
 
 /// Shows what the program put out since a run began, and the state.

@@ -8,10 +8,12 @@ ghost use Rattle.mon_steps.specs.RunTexts.{behind_row, call_row, call_text, call
 ghost use Rattle.mon_steps.specs.RunTexts.{one_step_text, over_text, some_steps_text, step_text};
 ghost use Rattle.mon_steps.specs.RunTexts.{fault_in, many_end_text, many_shown_text};
 ghost use Rattle.mon_steps.specs.RunTexts.{many_steps_text, shows_them_text, step_row, stepped_text};
+ghost use Rattle.mon_steps.specs.RunTexts.{steps_text};
+ghost use Rattle.mon_steps.specs.Strays.{ended_text};
 ghost use Rattle.mon_steps.specs.RunLines.{start_of};
 ghost use Rattle.mon_runs.specs.PastBreaks.{count_run, over_run};
 
-use crate::endings::{Begun, show_end, show_since, tell_end};
+use crate::endings::{Begun, show_end, show_since, tell_end, tell_ended};
 use crate::runs::{make_call, make_steps};
 use crate::wording::{HISTORY, SHOWS_THEM};
 use accesses::stores_here;
@@ -218,6 +220,22 @@ fn many_steps(mon: &mut MonState, count: u32) -> Result<(), AllocError>
 }
 
 /// Makes steps, and shows each if they are few. Says how they ended.
+fn make_some(mon: &mut MonState, count: u32) -> Result<(), AllocError>
+    ensures course { HasRun (course_of mon.old) (course_of mon.new) }
+    ensures stand { OnOk result
+        (stand_of mon.new ≡ some_steps count (watches_of mon.old) (stand_of mon.old)) }
+    ensures watches { KeepsWatches mon.old mon.new }
+    ensures text { OnOk result (mon.new.text.items ≡ mon.old.text.items
+        ++ steps_text count (watches_of mon.old) mon.old.places (stand_of mon.old)) }
+{
+    if count > MOST_SHOWN {
+        return many_steps(mon, count);
+    }
+    few_steps(mon, count)
+}
+
+/// Makes steps, and shows each if they are few. Says how they ended. Where the program has ended
+/// before them, it says that first.
 ///
 /// Errors: `AllocError` if an allocation fails; some of the steps may be made then.
 pub fn steps(mon: &mut MonState, count: u32) -> Result<(), AllocError>
@@ -228,10 +246,22 @@ pub fn steps(mon: &mut MonState, count: u32) -> Result<(), AllocError>
     ensures text { OnOk result (mon.new.text.items ≡ mon.old.text.items
         ++ some_steps_text count (watches_of mon.old) mon.old.places (stand_of mon.old)) }
 {
-    if count > MOST_SHOWN {
-        return many_steps(mon, count);
-    }
-    few_steps(mon, count)
+    tell_ended(mon)?;
+    make_some(mon, count)
+}
+
+/// Makes one step and shows it. Where the program has ended before it, it says that first.
+fn one_step(mon: &mut MonState) -> Result<(), AllocError>
+    ensures course { HasRun (course_of mon.old) (course_of mon.new) }
+    ensures stand { OnOk result
+        (stand_of mon.new ≡ stepped 1 (watches_of mon.old) (stand_of mon.old)) }
+    ensures watches { KeepsWatches mon.old mon.new }
+    ensures text { OnOk result (mon.new.text.items ≡ mon.old.text.items
+        ++ (ended_text mon.old.session.current mon.old.places
+        ++ few_steps_text 1 (watches_of mon.old) mon.old.places (stand_of mon.old))) }
+{
+    tell_ended(mon)?;
+    few_steps(mon, 1)
 }
 
 /// Says that the first step of a JSR was the entry of an interrupt, in place of the row from
@@ -284,7 +314,8 @@ fn show_call(mon: &mut MonState) -> Result<(), AllocError>
     show_end(mon, end, begun)
 }
 
-/// Makes one step, or a JSR as one step, shows it, and says how it ended.
+/// Makes one step, or a JSR as one step, shows it, and says how it ended. Where the program has
+/// ended before it, it says that first.
 ///
 /// Errors: `AllocError` if an allocation fails, before the steps or after them.
 pub fn step_over(mon: &mut MonState) -> Result<(), AllocError>
@@ -296,7 +327,7 @@ pub fn step_over(mon: &mut MonState) -> Result<(), AllocError>
         ++ over_text (watches_of mon.old) mon.old.places (stand_of mon.old)) }
 {
     if mon.session.peek(mon.session.regs().pc) != JSR {
-        return few_steps(mon, 1);
+        return one_step(mon);
     }
     show_call(mon)
 }

@@ -1,12 +1,16 @@
 //! Where a program ends before a BRK that has no handler.
 
 ghost use Rattle.std.specs.Prelude.{◌≡◌, ◌++◌, OnOk};
-ghost use Rattle.mon_steps.specs.Strays.{brk_text, from_text, is_in_line, is_stray, line_words};
-ghost use Rattle.mon_steps.specs.Strays.{reaches, site_text, stray_text, unserved_text};
+ghost use Rattle.mon_steps.specs.Strays.{brk_text, ended_text, from_text, is_in_line, is_stray};
+ghost use Rattle.mon_steps.specs.Strays.{line_words, over_words, reaches, site_text, stray_text};
+ghost use Rattle.mon_steps.specs.Strays.{unserved_text};
 
-use crate::wording::{BRK_AT, ENDED_IT, FROM, NOTHING_STANDS, RAN_INTO};
+use crate::wording::{
+    BRK_AT, ENDED_IT, FROM, NO_SERVICE, NOTHING_AT, NOTHING_STANDS, RAN_INTO, WAYS_ON,
+};
 use formatting::{push_address, push_count, push_text};
 use mon_instructions::push_place;
+use mon_runs::{Session, has_no_handler};
 use source_map::{Places, Row};
 use std::alloc::AllocError;
 
@@ -31,7 +35,7 @@ fn is_in_line(places: &Places, address: u16) -> bool
 }
 
 /// Returns whether lines of a source are known, and none has a byte at an address.
-pub fn is_stray(places: &Places, address: u16) -> bool
+fn is_stray(places: &Places, address: u16) -> bool
     ensures { result ≡ is_stray places.now.lines address }
 {
     places.has_lines() && !is_in_line(places, address)
@@ -110,4 +114,29 @@ pub fn push_unserved(
     } else {
         push_brk(text, places, pc)
     }
+}
+
+/// Appends that the program has ended before a BRK at an address, and what can be done then.
+fn push_over(text: &mut Vec<u8>, places: &Places, pc: u16) -> Result<(), AllocError>
+    ensures { OnOk result (text.new.items ≡ text.old.items ++ over_words places.now pc) }
+{
+    if is_stray(places, pc) {
+        push_text(text, NOTHING_AT)?;
+        push_address(text, pc)?;
+    } else {
+        push_text(text, NO_SERVICE)?;
+    }
+    push_text(text, WAYS_ON)
+}
+
+/// Appends that the program has ended, if a BRK comes next that has no handler.
+#[tactic(auto, unfolding(crate::specs::Strays::ended_text))]
+pub fn push_ended(text: &mut Vec<u8>, session: &Session, places: &Places) -> Result<(), AllocError>
+    ensures { OnOk result (text.new.items ≡ text.old.items
+        ++ ended_text session.now.current places.now) }
+{
+    if has_no_handler(session) {
+        return push_over(text, places, session.regs().pc);
+    }
+    Ok(())
 }

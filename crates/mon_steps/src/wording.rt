@@ -16,6 +16,13 @@ pub const NOTHING_STANDS: &str = ", where nothing stands";
 
 pub const FROM: &str = ", from ";
 
+// What stands before further steps of a program that has ended.
+pub const NOTHING_AT: &str = "nothing stands at ";
+
+pub const NO_SERVICE: &str = "BRK has no handler at FFFE";
+
+pub const WAYS_ON: &str = ": back undoes steps, reset begins again\n";
+
 pub const WAITS: &str = "the program waits for input: type \"TEXT\"";
 
 pub const RETURNED: &str = "the subroutine has returned";
