@@ -1,5 +1,5 @@
 -- Where a program ends before a BRK that has no handler. Source: mos65.
-use Rattle.std.specs.Prelude.{ℕ, ◌+◌, ◌%◌, ◌&&◌, ◌||◌, Bool, false, not, nat_lt, if◌then◌else◌, List, [], ◌++◌, length, Option, None, Some, codes, decimal}
+use Rattle.std.specs.Prelude.{ℕ, ◌+◌, ◌-◌, ◌%◌, ◌&&◌, ◌||◌, Bool, false, not, nat_lt, if◌then◌else◌, List, [], ◌++◌, length, Option, None, Some, codes, decimal}
 use Rattle.model.specs.State.{State}
 use Rattle.model.specs.Text.{hex_address}
 use Rattle.mon_instructions.specs.Places.{place_text}
@@ -15,12 +15,16 @@ abbrev pub reaches : ℕ → Option Row → Bool
 reaches behind None = false
 reaches behind (Some row) = nat_lt behind row.count
 
+-- The address so many before another. $FFFF comes before $0000.
+abbrev pub before : ℕ → ℕ → ℕ
+before address count = (address + (65536 - count)) % 65536
+
 -- Whether a line of the source has a byte at an address: one that begins there, an instruction of
 -- two or three bytes that begins before it, or data.
 abbrev pub is_in_line : List Row → ℕ → Bool
 is_in_line lines address = reaches 0 (row_at lines address)
-    || reaches 1 (row_at lines ((address + 65535) % 65536))
-    || reaches 2 (row_at lines ((address + 65534) % 65536))
+    || reaches 1 (row_at lines (before address 1))
+    || reaches 2 (row_at lines (before address 2))
     || nat_lt 0 (data_left lines address)
 
 -- Whether lines of a source are known, and none has a byte at an address.
