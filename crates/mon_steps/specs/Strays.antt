@@ -48,10 +48,13 @@ abbrev pub from_text : PlacesView → Option ℕ → List ℕ
 from_text places None = []
 from_text places (Some address) = FROM.now ++ site_text places address
 
--- That nothing stands at an address, and from where the program came there.
+-- That the program ran to an address where nothing stands.
+unfoldable pub strayed_text : ℕ → List ℕ
+strayed_text pc = RAN_INTO.now ++ hex_address pc ++ NOTHING_STANDS.now
+
+-- The same, and from where the program came there.
 abbrev pub stray_text : PlacesView → Option ℕ → ℕ → List ℕ
-stray_text places from pc
-    = RAN_INTO.now ++ hex_address pc ++ NOTHING_STANDS.now ++ from_text places from
+stray_text places from pc = strayed_text pc ++ from_text places from
 
 -- That a BRK at an address ended the program.
 abbrev pub brk_text : PlacesView → ℕ → List ℕ
@@ -64,10 +67,17 @@ unserved_text places from pc = if is_stray places.lines pc then stray_text place
 
 -- ---- before further steps
 
+-- That nothing stands at an address.
+unfoldable pub nothing_text : ℕ → List ℕ
+nothing_text pc = NOTHING_AT.now ++ hex_address pc
+
+-- Why a program has ended before a BRK at an address.
+unfoldable pub over_cause : PlacesView → ℕ → List ℕ
+over_cause places pc = if is_stray places.lines pc then nothing_text pc else NO_SERVICE.now
+
 -- That the program has ended before a BRK at an address, and what can be done then.
 abbrev pub over_words : PlacesView → ℕ → List ℕ
-over_words places pc = (if is_stray places.lines pc then NOTHING_AT.now ++ hex_address pc
-    else NO_SERVICE.now) ++ WAYS_ON.now
+over_words places pc = over_cause places pc ++ WAYS_ON.now
 
 -- What is said before steps are made: that the program has ended, if a BRK comes next that has no
 -- handler.

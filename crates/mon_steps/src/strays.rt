@@ -2,8 +2,8 @@
 
 ghost use Rattle.std.specs.Prelude.{◌≡◌, ◌++◌, OnOk};
 ghost use Rattle.mon_steps.specs.Strays.{brk_text, ended_text, from_text, is_in_line, is_stray};
-ghost use Rattle.mon_steps.specs.Strays.{line_words, over_words, reaches, site_text, stray_text};
-ghost use Rattle.mon_steps.specs.Strays.{unserved_text};
+ghost use Rattle.mon_steps.specs.Strays.{line_words, nothing_text, over_cause, over_words, reaches};
+ghost use Rattle.mon_steps.specs.Strays.{site_text, stray_text, strayed_text, unserved_text};
 
 use crate::wording::{
     BRK_AT, ENDED_IT, FROM, NO_SERVICE, NOTHING_AT, NOTHING_STANDS, RAN_INTO, WAYS_ON,
@@ -73,6 +73,16 @@ fn push_from(text: &mut Vec<u8>, places: &Places, from: Option<u16>) -> Result<(
     push_site(text, places, from)
 }
 
+/// Appends that the program ran to an address where nothing stands.
+#[tactic(auto, unfolding(crate::specs::Strays::strayed_text))]
+fn push_strayed(text: &mut Vec<u8>, pc: u16) -> Result<(), AllocError>
+    ensures { OnOk result (text.new.items ≡ text.old.items ++ strayed_text pc) }
+{
+    push_text(text, RAN_INTO)?;
+    push_address(text, pc)?;
+    push_text(text, NOTHING_STANDS)
+}
+
 /// Appends that nothing stands at an address, and from where the program came there.
 fn push_stray(
     text: &mut Vec<u8>,
@@ -82,9 +92,7 @@ fn push_stray(
 ) -> Result<(), AllocError>
     ensures { OnOk result (text.new.items ≡ text.old.items ++ stray_text places.now from pc) }
 {
-    push_text(text, RAN_INTO)?;
-    push_address(text, pc)?;
-    push_text(text, NOTHING_STANDS)?;
+    push_strayed(text, pc)?;
     push_from(text, places, from)
 }
 
@@ -116,16 +124,32 @@ pub fn push_unserved(
     }
 }
 
+/// Appends that nothing stands at an address.
+#[tactic(auto, unfolding(crate::specs::Strays::nothing_text))]
+fn push_nothing(text: &mut Vec<u8>, pc: u16) -> Result<(), AllocError>
+    ensures { OnOk result (text.new.items ≡ text.old.items ++ nothing_text pc) }
+{
+    push_text(text, NOTHING_AT)?;
+    push_address(text, pc)
+}
+
+/// Appends why the program has ended before a BRK at an address.
+#[tactic(auto, unfolding(crate::specs::Strays::over_cause))]
+fn push_cause(text: &mut Vec<u8>, places: &Places, pc: u16) -> Result<(), AllocError>
+    ensures { OnOk result (text.new.items ≡ text.old.items ++ over_cause places.now pc) }
+{
+    if is_stray(places, pc) {
+        push_nothing(text, pc)
+    } else {
+        push_text(text, NO_SERVICE)
+    }
+}
+
 /// Appends that the program has ended before a BRK at an address, and what can be done then.
 fn push_over(text: &mut Vec<u8>, places: &Places, pc: u16) -> Result<(), AllocError>
     ensures { OnOk result (text.new.items ≡ text.old.items ++ over_words places.now pc) }
 {
-    if is_stray(places, pc) {
-        push_text(text, NOTHING_AT)?;
-        push_address(text, pc)?;
-    } else {
-        push_text(text, NO_SERVICE)?;
-    }
+    push_cause(text, places, pc)?;
     push_text(text, WAYS_ON)
 }
 
