@@ -34,6 +34,11 @@ abbrev pub variable : List ℕ → List ℕ → Data
 variable name value = object_of ((codes "evaluateName", word name) ∷ (codes "name", word name)
     ∷ (codes "value", word value) ∷ (codes "variablesReference", count 0) ∷ [])
 
+-- A variable that no expression stands for: the console reads neither a flag nor a count.
+abbrev pub plain_variable : List ℕ → List ℕ → Data
+plain_variable name value = object_of ((codes "name", word name) ∷ (codes "value", word value)
+    ∷ (codes "variablesReference", count 0) ∷ [])
+
 abbrev pub byte_variable : List ℕ → ℕ → Data
 byte_variable name byte = variable name (byte_text byte)
 
@@ -41,10 +46,10 @@ abbrev pub register_variable : List ℕ → Regs → Register → Data
 register_variable name regs register = variable name (register_text regs register)
 
 abbrev pub flag_variable : List ℕ → Bool → Data
-flag_variable name is_set = variable name (bit_text is_set)
+flag_variable name is_set = plain_variable name (bit_text is_set)
 
 abbrev pub number_variable : List ℕ → ℕ → Data
-number_variable name number = variable name (decimal number)
+number_variable name number = plain_variable name (decimal number)
 
 abbrev pub registers_shown : Regs → List Data
 registers_shown regs = register_variable (codes "PC") regs register.Pc

@@ -7,8 +7,8 @@ ghost use Rattle.dap_views.specs.Pages.{IsPage};
 ghost use Rattle.dap_views.specs.Scopes.{cells, listed, machine_shown, scope_shown, symbols_shown};
 ghost use Rattle.dap_views.specs.Scopes.{variables_shown};
 ghost use Rattle.dap_views.specs.Variables.{bit_text, byte_variable, flag_variable, flags_shown};
-ghost use Rattle.dap_views.specs.Variables.{number_variable, register_text, register_variable};
-ghost use Rattle.dap_views.specs.Variables.{registers_shown, variable};
+ghost use Rattle.dap_views.specs.Variables.{number_variable, plain_variable, register_text};
+ghost use Rattle.dap_views.specs.Variables.{register_variable, registers_shown, variable};
 ghost use Rattle.serde_json.specs.View.{view};
 ghost use Rattle.source_map.specs.Names.{named};
 
@@ -66,6 +66,23 @@ fn variable(
         .build()
 }
 
+/// Returns a variable that no expression stands for, with its value, if memory did not run out for
+/// that.
+fn plain_variable(
+    alloc: Global,
+    name: &str,
+    value: Result<String, AllocError>,
+) -> Result<Value, AllocError>
+    ensures { (bytes : List ℕ) → IfOk value (λ s. string_bytes s ≡ bytes)
+        → IfOk result (λ v. view v ≡ plain_variable name.now bytes) }
+{
+    Object::new(alloc)
+        .word("name", name)
+        .text("value", value)
+        .count("variablesReference", 0)
+        .build()
+}
+
 /// Returns a byte as a variable.
 fn byte_variable(alloc: Global, name: &str, byte: u8) -> Result<Value, AllocError>
     ensures { IfOk result (λ v. view v ≡ byte_variable name.now byte) }
@@ -89,14 +106,14 @@ fn register_variable(
 fn flag_variable(alloc: Global, name: &str, is_set: bool) -> Result<Value, AllocError>
     ensures { IfOk result (λ v. view v ≡ flag_variable name.now is_set) }
 {
-    variable(alloc, name, bit_text(alloc, is_set))
+    plain_variable(alloc, name, bit_text(alloc, is_set))
 }
 
 /// Returns a number in decimal as a variable.
 fn number_variable(alloc: Global, name: &str, number: u64) -> Result<Value, AllocError>
     ensures { IfOk result (λ v. view v ≡ number_variable name.now number) }
 {
-    variable(alloc, name, format!(in alloc; "{number}"))
+    plain_variable(alloc, name, format!(in alloc; "{number}"))
 }
 
 /// Returns a page of the registers, of which none was shown.
