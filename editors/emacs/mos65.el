@@ -31,9 +31,13 @@
 (defconst mos65-script (expand-file-name "mos65-dap.sh" (file-name-directory (or load-file-name buffer-file-name)))
   "The script beside this file, with which a run of the debugger can be paused.")
 
+(defun mos65-named-program ()
+  "Return the name of the program, or its whole path, where it is one: `~' is the user's folder."
+  (if (string-match-p "/" mos65-program) (expand-file-name mos65-program) mos65-program))
+
 (defun mos65-found-program ()
   "Return the path of the program, or say what to do where it is not found."
-  (or (executable-find (if (string-match-p "/" mos65-program) (expand-file-name mos65-program) mos65-program))
+  (or (executable-find (mos65-named-program))
       (user-error "The program %s is not found; install it, and set mos65-program to its whole path" mos65-program)))
 
 (defconst mos65-mnemonics
@@ -77,7 +81,7 @@
   "Have \\[compile] check the file of the buffer."
   (when buffer-file-name
     (setq-local compile-command
-                (concat (shell-quote-argument mos65-program) " check "
+                (concat (shell-quote-argument (mos65-named-program)) " check "
                         (shell-quote-argument (file-name-nondirectory buffer-file-name))))))
 
 ;;;###autoload
