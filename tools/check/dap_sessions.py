@@ -130,13 +130,27 @@ def differing(before, after):
             if before[i][j][k] != after[i][j][k]]
 
 
+def file_of(name, folder):
+    """A program's file, which may be made in a folder, and the source that has the names of an
+    image."""
+    path = f"{TOP}/examples/{name}"
+    if os.path.exists(path):
+        return path, None
+    path, source = f"{folder}/{name}", name.replace(".tape", ".a65")
+    if source != name:
+        write(path, page_runs.file_of(name))
+        return path, f"{TOP}/examples/{source}"
+    write(path, {**page_runs.SOURCES, "bare.a65": BARE}[name])
+    return path, None
+
+
 class Session:
     """One session over a program. `steps` is the most of a run, if a number is given."""
 
     def __init__(self, tools, folder, row, steps, dice):
         self.tools, self.want, self.dice = tools, tools.want, dice
         self.name, places, launch, words = row
-        path, symbols = self.file(folder)
+        path, symbols = file_of(self.name, folder)
         more = {"symbols": symbols} if symbols else {}
         self.words = [*words, *(["--symbols", symbols] if symbols else []), "--history", "900",
                       path]
@@ -161,18 +175,6 @@ class Session:
         except dap_model.TooFar:
             return True
         return False
-
-    def file(self, folder):
-        """The program's file, and the source that has the names of an image."""
-        path = f"{TOP}/examples/{self.name}"
-        if os.path.exists(path):
-            return path, None
-        path, source = f"{folder}/{self.name}", self.name.replace(".tape", ".a65")
-        if source != self.name:
-            write(path, page_runs.file_of(self.name))
-            return path, f"{TOP}/examples/{source}"
-        write(path, {**page_runs.SOURCES, "bare.a65": BARE}[self.name])
-        return path, None
 
     # What is compared ---------------------------------------------------------------------------
 
