@@ -1,4 +1,4 @@
-use Rattle.std.proofs.Common.{◌∙◌, [], List, ap, arith, map, subst}
+use Rattle.std.proofs.Common.{◌∙◌, ◌++◌, [], List, ap, arith, map, subst, take}
 use Rattle.std.specs.List.{flat_map}
 use Rattle.json_messages.specs.ValueLists.{HasValues}
 use Rattle.lsp_answers.proofs.FlatSteps.{taken_all, taken_more}
@@ -14,8 +14,11 @@ loop-document-init c = c.new-found.ensures
 pub loop-document-preserved : goal.loop-document-preserved
 loop-document-preserved c =
     let f = found_in c.args.profile c.args.query.now in
-    subst (λ (es : List Data). HasValues es c.in_ok-with_document-found.found) (taken_more f document_view [] c.deref-document-items.result.now c.loop-document.document-index _ (omega (arith, c.loop-document-test.true)))
-    (c.in_ok-with_document-found.ensures _ c.loop-document.invariant)
+    let before = flat_map f (map document_view (take c.loop-document.document-index c.deref-document-items.result.now)) in
+    let item = ap (λ (d : Document). before ++ f (document_view d)) c.document-item.is in
+    subst (λ (es : List Data). HasValues es c.in_ok-found.found)
+    (item ∙ taken_more f document_view [] c.deref-document-items.result.now c.loop-document.document-index c.document-item.result (omega (arith, c.loop-document-test.true)))
+    (c.in_ok-found.ensures _ c.loop-document.invariant)
 
 pub returns : goal.returns
 returns c =
