@@ -1,5 +1,5 @@
 -- What is told of the tests of a suite, and what they come to. Source: mos65.
-use Rattle.std.specs.Prelude.{◌≡◌, ℕ, ◌+◌, ◌-◌, ◌^◌, ◌&&◌, min, Bool, true, false, is_none, List, [], ◌∷◌, ◌++◌, Option, Some, option_map}
+use Rattle.std.specs.Prelude.{◌≡◌, ℕ, ◌+◌, ◌-◌, ◌^◌, ◌&&◌, min, Bool, true, false, is_none, List, [], ◌∷◌, ◌++◌, Option, None, Some, option_map}
 use Rattle.arguments.specs.Shown.{shown_name}
 use Rattle.clap.specs.Words.{Text}
 use Rattle.t65_suites.specs.Prepared.{Ground, ground_in}

@@ -32,8 +32,8 @@ pub returns-in_err-write_told-clause-written : goal.returns-in_err-write_told-cl
 returns-in_err-write_told-clause-written g c =
     let l = c.loop-index in
     stopped _ _ _ c.from_residual-in_err-write_told.ensures.0 (test_begun c.args.telling (ground_in c.args.prepared.now) (suite_view c.args.suite) c.args.tests.now l.index _ _ _ l.so_far.count c.saturating_add-number.result c.number-line.result l.lines.next (lines_left l.lines)
-    c.index-test.result c.index-test.result c.name.result.now c.walk_to-text.result.now _ _
-    c.loop-index-test.true c.index-test.is l.invariant.told c.in_err-write_told.ensures.written c.in_ok-told.ensures.tap c.name.ensures c.number-line.ensures c.saturating_add-number.ensures
+    c.index-tests-index.result c.index-tests-index.result c.name.result.now c.walk_to-text.result.now _ _
+    c.loop-index-test.true c.index-tests-index.is l.invariant.told c.in_err-write_told.ensures.written c.in_ok-told.ensures.tap c.name.ensures c.number-line.ensures c.saturating_add-number.ensures
     c.walk_to-text.ensures.line)
 
 pub loop-index-preserved : goal.loop-index-preserved
@@ -44,15 +44,15 @@ loop-index-preserved g c =
     record {
       back = c.in_ok-told.ensures.back;
       told = test_told c.args.telling bench suite c.args.tests.now l.index _ _ _ l.so_far.count _ c.saturating_add-number.result c.number-line.result l.lines.next _ (lines_left l.lines) _
-          c.index-test.result c.index-test.result c.name.result.now c.walk_to-text.result.now _ _
-          c.loop-index-test.true c.index-test.is l.invariant.told c.in_ok-write_told.ensures.written c.in_ok-told.ensures.tap c.name.ensures c.number-line.ensures c.saturating_add-number.ensures
+          c.index-tests-index.result c.index-tests-index.result c.name.result.now c.walk_to-text.result.now _ _
+          c.loop-index-test.true c.index-tests-index.is l.invariant.told c.in_ok-write_told.ensures.written c.in_ok-told.ensures.tap c.name.ensures c.number-line.ensures c.saturating_add-number.ensures
           c.walk_to-text.ensures.line c.walk_to-text.ensures.rest c.walk_to-text.ensures.next (ap (λ (t : Tally). t.count) c.tally_after-so_far.ensures);
       reported = one_reported c.args.telling bench suite c.args.tests.now l.index _ _ _ c.number-line.result l.lines.next _ (lines_left l.lines) _ c.in_ok-told.told.passes
-          c.index-test.result c.index-test.result c.name.result.now c.walk_to-text.result.now _
-          c.loop-index-test.true c.index-test.is c.in_ok-write_told.ensures.report c.in_ok-told.ensures.passes c.in_ok-told.ensures.junit c.name.ensures c.number-line.ensures
+          c.index-tests-index.result c.index-tests-index.result c.name.result.now c.walk_to-text.result.now _
+          c.loop-index-test.true c.index-tests-index.is c.in_ok-write_told.ensures.report c.in_ok-told.ensures.passes c.in_ok-told.ensures.junit c.name.ensures c.number-line.ensures
           c.walk_to-text.ensures.line c.walk_to-text.ensures.rest c.walk_to-text.ensures.next l.invariant.reported;
-      counted = one_counted c.args.telling bench suite c.args.tests.now l.index l.so_far _ _ c.in_ok-told.told.passes c.points.result c.index-test.result c.index-test.result
-          c.loop-index-test.true c.index-test.is c.in_ok-told.ensures.passes c.points.ensures c.tally_after-so_far.ensures l.invariant.counted;
+      counted = one_counted c.args.telling bench suite c.args.tests.now l.index l.so_far _ _ c.in_ok-told.told.passes c.points.result c.index-tests-index.result c.index-tests-index.result
+          c.loop-index-test.true c.index-tests-index.is c.in_ok-told.ensures.passes c.points.ensures c.tally_after-so_far.ensures l.invariant.counted;
     }
 
 pub returns-clause-written : goal.returns-clause-written
