@@ -184,8 +184,7 @@ class Book:
         if not is_spoiled and "count" in page:
             self.right(len(rows) <= 3, f"more than three rows: {rows}")
         self.references[number] = rows if not page and not is_spoiled else None
-        # flags and what the machine counts have such names too, but no watch shows them
-        for it in self.dice.sample(rows, min(2, len(rows))) if number in (1, 3, 5) else []:
+        for it in self.dice.sample(rows, min(2, len(rows))):
             if "evaluateName" in it:
                 told = self.ask("evaluate", expression=it["evaluateName"], context="watch")
                 self.right(told[0] and told[1]["result"] == it["value"], f"{it} is {told}")
