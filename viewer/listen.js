@@ -105,13 +105,13 @@ function listenToTime() {
 // Enter looks on, with Shift back; so do the buttons.
 function listenToFind() {
   const form = $("seek"), field = $("find");
-  const look = by => $("found").textContent = find(field.value, by);
+  const look = by => $("found").textContent = $("found").title = find(field.value, by);
   field.onkeydown = event => {
     event.stopPropagation();
     if (event.key == "Escape") field.blur();
     if (event.key == "Enter") look(event.shiftKey ? -1 : 1);
   };
-  field.oninput = () => $("found").textContent = "";
+  field.oninput = () => $("found").textContent = $("found").title = "";
   for (const button of form.querySelectorAll("button")) button.onclick = () => look(+button.value);
 }
 

@@ -130,6 +130,7 @@ function drawMachine() {
   put("pc", `<small><span>PC</span><span>${lineText(pc)}</span></small><b>${hex(pc, 4)}</b>` +
     `<small>${escaped(place)}</small>`);
   $("pc").ariaLabel = `PC ${hex(pc, 4)} ${place == address4(pc) ? "" : place}`;
+  $("pc").title = `${place}. Click: back to the step that jumped last`;
   put("flags", [..."NV-BDIZC"].map(flagTold).join(""));
   put("did", stepTold(now.cur - 1, "did"));
   put("next", stepTold(now.cur, "next"));

@@ -123,7 +123,7 @@ function show(shown) {
   readNames();
   readRun();
   if (!isSame) chooseAnew();
-  $("name").textContent = now.info.title;
+  $("name").textContent = $("name").title = now.info.title;
   makeViewButtons();
   list();
   if (!isSame) showFirstPage();
