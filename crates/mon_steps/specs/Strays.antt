@@ -1,10 +1,10 @@
 -- Where a program ends before a BRK that has no handler. Source: mos65.
-use Rattle.std.specs.Prelude.{ℕ, ◌+◌, ◌-◌, ◌%◌, ◌&&◌, ◌||◌, Bool, false, not, nat_lt, if◌then◌else◌, List, [], ◌++◌, length, Option, None, Some, codes, decimal}
+use Rattle.std.specs.Prelude.{ℕ, ◌+◌, ◌-◌, ◌%◌, ◌&&◌, ◌||◌, Bool, false, not, nat_lt, if◌then◌else◌, List, [], ◌++◌, length, Option, None, Some}
 use Rattle.model.specs.State.{State}
 use Rattle.model.specs.Text.{hex_address}
 use Rattle.mon_instructions.specs.Places.{place_text}
 use Rattle.mon_runs.specs.Rests.{has_no_handler}
-use Rattle.source_map.specs.Lines.{PlacesView, data_left, line_at, row_at}
+use Rattle.source_map.specs.Lines.{PlacesView, data_left, line_at, line_words, row_at}
 use Rattle.source_map.specs.declared.rows.Row.{Row}
 use Rattle.mon_steps.specs.declared.wording.TheConstants.{BRK_AT, ENDED_IT, FROM, NOTHING_AT, NOTHING_STANDS, NO_SERVICE, RAN_INTO, WAYS_ON}
 
@@ -32,11 +32,6 @@ abbrev pub is_stray : List Row → ℕ → Bool
 is_stray lines address = nat_lt 0 (length lines) && not (is_in_line lines address)
 
 -- ---- what is said
-
--- A line of a file, if there is one: `, hunt.a65:8`.
-abbrev pub line_words : List ℕ → Option ℕ → List ℕ
-line_words file None = []
-line_words file (Some line) = codes ", " ++ file ++ codes ":" ++ decimal line
 
 -- An address, with its name and the line that begins there: `020B sub+3, hunt.a65:8`.
 abbrev pub site_text : PlacesView → ℕ → List ℕ

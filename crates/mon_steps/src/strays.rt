@@ -2,13 +2,13 @@
 
 ghost use Rattle.std.specs.Prelude.{◌≡◌, ◌++◌, OnOk};
 ghost use Rattle.mon_steps.specs.Strays.{brk_text, ended_text, from_text, is_in_line, is_stray};
-ghost use Rattle.mon_steps.specs.Strays.{line_words, nothing_text, over_cause, over_words, reaches};
+ghost use Rattle.mon_steps.specs.Strays.{nothing_text, over_cause, over_words, reaches};
 ghost use Rattle.mon_steps.specs.Strays.{site_text, stray_text, strayed_text, unserved_text};
 
 use crate::wording::{
     BRK_AT, ENDED_IT, FROM, NO_SERVICE, NOTHING_AT, NOTHING_STANDS, RAN_INTO, WAYS_ON,
 };
-use formatting::{push_address, push_count, push_text};
+use formatting::{push_address, push_text};
 use mon_instructions::push_place;
 use mon_runs::{Session, has_no_handler};
 use source_map::{Places, Row};
@@ -41,25 +41,12 @@ fn is_stray(places: &Places, address: u16) -> bool
     places.has_lines() && !is_in_line(places, address)
 }
 
-/// Appends a line of a file, if there is one.
-fn push_line(text: &mut Vec<u8>, file: &[u8], line: Option<u32>) -> Result<(), AllocError>
-    ensures { OnOk result (text.new.items ≡ text.old.items ++ line_words file.now line) }
-{
-    let Some(line) = line else {
-        return Ok(());
-    };
-    push_text(text, ", ")?;
-    text.extend_from_slice(file)?;
-    push_text(text, ":")?;
-    push_count(text, line as u64)
-}
-
 /// Appends an address, with its name and the line that begins there.
 fn push_site(text: &mut Vec<u8>, places: &Places, address: u16) -> Result<(), AllocError>
     ensures { OnOk result (text.new.items ≡ text.old.items ++ site_text places.now address) }
 {
     push_place(text, places, address)?;
-    push_line(text, places.file(), places.line_at(address))
+    places.push_line_at(text, address)
 }
 
 /// Appends from where the program came, if that is known.

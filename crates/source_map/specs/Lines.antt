@@ -1,5 +1,5 @@
 -- The lines of a source, and those that have bytes. Source: mos65.
-use Rattle.std.specs.Prelude.{ℕ, zero, suc, ◌+◌, ◌-◌, ◌%◌, ◌==◌, ◌&&◌, Bool, not, nat_le, nat_lt, if◌then◌else◌, List, [], ◌∷◌, find, map, Option, None, slice_get, unwrap_or}
+use Rattle.std.specs.Prelude.{ℕ, zero, suc, ◌+◌, ◌-◌, ◌%◌, ◌==◌, ◌&&◌, Bool, not, nat_le, nat_lt, if◌then◌else◌, List, [], ◌∷◌, ◌++◌, codes, decimal, find, map, Option, None, Some, slice_get, unwrap_or}
 use Rattle.std.specs.List.{flat_map}
 use Rattle.std.specs.Option.{option_map}
 use Rattle.std.specs.Global.{Vec}
@@ -64,6 +64,15 @@ row_at lines address = find (λ row. row.address == address) lines
 -- The first line whose first byte stands at an address.
 abbrev pub line_at : List Row → ℕ → Option ℕ
 line_at lines address = option_map (λ row. row.line) (row_at lines address)
+
+-- The row of the first line with bytes at a line or behind it. Lines are counted from 1.
+abbrev pub row_from : List Row → ℕ → Option Row
+row_from lines line = find (λ row. nat_le line row.line) lines
+
+-- A line of a file in a text, if there is one: `, hunt.a65:8`.
+abbrev pub line_words : List ℕ → Option ℕ → List ℕ
+line_words file None = []
+line_words file (Some line) = codes ", " ++ (file ++ (codes ":" ++ decimal line))
 
 -- The text of a line, counted from 1.
 abbrev pub text_of : List (List ℕ) → ℕ → Option (List ℕ)

@@ -3,13 +3,14 @@
 ghost use Rattle.std.specs.Prelude.{◌≡◌, ◌++◌, [], ℕ, IfOk, OnErr, OnOk, length, nat_lt, slice_get, take};
 ghost use Rattle.std.specs.Option.{option_copied};
 ghost use Rattle.source_map.specs.Lines.{data_left, is_data_at, items_of, left_in, line_at};
-ghost use Rattle.source_map.specs.Lines.{places_of, row_at, text_of};
+ghost use Rattle.source_map.specs.Lines.{line_words, places_of, row_at, row_from, text_of};
 ghost use Rattle.source_map.specs.Names.{named_numbers, names_in, names_of, other_names};
 
 use crate::names::Names;
 use crate::rows::{Row, rows_of};
 use crate::texts::texts_of;
 use assembler::Assembly;
+use formatting::{push_count, push_text};
 use std::alloc::{AllocError, Global};
 use std::marker::Model;
 use symbols::Symbols;
@@ -46,6 +47,31 @@ fn first_row_at(rows: &[Row], address: u16) -> Option<Row>
         }
     }
     None
+}
+
+/// Returns the row of the first of some lines that is at a line or behind it.
+fn first_row_from(rows: &[Row], line: u32) -> Option<Row>
+    ensures { result ≡ row_from rows.now line }
+{
+    for row in rows {
+        if line <= row.line {
+            return Some(*row);
+        }
+    }
+    None
+}
+
+/// Appends a line of a file, if there is one.
+fn push_line(text: &mut Vec<u8>, file: &[u8], line: Option<u32>) -> Result<(), AllocError>
+    ensures { OnOk result (text.new.items ≡ text.old.items ++ line_words file.now line) }
+{
+    let Some(line) = line else {
+        return Ok(());
+    };
+    push_text(text, ", ")?;
+    text.extend_from_slice(file)?;
+    push_text(text, ":")?;
+    push_count(text, line as u64)
 }
 
 /// Returns how many bytes of a line are left from an address on: 0 if it does not stand there.
@@ -171,6 +197,25 @@ impl Places {
         ensures { result ≡ line_at self.now.lines address }
     {
         Some(self.row_at(address)?.line)
+    }
+
+    /// Returns the row of the first line with bytes at a line of the source or behind it, counted
+    /// from 1.
+    pub fn row_from(&self, line: u32) -> Option<Row>
+        ensures { result ≡ row_from self.now.lines line }
+    {
+        first_row_from(self.rows.as_slice(), line)
+    }
+
+    /// Appends the first line of the source whose first byte stands at an address, if there is one:
+    /// `, FILE:LINE`.
+    ///
+    /// Errors: `AllocError` if an allocation fails.
+    pub fn push_line_at(&self, text: &mut Vec<u8>, address: u16) -> Result<(), AllocError>
+        ensures { OnOk result (text.new.items ≡ text.old.items
+            ++ line_words self.now.file (line_at self.now.lines address)) }
+    {
+        push_line(text, self.file(), self.line_at(address))
     }
 
     /// Returns how many bytes the first line of data that stands at an address has from there on: 0

@@ -9,7 +9,7 @@ use Rattle.model.specs.Text.{hex_address, hex_byte}
 use Rattle.model.specs.declared.event.EventFault.{EventFault}
 use Rattle.model.specs.declared.event.EventFault.TheVariants.{ConsoleFull, Undocumented}
 use Rattle.word_run.specs.declared.wording.TheConstants.{AFTER, AFTER_CYCLES, BREAK_AT, CONSOLE_FULL, CYCLES, CYCLES_END, FROM, INTERRUPTED, NO_INSTRUCTION, NO_PLACE, NO_RESET, NO_VECTOR, PROGRAM, RAN_INTO, STEP, STEPS, STOPPED, UNWRITTEN}
-use Rattle.source_map.specs.Lines.{PlacesView, line_at, places_of}
+use Rattle.source_map.specs.Lines.{PlacesView, line_at, line_words, places_of}
 use Rattle.source_map.specs.Names.{Near, name_near}
 
 abbrev pub step_word : ℕ → List ℕ
@@ -41,14 +41,10 @@ refused_line site fault pc
 abbrev pub distance_text : ℕ → List ℕ
 distance_text distance = if distance == 0 then [] else codes "+" ++ decimal distance
 
--- A name and how far behind it an address is, and a line of a file.
+-- A name and how far behind it an address is.
 abbrev pub name_words : Near → List ℕ
 name_words None = []
 name_words (Some (name, distance)) = codes " " ++ (name ++ distance_text distance)
-
-abbrev pub line_words : List ℕ → Option ℕ → List ℕ
-line_words file None = []
-line_words file (Some line) = codes ", " ++ (file ++ (codes ":" ++ decimal line))
 
 -- What the source says of an address, as ` next+4, first.a65:6`.
 abbrev pub site_text : PlacesView → ℕ → List ℕ

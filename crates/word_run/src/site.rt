@@ -1,7 +1,7 @@
 //! What a source says of an address.
 
 ghost use Rattle.std.specs.Prelude.{◌≡◌, ◌++◌, IfOk, OnOk, option_map};
-ghost use Rattle.word_run.specs.Told.{IsSite, distance_text, line_words, name_words, site_text};
+ghost use Rattle.word_run.specs.Told.{IsSite, distance_text, name_words, site_text};
 ghost use Rattle.source_map.specs.Lines.{places_of};
 ghost use Rattle.source_map.specs.Names.{near_view};
 
@@ -34,19 +34,6 @@ fn push_name(text: &mut Vec<u8>, near: Option<(&[u8], u16)>) -> Result<(), Alloc
     push_distance(text, distance)
 }
 
-/// Appends a line of a file, if there is one.
-fn push_line(text: &mut Vec<u8>, file: &[u8], line: Option<u32>) -> Result<(), AllocError>
-    ensures { OnOk result (text.new.items ≡ text.old.items ++ line_words file.now line) }
-{
-    let Some(line) = line else {
-        return Ok(());
-    };
-    push_text(text, ", ")?;
-    text.extend_from_slice(file)?;
-    push_text(text, ":")?;
-    push_count(text, line as u64)
-}
-
 /// Returns what a source says of an address: the nearest name, and the line that begins there.
 ///
 /// Errors: `AllocError` if an allocation fails.
@@ -62,7 +49,7 @@ fn site_text(
     let places = Places::of_source(alloc, file.as_bytes(), assembly)?;
     let mut text = Vec::new(alloc);
     push_name(&mut text, places.names().name_near(address))?;
-    push_line(&mut text, places.file(), places.line_at(address))?;
+    places.push_line_at(&mut text, address)?;
     Ok(text)
 }
 
