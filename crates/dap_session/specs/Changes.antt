@@ -49,11 +49,11 @@ byte_change address (Err why) = None
 -- The event that gives a variable the value that a text has.
 abbrev pub change_to : MonState → List ℕ → Variable → Option Event
 change_to mon value (variable.Register register) = register_change
-    (setting_in mon.places.names mon.session.current.regs.pc register value)
+    (setting_in mon.places mon.session.current.regs.pc register value)
 change_to mon value (variable.Flag flag) = flag_change mon.session.current flag
-    (bit_in mon.places.names value)
+    (bit_in mon.places value)
 change_to mon value (variable.Byte address) = byte_change address
-    (bytes_in mon.places.names value)
+    (bytes_in mon.places value)
 
 abbrev pub change_by : MonState → List ℕ → Option Variable → Option Event
 change_by mon value (Some variable) = change_to mon value variable
@@ -62,7 +62,7 @@ change_by mon value None = None
 -- The variable of a scope that has a name.
 abbrev pub variable_asked : Option Scope → List ℕ → MonState → Option Variable
 variable_asked scope name mon
-    = variable_named mon.places.names mon.session.current.regs.pc scope name
+    = variable_named mon.places mon.session.current.regs.pc scope name
 
 abbrev pub change_asked : Option Scope → List ℕ → List ℕ → MonState → Option Event
 change_asked scope name value mon = change_by mon value (variable_asked scope name mon)

@@ -37,7 +37,7 @@ over = event (codes "terminated") nothing
 -- What it shows is answered.
 abbrev pub Looks : MonState → List ℕ → List Said → Type 0
 Looks mon text said = (v : Data)
-    × (look_at mon.session.current mon.places.names text ≡ Some v) × (said ≡ done v ∷ [])
+    × (look_at mon.session.current mon.places text ≡ Some v) × (said ≡ done v ∷ [])
 
 -- ---- which of them is asked for
 

@@ -61,7 +61,7 @@ IsNoWriting place text is_partial mon = (place ≡ None)
 -- as a line is not.
 abbrev pub IsNoLook : List ℕ → Bool → MonState → Type 0
 IsNoLook text is_console mon = ((is_console && is_line mon text) ≡ false)
-    × (look_at mon.session.current mon.places.names text ≡ None)
+    × (look_at mon.session.current mon.places text ≡ None)
 
 -- A change that cannot be made.
 abbrev pub MayRefuseChange : Change → MonState → Type 0

@@ -165,7 +165,7 @@ fn look(
 ) -> Result<Vec<Message>, Fault>
     ensures done { IfOk result (λ ms. Looks client.now.mon text.now (each said_of ms.items)) }
     ensures why { IfErr result (λ f. IfRefused f (look_at client.now.mon.session.current
-        client.now.mon.places.names text.now ≡ None)) }
+        client.now.mon.places text.now ≡ None)) }
 {
     let looked = look_at(alloc, &client.mon, text)?;
     match looked {

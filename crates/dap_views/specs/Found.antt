@@ -18,7 +18,6 @@ use Rattle.mon_lines.specs.Wholes.{tests_in, times_in}
 use Rattle.mon_lines.specs.declared.command.Test.{Test}
 use Rattle.mon_runs.specs.declared.breaks.Break.{Break}
 use Rattle.source_map.specs.Lines.{PlacesView, line_at}
-use Rattle.source_map.specs.Names.{Named}
 
 -- ---- a condition
 
@@ -35,10 +34,10 @@ stop_with address (Ok tests) (Err why) = None
 stop_with address (Err why) times = None
 
 -- The tests and the hit count are what `mon` reads of such texts.
-abbrev pub stop_at : List Named → ℕ → Condition → ℕ → Option Stop
-stop_at names pc condition address = stop_with address
-    (tests_in names pc (string_bytes condition.tests))
-    (times_in names (string_bytes condition.hits))
+abbrev pub stop_at : PlacesView → ℕ → Condition → ℕ → Option Stop
+stop_at places pc condition address = stop_with address
+    (tests_in places pc (string_bytes condition.tests))
+    (times_in places (string_bytes condition.hits))
 
 -- ---- one breakpoint
 
@@ -49,7 +48,7 @@ Found = Option ℕ × Option Stop
 
 abbrev pub found_on : PlacesView → ℕ → Condition → Option ℕ → ℕ → Found
 found_on places pc condition line address
-    = (line, stop_at places.names pc condition address)
+    = (line, stop_at places pc condition address)
 
 -- At a line of the source, or at the next that has bytes.
 abbrev pub found_from : PlacesView → ℕ → Condition → ℕ → Option (ℕ × ℕ) → Found

@@ -12,7 +12,7 @@ use Rattle.model.specs.declared.registers.Regs.{Regs}
 use Rattle.mon_line_parts.specs.Reading.{SeenFlaw}
 use Rattle.mon_lines.specs.Wholes.{place_in}
 use Rattle.serde_json.specs.Data.{Data}
-use Rattle.source_map.specs.Names.{Named}
+use Rattle.source_map.specs.Lines.{PlacesView}
 
 -- ---- registers
 
@@ -34,17 +34,17 @@ abbrev pub place_read : Result ℕ SeenFlaw → Option ℕ
 place_read (Ok address) = Some address
 place_read (Err why) = None
 
-abbrev pub place_named : List Named → ℕ → List ℕ → Option ℕ
-place_named names pc text = place_read (place_in names pc text)
+abbrev pub place_named : PlacesView → ℕ → List ℕ → Option ℕ
+place_named places pc text = place_read (place_in places pc text)
 
 abbrev pub byte_at : List ℕ → Option ℕ → Option Data
 byte_at memory (Some address)
     = Some (looked_at_body address (byte_text (slice_index memory address)))
 byte_at memory None = None
 
-abbrev pub place_shown : State → List Named → List ℕ → Option Data
-place_shown s names text
-    = byte_at s.bus.memory (place_named names s.regs.pc text)
+abbrev pub place_shown : State → PlacesView → List ℕ → Option Data
+place_shown s places text
+    = byte_at s.bus.memory (place_named places s.regs.pc text)
 
 -- ---- a register before a place
 
@@ -52,5 +52,5 @@ abbrev pub register_or : Option (List ℕ) → Option Data → Option Data
 register_or (Some shown) place = Some (evaluated_body shown)
 register_or None place = place
 
-abbrev pub look_at : State → List Named → List ℕ → Option Data
-look_at s names text = register_or (register_shown s.regs text) (place_shown s names text)
+abbrev pub look_at : State → PlacesView → List ℕ → Option Data
+look_at s places text = register_or (register_shown s.regs text) (place_shown s places text)

@@ -12,7 +12,7 @@ use Rattle.mon_lines.specs.Wholes.{place_in}
 use Rattle.mon_lines.specs.declared.command.Register.{Register}
 use Rattle.opcode_facts.specs.Flag.{has_flag}
 use Rattle.opcode_facts.specs.declared.flag.Flag.{Flag}
-use Rattle.source_map.specs.Names.{Named}
+use Rattle.source_map.specs.Lines.{PlacesView}
 
 -- The scopes of the registers and of the flags.
 abbrev pub is_of_processor : Scope → Bool
@@ -31,15 +31,15 @@ abbrev pub at_place : Result ℕ SeenFlaw → Option Variable
 at_place (Ok address) = Some (variable.Byte address)
 at_place (Err why) = None
 
-abbrev pub variable_in : List Named → ℕ → Scope → List ℕ → Option Variable
-variable_in names pc scope name = if is_of_processor scope
+abbrev pub variable_in : PlacesView → ℕ → Scope → List ℕ → Option Variable
+variable_in places pc scope name = if is_of_processor scope
     then flag_or_register (flag_of name) (register_of name)
-    else at_place (place_in names pc name)
+    else at_place (place_in places pc name)
 
 -- No scope has no variable.
-abbrev pub variable_named : List Named → ℕ → Option Scope → List ℕ → Option Variable
-variable_named names pc (Some scope) name = variable_in names pc scope name
-variable_named names pc None name = None
+abbrev pub variable_named : PlacesView → ℕ → Option Scope → List ℕ → Option Variable
+variable_named places pc (Some scope) name = variable_in places pc scope name
+variable_named places pc None name = None
 
 -- Its value, as it is shown among the variables of its scope.
 abbrev pub value_shown : State → Variable → List ℕ

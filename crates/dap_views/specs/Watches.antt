@@ -35,7 +35,7 @@ has_bytes other = true
 -- The address of the byte that a name stands for.
 abbrev pub place_if : Bool → MonState → List ℕ → Option ℕ
 place_if is_byte mon name = if is_byte
-    then place_named mon.places.names mon.session.current.regs.pc name else None
+    then place_named mon.places mon.session.current.regs.pc name else None
 
 abbrev pub data_by : Option ℕ → Data
 data_by (Some address) = data_at address

@@ -29,7 +29,7 @@ fn register_shown(
 /// Returns the address of the place that a text names, if it names one.
 pub fn place_named(mon: &MonState, text: &str) -> Option<u16>
     ensures { result
-        ≡ place_named mon.now.places.names mon.now.session.current.regs.pc text.now }
+        ≡ place_named mon.now.places mon.now.session.current.regs.pc text.now }
 {
     match read_place(text.as_bytes(), &mon.places, mon.session.regs().pc) {
         Ok(address) => Some(address),
@@ -40,7 +40,7 @@ pub fn place_named(mon: &MonState, text: &str) -> Option<u16>
 /// Returns the byte at the place that a text names, if it names one.
 fn place_shown(alloc: Global, mon: &MonState, text: &str) -> Result<Option<Value>, AllocError>
     ensures { IfOk result (λ found. option_map view found
-        ≡ place_shown mon.now.session.current mon.now.places.names text.now) }
+        ≡ place_shown mon.now.session.current mon.now.places text.now) }
 {
     let Some(address) = place_named(mon, text) else {
         return Ok(None);
@@ -57,7 +57,7 @@ fn place_shown(alloc: Global, mon: &MonState, text: &str) -> Result<Option<Value
 /// names neither. The status register has B clear.
 pub fn look_at(alloc: Global, mon: &MonState, text: &str) -> Result<Option<Value>, AllocError>
     ensures { IfOk result (λ found. option_map view found
-        ≡ look_at mon.now.session.current mon.now.places.names text.now) }
+        ≡ look_at mon.now.session.current mon.now.places text.now) }
 {
     let regs = mon.session.regs();
     let byte = match text {

@@ -55,9 +55,9 @@ fn flag_or_register(name: &[u8]) -> Result<Variable, Slip<'_>>
 /// Returns the variable of a scope that has a name. The name of a byte is that of its place.
 fn variable_in<'a>(mon: &MonState, scope: Scope, name: &'a str) -> Result<Variable, Slip<'a>>
     ensures { MatchResult result
-        (λ variable. variable_in mon.now.places.names mon.now.session.current.regs.pc
+        (λ variable. variable_in mon.now.places mon.now.session.current.regs.pc
         scope name.now ≡ Some variable)
-        (λ slip. variable_in mon.now.places.names mon.now.session.current.regs.pc
+        (λ slip. variable_in mon.now.places mon.now.session.current.regs.pc
         scope name.now ≡ None) }
 {
     let name = name.as_bytes();
@@ -80,9 +80,9 @@ pub fn variable_named<'a>(
     name: &'a str,
 ) -> Result<Variable, Slip<'a>>
     ensures { MatchResult result
-        (λ variable. variable_named mon.now.places.names mon.now.session.current.regs.pc
+        (λ variable. variable_named mon.now.places mon.now.session.current.regs.pc
         scope name.now ≡ Some variable)
-        (λ slip. variable_named mon.now.places.names mon.now.session.current.regs.pc
+        (λ slip. variable_named mon.now.places mon.now.session.current.regs.pc
         scope name.now ≡ None) }
 {
     match scope {

@@ -118,9 +118,9 @@ fn push_stop(
 /// cannot be read.
 fn stop_at<'a>(mon: &MonState, condition: &'a Condition, address: u16) -> Result<Break, Flaw<'a>>
     ensures { MatchResult result
-        (λ stop. stop_at mon.now.places.names mon.now.session.current.regs.pc condition.now
+        (λ stop. stop_at mon.now.places mon.now.session.current.regs.pc condition.now
         address ≡ Some (stop_view stop))
-        (λ why. stop_at mon.now.places.names mon.now.session.current.regs.pc condition.now
+        (λ why. stop_at mon.now.places mon.now.session.current.regs.pc condition.now
         address ≡ None) }
 {
     let pc = mon.session.regs().pc;

@@ -145,7 +145,7 @@ is_over outcome.Stays = false
 
 -- What a line is read as at a state of `mon`.
 abbrev pub read_at : MonState → List ℕ → SeenLine
-read_at mon line = seen_line mon.places.names mon.session.current.regs.pc line
+read_at mon line = seen_line mon.places mon.session.current.regs.pc line
 
 -- A line that can be read does what it asks for, and says so. Any other only says what is wrong.
 abbrev pub Follows : Result SeenCommand SeenSlip → Outcome → MonState → MonState → Type 0

@@ -1,4 +1,5 @@
 pub mod Topics
 pub mod Help
 pub mod Reading
+pub mod SourceLines
 pub mod Values

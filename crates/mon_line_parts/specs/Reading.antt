@@ -7,11 +7,12 @@ use Rattle.model.specs.Digits.{hex_value, number_from}
 use Rattle.model.specs.Token.{begins, is_blank, is_word_byte}
 use Rattle.mon_line_parts.specs.declared.slip.Lack.{Lack}
 use Rattle.mon_line_parts.specs.declared.slip.Flaw.{Flaw}
-use Rattle.mon_line_parts.specs.declared.slip.Flaw.TheVariants.{Unknown, Several, Missing, Unreadable, Behind, NoName, Range, Many, Long}
+use Rattle.mon_line_parts.specs.declared.slip.Flaw.TheVariants.{Unknown, Several, Missing, Unreadable, Behind, NoName, Range, NoBytes, OtherSource, NoSource, Many, Long}
 
 -- What is wrong in a line that asks for nothing that can be done: no word or more than one word
 -- begins so; something is missing; a piece cannot be read there, is left over, or is no name; a
--- number is not between two others; there are more than fit; the line is too long.
+-- number is not between two others; no line of the source from a line on has bytes, a file is not
+-- the source, or no line of a source is known; there are more than fit; the line is too long.
 pub data SeenFlaw : Type 0 where
   unknown : List ℕ → SeenFlaw
   several : List ℕ → SeenFlaw
@@ -20,6 +21,9 @@ pub data SeenFlaw : Type 0 where
   behind : List ℕ → SeenFlaw
   no_name : List ℕ → SeenFlaw
   range : ℕ → ℕ → SeenFlaw
+  no_bytes : ℕ → SeenFlaw
+  other_source : List ℕ → SeenFlaw
+  no_source : SeenFlaw
   many : SeenFlaw
   long : SeenFlaw
 
@@ -32,6 +36,9 @@ flaw_view (Unreadable piece) = unreadable piece.now
 flaw_view (Behind piece) = behind piece.now
 flaw_view (NoName word) = no_name word.now
 flaw_view (Range least most) = range least most
+flaw_view (NoBytes line) = no_bytes line
+flaw_view (OtherSource name) = other_source name.now
+flaw_view NoSource = no_source
 flaw_view Many = many
 flaw_view Long = long
 

@@ -42,7 +42,7 @@ pub const HELP: [(&str, &str, &str); 36] = [
     (
         "break WHERE [if TESTS] [times N]",
         "stops a run there",
-        "break main, break $0200, break $0200 if A=$41 and C=1",
+        "break main, break :6, break $0200 if A=$41 and C=1",
     ),
     (
         "watch WHERE[..WHERE] [read|write]",

@@ -47,6 +47,12 @@ pub enum Flaw<'a> {
     NoName(&'a [u8]),
     /// A number is not between these two.
     Range { least: u32, most: u32 },
+    /// No line of the source from this one on has bytes.
+    NoBytes(u32),
+    /// This is the name of a file, and not that of the source.
+    OtherSource(&'a [u8]),
+    /// No line of a source is known.
+    NoSource,
     /// There are more than fit.
     Many,
     /// The line has more than 255 bytes.

@@ -7,7 +7,7 @@ use Rattle.model.specs.declared.event.Setting.{Setting}
 use Rattle.model.specs.declared.instruction.Mnemonic.{Mnemonic}
 use Rattle.model.specs.declared.instruction.Profile.TheVariants.{C}
 use Rattle.mon_line_parts.specs.Reading.{Reads, SeenFlaw, unknown, several, missing, behind, long, after, after_word, and_then, file_of, is_empty, is_next, is_word, number_in, past, skip, flaw_view, word_of}
-use Rattle.mon_line_parts.specs.Values.{Named, address_of, bit_of, bytes_of, count_of}
+use Rattle.mon_line_parts.specs.Values.{PlacesView, address_of, bit_of, bytes_of, count_of}
 use Rattle.mon_lines.specs.Parts.{address_at, ends_of, flag_of, is_register_or_flag, kind_of, level_of, setting_of, shown_of, stretch_of, tests_of, times_of, undoing_of, watched_register}
 use Rattle.mon_line_parts.specs.Topics.{nearest_of, subject_of, topic_of}
 use Rattle.mon_lines.specs.declared.command.Command.{Command}
@@ -114,110 +114,110 @@ command_view command.Quit = quit
 -- ---- what follows a first word
 
 -- A place, tests, and how often they have to hold.
-abbrev pub break_from : List Named → ℕ → List ℕ → Reads SeenCommand
-break_from names pc text =
-    and_then (address_at names pc text) (λ address rest.
-    and_then (tests_of names pc rest) (λ tests rest.
-    and_then (times_of names rest) (λ times rest.
+abbrev pub break_from : PlacesView → ℕ → List ℕ → Reads SeenCommand
+break_from places pc text =
+    and_then (address_at places pc text) (λ address rest.
+    and_then (tests_of places pc rest) (λ tests rest.
+    and_then (times_of places rest) (λ times rest.
     Ok (break_at address tests times, rest))))
 
 -- A place or two, and what is watched there.
-abbrev pub bytes_watched_from : List Named → ℕ → List ℕ → Reads SeenCommand
-bytes_watched_from names pc text =
-    and_then (stretch_of names pc text) (λ stretch rest.
+abbrev pub bytes_watched_from : PlacesView → ℕ → List ℕ → Reads SeenCommand
+bytes_watched_from places pc text =
+    and_then (stretch_of places pc text) (λ stretch rest.
     and_then (kind_of rest) (λ kind rest.
     Ok (watch stretch kind, rest)))
 
 -- What is watched: a register, also where the program has a name that is written so, or bytes.
-abbrev pub watched_by : List Named → ℕ → List ℕ → Option Register → Reads SeenCommand
-watched_by names pc text (Some register) = Ok (watch_register register, after_word text)
-watched_by names pc text None = bytes_watched_from names pc text
+abbrev pub watched_by : PlacesView → ℕ → List ℕ → Option Register → Reads SeenCommand
+watched_by places pc text (Some register) = Ok (watch_register register, after_word text)
+watched_by places pc text None = bytes_watched_from places pc text
 
-abbrev pub watched_from : List Named → ℕ → List ℕ → Reads SeenCommand
-watched_from names pc text = watched_by names pc text (watched_register (word_of text))
+abbrev pub watched_from : PlacesView → ℕ → List ℕ → Reads SeenCommand
+watched_from places pc text = watched_by places pc text (watched_register (word_of text))
 
 -- What is deleted: the watch of a register, or what stands at a place.
-abbrev pub deleted_by : List Named → ℕ → List ℕ → Option Register → Reads SeenCommand
-deleted_by names pc text (Some register) = Ok (delete_register register, after_word text)
-deleted_by names pc text None =
-    and_then (address_at names pc text) (λ address rest. Ok (delete address, rest))
+abbrev pub deleted_by : PlacesView → ℕ → List ℕ → Option Register → Reads SeenCommand
+deleted_by places pc text (Some register) = Ok (delete_register register, after_word text)
+deleted_by places pc text None =
+    and_then (address_at places pc text) (λ address rest. Ok (delete address, rest))
 
-abbrev pub deleted_from : List Named → ℕ → List ℕ → Reads SeenCommand
-deleted_from names pc text = deleted_by names pc text (watched_register (word_of text))
+abbrev pub deleted_from : PlacesView → ℕ → List ℕ → Reads SeenCommand
+deleted_from places pc text = deleted_by places pc text (watched_register (word_of text))
 
 -- A place whose byte is shown at each stop, if something is left, and one whose byte is not.
-abbrev pub displayed_from : List Named → ℕ → List ℕ → Reads SeenCommand
-displayed_from names pc text = if is_empty text then Ok (display None, text)
-    else and_then (address_at names pc text) (λ address rest. Ok (display (Some address), rest))
+abbrev pub displayed_from : PlacesView → ℕ → List ℕ → Reads SeenCommand
+displayed_from places pc text = if is_empty text then Ok (display None, text)
+    else and_then (address_at places pc text) (λ address rest. Ok (display (Some address), rest))
 
-abbrev pub undisplayed_from : List Named → ℕ → List ℕ → Reads SeenCommand
-undisplayed_from names pc text =
-    and_then (address_at names pc text) (λ address rest. Ok (undisplay address, rest))
+abbrev pub undisplayed_from : PlacesView → ℕ → List ℕ → Reads SeenCommand
+undisplayed_from places pc text =
+    and_then (address_at places pc text) (λ address rest. Ok (undisplay address, rest))
 
 -- What is set: a flag and its value, with `=` between them or without, or a register.
-abbrev pub set_by : List Named → ℕ → List ℕ → Option Flag → Reads SeenCommand
-set_by names pc text (Some flag) =
-    and_then (bit_of names (past (byte "=") (after_word text))) (λ value rest.
+abbrev pub set_by : PlacesView → ℕ → List ℕ → Option Flag → Reads SeenCommand
+set_by places pc text (Some flag) =
+    and_then (bit_of places (past (byte "=") (after_word text))) (λ value rest.
     Ok (set_flag flag value, rest))
-set_by names pc text None =
-    and_then (setting_of names pc text) (λ setting rest. Ok (set setting, rest))
+set_by places pc text None =
+    and_then (setting_of places pc text) (λ setting rest. Ok (set setting, rest))
 
-abbrev pub set_from : List Named → ℕ → List ℕ → Reads SeenCommand
-set_from names pc text = set_by names pc text (flag_of (word_of text))
+abbrev pub set_from : PlacesView → ℕ → List ℕ → Reads SeenCommand
+set_from places pc text = set_by places pc text (flag_of (word_of text))
 
 -- A register or a flag that is named alone, by a word that is no name of the program. `PC` is an
 -- address.
-abbrev pub asks_for_registers : List Named → List ℕ → Bool
-asks_for_registers names text = is_register_or_flag (word_of text)
+abbrev pub asks_for_registers : PlacesView → List ℕ → Bool
+asks_for_registers places text = is_register_or_flag (word_of text)
     && not (is_word (codes "PC") text)
-    && is_none (address_of names (word_of text)) && is_empty (after_word text)
+    && is_none (address_of places.names (word_of text)) && is_empty (after_word text)
 
 -- What is shown of memory. A register or a flag is shown by all registers.
-abbrev pub shown_from : List Named → ℕ → List ℕ → Reads SeenCommand
-shown_from names pc text = if asks_for_registers names text then Ok (regs, after_word text)
-    else and_then (shown_of names pc text) (λ stretch rest. Ok (mem stretch, rest))
+abbrev pub shown_from : PlacesView → ℕ → List ℕ → Reads SeenCommand
+shown_from places pc text = if asks_for_registers places text then Ok (regs, after_word text)
+    else and_then (shown_of places pc text) (λ stretch rest. Ok (mem stretch, rest))
 
 -- A place, the program counter if nothing is left, and a count, 10 if there is none.
-abbrev pub place_or : List Named → ℕ → List ℕ → Reads ℕ
-place_or names pc text = if is_empty text then Ok (pc, text) else address_at names pc text
+abbrev pub place_or : PlacesView → ℕ → List ℕ → Reads ℕ
+place_or places pc text = if is_empty text then Ok (pc, text) else address_at places pc text
 
-abbrev pub instructions_from : List Named → ℕ → List ℕ → Reads SeenCommand
-instructions_from names pc text =
-    and_then (place_or names pc text) (λ address rest.
-    and_then (count_of names rest) (λ count rest.
+abbrev pub instructions_from : PlacesView → ℕ → List ℕ → Reads SeenCommand
+instructions_from places pc text =
+    and_then (place_or places pc text) (λ address rest.
+    and_then (count_of places rest) (λ count rest.
     Ok (dis address (unwrap_or count 10), rest)))
 
-abbrev pub until_from : List Named → ℕ → List ℕ → Reads SeenCommand
-until_from names pc text =
-    and_then (address_at names pc text) (λ address rest. Ok (until address, rest))
+abbrev pub until_from : PlacesView → ℕ → List ℕ → Reads SeenCommand
+until_from places pc text =
+    and_then (address_at places pc text) (λ address rest. Ok (until address, rest))
 
 -- `until` and a place, or a count.
-abbrev pub going_from : List Named → ℕ → List ℕ → Reads SeenCommand
-going_from names pc text =
-    if is_word (codes "until") text then until_from names pc (after_word text)
-    else and_then (count_of names text) (λ count rest. Ok (go count, rest))
+abbrev pub going_from : PlacesView → ℕ → List ℕ → Reads SeenCommand
+going_from places pc text =
+    if is_word (codes "until") text then until_from places pc (after_word text)
+    else and_then (count_of places text) (λ count rest. Ok (go count, rest))
 
 -- A place, and an instruction to the end of the line.
-abbrev pub assembled_from : List Named → ℕ → List ℕ → Reads SeenCommand
-assembled_from names pc text =
-    and_then (address_at names pc text) (λ address rest.
+abbrev pub assembled_from : PlacesView → ℕ → List ℕ → Reads SeenCommand
+assembled_from places pc text =
+    and_then (address_at places pc text) (λ address rest.
     if is_empty rest then Err (missing lacking.Instruction) else Ok (asm address rest, []))
 
 -- A place, and bytes.
-abbrev pub put_from : List Named → ℕ → List ℕ → Reads SeenCommand
-put_from names pc text =
-    and_then (address_at names pc text) (λ address rest.
-    and_then (bytes_of names rest) (λ bytes rest.
+abbrev pub put_from : PlacesView → ℕ → List ℕ → Reads SeenCommand
+put_from places pc text =
+    and_then (address_at places pc text) (λ address rest.
+    and_then (bytes_of places rest) (λ bytes rest.
     Ok (put address bytes, rest)))
 
 -- The name of a file, and two addresses if something is left.
-abbrev pub saved_in : List Named → ℕ → List ℕ → List ℕ → Reads SeenCommand
-saved_in names pc file text = if is_empty text then Ok (save file None, text)
-    else and_then (ends_of names pc text) (λ stretch rest. Ok (save file (Some stretch), rest))
+abbrev pub saved_in : PlacesView → ℕ → List ℕ → List ℕ → Reads SeenCommand
+saved_in places pc file text = if is_empty text then Ok (save file None, text)
+    else and_then (ends_of places pc text) (λ stretch rest. Ok (save file (Some stretch), rest))
 
-abbrev pub saved_from : List Named → ℕ → List ℕ → Reads SeenCommand
-saved_from names pc text = if is_empty (file_of text).0 then Err (missing lacking.File)
-    else saved_in names pc (file_of text).0 (file_of text).1
+abbrev pub saved_from : PlacesView → ℕ → List ℕ → Reads SeenCommand
+saved_from places pc text = if is_empty (file_of text).0 then Err (missing lacking.File)
+    else saved_in places pc (file_of text).0 (file_of text).1
 
 -- The name of a file.
 abbrev pub paged_from : List ℕ → Reads SeenCommand
@@ -237,60 +237,61 @@ helped_on word (Some mnemonic) = Ok (forms mnemonic, [])
 
 abbrev pub helped_from : List ℕ → Reads SeenCommand
 helped_from text = if is_empty text then Ok (help None, text)
+    else if is_word (codes "all") text then Ok (help (Some topic.Help), [])
     else helped_on (word_of text) (mnemonic_named C (word_of text))
 
 -- What follows a word that puts something.
-abbrev pub putting : List Named → ℕ → List ℕ → Topic → Reads SeenCommand
-putting names pc text topic.Set = set_from names pc text
-putting names pc text topic.Put = put_from names pc text
-putting names pc text topic.Asm = assembled_from names pc text
-putting names pc text topic.«Type» =
-    and_then (bytes_of names text) (λ bytes rest. Ok (type_in bytes, rest))
-putting names pc text topic.Save = saved_from names pc text
-putting names pc text topic.Reload = Ok (reload, text)
-putting names pc text topic.Page = paged_from text
-putting names pc text topic.Help = helped_from text
-putting names pc text topic.Trace = Ok (help (Some topic.Trace), text)
-putting names pc text _ = Ok (quit, text)
+abbrev pub putting : PlacesView → ℕ → List ℕ → Topic → Reads SeenCommand
+putting places pc text topic.Set = set_from places pc text
+putting places pc text topic.Put = put_from places pc text
+putting places pc text topic.Asm = assembled_from places pc text
+putting places pc text topic.«Type» =
+    and_then (bytes_of places text) (λ bytes rest. Ok (type_in bytes, rest))
+putting places pc text topic.Save = saved_from places pc text
+putting places pc text topic.Reload = Ok (reload, text)
+putting places pc text topic.Page = paged_from text
+putting places pc text topic.Help = helped_from text
+putting places pc text topic.Trace = Ok (help (Some topic.Trace), text)
+putting places pc text _ = Ok (quit, text)
 
 -- What follows a word that shows something, or sets or clears a stop.
-abbrev pub seeing : List Named → ℕ → List ℕ → Topic → Reads SeenCommand
-seeing names pc text topic.Where = Ok (calls, text)
-seeing names pc text topic.History =
-    and_then (count_of names text) (λ count rest. Ok (history (unwrap_or count 10), rest))
-seeing names pc text topic.Break = break_from names pc text
-seeing names pc text topic.Watch = watched_from names pc text
-seeing names pc text topic.List = Ok (list, text)
-seeing names pc text topic.Delete = deleted_from names pc text
-seeing names pc text topic.Display = displayed_from names pc text
-seeing names pc text topic.Undisplay = undisplayed_from names pc text
-seeing names pc text topic.Regs = Ok (regs, text)
-seeing names pc text topic.Flags = Ok (flags, text)
-seeing names pc text topic.Mem = shown_from names pc text
-seeing names pc text topic.Dis = instructions_from names pc text
-seeing names pc text topic.Find =
-    and_then (bytes_of names text) (λ bytes rest. Ok (find bytes, rest))
-seeing names pc text topic.Stack = Ok (stack, text)
-seeing names pc text topic.Screen = Ok (screen, text)
-seeing names pc text other = putting names pc text other
+abbrev pub seeing : PlacesView → ℕ → List ℕ → Topic → Reads SeenCommand
+seeing places pc text topic.Where = Ok (calls, text)
+seeing places pc text topic.History =
+    and_then (count_of places text) (λ count rest. Ok (history (unwrap_or count 10), rest))
+seeing places pc text topic.Break = break_from places pc text
+seeing places pc text topic.Watch = watched_from places pc text
+seeing places pc text topic.List = Ok (list, text)
+seeing places pc text topic.Delete = deleted_from places pc text
+seeing places pc text topic.Display = displayed_from places pc text
+seeing places pc text topic.Undisplay = undisplayed_from places pc text
+seeing places pc text topic.Regs = Ok (regs, text)
+seeing places pc text topic.Flags = Ok (flags, text)
+seeing places pc text topic.Mem = shown_from places pc text
+seeing places pc text topic.Dis = instructions_from places pc text
+seeing places pc text topic.Find =
+    and_then (bytes_of places text) (λ bytes rest. Ok (find bytes, rest))
+seeing places pc text topic.Stack = Ok (stack, text)
+seeing places pc text topic.Screen = Ok (screen, text)
+seeing places pc text other = putting places pc text other
 
 -- What follows the first word, by its topic: that of one that moves the session here.
-abbrev pub moving : List Named → ℕ → List ℕ → Topic → Reads SeenCommand
-moving names pc text topic.Step =
-    and_then (count_of names text) (λ count rest. Ok (step (unwrap_or count 1), rest))
-moving names pc text topic.Over = Ok (over, text)
-moving names pc text topic.Out = Ok (out, text)
-moving names pc text topic.Until = until_from names pc text
-moving names pc text topic.Go = going_from names pc text
-moving names pc text topic.Back =
-    and_then (undoing_of names text) (λ undoing rest. Ok (back undoing, rest))
-moving names pc text topic.Rback = Ok (rback, text)
-moving names pc text topic.Redo =
-    and_then (count_of names text) (λ count rest. Ok (redo count, rest))
-moving names pc text topic.Irq = and_then (level_of text) (λ level rest. Ok (irq level, rest))
-moving names pc text topic.Nmi = Ok (nmi, text)
-moving names pc text topic.Reset = Ok (reset, text)
-moving names pc text other = seeing names pc text other
+abbrev pub moving : PlacesView → ℕ → List ℕ → Topic → Reads SeenCommand
+moving places pc text topic.Step =
+    and_then (count_of places text) (λ count rest. Ok (step (unwrap_or count 1), rest))
+moving places pc text topic.Over = Ok (over, text)
+moving places pc text topic.Out = Ok (out, text)
+moving places pc text topic.Until = until_from places pc text
+moving places pc text topic.Go = going_from places pc text
+moving places pc text topic.Back =
+    and_then (undoing_of places text) (λ undoing rest. Ok (back undoing, rest))
+moving places pc text topic.Rback = Ok (rback, text)
+moving places pc text topic.Redo =
+    and_then (count_of places text) (λ count rest. Ok (redo count, rest))
+moving places pc text topic.Irq = and_then (level_of text) (λ level rest. Ok (irq level, rest))
+moving places pc text topic.Nmi = Ok (nmi, text)
+moving places pc text topic.Reset = Ok (reset, text)
+moving places pc text other = seeing places pc text other
 
 -- ---- the whole line
 
@@ -310,11 +311,11 @@ whole_line about (Err why) = Err (slip_about about, why)
 
 -- The rest of a line behind its first word, by the topic of the word. The slip of a word that begins
 -- none is about the word that comes nearest, if it is one of another debugger.
-abbrev pub line_by : List Named → ℕ → List ℕ → List ℕ → List ℕ
+abbrev pub line_by : PlacesView → ℕ → List ℕ → List ℕ → List ℕ
     → Option Topic × Bool → Result SeenCommand SeenSlip
-line_by names pc line word rest (Some about, many) = whole_line about (moving names pc rest about)
-line_by names pc line word rest (None, true) = Err (None, several word)
-line_by names pc line word rest (None, false) =
+line_by places pc line word rest (Some about, many) = whole_line about (moving places pc rest about)
+line_by places pc line word rest (None, true) = Err (None, several word)
+line_by places pc line word rest (None, false) =
     Err (nearest_of word, unknown (if is_empty word then line else word))
 
 -- `b` alone undoes an event. With a place behind it, it is `break`.
@@ -326,75 +327,77 @@ abbrev pub is_setting : List ℕ → Bool
 is_setting text = is_register_or_flag (word_of text) && is_next (byte "=") (after_word text)
 
 -- What follows `info`: a word of what is shown.
-abbrev pub info_by : List Named → ℕ → List ℕ → List ℕ → Result SeenCommand SeenSlip
-info_by names pc line text =
-    line_by names pc line (word_of text) (after_word text) (subject_of (word_of text), false)
+abbrev pub info_by : PlacesView → ℕ → List ℕ → List ℕ → Result SeenCommand SeenSlip
+info_by places pc line text =
+    line_by places pc line (word_of text) (after_word text) (subject_of (word_of text), false)
 
 -- A first word, or `?`, and what follows it. Behind `info` the next word counts.
-abbrev pub by_first_word : List Named → ℕ → List ℕ → List ℕ → Result SeenCommand SeenSlip
-by_first_word names pc line text =
+abbrev pub by_first_word : PlacesView → ℕ → List ℕ → List ℕ → Result SeenCommand SeenSlip
+by_first_word places pc line text =
     if is_next (byte "?") text
-    then line_by names pc line (codes "?") (after 1 text) (topic_of (codes "?"))
+    then line_by places pc line (codes "?") (after 1 text) (topic_of (codes "?"))
     else if is_word (codes "info") text
-    then info_by names pc line (after_word text)
-    else line_by names pc line (word_of text) (after_word text) (topic_of (word_of text))
+    then info_by places pc line (after_word text)
+    else line_by places pc line (word_of text) (after_word text) (topic_of (word_of text))
 
 -- A line: nothing, a setting, or a first word and what follows it.
-abbrev pub line_from : List Named → ℕ → List ℕ → List ℕ → Result SeenCommand SeenSlip
-line_from names pc line text =
+abbrev pub line_from : PlacesView → ℕ → List ℕ → List ℕ → Result SeenCommand SeenSlip
+line_from places pc line text =
     if is_empty text then Ok nothing
     else if is_back text then Ok (back (Events 1))
-    else if is_setting text then whole_line topic.Set (moving names pc text topic.Set)
-    else by_first_word names pc line text
+    else if is_setting text then whole_line topic.Set (moving places pc text topic.Set)
+    else by_first_word places pc line text
 
 -- A line of more than 255 bytes asks for nothing.
 abbrev pub is_long : List ℕ → Bool
 is_long line = nat_lt 255 (length line)
 
-unfoldable pub line_of : List Named → ℕ → List ℕ → Result SeenCommand SeenSlip
-line_of names pc line = if is_long line then Err (None, long)
-    else line_from names pc line (skip line)
+unfoldable pub line_of : PlacesView → ℕ → List ℕ → Result SeenCommand SeenSlip
+line_of places pc line = if is_long line then Err (None, long)
+    else line_from places pc line (skip line)
 
--- ---- an address that may be meant as a hex number
+-- ---- a number that may be meant as a hex one
 
--- Whether a line about a topic has an address behind its first word.
-abbrev pub has_address : Option Topic → Bool
-has_address (Some topic.Break) = true
-has_address (Some topic.Watch) = true
-has_address (Some topic.Mem) = true
-has_address (Some topic.Dis) = true
-has_address (Some topic.Until) = true
-has_address (Some topic.Delete) = true
-has_address (Some topic.Display) = true
-has_address (Some topic.Undisplay) = true
-has_address (Some topic.Put) = true
-has_address (Some topic.Asm) = true
-has_address _ = false
+-- Whether a line about a topic has such a number behind its first word: an address, or a byte that is
+-- looked for.
+abbrev pub may_have_hex : Option Topic → Bool
+may_have_hex (Some topic.Break) = true
+may_have_hex (Some topic.Watch) = true
+may_have_hex (Some topic.Mem) = true
+may_have_hex (Some topic.Dis) = true
+may_have_hex (Some topic.Until) = true
+may_have_hex (Some topic.Delete) = true
+may_have_hex (Some topic.Display) = true
+may_have_hex (Some topic.Undisplay) = true
+may_have_hex (Some topic.Find) = true
+may_have_hex (Some topic.Put) = true
+may_have_hex (Some topic.Asm) = true
+may_have_hex _ = false
 
 -- Two or three decimal digits.
 abbrev pub is_short_decimal : List ℕ → Bool
 is_short_decimal word = (length word == 2 || length word == 3) && is_some (number_in 10 word)
 
 abbrev pub decimal_behind : List ℕ → List ℕ → Option (List ℕ)
-decimal_behind text word = if has_address (topic_of (word_of text)).0 && is_short_decimal word
+decimal_behind text word = if may_have_hex (topic_of (word_of text)).0 && is_short_decimal word
     then Some word else None
 
--- The decimal digits that stand where a line has an address, if there are two or three.
+-- The decimal digits that stand there, if there are two or three.
 unfoldable pub decimal_address : List ℕ → Option (List ℕ)
 decimal_address line = if is_long line then None
     else decimal_behind (skip line) (word_of (after_word (skip line)))
 
 -- ---- a line that was read
 
--- What it asks for, or what is missing or wrong in it; and the decimal digits that stand where it
--- has an address.
+-- What it asks for, or what is missing or wrong in it; and the decimal digits that may be meant as a
+-- hex number.
 pub record SeenLine : Type 0 where
   pub asked : Result SeenCommand SeenSlip
   pub decimal : Option (List ℕ)
 
-abbrev pub seen_line : List Named → ℕ → List ℕ → SeenLine
-seen_line names pc line = record {
-  asked = line_of names pc line;
+abbrev pub seen_line : PlacesView → ℕ → List ℕ → SeenLine
+seen_line places pc line = record {
+  asked = line_of places pc line;
   decimal = decimal_address line;
 }
 

@@ -13,15 +13,15 @@ use mon_line_parts::Places;
 pub struct ReadLine<'a> {
     /// What it asks for, or what is missing or wrong in it.
     pub asked: Result<Command<'a>, Slip<'a>>,
-    /// The decimal digits that stand where it has an address, if there are two or three: a reader
-    /// may mean a hex number.
+    /// The decimal digits that stand where it has an address or a byte that is looked for, if there
+    /// are two or three: a reader may mean a hex number.
     pub decimal: Option<&'a [u8]>,
 }
 
 impl<'a> ReadLine<'a> {
     /// Reads a line. Names are those of the places, `PC` is the program counter.
     pub fn new(line: &'a [u8], places: &Places, pc: u16) -> ReadLine<'a>
-        ensures { line_view result ≡ seen_line places.now.names pc line.now }
+        ensures { line_view result ≡ seen_line places.now pc line.now }
     {
         ReadLine {
             asked: read_line(line, places, pc),

@@ -11,7 +11,7 @@ ghost use Rattle.mon_lines.specs.Lines.{command_view, decimal_address, deleted_f
 ghost use Rattle.mon_lines.specs.Lines.{going_from, helped_from, helped_on, instructions_from};
 ghost use Rattle.mon_lines.specs.Lines.{is_back, is_long, is_setting, line_of, paged_from};
 ghost use Rattle.mon_lines.specs.Lines.{set_from, shown_from, slip_about, undisplayed_from};
-ghost use Rattle.mon_lines.specs.Lines.{has_address, is_short_decimal, line_by, put_from, putting};
+ghost use Rattle.mon_lines.specs.Lines.{may_have_hex, is_short_decimal, line_by, put_from, putting};
 ghost use Rattle.mon_lines.specs.Lines.{moving, saved_from, saved_in, seeing, until_from};
 ghost use Rattle.mon_lines.specs.Lines.{watched_from, whole_line};
 ghost use Rattle.mon_line_parts.specs.Topics.{topic_of};
@@ -22,21 +22,25 @@ use crate::stretches::{ends_of, kind_of, shown_of, stretch_of, watched_register}
 use crate::tests::{flag_of, register_of, tests_of, times_of};
 use model::Setting;
 use mon_line_parts::{
-    Flaw, Lack, Names, Places, Topic, address_of, after, after_word, bit_of, byte_of, bytes_of,
-    count_of, file_of, is_empty, is_next, is_word, nearest_of, number_in, past, skip, subject_of,
-    topic_of, word_of,
+    Flaw, Lack, Places, Topic, address_of, after, after_word, bit_of, byte_of, bytes_of, count_of,
+    file_of, is_empty, is_next, is_word, nearest_of, number_in, past, skip, subject_of, topic_of,
+    word_of,
 };
 use optable::{Mnemonic, Profile, mnemonic_in};
 
 /// Reads `WHERE [if TESTS] [times N]`.
-fn break_at<'a>(names: &Names, pc: u16, text: &'a [u8]) -> Result<(Command<'a>, &'a [u8]), Flaw<'a>>
-    ensures ok { IfOk result (λ p. break_from names.now pc text.now
+fn break_at<'a>(
+    places: &Places,
+    pc: u16,
+    text: &'a [u8],
+) -> Result<(Command<'a>, &'a [u8]), Flaw<'a>>
+    ensures ok { IfOk result (λ p. break_from places.now pc text.now
         ≡ Ok (command_view p.0, p.1.now)) }
-    ensures err { IfErr result (λ why. break_from names.now pc text.now ≡ Err (flaw_view why)) }
+    ensures err { IfErr result (λ why. break_from places.now pc text.now ≡ Err (flaw_view why)) }
 {
-    let (address, rest) = address_of(names, pc, text)?;
-    let (tests, rest) = tests_of(names, pc, rest)?;
-    let (times, rest) = times_of(names, rest)?;
+    let (address, rest) = address_of(places, pc, text)?;
+    let (tests, rest) = tests_of(places, pc, rest)?;
+    let (times, rest) = times_of(places, rest)?;
     let command = Command::Break {
         address,
         tests,
@@ -47,42 +51,50 @@ fn break_at<'a>(names: &Names, pc: u16, text: &'a [u8]) -> Result<(Command<'a>, 
 
 /// Reads `WHERE` or `WHERE..WHERE`, and `read`, `write` or `change` behind it.
 fn watched_bytes<'a>(
-    names: &Names,
+    places: &Places,
     pc: u16,
     text: &'a [u8],
 ) -> Result<(Command<'a>, &'a [u8]), Flaw<'a>>
-    ensures ok { IfOk result (λ p. bytes_watched_from names.now pc text.now
+    ensures ok { IfOk result (λ p. bytes_watched_from places.now pc text.now
         ≡ Ok (command_view p.0, p.1.now)) }
     ensures err { IfErr result
-        (λ why. bytes_watched_from names.now pc text.now ≡ Err (flaw_view why)) }
+        (λ why. bytes_watched_from places.now pc text.now ≡ Err (flaw_view why)) }
 {
-    let (stretch, rest) = stretch_of(names, pc, text)?;
+    let (stretch, rest) = stretch_of(places, pc, text)?;
     let (kind, rest) = kind_of(rest);
     Ok((Command::Watch { stretch, kind }, rest))
 }
 
 /// Reads what is watched: a register, or bytes.
-fn watched<'a>(names: &Names, pc: u16, text: &'a [u8]) -> Result<(Command<'a>, &'a [u8]), Flaw<'a>>
-    ensures ok { IfOk result (λ p. watched_from names.now pc text.now
+fn watched<'a>(
+    places: &Places,
+    pc: u16,
+    text: &'a [u8],
+) -> Result<(Command<'a>, &'a [u8]), Flaw<'a>>
+    ensures ok { IfOk result (λ p. watched_from places.now pc text.now
         ≡ Ok (command_view p.0, p.1.now)) }
-    ensures err { IfErr result (λ why. watched_from names.now pc text.now ≡ Err (flaw_view why)) }
+    ensures err { IfErr result (λ why. watched_from places.now pc text.now ≡ Err (flaw_view why)) }
 {
     match watched_register(word_of(text)) {
         Some(register) => Ok((Command::WatchRegister(register), after_word(text))),
-        None => watched_bytes(names, pc, text),
+        None => watched_bytes(places, pc, text),
     }
 }
 
 /// Reads what is deleted: the watch of a register, or what stands at an address.
-fn deleted<'a>(names: &Names, pc: u16, text: &'a [u8]) -> Result<(Command<'a>, &'a [u8]), Flaw<'a>>
-    ensures ok { IfOk result (λ p. deleted_from names.now pc text.now
+fn deleted<'a>(
+    places: &Places,
+    pc: u16,
+    text: &'a [u8],
+) -> Result<(Command<'a>, &'a [u8]), Flaw<'a>>
+    ensures ok { IfOk result (λ p. deleted_from places.now pc text.now
         ≡ Ok (command_view p.0, p.1.now)) }
-    ensures err { IfErr result (λ why. deleted_from names.now pc text.now ≡ Err (flaw_view why)) }
+    ensures err { IfErr result (λ why. deleted_from places.now pc text.now ≡ Err (flaw_view why)) }
 {
     match watched_register(word_of(text)) {
         Some(register) => Ok((Command::DeleteRegister(register), after_word(text))),
         None => {
-            let (address, rest) = address_of(names, pc, text)?;
+            let (address, rest) = address_of(places, pc, text)?;
             Ok((Command::Delete(address), rest))
         }
     }
@@ -90,20 +102,20 @@ fn deleted<'a>(names: &Names, pc: u16, text: &'a [u8]) -> Result<(Command<'a>, &
 
 /// Reads the value of a register.
 pub fn value_of<'a>(
-    names: &Names,
+    places: &Places,
     pc: u16,
     register: Register,
     text: &'a [u8],
 ) -> Result<(Setting, &'a [u8]), Flaw<'a>>
-    ensures ok { IfOk result (λ p. value_of names.now pc register text.now ≡ Ok (p.0, p.1.now)) }
+    ensures ok { IfOk result (λ p. value_of places.now pc register text.now ≡ Ok (p.0, p.1.now)) }
     ensures err { IfErr result
-        (λ why. value_of names.now pc register text.now ≡ Err (flaw_view why)) }
+        (λ why. value_of places.now pc register text.now ≡ Err (flaw_view why)) }
 {
     if let Register::Pc = register {
-        let (address, rest) = address_of(names, pc, text)?;
+        let (address, rest) = address_of(places, pc, text)?;
         return Ok((Setting::Pc(address), rest));
     }
-    let (byte, rest) = byte_of(names, text)?;
+    let (byte, rest) = byte_of(places, text)?;
     let setting = match register {
         Register::A => Setting::A(byte),
         Register::X => Setting::X(byte),
@@ -115,65 +127,66 @@ pub fn value_of<'a>(
 }
 
 /// Reads `REGISTER VALUE`.
-fn setting_of<'a>(names: &Names, pc: u16, text: &'a [u8]) -> Result<(Setting, &'a [u8]), Flaw<'a>>
-    ensures ok { IfOk result (λ p. setting_of names.now pc text.now ≡ Ok (p.0, p.1.now)) }
-    ensures err { IfErr result (λ why. setting_of names.now pc text.now ≡ Err (flaw_view why)) }
+fn setting_of<'a>(places: &Places, pc: u16, text: &'a [u8]) -> Result<(Setting, &'a [u8]), Flaw<'a>>
+    ensures ok { IfOk result (λ p. setting_of places.now pc text.now ≡ Ok (p.0, p.1.now)) }
+    ensures err { IfErr result (λ why. setting_of places.now pc text.now ≡ Err (flaw_view why)) }
 {
     if is_empty(text) {
         return Err(Flaw::Missing(Lack::Register));
     }
     let word = word_of(text);
     match register_of(word) {
-        Some(register) => value_of(names, pc, register, past(b'=', after_word(text))),
+        Some(register) => value_of(places, pc, register, past(b'=', after_word(text))),
         None => Err(Flaw::Unreadable(word)),
     }
 }
 
 /// Reads the address whose byte is shown at each stop, if something is left.
 fn displayed<'a>(
-    names: &Names,
+    places: &Places,
     pc: u16,
     text: &'a [u8],
 ) -> Result<(Command<'a>, &'a [u8]), Flaw<'a>>
-    ensures ok { IfOk result (λ p. displayed_from names.now pc text.now
+    ensures ok { IfOk result (λ p. displayed_from places.now pc text.now
         ≡ Ok (command_view p.0, p.1.now)) }
-    ensures err { IfErr result (λ why. displayed_from names.now pc text.now ≡ Err (flaw_view why)) }
+    ensures err { IfErr result
+        (λ why. displayed_from places.now pc text.now ≡ Err (flaw_view why)) }
 {
     if is_empty(text) {
         return Ok((Command::Display(None), text));
     }
-    let (address, rest) = address_of(names, pc, text)?;
+    let (address, rest) = address_of(places, pc, text)?;
     Ok((Command::Display(Some(address)), rest))
 }
 
 /// Reads the address whose byte is not shown any more.
 fn undisplayed<'a>(
-    names: &Names,
+    places: &Places,
     pc: u16,
     text: &'a [u8],
 ) -> Result<(Command<'a>, &'a [u8]), Flaw<'a>>
-    ensures ok { IfOk result (λ p. undisplayed_from names.now pc text.now
+    ensures ok { IfOk result (λ p. undisplayed_from places.now pc text.now
         ≡ Ok (command_view p.0, p.1.now)) }
     ensures err { IfErr result
-        (λ why. undisplayed_from names.now pc text.now ≡ Err (flaw_view why)) }
+        (λ why. undisplayed_from places.now pc text.now ≡ Err (flaw_view why)) }
 {
-    let (address, rest) = address_of(names, pc, text)?;
+    let (address, rest) = address_of(places, pc, text)?;
     Ok((Command::Undisplay(address), rest))
 }
 
 /// Reads `FLAG VALUE` or `REGISTER VALUE`.
-fn set<'a>(names: &Names, pc: u16, text: &'a [u8]) -> Result<(Command<'a>, &'a [u8]), Flaw<'a>>
-    ensures ok { IfOk result (λ p. set_from names.now pc text.now
+fn set<'a>(places: &Places, pc: u16, text: &'a [u8]) -> Result<(Command<'a>, &'a [u8]), Flaw<'a>>
+    ensures ok { IfOk result (λ p. set_from places.now pc text.now
         ≡ Ok (command_view p.0, p.1.now)) }
-    ensures err { IfErr result (λ why. set_from names.now pc text.now ≡ Err (flaw_view why)) }
+    ensures err { IfErr result (λ why. set_from places.now pc text.now ≡ Err (flaw_view why)) }
 {
     match flag_of(word_of(text)) {
         Some(flag) => {
-            let (value, rest) = bit_of(names, past(b'=', after_word(text)))?;
+            let (value, rest) = bit_of(places, past(b'=', after_word(text)))?;
             Ok((Command::SetFlag { flag, value }, rest))
         }
         None => {
-            let (setting, rest) = setting_of(names, pc, text)?;
+            let (setting, rest) = setting_of(places, pc, text)?;
             Ok((Command::Set(setting), rest))
         }
     }
@@ -187,26 +200,26 @@ fn is_register_or_flag(word: &[u8]) -> bool
 }
 
 /// Returns whether a text is the name of a register or a flag alone, and names no address.
-fn asks_for_registers(names: &Names, text: &[u8]) -> bool
-    ensures { result ≡ asks_for_registers names.now text.now }
+fn asks_for_registers(places: &Places, text: &[u8]) -> bool
+    ensures { result ≡ asks_for_registers places.now text.now }
 {
     let word = word_of(text);
     is_register_or_flag(word)
         && !is_word(b"PC", text)
-        && names.address_of(word).is_none()
+        && places.names().address_of(word).is_none()
         && is_empty(after_word(text))
 }
 
 /// Reads what is shown of memory. A register or a flag is shown by all registers.
-fn shown<'a>(names: &Names, pc: u16, text: &'a [u8]) -> Result<(Command<'a>, &'a [u8]), Flaw<'a>>
-    ensures ok { IfOk result (λ p. shown_from names.now pc text.now
+fn shown<'a>(places: &Places, pc: u16, text: &'a [u8]) -> Result<(Command<'a>, &'a [u8]), Flaw<'a>>
+    ensures ok { IfOk result (λ p. shown_from places.now pc text.now
         ≡ Ok (command_view p.0, p.1.now)) }
-    ensures err { IfErr result (λ why. shown_from names.now pc text.now ≡ Err (flaw_view why)) }
+    ensures err { IfErr result (λ why. shown_from places.now pc text.now ≡ Err (flaw_view why)) }
 {
-    if asks_for_registers(names, text) {
+    if asks_for_registers(places, text) {
         return Ok((Command::Regs, after_word(text)));
     }
-    let (stretch, rest) = shown_of(names, pc, text)?;
+    let (stretch, rest) = shown_of(places, pc, text)?;
     Ok((Command::Mem(stretch), rest))
 }
 
@@ -226,71 +239,72 @@ fn level_of(text: &[u8]) -> Result<(bool, &[u8]), Flaw<'_>>
 
 /// Reads `[WHERE] [N]`.
 fn instructions<'a>(
-    names: &Names,
+    places: &Places,
     pc: u16,
     text: &'a [u8],
 ) -> Result<(Command<'a>, &'a [u8]), Flaw<'a>>
-    ensures ok { IfOk result (λ p. instructions_from names.now pc text.now
+    ensures ok { IfOk result (λ p. instructions_from places.now pc text.now
         ≡ Ok (command_view p.0, p.1.now)) }
     ensures err { IfErr result
-        (λ why. instructions_from names.now pc text.now ≡ Err (flaw_view why)) }
+        (λ why. instructions_from places.now pc text.now ≡ Err (flaw_view why)) }
 {
     let (address, rest) = if is_empty(text) {
         (pc, text)
     } else {
-        address_of(names, pc, text)?
+        address_of(places, pc, text)?
     };
-    let (count, rest) = count_of(names, rest)?;
+    let (count, rest) = count_of(places, rest)?;
     let count = count.unwrap_or(10);
     Ok((Command::Dis { address, count }, rest))
 }
 
 /// Reads what follows `back`.
-fn undoing_of<'a>(names: &Names, text: &'a [u8]) -> Result<(Undoing, &'a [u8]), Flaw<'a>>
-    ensures ok { IfOk result (λ p. undoing_of names.now text.now ≡ Ok (p.0, p.1.now)) }
-    ensures err { IfErr result (λ why. undoing_of names.now text.now ≡ Err (flaw_view why)) }
+fn undoing_of<'a>(places: &Places, text: &'a [u8]) -> Result<(Undoing, &'a [u8]), Flaw<'a>>
+    ensures ok { IfOk result (λ p. undoing_of places.now text.now ≡ Ok (p.0, p.1.now)) }
+    ensures err { IfErr result (λ why. undoing_of places.now text.now ≡ Err (flaw_view why)) }
 {
     if is_word(b"over", text) {
         return Ok((Undoing::Over, after_word(text)));
     }
-    let (count, rest) = count_of(names, text)?;
+    let (count, rest) = count_of(places, text)?;
     Ok((Undoing::Events(count.unwrap_or(1)), rest))
 }
 
 /// Reads what follows `go` or `run`.
-fn going<'a>(names: &Names, pc: u16, text: &'a [u8]) -> Result<(Command<'a>, &'a [u8]), Flaw<'a>>
-    ensures ok { IfOk result (λ p. going_from names.now pc text.now
+fn going<'a>(places: &Places, pc: u16, text: &'a [u8]) -> Result<(Command<'a>, &'a [u8]), Flaw<'a>>
+    ensures ok { IfOk result (λ p. going_from places.now pc text.now
         ≡ Ok (command_view p.0, p.1.now)) }
-    ensures err { IfErr result (λ why. going_from names.now pc text.now ≡ Err (flaw_view why)) }
+    ensures err { IfErr result (λ why. going_from places.now pc text.now ≡ Err (flaw_view why)) }
 {
     if is_word(b"until", text) {
-        return until(names, pc, after_word(text));
+        return until(places, pc, after_word(text));
     }
-    let (count, rest) = count_of(names, text)?;
+    let (count, rest) = count_of(places, text)?;
     Ok((Command::Go(count), rest))
 }
 
 /// Reads the address to which a run goes.
-fn until<'a>(names: &Names, pc: u16, text: &'a [u8]) -> Result<(Command<'a>, &'a [u8]), Flaw<'a>>
-    ensures ok { IfOk result (λ p. until_from names.now pc text.now
+fn until<'a>(places: &Places, pc: u16, text: &'a [u8]) -> Result<(Command<'a>, &'a [u8]), Flaw<'a>>
+    ensures ok { IfOk result (λ p. until_from places.now pc text.now
         ≡ Ok (command_view p.0, p.1.now)) }
-    ensures err { IfErr result (λ why. until_from names.now pc text.now ≡ Err (flaw_view why)) }
+    ensures err { IfErr result (λ why. until_from places.now pc text.now ≡ Err (flaw_view why)) }
 {
-    let (address, rest) = address_of(names, pc, text)?;
+    let (address, rest) = address_of(places, pc, text)?;
     Ok((Command::Until(address), rest))
 }
 
 /// Reads `WHERE TEXT`.
 fn assembled<'a>(
-    names: &Names,
+    places: &Places,
     pc: u16,
     text: &'a [u8],
 ) -> Result<(Command<'a>, &'a [u8]), Flaw<'a>>
-    ensures ok { IfOk result (λ p. assembled_from names.now pc text.now
+    ensures ok { IfOk result (λ p. assembled_from places.now pc text.now
         ≡ Ok (command_view p.0, p.1.now)) }
-    ensures err { IfErr result (λ why. assembled_from names.now pc text.now ≡ Err (flaw_view why)) }
+    ensures err { IfErr result
+        (λ why. assembled_from places.now pc text.now ≡ Err (flaw_view why)) }
 {
-    let (address, rest) = address_of(names, pc, text)?;
+    let (address, rest) = address_of(places, pc, text)?;
     if is_empty(rest) {
         return Err(Flaw::Missing(Lack::Instruction));
     }
@@ -299,48 +313,48 @@ fn assembled<'a>(
 }
 
 /// Reads `WHERE BYTES`.
-fn put<'a>(names: &Names, pc: u16, text: &'a [u8]) -> Result<(Command<'a>, &'a [u8]), Flaw<'a>>
-    ensures ok { IfOk result (λ p. put_from names.now pc text.now
+fn put<'a>(places: &Places, pc: u16, text: &'a [u8]) -> Result<(Command<'a>, &'a [u8]), Flaw<'a>>
+    ensures ok { IfOk result (λ p. put_from places.now pc text.now
         ≡ Ok (command_view p.0, p.1.now)) }
-    ensures err { IfErr result (λ why. put_from names.now pc text.now ≡ Err (flaw_view why)) }
+    ensures err { IfErr result (λ why. put_from places.now pc text.now ≡ Err (flaw_view why)) }
 {
-    let (address, rest) = address_of(names, pc, text)?;
-    let (bytes, rest) = bytes_of(names, rest)?;
+    let (address, rest) = address_of(places, pc, text)?;
+    let (bytes, rest) = bytes_of(places, rest)?;
     Ok((Command::Put { address, bytes }, rest))
 }
 
 /// Reads what is saved in a file: all, or what lies between two addresses.
 fn saved_in<'a>(
-    names: &Names,
+    places: &Places,
     pc: u16,
     file: &'a [u8],
     text: &'a [u8],
 ) -> Result<(Command<'a>, &'a [u8]), Flaw<'a>>
-    ensures ok { IfOk result (λ p. saved_in names.now pc file.now text.now
+    ensures ok { IfOk result (λ p. saved_in places.now pc file.now text.now
         ≡ Ok (command_view p.0, p.1.now)) }
     ensures err { IfErr result
-        (λ why. saved_in names.now pc file.now text.now ≡ Err (flaw_view why)) }
+        (λ why. saved_in places.now pc file.now text.now ≡ Err (flaw_view why)) }
 {
     if is_empty(text) {
         let stretch = None;
         return Ok((Command::Save { file, stretch }, text));
     }
-    let (stretch, rest) = ends_of(names, pc, text)?;
+    let (stretch, rest) = ends_of(places, pc, text)?;
     let stretch = Some(stretch);
     Ok((Command::Save { file, stretch }, rest))
 }
 
 /// Reads `FILE [WHERE WHERE]`.
-fn saved<'a>(names: &Names, pc: u16, text: &'a [u8]) -> Result<(Command<'a>, &'a [u8]), Flaw<'a>>
-    ensures ok { IfOk result (λ p. saved_from names.now pc text.now
+fn saved<'a>(places: &Places, pc: u16, text: &'a [u8]) -> Result<(Command<'a>, &'a [u8]), Flaw<'a>>
+    ensures ok { IfOk result (λ p. saved_from places.now pc text.now
         ≡ Ok (command_view p.0, p.1.now)) }
-    ensures err { IfErr result (λ why. saved_from names.now pc text.now ≡ Err (flaw_view why)) }
+    ensures err { IfErr result (λ why. saved_from places.now pc text.now ≡ Err (flaw_view why)) }
 {
     let (file, rest) = file_of(text);
     if is_empty(file) {
         return Err(Flaw::Missing(Lack::File));
     }
-    saved_in(names, pc, file, rest)
+    saved_in(places, pc, file, rest)
 }
 
 /// Reads `FILE`.
@@ -385,36 +399,39 @@ fn helped<'a>(text: &'a [u8]) -> Result<(Command<'a>, &'a [u8]), Flaw<'a>>
     }
     let word = word_of(text);
     let (_, rest) = text.split_at(text.len());
+    if is_word(b"all", text) {
+        return Ok((Command::Help(Some(Topic::Help)), rest));
+    }
     helped_on(word, rest, mnemonic_in(Profile::C, word))
 }
 
 /// Reads what follows a word that moves the session.
 fn moving<'a>(
     topic: Topic,
-    names: &Names,
+    places: &Places,
     pc: u16,
     text: &'a [u8],
 ) -> Result<(Command<'a>, &'a [u8]), Flaw<'a>>
-    ensures ok { IfOk result (λ p. moving names.now pc text.now topic
+    ensures ok { IfOk result (λ p. moving places.now pc text.now topic
         ≡ Ok (command_view p.0, p.1.now)) }
-    ensures err { IfErr result (λ why. moving names.now pc text.now topic ≡ Err (flaw_view why)) }
+    ensures err { IfErr result (λ why. moving places.now pc text.now topic ≡ Err (flaw_view why)) }
 {
     match topic {
         Topic::Step => {
-            let (count, rest) = count_of(names, text)?;
+            let (count, rest) = count_of(places, text)?;
             Ok((Command::Step(count.unwrap_or(1)), rest))
         }
         Topic::Over => Ok((Command::Over, text)),
         Topic::Out => Ok((Command::Out, text)),
-        Topic::Until => until(names, pc, text),
-        Topic::Go => going(names, pc, text),
+        Topic::Until => until(places, pc, text),
+        Topic::Go => going(places, pc, text),
         Topic::Back => {
-            let (undoing, rest) = undoing_of(names, text)?;
+            let (undoing, rest) = undoing_of(places, text)?;
             Ok((Command::Back(undoing), rest))
         }
         Topic::Rback => Ok((Command::Rback, text)),
         Topic::Redo => {
-            let (count, rest) = count_of(names, text)?;
+            let (count, rest) = count_of(places, text)?;
             Ok((Command::Redo(count), rest))
         }
         Topic::Irq => {
@@ -423,67 +440,67 @@ fn moving<'a>(
         }
         Topic::Nmi => Ok((Command::Nmi, text)),
         Topic::Reset => Ok((Command::Reset, text)),
-        _ => seeing(topic, names, pc, text),
+        _ => seeing(topic, places, pc, text),
     }
 }
 
 /// Reads what follows a word that shows something, or sets or clears a stop.
 fn seeing<'a>(
     topic: Topic,
-    names: &Names,
+    places: &Places,
     pc: u16,
     text: &'a [u8],
 ) -> Result<(Command<'a>, &'a [u8]), Flaw<'a>>
-    ensures ok { IfOk result (λ p. seeing names.now pc text.now topic
+    ensures ok { IfOk result (λ p. seeing places.now pc text.now topic
         ≡ Ok (command_view p.0, p.1.now)) }
-    ensures err { IfErr result (λ why. seeing names.now pc text.now topic ≡ Err (flaw_view why)) }
+    ensures err { IfErr result (λ why. seeing places.now pc text.now topic ≡ Err (flaw_view why)) }
 {
     match topic {
         Topic::Where => Ok((Command::Where, text)),
         Topic::History => {
-            let (count, rest) = count_of(names, text)?;
+            let (count, rest) = count_of(places, text)?;
             Ok((Command::History(count.unwrap_or(10)), rest))
         }
-        Topic::Break => break_at(names, pc, text),
-        Topic::Watch => watched(names, pc, text),
+        Topic::Break => break_at(places, pc, text),
+        Topic::Watch => watched(places, pc, text),
         Topic::List => Ok((Command::List, text)),
-        Topic::Delete => deleted(names, pc, text),
-        Topic::Display => displayed(names, pc, text),
-        Topic::Undisplay => undisplayed(names, pc, text),
+        Topic::Delete => deleted(places, pc, text),
+        Topic::Display => displayed(places, pc, text),
+        Topic::Undisplay => undisplayed(places, pc, text),
         Topic::Regs => Ok((Command::Regs, text)),
         Topic::Flags => Ok((Command::Flags, text)),
-        Topic::Mem => shown(names, pc, text),
-        Topic::Dis => instructions(names, pc, text),
+        Topic::Mem => shown(places, pc, text),
+        Topic::Dis => instructions(places, pc, text),
         Topic::Find => {
-            let (bytes, rest) = bytes_of(names, text)?;
+            let (bytes, rest) = bytes_of(places, text)?;
             Ok((Command::Find(bytes), rest))
         }
         Topic::Stack => Ok((Command::Stack, text)),
         Topic::Screen => Ok((Command::Screen, text)),
-        _ => putting(topic, names, pc, text),
+        _ => putting(topic, places, pc, text),
     }
 }
 
 /// Reads what follows a word that puts something.
 fn putting<'a>(
     topic: Topic,
-    names: &Names,
+    places: &Places,
     pc: u16,
     text: &'a [u8],
 ) -> Result<(Command<'a>, &'a [u8]), Flaw<'a>>
-    ensures ok { IfOk result (λ p. putting names.now pc text.now topic
+    ensures ok { IfOk result (λ p. putting places.now pc text.now topic
         ≡ Ok (command_view p.0, p.1.now)) }
-    ensures err { IfErr result (λ why. putting names.now pc text.now topic ≡ Err (flaw_view why)) }
+    ensures err { IfErr result (λ why. putting places.now pc text.now topic ≡ Err (flaw_view why)) }
 {
     match topic {
-        Topic::Set => set(names, pc, text),
-        Topic::Put => put(names, pc, text),
-        Topic::Asm => assembled(names, pc, text),
+        Topic::Set => set(places, pc, text),
+        Topic::Put => put(places, pc, text),
+        Topic::Asm => assembled(places, pc, text),
         Topic::Type => {
-            let (bytes, rest) = bytes_of(names, text)?;
+            let (bytes, rest) = bytes_of(places, text)?;
             Ok((Command::Type(bytes), rest))
         }
-        Topic::Save => saved(names, pc, text),
+        Topic::Save => saved(places, pc, text),
         Topic::Reload => Ok((Command::Reload, text)),
         Topic::Help => helped(text),
         Topic::Page => paged(text),
@@ -499,14 +516,15 @@ fn is_long(line: &[u8]) -> bool
     line.len() > 255
 }
 
-/// Whether a line about a topic has an address behind its first word.
-fn has_address(topic: Option<Topic>) -> bool
-    ensures { result ≡ has_address topic }
+/// Whether a line about a topic has behind its first word a number that may be meant as a hex one:
+/// an address, or a byte that is looked for.
+fn may_have_hex(topic: Option<Topic>) -> bool
+    ensures { result ≡ may_have_hex topic }
 {
     match topic {
         Some(Topic::Break | Topic::Watch | Topic::Mem | Topic::Dis) => true,
         Some(Topic::Until | Topic::Delete | Topic::Put | Topic::Asm) => true,
-        Some(Topic::Display | Topic::Undisplay) => true,
+        Some(Topic::Display | Topic::Undisplay | Topic::Find) => true,
         _ => false,
     }
 }
@@ -518,8 +536,8 @@ fn is_short_decimal(word: &[u8]) -> bool
     (word.len() == 2 || word.len() == 3) && number_in(10, word).is_some()
 }
 
-/// Returns the decimal digits that stand where a line has an address, if there are two or three: a
-/// reader may mean a hex number.
+/// Returns the decimal digits that stand where a line has an address or a byte that is looked for,
+/// if there are two or three: a reader may mean a hex number.
 #[tactic(auto, unfolding(crate::specs::Lines::decimal_address))]
 pub fn decimal_address<'a>(line: &'a [u8]) -> Option<&'a [u8]>
     ensures { option_copied result ≡ decimal_address line.now }
@@ -530,7 +548,7 @@ pub fn decimal_address<'a>(line: &'a [u8]) -> Option<&'a [u8]>
     let text = skip(line);
     let (topic, _) = topic_of(word_of(text));
     let word = word_of(after_word(text));
-    if has_address(topic) && is_short_decimal(word) {
+    if may_have_hex(topic) && is_short_decimal(word) {
         Some(word)
     } else {
         None
@@ -550,16 +568,16 @@ fn slip_about(topic: Topic) -> Option<Topic>
 /// Reads the whole line about a topic.
 fn line_about<'a>(
     topic: Topic,
-    names: &Names,
+    places: &Places,
     pc: u16,
     text: &'a [u8],
 ) -> Result<Command<'a>, Slip<'a>>
-    ensures ok { IfOk result (λ command. whole_line topic (moving names.now pc text.now topic)
+    ensures ok { IfOk result (λ command. whole_line topic (moving places.now pc text.now topic)
         ≡ Ok (command_view command)) }
-    ensures err { IfErr result (λ slip. whole_line topic (moving names.now pc text.now topic)
+    ensures err { IfErr result (λ slip. whole_line topic (moving places.now pc text.now topic)
         ≡ Err (slip.topic, flaw_view slip.flaw)) }
 {
-    match moving(topic, names, pc, text) {
+    match moving(topic, places, pc, text) {
         Ok((command, rest)) => {
             if is_empty(rest) {
                 Ok(command)
@@ -579,20 +597,20 @@ fn line_about<'a>(
 
 /// Reads a line by its first word, the topic of the word and the text behind it.
 fn line_by<'a>(
-    names: &Names,
+    places: &Places,
     pc: u16,
     line: &'a [u8],
     word: &'a [u8],
     rest: &'a [u8],
     topics: (Option<Topic>, bool),
 ) -> Result<Command<'a>, Slip<'a>>
-    ensures ok { IfOk result (λ command. line_by names.now pc line.now word.now rest.now
+    ensures ok { IfOk result (λ command. line_by places.now pc line.now word.now rest.now
         topics ≡ Ok (command_view command)) }
-    ensures err { IfErr result (λ slip. line_by names.now pc line.now word.now rest.now
+    ensures err { IfErr result (λ slip. line_by places.now pc line.now word.now rest.now
         topics ≡ Err (slip.topic, flaw_view slip.flaw)) }
 {
     match topics {
-        (Some(topic), _) => line_about(topic, names, pc, rest),
+        (Some(topic), _) => line_about(topic, places, pc, rest),
         (None, true) => Err(Slip {
             topic: None,
             flaw: Flaw::Several(word),
@@ -620,36 +638,36 @@ fn is_setting(text: &[u8]) -> bool
 
 /// Reads a line by its first word, or `?`. Behind `info` the next word counts.
 fn by_first_word<'a>(
-    names: &Names,
+    places: &Places,
     pc: u16,
     line: &'a [u8],
     text: &'a [u8],
 ) -> Result<Command<'a>, Slip<'a>>
-    ensures ok { IfOk result (λ command. by_first_word names.now pc line.now text.now
+    ensures ok { IfOk result (λ command. by_first_word places.now pc line.now text.now
         ≡ Ok (command_view command)) }
-    ensures err { IfErr result (λ slip. by_first_word names.now pc line.now text.now
+    ensures err { IfErr result (λ slip. by_first_word places.now pc line.now text.now
         ≡ Err (slip.topic, flaw_view slip.flaw)) }
 {
     if is_next(b'?', text) {
-        return line_by(names, pc, line, b"?", after(1, text), topic_of(b"?"));
+        return line_by(places, pc, line, b"?", after(1, text), topic_of(b"?"));
     }
     let word = word_of(text);
     let rest = after_word(text);
     if is_word(b"info", text) {
         let subject = word_of(rest);
         let topics = (subject_of(subject), false);
-        return line_by(names, pc, line, subject, after_word(rest), topics);
+        return line_by(places, pc, line, subject, after_word(rest), topics);
     }
-    line_by(names, pc, line, word, rest, topic_of(word))
+    line_by(places, pc, line, word, rest, topic_of(word))
 }
 
 /// Returns what a line asks for, or what is missing or wrong in it. Names are those of the places,
 /// `PC` is the program counter.
 #[tactic(auto, unfolding(crate::specs::Lines::line_of))]
 pub fn read_line<'a>(line: &'a [u8], places: &Places, pc: u16) -> Result<Command<'a>, Slip<'a>>
-    ensures ok { IfOk result (λ command. line_of places.now.names pc line.now
+    ensures ok { IfOk result (λ command. line_of places.now pc line.now
         ≡ Ok (command_view command)) }
-    ensures err { IfErr result (λ slip. line_of places.now.names pc line.now
+    ensures err { IfErr result (λ slip. line_of places.now pc line.now
         ≡ Err (slip.topic, flaw_view slip.flaw)) }
 {
     if is_long(line) {
@@ -659,7 +677,6 @@ pub fn read_line<'a>(line: &'a [u8], places: &Places, pc: u16) -> Result<Command
         });
     }
     let text = skip(line);
-    let names = places.names();
     if is_empty(text) {
         return Ok(Command::Nothing);
     }
@@ -667,7 +684,7 @@ pub fn read_line<'a>(line: &'a [u8], places: &Places, pc: u16) -> Result<Command
         return Ok(Command::Back(Undoing::Events(1)));
     }
     if is_setting(text) {
-        return line_about(Topic::Set, names, pc, text);
+        return line_about(Topic::Set, places, pc, text);
     }
-    by_first_word(names, pc, line, text)
+    by_first_word(places, pc, line, text)
 }

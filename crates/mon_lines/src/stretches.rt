@@ -8,7 +8,7 @@ ghost use Rattle.mon_lines.specs.Parts.{watched_register};
 
 use crate::command::{Register, Stretch, WatchKind};
 use mon_line_parts::{
-    Flaw, Lack, Names, address_of, after, after_word, count_of, is_empty, is_next, is_same_word,
+    Flaw, Lack, Places, address_of, after, after_word, count_of, is_empty, is_next, is_same_word,
     is_word, past, word_of,
 };
 
@@ -37,21 +37,21 @@ fn last_of(first: u16, last: u16, rest: &[u8]) -> Result<(Stretch, &[u8]), Flaw<
 /// Reads `WHERE` or `WHERE..WHERE`.
 #[tactic(auto, unfolding(crate::specs::Parts::stretch_of))]
 pub fn stretch_of<'a>(
-    names: &Names,
+    places: &Places,
     pc: u16,
     text: &'a [u8],
 ) -> Result<(Stretch, &'a [u8]), Flaw<'a>>
-    ensures ok { IfOk result (λ p. stretch_of names.now pc text.now ≡ Ok (p.0, p.1.now)) }
-    ensures err { IfErr result (λ why. stretch_of names.now pc text.now ≡ Err (flaw_view why)) }
+    ensures ok { IfOk result (λ p. stretch_of places.now pc text.now ≡ Ok (p.0, p.1.now)) }
+    ensures err { IfErr result (λ why. stretch_of places.now pc text.now ≡ Err (flaw_view why)) }
 {
-    let (first, rest) = address_of(names, pc, text)?;
+    let (first, rest) = address_of(places, pc, text)?;
     if !is_next(b'.', rest) {
         return Ok((Stretch { first, last: first }, rest));
     }
     if !is_next(b'.', after(1, rest)) {
         return Err(Flaw::Missing(Lack::Points));
     }
-    let (last, rest) = address_of(names, pc, after(1, after(1, rest)))?;
+    let (last, rest) = address_of(places, pc, after(1, after(1, rest)))?;
     last_of(first, last, rest)
 }
 
@@ -68,12 +68,16 @@ fn past_points(text: &[u8]) -> &[u8]
 
 /// Reads `WHERE WHERE` or `WHERE..WHERE`.
 #[tactic(auto, unfolding(crate::specs::Parts::ends_of))]
-pub fn ends_of<'a>(names: &Names, pc: u16, text: &'a [u8]) -> Result<(Stretch, &'a [u8]), Flaw<'a>>
-    ensures ok { IfOk result (λ p. ends_of names.now pc text.now ≡ Ok (p.0, p.1.now)) }
-    ensures err { IfErr result (λ why. ends_of names.now pc text.now ≡ Err (flaw_view why)) }
+pub fn ends_of<'a>(
+    places: &Places,
+    pc: u16,
+    text: &'a [u8],
+) -> Result<(Stretch, &'a [u8]), Flaw<'a>>
+    ensures ok { IfOk result (λ p. ends_of places.now pc text.now ≡ Ok (p.0, p.1.now)) }
+    ensures err { IfErr result (λ why. ends_of places.now pc text.now ≡ Err (flaw_view why)) }
 {
-    let (first, rest) = address_of(names, pc, text)?;
-    let (last, rest) = address_of(names, pc, past_points(rest))?;
+    let (first, rest) = address_of(places, pc, text)?;
+    let (last, rest) = address_of(places, pc, past_points(rest))?;
     last_of(first, last, rest)
 }
 
@@ -113,47 +117,55 @@ pub fn kind_of(text: &[u8]) -> (WatchKind, &[u8])
 }
 
 /// Reads a count of addresses from one on, 64 if none is given.
-fn by_count<'a>(names: &Names, first: u16, text: &'a [u8]) -> Result<(Stretch, &'a [u8]), Flaw<'a>>
-    ensures ok { IfOk result (λ p. by_count names.now first text.now ≡ Ok (p.0, p.1.now)) }
-    ensures err { IfErr result (λ why. by_count names.now first text.now ≡ Err (flaw_view why)) }
+fn by_count<'a>(
+    places: &Places,
+    first: u16,
+    text: &'a [u8],
+) -> Result<(Stretch, &'a [u8]), Flaw<'a>>
+    ensures ok { IfOk result (λ p. by_count places.now first text.now ≡ Ok (p.0, p.1.now)) }
+    ensures err { IfErr result (λ why. by_count places.now first text.now ≡ Err (flaw_view why)) }
 {
-    let (count, rest) = count_of(names, text)?;
+    let (count, rest) = count_of(places, text)?;
     Ok((so_many_from(first, count.unwrap_or(64)), rest))
 }
 
 /// Reads a last address of four bytes, or a count.
 #[tactic(auto, unfolding(crate::specs::Parts::second_of))]
 fn second_of<'a>(
-    names: &Names,
+    places: &Places,
     pc: u16,
     first: u16,
     text: &'a [u8],
 ) -> Result<(Stretch, &'a [u8]), Flaw<'a>>
-    ensures ok { IfOk result (λ p. second_of names.now pc first text.now ≡ Ok (p.0, p.1.now)) }
+    ensures ok { IfOk result (λ p. second_of places.now pc first text.now ≡ Ok (p.0, p.1.now)) }
     ensures err { IfErr result
-        (λ why. second_of names.now pc first text.now ≡ Err (flaw_view why)) }
+        (λ why. second_of places.now pc first text.now ≡ Err (flaw_view why)) }
 {
     if word_of(text).len() == 4 {
-        let (last, rest) = address_of(names, pc, text)?;
+        let (last, rest) = address_of(places, pc, text)?;
         if first <= last {
             return Ok((Stretch { first, last }, rest));
         }
     }
-    by_count(names, first, text)
+    by_count(places, first, text)
 }
 
 /// Reads `WHERE`, `WHERE N`, `WHERE..WHERE`, or two addresses of four hex digits.
 #[tactic(auto, unfolding(crate::specs::Parts::shown_of))]
-pub fn shown_of<'a>(names: &Names, pc: u16, text: &'a [u8]) -> Result<(Stretch, &'a [u8]), Flaw<'a>>
-    ensures ok { IfOk result (λ p. shown_of names.now pc text.now ≡ Ok (p.0, p.1.now)) }
-    ensures err { IfErr result (λ why. shown_of names.now pc text.now ≡ Err (flaw_view why)) }
+pub fn shown_of<'a>(
+    places: &Places,
+    pc: u16,
+    text: &'a [u8],
+) -> Result<(Stretch, &'a [u8]), Flaw<'a>>
+    ensures ok { IfOk result (λ p. shown_of places.now pc text.now ≡ Ok (p.0, p.1.now)) }
+    ensures err { IfErr result (λ why. shown_of places.now pc text.now ≡ Err (flaw_view why)) }
 {
-    let (range, rest) = stretch_of(names, pc, text)?;
+    let (range, rest) = stretch_of(places, pc, text)?;
     if range.first < range.last {
         Ok((range, rest))
     } else if is_empty(rest) {
         Ok((so_many_from(range.first, 64), rest))
     } else {
-        second_of(names, pc, range.first, rest)
+        second_of(places, pc, range.first, rest)
     }
 }

@@ -10,7 +10,7 @@ ghost use Rattle.mon_lines.specs.Parts.{test_of, tests_of, tests_within, times_o
 use crate::command::{Compare, Left, Register, Test};
 use arrayvec::ArrayVec;
 use mon_line_parts::{
-    Flaw, Lack, Names, address_of, after, after_word, count_of, is_next, is_same_word, is_word,
+    Flaw, Lack, Places, address_of, after, after_word, count_of, is_next, is_same_word, is_word,
     past, word_of, word_value,
 };
 use opcode_facts::Flag;
@@ -71,30 +71,30 @@ pub fn flag_of(word: &[u8]) -> Option<Flag>
 
 /// Reads the left side of a test that begins with no register: a flag, or the address of a byte of
 /// memory.
-fn flag_or_byte<'a>(names: &Names, pc: u16, text: &'a [u8]) -> Result<(Left, &'a [u8]), Flaw<'a>>
-    ensures ok { IfOk result (λ p. flag_or_byte names.now pc text.now (flag_of (word_of text.now))
+fn flag_or_byte<'a>(places: &Places, pc: u16, text: &'a [u8]) -> Result<(Left, &'a [u8]), Flaw<'a>>
+    ensures ok { IfOk result (λ p. flag_or_byte places.now pc text.now (flag_of (word_of text.now))
         ≡ Ok (p.0, p.1.now)) }
     ensures err { IfErr result
-        (λ why. flag_or_byte names.now pc text.now (flag_of (word_of text.now))
+        (λ why. flag_or_byte places.now pc text.now (flag_of (word_of text.now))
         ≡ Err (flaw_view why)) }
 {
     match flag_of(word_of(text)) {
         Some(flag) => Ok((Left::Flag(flag), after_word(text))),
         None => {
-            let (address, rest) = address_of(names, pc, text)?;
+            let (address, rest) = address_of(places, pc, text)?;
             Ok((Left::Byte(address), rest))
         }
     }
 }
 
 /// Reads the left side of a test: a register, a flag, or the address of a byte of memory.
-fn left_of<'a>(names: &Names, pc: u16, text: &'a [u8]) -> Result<(Left, &'a [u8]), Flaw<'a>>
-    ensures ok { IfOk result (λ p. left_of names.now pc text.now ≡ Ok (p.0, p.1.now)) }
-    ensures err { IfErr result (λ why. left_of names.now pc text.now ≡ Err (flaw_view why)) }
+fn left_of<'a>(places: &Places, pc: u16, text: &'a [u8]) -> Result<(Left, &'a [u8]), Flaw<'a>>
+    ensures ok { IfOk result (λ p. left_of places.now pc text.now ≡ Ok (p.0, p.1.now)) }
+    ensures err { IfErr result (λ why. left_of places.now pc text.now ≡ Err (flaw_view why)) }
 {
     match register_of(word_of(text)) {
         Some(register) => Ok((Left::Register(register), after_word(text))),
-        None => flag_or_byte(names, pc, text),
+        None => flag_or_byte(places, pc, text),
     }
 }
 
@@ -130,13 +130,13 @@ fn comparison_of(text: &[u8]) -> Result<(Compare, &[u8]), Flaw<'_>>
 
 /// Reads a test of a register, a flag or a byte of memory.
 #[tactic(auto, unfolding(crate::specs::Parts::test_of))]
-fn test_of<'a>(names: &Names, pc: u16, text: &'a [u8]) -> Result<(Test, &'a [u8]), Flaw<'a>>
-    ensures ok { IfOk result (λ p. test_of names.now pc text.now ≡ Ok (p.0, p.1.now)) }
-    ensures err { IfErr result (λ why. test_of names.now pc text.now ≡ Err (flaw_view why)) }
+fn test_of<'a>(places: &Places, pc: u16, text: &'a [u8]) -> Result<(Test, &'a [u8]), Flaw<'a>>
+    ensures ok { IfOk result (λ p. test_of places.now pc text.now ≡ Ok (p.0, p.1.now)) }
+    ensures err { IfErr result (λ why. test_of places.now pc text.now ≡ Err (flaw_view why)) }
 {
-    let (left, rest) = left_of(names, pc, text)?;
+    let (left, rest) = left_of(places, pc, text)?;
     let (compare, rest) = comparison_of(rest)?;
-    let (right, rest) = word_value(names, rest)?;
+    let (right, rest) = word_value(places, rest)?;
     let test = Test {
         left,
         compare,
@@ -147,17 +147,17 @@ fn test_of<'a>(names: &Names, pc: u16, text: &'a [u8]) -> Result<(Test, &'a [u8]
 
 /// Reads a test and appends it, if it fits.
 fn push_test<'a>(
-    names: &Names,
+    places: &Places,
     pc: u16,
     found: &mut ArrayVec<Test, 4>,
     text: &'a [u8],
 ) -> Result<&'a [u8], Flaw<'a>>
-    ensures ok { IfOk result (λ rest. and_then (test_of names.now pc text.now)
+    ensures ok { IfOk result (λ rest. and_then (test_of places.now pc text.now)
         (with_test found.old.items) ≡ Ok (found.new.items, rest.now)) }
-    ensures err { IfErr result (λ why. and_then (test_of names.now pc text.now)
+    ensures err { IfErr result (λ why. and_then (test_of places.now pc text.now)
         (with_test found.old.items) ≡ Err (flaw_view why)) }
 {
-    let (test, rest) = test_of(names, pc, text)?;
+    let (test, rest) = test_of(places, pc, text)?;
     match found.try_push(test) {
         Ok(()) => Ok(rest),
         Err(_) => Err(Flaw::Many),
@@ -166,19 +166,19 @@ fn push_test<'a>(
 
 /// Reads tests with `and` between them.
 pub fn tests_within<'a>(
-    names: &Names,
+    places: &Places,
     pc: u16,
     found: &mut ArrayVec<Test, 4>,
     text: &'a [u8],
 ) -> Result<&'a [u8], Flaw<'a>>
-    ensures ok { IfOk result (λ rest. tests_within 5 names.now pc found.old.items text.now
+    ensures ok { IfOk result (λ rest. tests_within 5 places.now pc found.old.items text.now
         ≡ Ok (found.new.items, rest.now)) }
-    ensures err { IfErr result (λ why. tests_within 5 names.now pc found.old.items text.now
+    ensures err { IfErr result (λ why. tests_within 5 places.now pc found.old.items text.now
         ≡ Err (flaw_view why)) }
 {
     let mut rest = text;
     for _ in 0..5u8 {
-        match push_test(names, pc, found, rest) {
+        match push_test(places, pc, found, rest) {
             Ok(behind) => rest = behind,
             Err(why) => return Err(why),
         }
@@ -192,30 +192,30 @@ pub fn tests_within<'a>(
 
 /// Reads `if` and tests, if `if` comes next.
 pub fn tests_of<'a>(
-    names: &Names,
+    places: &Places,
     pc: u16,
     text: &'a [u8],
 ) -> Result<(ArrayVec<Test, 4>, &'a [u8]), Flaw<'a>>
-    ensures ok { IfOk result (λ p. tests_of names.now pc text.now ≡ Ok (p.0.items, p.1.now)) }
-    ensures err { IfErr result (λ why. tests_of names.now pc text.now ≡ Err (flaw_view why)) }
+    ensures ok { IfOk result (λ p. tests_of places.now pc text.now ≡ Ok (p.0.items, p.1.now)) }
+    ensures err { IfErr result (λ why. tests_of places.now pc text.now ≡ Err (flaw_view why)) }
 {
     let mut found = ArrayVec::new();
     if !is_word(b"if", text) {
         return Ok((found, text));
     }
-    let rest = tests_within(names, pc, &mut found, after_word(text))?;
+    let rest = tests_within(places, pc, &mut found, after_word(text))?;
     Ok((found, rest))
 }
 
 /// Reads `times` and a count, if `times` comes next. Otherwise the count is 1.
-pub fn times_of<'a>(names: &Names, text: &'a [u8]) -> Result<(u32, &'a [u8]), Flaw<'a>>
-    ensures ok { IfOk result (λ p. times_of names.now text.now ≡ Ok (p.0, p.1.now)) }
-    ensures err { IfErr result (λ why. times_of names.now text.now ≡ Err (flaw_view why)) }
+pub fn times_of<'a>(places: &Places, text: &'a [u8]) -> Result<(u32, &'a [u8]), Flaw<'a>>
+    ensures ok { IfOk result (λ p. times_of places.now text.now ≡ Ok (p.0, p.1.now)) }
+    ensures err { IfErr result (λ why. times_of places.now text.now ≡ Err (flaw_view why)) }
 {
     if !is_word(b"times", text) {
         return Ok((1, text));
     }
-    match count_of(names, after_word(text))? {
+    match count_of(places, after_word(text))? {
         (Some(times), rest) => Ok((times, rest)),
         (None, _) => Err(Flaw::Missing(Lack::Times)),
     }

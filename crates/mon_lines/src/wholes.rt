@@ -19,15 +19,15 @@ pub fn read_tests<'a>(
     pc: u16,
 ) -> Result<ArrayVec<Test, 4>, Flaw<'a>>
     ensures ok { IfOk result
-        (λ tests. tests_in places.now.names pc text.now ≡ Ok tests.items) }
+        (λ tests. tests_in places.now pc text.now ≡ Ok tests.items) }
     ensures err { IfErr result
-        (λ why. tests_in places.now.names pc text.now ≡ Err (flaw_view why)) }
+        (λ why. tests_in places.now pc text.now ≡ Err (flaw_view why)) }
 {
     let mut tests = ArrayVec::new();
     if is_empty(text) {
         return Ok(tests);
     }
-    let rest = tests_within(places.names(), pc, &mut tests, skip(text))?;
+    let rest = tests_within(places, pc, &mut tests, skip(text))?;
     if is_empty(rest) {
         Ok(tests)
     } else {
@@ -37,14 +37,14 @@ pub fn read_tests<'a>(
 
 /// Reads how often tests have to hold: once, if the text is empty.
 pub fn read_times<'a>(text: &'a [u8], places: &Places) -> Result<u32, Flaw<'a>>
-    ensures ok { IfOk result (λ times. times_in places.now.names text.now ≡ Ok times) }
+    ensures ok { IfOk result (λ times. times_in places.now text.now ≡ Ok times) }
     ensures err { IfErr result
-        (λ why. times_in places.now.names text.now ≡ Err (flaw_view why)) }
+        (λ why. times_in places.now text.now ≡ Err (flaw_view why)) }
 {
     if is_empty(text) {
         return Ok(1);
     }
-    let (count, rest) = count_of(places.names(), skip(text))?;
+    let (count, rest) = count_of(places, skip(text))?;
     let Some(times) = count else {
         return Err(Flaw::Missing(Lack::Times));
     };
@@ -57,11 +57,11 @@ pub fn read_times<'a>(text: &'a [u8], places: &Places) -> Result<u32, Flaw<'a>>
 
 /// Reads an address.
 pub fn read_place<'a>(text: &'a [u8], places: &Places, pc: u16) -> Result<u16, Flaw<'a>>
-    ensures ok { IfOk result (λ address. place_in places.now.names pc text.now ≡ Ok address) }
+    ensures ok { IfOk result (λ address. place_in places.now pc text.now ≡ Ok address) }
     ensures err { IfErr result
-        (λ why. place_in places.now.names pc text.now ≡ Err (flaw_view why)) }
+        (λ why. place_in places.now pc text.now ≡ Err (flaw_view why)) }
 {
-    let (address, rest) = address_of(places.names(), pc, skip(text))?;
+    let (address, rest) = address_of(places, pc, skip(text))?;
     if is_empty(rest) {
         Ok(address)
     } else {
@@ -77,11 +77,11 @@ pub fn read_setting<'a>(
     pc: u16,
 ) -> Result<Setting, Flaw<'a>>
     ensures ok { IfOk result
-        (λ setting. setting_in places.now.names pc register text.now ≡ Ok setting) }
+        (λ setting. setting_in places.now pc register text.now ≡ Ok setting) }
     ensures err { IfErr result
-        (λ why. setting_in places.now.names pc register text.now ≡ Err (flaw_view why)) }
+        (λ why. setting_in places.now pc register text.now ≡ Err (flaw_view why)) }
 {
-    let (setting, rest) = value_of(places.names(), pc, register, skip(text))?;
+    let (setting, rest) = value_of(places, pc, register, skip(text))?;
     if is_empty(rest) {
         Ok(setting)
     } else {
@@ -91,11 +91,11 @@ pub fn read_setting<'a>(
 
 /// Reads the value of a flag: 1 or 0.
 pub fn read_bit<'a>(text: &'a [u8], places: &Places) -> Result<bool, Flaw<'a>>
-    ensures ok { IfOk result (λ bit. bit_in places.now.names text.now ≡ Ok bit) }
+    ensures ok { IfOk result (λ bit. bit_in places.now text.now ≡ Ok bit) }
     ensures err { IfErr result
-        (λ why. bit_in places.now.names text.now ≡ Err (flaw_view why)) }
+        (λ why. bit_in places.now text.now ≡ Err (flaw_view why)) }
 {
-    let (bit, rest) = bit_of(places.names(), skip(text))?;
+    let (bit, rest) = bit_of(places, skip(text))?;
     if is_empty(rest) {
         Ok(bit)
     } else {
@@ -106,11 +106,11 @@ pub fn read_bit<'a>(text: &'a [u8], places: &Places) -> Result<bool, Flaw<'a>>
 /// Reads bytes and texts between quotes: one byte at least.
 pub fn read_bytes<'a>(text: &'a [u8], places: &Places) -> Result<ArrayVec<u8, 256>, Flaw<'a>>
     ensures ok { IfOk result
-        (λ bytes. bytes_in places.now.names text.now ≡ Ok bytes.items) }
+        (λ bytes. bytes_in places.now text.now ≡ Ok bytes.items) }
     ensures err { IfErr result
-        (λ why. bytes_in places.now.names text.now ≡ Err (flaw_view why)) }
+        (λ why. bytes_in places.now text.now ≡ Err (flaw_view why)) }
 {
-    let (bytes, rest) = bytes_of(places.names(), skip(text))?;
+    let (bytes, rest) = bytes_of(places, skip(text))?;
     if is_empty(rest) {
         Ok(bytes)
     } else {

@@ -3,11 +3,11 @@ use Rattle.std.specs.Prelude.{ℕ, if◌then◌else◌, List, [], ◌∷◌, ◌
 use Rattle.std.specs.List.{flat_map}
 use Rattle.std.specs.Str.{byte}
 use Rattle.model.specs.Token.{is_printable}
-use Rattle.mon_line_parts.specs.Reading.{SeenFlaw, unknown, several, missing, unreadable, behind, no_name, range, many, long}
+use Rattle.mon_line_parts.specs.Reading.{SeenFlaw, unknown, several, missing, unreadable, behind, no_name, range, no_bytes, other_source, no_source, many, long}
 use Rattle.mon_line_parts.specs.Topics.{TopicWord, begins_with, words}
 use Rattle.mon_line_parts.specs.declared.slip.Lack.{Lack}
 use Rattle.mon_line_parts.specs.declared.slip.Lack.TheVariants as lacking
-use Rattle.mon_texts.specs.declared.wording.TheConstants.{ADDEND, AND, AN_ADDRESS, AN_INSTRUCTION, A_FILE, A_NUMBER, A_REGISTER, A_VALUE, BINARY_DIGITS, COMPARISON, HEX_DIGITS, LAST_ADDRESS, LEFT_OVER, LEVEL, LINE_TOO_LONG, MISSING, NOT_BETWEEN, NO_NAME, NO_WORD, POINTS, QUOTED_TEXT, SEVERAL_WORDS, SUBTRAHEND, TIMES_NUMBER, TOO_MANY, UNREADABLE}
+use Rattle.mon_texts.specs.declared.wording.TheConstants.{ADDEND, AND, AN_ADDRESS, AN_INSTRUCTION, A_FILE, A_NUMBER, A_REGISTER, A_VALUE, BINARY_DIGITS, COMPARISON, HAS_BYTES, HEX_DIGITS, LAST_ADDRESS, LEFT_OVER, LEVEL, LINE_TOO_LONG, MISSING, NOT_BETWEEN, NO_LINE_FROM, NO_NAME, NO_SOURCE, NO_WORD, OTHER_SOURCE, POINTS, QUOTED_TEXT, SEVERAL_WORDS, SUBTRAHEND, TIMES_NUMBER, TOO_MANY, UNREADABLE}
 
 -- A byte between quotes: `?` is put for one that is no character.
 abbrev pub quoted_byte : ℕ → List ℕ
@@ -43,6 +43,10 @@ abbrev pub range_text : ℕ → ℕ → List ℕ
 range_text least most
     = NOT_BETWEEN.now ++ decimal least ++ AND.now ++ decimal most
 
+-- That no line from one on has bytes.
+abbrev pub no_bytes_text : ℕ → List ℕ
+no_bytes_text line = NO_LINE_FROM.now ++ decimal line ++ HAS_BYTES.now
+
 -- The words of some that begin with a piece, each behind a blank.
 abbrev pub candidate : List ℕ → List ℕ → List ℕ
 candidate piece word = if begins_with word piece then 32 ∷ word else []
@@ -61,5 +65,8 @@ slip_text (behind piece) = quoted_and piece LEFT_OVER.now
 slip_text (no_name word)
     = quoted_and word NO_NAME.now
 slip_text (range least most) = range_text least most
+slip_text (no_bytes line) = no_bytes_text line
+slip_text (other_source name) = quoted_and name OTHER_SOURCE.now
+slip_text no_source = NO_SOURCE.now
 slip_text many = TOO_MANY.now
 slip_text long = LINE_TOO_LONG.now

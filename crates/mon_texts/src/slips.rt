@@ -6,15 +6,15 @@ ghost use Rattle.mon_line_parts.specs.Reading.{flaw_view};
 ghost use Rattle.mon_texts.specs.Help.{example_text};
 ghost use Rattle.mon_line_parts.specs.Topics.{row_view, words};
 ghost use Rattle.mon_texts.specs.Slips.{candidate, candidates};
-ghost use Rattle.mon_texts.specs.Slips.{lack_text, quoted, quoted_and, quoted_byte, range_text};
-ghost use Rattle.mon_texts.specs.Slips.{slip_text};
+ghost use Rattle.mon_texts.specs.Slips.{lack_text, no_bytes_text, quoted, quoted_and, quoted_byte};
+ghost use Rattle.mon_texts.specs.Slips.{range_text, slip_text};
 
 use crate::help::push_example;
 use crate::wording::{
     A_FILE, A_NUMBER, A_REGISTER, A_VALUE, ADDEND, AN_ADDRESS, AN_INSTRUCTION, AND, BINARY_DIGITS,
-    COMPARISON, HEX_DIGITS, LAST_ADDRESS, LEFT_OVER, LEVEL, LINE_TOO_LONG, MISSING, NO_NAME,
-    NO_WORD, NOT_BETWEEN, POINTS, QUOTED_TEXT, SEVERAL_WORDS, SUBTRAHEND, TIMES_NUMBER, TOO_MANY,
-    UNREADABLE,
+    COMPARISON, HAS_BYTES, HEX_DIGITS, LAST_ADDRESS, LEFT_OVER, LEVEL, LINE_TOO_LONG, MISSING,
+    NO_LINE_FROM, NO_NAME, NO_SOURCE, NO_WORD, NOT_BETWEEN, OTHER_SOURCE, POINTS, QUOTED_TEXT,
+    SEVERAL_WORDS, SUBTRAHEND, TIMES_NUMBER, TOO_MANY, UNREADABLE,
 };
 use formatting::{push_count, push_text};
 use mon_line_parts::{Flaw, Lack, Topic, all_words, begins_with};
@@ -138,6 +138,15 @@ fn push_range(text: &mut Vec<u8>, least: u32, most: u32) -> Result<(), AllocErro
     push_count(text, most as u64)
 }
 
+/// Appends that no line from one on has bytes.
+fn push_no_bytes(text: &mut Vec<u8>, line: u32) -> Result<(), AllocError>
+    ensures { OnOk result (text.new.items ≡ text.old.items ++ no_bytes_text line) }
+{
+    push_text(text, NO_LINE_FROM)?;
+    push_count(text, line as u64)?;
+    push_text(text, HAS_BYTES)
+}
+
 /// Appends why a line cannot be read.
 #[tactic(auto, unfolding(crate::specs::Slips::slip_text))]
 fn push_flaw(text: &mut Vec<u8>, flaw: Flaw<'_>) -> Result<(), AllocError>
@@ -151,6 +160,9 @@ fn push_flaw(text: &mut Vec<u8>, flaw: Flaw<'_>) -> Result<(), AllocError>
         Flaw::Behind(piece) => push_quoted_and(text, piece, LEFT_OVER),
         Flaw::NoName(word) => push_quoted_and(text, word, NO_NAME),
         Flaw::Range { least, most } => push_range(text, least, most),
+        Flaw::NoBytes(line) => push_no_bytes(text, line),
+        Flaw::OtherSource(name) => push_quoted_and(text, name, OTHER_SOURCE),
+        Flaw::NoSource => push_text(text, NO_SOURCE),
         Flaw::Many => push_text(text, TOO_MANY),
         Flaw::Long => push_text(text, LINE_TOO_LONG),
     }

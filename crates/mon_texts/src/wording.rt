@@ -3,9 +3,10 @@
 // Help.
 pub const MORE_WORDS: &str = "more words: out rback redo where history list delete display \
 undisplay\n  regs flags find stack set put asm type screen irq nmi reset save page\n  \
-reload help\nhelp WORD shows one of them, help help all.\n";
+reload help\nhelp WORD shows one of them, help all shows all.\n";
 
-pub const ADDRESS_FORMS: &str = "WHERE is a name, NAME+5, $0200, or four hex digits as 0200.\n";
+pub const ADDRESS_FORMS: &str =
+    "WHERE is a name, NAME+5, :6 for line 6, $0200, or four hex digits as 0200.\n";
 
 pub const EMPTY_LINE: &str = "An empty line steps. Words may be shortened.\n";
 
@@ -60,6 +61,14 @@ pub const LEFT_OVER: &str = " is left over";
 pub const NO_NAME: &str = " is neither a name of the program nor a number";
 
 pub const NOT_BETWEEN: &str = "the number is not between ";
+
+pub const NO_LINE_FROM: &str = "no line from ";
+
+pub const HAS_BYTES: &str = " on has bytes";
+
+pub const OTHER_SOURCE: &str = " is not the source of this session";
+
+pub const NO_SOURCE: &str = "no lines of a source are known here";
 
 pub const TOO_MANY: &str = "there are too many";
 

@@ -29,8 +29,8 @@ again_none a noted = (refl, refl)
 -- one more line, before those behind it
 pub again_more : (notes : List SeenNote) (i : ℕ) (note : SeenNote) (outcome : Outcome) (a b : MonState)
     (noted more : List SeenNote) → i < length notes → note ≡ get_or notes i note
-    → Follows (line_of a.places.names note.pc note.line) outcome a b
-    → more ≡ notes_after b (placed_in (line_of a.places.names note.pc note.line)) note.pc note.line noted
+    → Follows (line_of a.places note.pc note.line) outcome a b
+    → more ≡ notes_after b (placed_in (line_of a.places note.pc note.line)) note.pc note.line noted
     → (new : MonState) (left : List SeenNote) → Repeats (drop (i + 1) notes) b more new left
     → Repeats (drop i notes) a noted new left
 unfolding Repeats

@@ -33,7 +33,7 @@ unfolding Repeats
 repeats_say [] a noted b left p =
     ([], ap (λ (d : MonState). d.text.items) p.0 ∙ sym (append-nil a.text.items))
 repeats_say (note ∷ notes) a noted b left p =
-    let read = line_of a.places.names note.pc note.line in
+    let read = line_of a.places note.pc note.line in
     let first = says_of read p.1 a p.0 p.2 in
     let rest = repeats_say notes p.0 (notes_after p.0 (placed_in read) note.pc note.line noted) b left p.3 in (
       first.0 ++ rest.0,

@@ -220,7 +220,7 @@ too_long = record { asked = Err (None, long); decimal = None }
 read_long : (mon : MonState) (line : List ℕ) → 255 < length line → read_at mon line ≡ too_long
 unfolding too_long line_of decimal_address
 read_long mon line h =
-    let read = line_from mon.places.names mon.session.current.regs.pc line (skip line) in
+    let read = line_from mon.places mon.session.current.regs.pc line (skip line) in
     let decimal = decimal_behind (skip line) (word_of (after_word (skip line))) in
     let by : Bool → SeenLine = λ t. record { asked = cond t (Err (None, long)) read; decimal = cond t None decimal } in
     ap by (lt-ltb 255 (length line) h)

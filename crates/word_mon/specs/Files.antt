@@ -24,7 +24,7 @@ use Rattle.mon_session.specs.declared.mon_state.MonState.{MonState}
 unfoldable pub Repeats : List SeenNote → MonState → List SeenNote → MonState → List SeenNote → Type 0
 Repeats [] old noted new left = (new ≡ old) × (left ≡ noted)
 Repeats (note ∷ notes) old noted new left =
-    let read = line_of old.places.names note.pc note.line in
+    let read = line_of old.places note.pc note.line in
     (between : MonState) × (outcome : Outcome) × Follows read outcome old between
     × Repeats notes between
     (notes_after between (placed_in read) note.pc note.line noted) new left

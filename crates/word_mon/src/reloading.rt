@@ -40,10 +40,10 @@ fn repeat_line(
     noted: &Note,
 ) -> Result<(), AllocError>
     ensures { OnOk result ((outcome : Outcome)
-        × Follows (line_of mon.old.places.names noted.now.pc noted.now.line) outcome mon.old
+        × Follows (line_of mon.old.places noted.now.pc noted.now.line) outcome mon.old
         mon.new
         × (notes.new.items ≡ notes_after mon.new
-        (placed_in (line_of mon.old.places.names noted.now.pc noted.now.line))
+        (placed_in (line_of mon.old.places noted.now.pc noted.now.line))
         noted.now.pc noted.now.line notes.old.items)) }
 {
     let pc = noted.pc();

@@ -18,7 +18,7 @@ pub returns-in-Ok-clause-done : goal.returns-in-Ok-clause-done
 returns-in-Ok-clause-done c =
     let old = c.args.client.now in
     let text = c.args.text.now in
-    let read = c.new-read.ensures ∙ (λ i. seen_line old.mon.places.names ((ap (λ (r : Regs). r.pc) c.regs-pc.ensures) i) (c.as_bytes.ensures.value i)) in
+    let read = c.new-read.ensures ∙ (λ i. seen_line old.mon.places ((ap (λ (r : Regs). r.pc) c.regs-pc.ensures) i) (c.as_bytes.ensures.value i)) in
     let line : is_line old.mon text ≡ true = sym (ap (λ (l : SeenLine). is_ok l.asked) read) ∙ ap (λ (a : Result Command Slip). is_ok (asked_view a)) c.in-Ok.is in
     IfOk-weaker c.or_memory.result _ _
     (λ ms done. subst (λ (b : Bool). EvaluatesAs b text old c.console.new.client (map said_of ms.items)) (sym line)
@@ -29,7 +29,7 @@ pub returns-in-Err-clause-done : goal.returns-in-Err-clause-done
 returns-in-Err-clause-done c =
     let old = c.args.client.now in
     let text = c.args.text.now in
-    let read = c.new-read.ensures ∙ (λ i. seen_line old.mon.places.names ((ap (λ (r : Regs). r.pc) c.regs-pc.ensures) i) (c.as_bytes.ensures.value i)) in
+    let read = c.new-read.ensures ∙ (λ i. seen_line old.mon.places ((ap (λ (r : Regs). r.pc) c.regs-pc.ensures) i) (c.as_bytes.ensures.value i)) in
     let line : is_line old.mon text ≡ false = sym (ap (λ (l : SeenLine). is_ok l.asked) read) ∙ ap (λ (a : Result Command Slip). is_ok (asked_view a)) c.in-Err.is in
     IfOk-weaker c.look.result _ _
     (λ ms looks. subst (λ (b : Bool). EvaluatesAs b text old old (map said_of ms.items)) (sym line) (refl, looks)) c.look.ensures.done
@@ -38,6 +38,6 @@ pub returns-in-Err-clause-why : goal.returns-in-Err-clause-why
 returns-in-Err-clause-why c =
     let old = c.args.client.now in
     let text = c.args.text.now in
-    let read = c.new-read.ensures ∙ (λ i. seen_line old.mon.places.names ((ap (λ (r : Regs). r.pc) c.regs-pc.ensures) i) (c.as_bytes.ensures.value i)) in
+    let read = c.new-read.ensures ∙ (λ i. seen_line old.mon.places ((ap (λ (r : Regs). r.pc) c.regs-pc.ensures) i) (c.as_bytes.ensures.value i)) in
     let line : is_line old.mon text ≡ false = sym (ap (λ (l : SeenLine). is_ok l.asked) read) ∙ ap (λ (a : Result Command Slip). is_ok (asked_view a)) c.in-Err.is in
     IfErr-weaker c.look.result _ _ (λ f why. refused_by_more f _ (IsNoLook text true old.mon) (λ none. (line, none)) why) c.look.ensures.why

@@ -11,7 +11,7 @@ use Rattle.dap_views.proofs.looks.look_at.Goals.{in-A, in-X, in-Y, in-S, in-P}
 
 pub returns : goal.returns
 returns c =
-    let looked : List ℕ → Option Data = look_at c.args.mon.now.session.current c.args.mon.now.places.names in
+    let looked : List ℕ → Option Data = look_at c.args.mon.now.session.current c.args.mon.now.places in
     let as_shown : ℕ → Option Data = λ byte. Some (evaluated_body (byte_text byte)) in
     let same : as_shown c.match-text.byte ≡ looked c.args.text.now = elim c.match-text.branch [
       | in-A w ↦ ap as_shown (w.byte-is ∙ ap (λ (r : Regs). r.a) c.regs-regs.ensures) ∙ sym (ap looked w.in-A.is)

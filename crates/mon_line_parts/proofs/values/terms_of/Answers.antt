@@ -23,8 +23,8 @@ loop-preserved c =
     let fits : SFits w64 c.in-Ok.sum = search rules in
     record {
       read = c.loop.invariant.read
-          ∙ (term_read (length c.args.text.now - c.loop.counter) (length c.args.text.now - (c.loop.counter + 1)) c.args.names.now c.args.kind _ c.in-Ok.sum c.loop.rest.now c.in-Ok.behind.now (omega arith) (sym c.is_sign.ensures ∙ c.if-not-is_sign.false) c.in-Ok.ensures.ok
-          ∙ sym (ap (λ (z : ℤ). terms_of (length c.args.text.now - (c.loop.counter + 1)) c.args.names.now c.args.kind z c.in-Ok.behind.now) (to_z-of_z w64 c.in-Ok.sum fits)));
+          ∙ (term_read (length c.args.text.now - c.loop.counter) (length c.args.text.now - (c.loop.counter + 1)) c.args.places.now c.args.kind _ c.in-Ok.sum c.loop.rest.now c.in-Ok.behind.now (omega arith) (sym c.is_sign.ensures ∙ c.if-not-is_sign.false) c.in-Ok.ensures.ok
+          ∙ sym (ap (λ (z : ℤ). terms_of (length c.args.text.now - (c.loop.counter + 1)) c.args.places.now c.args.kind z c.in-Ok.behind.now) (to_z-of_z w64 c.in-Ok.sum fits)));
     }
 
 pub returns-clause-ok : goal.returns-clause-ok

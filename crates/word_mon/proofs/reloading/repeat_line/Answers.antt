@@ -11,9 +11,9 @@ returns c =
     let first = c.args.mon.now in
     let last = c.follow.new.mon in
     let outcome = c.in_ok-follow.field-0 in
-    let names = c.args.mon.now.places.names in
-    let read : asked_view c.new-read.result.asked ≡ line_of names note.pc note.line
-    = ap (λ (line : SeenLine). line.asked) (c.new-read.ensures ∙ (λ i. seen_line names (c.pc-pc.ensures i) (c.line-line.ensures i))) in
+    let places = c.args.mon.now.places in
+    let read : asked_view c.new-read.result.asked ≡ line_of places note.pc note.line
+    = ap (λ (line : SeenLine). line.asked) (c.new-read.ensures ∙ (λ i. seen_line places (c.pc-pc.ensures i) (c.line-line.ensures i))) in
     on_ok_map c.note_line.result _ _
     (λ noted. (
       outcome,

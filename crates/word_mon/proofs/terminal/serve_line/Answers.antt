@@ -20,7 +20,7 @@ returns-clause-served g c =
     let noted = rw c.in_ok-is_over.ensures.made at c.serve_noted.ensures.noted in
     let obeyed = c.in_ok-obey_read.ensures.obeyed in
     let said = both_say read is_over first between last answers obeyed in
-    let same : read ≡ read_at first.mon line = c.new-read.ensures ∙ ap (λ (regs : Regs). seen_line first.mon.places.names regs.pc line) c.regs-pc.ensures in (
+    let same : read ≡ read_at first.mon line = c.new-read.ensures ∙ ap (λ (regs : Regs). seen_line first.mon.places regs.pc line) c.regs-pc.ensures in (
       said.0,
       subst (λ (r : SeenLine). ServesRead r line is_over first last said.0) same (between, answers, noted, last, obeyed, said.1, rests_same last),
       said.1,
