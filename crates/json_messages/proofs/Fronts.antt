@@ -1,8 +1,8 @@
 -- Steps through the bytes of a header.
 use Rattle.std.proofs.Common.{◌≡◌, ◌≢◌, ◌∙◌, ◌-◌, sym, take, length-drop, eq-eqb, ne_eqb, option_and_then, ℕ, ◌+◌, ◌<◌, ◌≤◌, ◌==◌, ◌&&◌, Bool, true, false, List, [], ◌∷◌, length, get_or, drop, refl, ap, add-one, arith, drop-cons, None, Some, if◌then◌else◌}
 use Rattle.std.proofs.lemmas.Grind.{common_steps}
-use Rattle.std.proofs.lemmas.List.{drop-drop, take_all}
-use Rattle.json_messages.specs.Messages.{begins_field, ends_header, header_from, length_in, number_from, number_in, with_digit}
+use Rattle.std.proofs.lemmas.List.{take_all}
+use Rattle.json_messages.specs.Messages.{begins_field, ends_header, header_from, length_in, number_from, value_in, with_digit}
 
 -- What stands from an index on, as a slice has it.
 tail : (bytes : List ℕ) (i : ℕ) → take (length bytes - i) (drop i bytes) ≡ drop i bytes
@@ -70,19 +70,19 @@ length_none : (begins : Bool) → length_in begins [] ≡ None
 unfolding length_in
 length_none begins = refl
 
-length_behind : (begins : Bool) (b : ℕ) (bs : List ℕ) → length_in begins (b ∷ bs) ≡ (if begins && begins_field (b ∷ bs) then number_in (drop 16 (b ∷ bs)) else length_in (b == 10) bs)
+length_behind : (begins : Bool) (b : ℕ) (bs : List ℕ) → length_in begins (b ∷ bs) ≡ (if begins && begins_field (b ∷ bs) then value_in (b ∷ bs) else length_in (b == 10) bs)
 unfolding length_in
 length_behind begins b bs = refl
 
-length_at : (bytes : List ℕ) (i : ℕ) (begins : Bool) → i < length bytes → length_in begins (drop i bytes) ≡ (if begins && begins_field (drop i bytes) then number_in (drop 16 (drop i bytes)) else length_in (get_or bytes i 0 == 10) (drop (i + 1) bytes))
+length_at : (bytes : List ℕ) (i : ℕ) (begins : Bool) → i < length bytes → length_in begins (drop i bytes) ≡ (if begins && begins_field (drop i bytes) then value_in (drop i bytes) else length_in (get_or bytes i 0 == 10) (drop (i + 1) bytes))
 length_at bytes i begins h =
     let e : drop i bytes ≡ get_or bytes i 0 ∷ drop (i + 1) bytes = rw add-one (drop-cons bytes i 0 h) in
     rw e (length_behind begins (get_or bytes i 0) (drop (i + 1) bytes))
 
-pub length_found : (bytes : List ℕ) (i : ℕ) (begins : Bool) → i < length bytes → (begins && begins_field (take (length bytes - i) (drop i bytes))) ≡ true → length_in begins (drop i bytes) ≡ number_in (take (length bytes - (i + 16)) (drop (i + 16) bytes))
+pub length_found : (bytes : List ℕ) (i : ℕ) (begins : Bool) → i < length bytes → (begins && begins_field (take (length bytes - i) (drop i bytes))) ≡ true → length_in begins (drop i bytes) ≡ value_in (take (length bytes - i) (drop i bytes))
 length_found bytes i begins h t =
     let u : (begins && begins_field (drop i bytes)) ≡ true = rw (tail bytes i) at t in
-    rw (length_at bytes i begins h, u) (ap number_in (drop-drop 16 i bytes ∙ sym (tail bytes (i + 16))))
+    rw (length_at bytes i begins h, u) (ap value_in (sym (tail bytes i)))
 
 pub length_step : (bytes : List ℕ) (i : ℕ) (begins : Bool) → i < length bytes → (begins && begins_field (take (length bytes - i) (drop i bytes))) ≡ false → length_in begins (drop i bytes) ≡ length_in (get_or bytes i 0 == 10) (drop (i + 1) bytes)
 length_step bytes i begins h t = let u : (begins && begins_field (drop i bytes)) ≡ false = rw (tail bytes i) at t in rw (length_at bytes i begins h, u) refl

@@ -6,7 +6,9 @@ use Rattle.std.proofs.lemmas.Fmt.{decimal_nonempty, digits_decimal, digits_value
 use Rattle.std.proofs.lemmas.Str.Parse.{FoldsDigits, IsNumeralModel, numerals_by_fold, tells_digits}
 use Rattle.std.specs.Str.Parse.{AllDigits}
 use Rattle.std.specs.Int.{IsInRange}
-use Rattle.json_messages.specs.Messages.{IsFront, ReadsAgain, begins_field, blank_line, ends_header, framed, front_of, header_from, header_len, is_digit, length_field, length_in, most_body, number_from, number_in, with_digit}
+use Rattle.std.specs.List.{prefix_len}
+use Rattle.std.specs.Prelude.{◌||◌}
+use Rattle.json_messages.specs.Messages.{IsFront, ReadsAgain, begins_field, blank_line, ends_header, framed, front_of, header_from, header_len, is_blank, is_digit, length_field, length_in, most_body, number_from, number_in, skip, with_digit}
 use Rattle.json_messages.specs.declared.front.Front.TheVariants.{Message}
 
 -- ---- the number
@@ -113,9 +115,26 @@ field_no_cr : (ds : List ℕ) → no_cr ds ≡ true → no_cr (length_field ++ d
 unfolding no_cr
 field_no_cr ds h = h
 
-field_read : (ds : List ℕ) → length_in true (length_field ++ ds) ≡ number_in ds
+no_blank : (c : ℕ) → IsInRange 48 57 c → is_blank c ≡ false
+no_blank c h =
+    let s : (c == 32) ≡ false = ne_eqb c 32 (λ e. omega (arith, e, h)) in
+    let t : (c == 9) ≡ false = ne_eqb c 9 (λ e. omega (arith, e, h)) in
+    λ i. s i || t i
+
+-- No blank stands before digits, and one before them is skipped.
+no_blanks : (ds : List ℕ) → AllDigits 10 ds → prefix_len is_blank ds ≡ 0
+no_blanks [] a = refl
+no_blanks (c ∷ cs) a = let none : is_blank c ≡ false = no_blank c (tells_digits.parts c cs a).0 in rw none refl
+
+one_skipped : (ds : List ℕ) → prefix_len is_blank ds ≡ 0 → skip (32 ∷ ds) ≡ ds
+one_skipped ds none = let one : prefix_len is_blank (32 ∷ ds) ≡ 1 = ap (λ n. 1 + n) none in ap (λ n. drop n (32 ∷ ds)) one
+
+field_value : (ds : List ℕ) → length_in true (length_field ++ ds) ≡ number_in (skip (32 ∷ ds))
 unfolding length_in begins_field
-field_read ds = refl
+field_value ds = refl
+
+field_read : (ds : List ℕ) → AllDigits 10 ds → length_in true (length_field ++ ds) ≡ number_in ds
+field_read ds a = field_value ds ∙ ap number_in (one_skipped ds (no_blanks ds a))
 
 -- ---- the front
 
@@ -159,7 +178,7 @@ reads_again body rest fits =
     let within : fold 0 ds ≤ most_body = omega arith in
     let short : length ds ≤ 8 = length-decimal-le 8 n (omega arith) (omega arith) small in
     let head = length_field ++ ds in
-    let gives : length_in true head ≡ Some n = field_read ds ∙ (first_read ds a some within ∙ ap Some v) in
+    let gives : length_in true head ≡ Some n = field_read ds a ∙ (first_read ds a some within ∙ ap Some v) in
     let clean : no_cr head ≡ true = field_no_cr ds (digits_no_cr ds a) in
     let len : length head ≤ 4096 = grind arith in
     let front = front_here head body rest clean gives len in

@@ -1,8 +1,10 @@
 -- The messages of a byte stream: a header of fields, a blank line, and a body of so many bytes as
 -- the field Content-Length of the header says. Source: Debug Adapter Protocol, "Base protocol";
--- Language Server Protocol 3.17, "Base Protocol"; the limits, mos65.
-use Rattle.std.specs.Prelude.{ℕ, ◌+◌, ◌-◌, ◌*◌, ◌==◌, ◌≤◌, ◌≡◌, ◌&&◌, nat_le, nat_lt, Bool, true, if◌then◌else◌, List, [], ◌∷◌, ◌++◌, length, take, drop, Option, Some, None, option_and_then, codes, decimal}
-use Rattle.std.specs.List.{starts_with}
+-- Language Server Protocol 3.17, "Base Protocol"; letters and blanks of a field, RFC 9110, "Fields";
+-- the limits, mos65.
+use Rattle.std.specs.Prelude.{ℕ, ◌+◌, ◌-◌, ◌*◌, ◌==◌, ◌≤◌, ◌≡◌, ◌&&◌, ◌||◌, nat_le, nat_lt, Bool, true, if◌then◌else◌, List, [], ◌∷◌, ◌++◌, length, take, drop, Option, Some, None, option_and_then, codes, decimal}
+use Rattle.std.specs.List.{prefix_len, starts_with}
+use Rattle.std.specs.Str.{str_eq_ignore_ascii_case}
 use Rattle.json_messages.specs.declared.front.Front.{Front}
 use Rattle.json_messages.specs.declared.front.Front.TheVariants.{Message, Open, NoLength, LongHeader}
 
@@ -50,18 +52,34 @@ abbrev pub number_in : List ℕ → Option ℕ
 number_in [] = None
 number_in (b ∷ bs) = if is_digit b then number_from 0 (b ∷ bs) else None
 
--- What the field begins with that gives the length.
+-- What stands before the number where a message is written.
 abbrev pub length_field : List ℕ
 length_field = codes "Content-Length: "
 
+-- The name of the field that gives the length, and the colon behind it. Letters of either case name
+-- it.
+abbrev pub is_length_name : List ℕ → Bool
+is_length_name text = str_eq_ignore_ascii_case text (codes "Content-Length:")
+
 unfoldable pub begins_field : List ℕ → Bool
-begins_field bytes = starts_with (λ x y. x == y) bytes length_field
+begins_field bytes = is_length_name (take 15 bytes)
+
+-- What stands behind the blanks in front.
+abbrev pub is_blank : ℕ → Bool
+is_blank b = b == 32 || b == 9
+
+abbrev pub skip : List ℕ → List ℕ
+skip bytes = drop (prefix_len is_blank bytes) bytes
+
+-- The number of this field, before which blanks may stand.
+abbrev pub value_in : List ℕ → Option ℕ
+value_in field = number_in (skip (drop 15 field))
 
 -- The number of the first line that is this field. `begins` says whether a line begins here.
 unfoldable pub length_in : Bool → List ℕ → Option ℕ
 length_in begins [] = None
 length_in begins (b ∷ bs) = if begins && begins_field (b ∷ bs)
-    then number_in (drop 16 (b ∷ bs)) else length_in (b == 10) bs
+    then value_in (b ∷ bs) else length_in (b == 10) bs
 
 -- ---- what stands in front
 

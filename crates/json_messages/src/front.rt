@@ -1,8 +1,10 @@
 //! What stands in front of the bytes of a stream.
 
-ghost use Rattle.std.specs.Prelude.{◌≡◌, ◌≤◌, ◌+◌, IfSome, length, true};
-ghost use Rattle.json_messages.specs.Messages.{front_of, header_len, length_in, most_body};
-ghost use Rattle.json_messages.specs.Messages.{number_in};
+ghost use Rattle.std.specs.Prelude.{◌≡◌, ◌≤◌, ◌+◌, IfSome, drop, length, take, true};
+ghost use Rattle.std.specs.List.{prefix_len};
+ghost use Rattle.json_messages.specs.Messages.{begins_field, front_of, header_len, is_blank};
+ghost use Rattle.json_messages.specs.Messages.{is_length_name, length_in, most_body, number_in};
+ghost use Rattle.json_messages.specs.Messages.{skip, value_in};
 
 /// What stands in front of the bytes of a stream.
 #[derive(Clone, Copy)]
@@ -62,6 +64,74 @@ fn number_in(bytes: &[u8]) -> Option<usize>
     Some(number)
 }
 
+/// The bytes of the name of the field that gives the length, and of the colon behind it.
+const NAME_LEN: usize = 15;
+
+/// Returns whether a text is that name, in letters of either case, and the colon.
+fn is_length_name(text: &[u8]) -> bool
+    ensures { result ≡ is_length_name text.now }
+{
+    text.eq_ignore_ascii_case(b"Content-Length:")
+}
+
+/// Returns so many bytes of the front, or all if there are fewer.
+fn front_part(bytes: &[u8]) -> &[u8]
+    ensures { result.now ≡ take 15 bytes.now }
+{
+    if bytes.len() > NAME_LEN {
+        return &bytes[..NAME_LEN];
+    }
+    bytes
+}
+
+/// Returns whether the field that gives the length begins here.
+fn begins_field(bytes: &[u8]) -> bool
+    ensures { result ≡ begins_field bytes.now }
+{
+    is_length_name(front_part(bytes))
+}
+
+/// Returns whether a byte is a blank.
+fn is_blank(byte: u8) -> bool
+    ensures { result ≡ is_blank byte }
+{
+    byte == b' ' || byte == b'\t'
+}
+
+/// Counts the blanks at the front.
+fn blanks(bytes: &[u8]) -> usize
+    ensures counted { result ≡ prefix_len is_blank bytes.now }
+    ensures inside { result ≤ length bytes.now }
+{
+    bytes.iter().take_while(|byte| is_blank(**byte)).count()
+}
+
+/// Returns bytes without the blanks at their front.
+fn skip(bytes: &[u8]) -> &[u8]
+    ensures { result.now ≡ skip bytes.now }
+{
+    &bytes[blanks(bytes)..]
+}
+
+/// Returns what stands behind the name of a field and its colon.
+fn behind_name(field: &[u8]) -> &[u8]
+    ensures { result.now ≡ drop 15 field.now }
+{
+    if NAME_LEN <= field.len() {
+        &field[NAME_LEN..]
+    } else {
+        &field[field.len()..]
+    }
+}
+
+/// Returns the number of a field that gives the length, before which blanks may stand.
+fn value_in(field: &[u8]) -> Option<usize>
+    ensures value { result ≡ value_in field.now }
+    ensures within { IfSome result (λ n. n ≤ most_body) }
+{
+    number_in(skip(behind_name(field)))
+}
+
 /// Returns the length that the first field Content-Length of a header gives.
 #[tactic(auto, using(crate::proofs::Fronts::length_end))]
 fn length_in(header: &[u8]) -> Option<usize>
@@ -70,8 +140,8 @@ fn length_in(header: &[u8]) -> Option<usize>
 {
     let mut begins = true;
     for index in 0..header.len() {
-        if begins && header[index..].starts_with(b"Content-Length: ") {
-            return number_in(&header[index + 16..]);
+        if begins && begins_field(&header[index..]) {
+            return value_in(&header[index..]);
         }
         begins = header[index] == b'\n';
     }
