@@ -3,6 +3,7 @@ pub mod Bodies
 pub mod Counting
 pub mod Halts
 pub mod Listed
+pub mod Members
 pub mod Messages
 pub mod Names
 pub mod References

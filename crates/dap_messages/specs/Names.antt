@@ -93,13 +93,13 @@ name_from true name = find (known_name name) name moves_by_instructions
 name_from false name = known_name name
 
 abbrev pub name_by : Data → Option (List ℕ) → RequestName
-name_by message None = to.NoRequest
+name_by message None = to.InSession session.Other
 name_by message (Some name) = name_from (by_instructions message) name
 
 abbrev pub is_request : Data → Bool
 is_request message = is_text (codes "request") (text_at (codes "/type") message)
 
--- The command decides.
+-- The command decides. A request without one is another request, a message of another type is none.
 abbrev pub name_of : Data → RequestName
 name_of message = if is_request message
     then name_by message (text_at (codes "/command") message) else to.NoRequest

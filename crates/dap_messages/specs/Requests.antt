@@ -2,10 +2,12 @@
 -- an argument that is missing, mos65.
 use Rattle.std.specs.Prelude.{ℕ, ◌==◌, min, nat_le, Bool, false, true, bytes_eq, if◌then◌else◌, List, [], ◌∷◌, codes, map, Option, Some, None, option_and_then, unwrap_or}
 use Rattle.dap_messages.specs.Counting.{counting_of}
+use Rattle.dap_messages.specs.Members.{wrong_member}
 use Rattle.dap_messages.specs.Names.{name_of}
 use Rattle.dap_messages.specs.References.{offset_at, place_at}
 use Rattle.dap_messages.specs.Seen.{SeenBreakpoints, SeenChange, SeenCondition, SeenInstruction, SeenLaunch, SeenQuery, SeenRequest, SeenSessionRequest, SeenSource}
 use Rattle.dap_messages.specs.Seen as seen
+use Rattle.dap_messages.specs.declared.members.Member.{Member}
 use Rattle.dap_messages.specs.declared.names.ChangeName.{ChangeName}
 use Rattle.dap_messages.specs.declared.names.ChangeName.TheVariants as change
 use Rattle.dap_messages.specs.declared.names.ListName.{ListName}
@@ -214,9 +216,17 @@ launch_of request = record {
   stop_on_entry = unwrap_or (flag_at (codes "/arguments/stopOnEntry") request) true;
 }
 
+-- A launch is wrong if a member has another value than one that it can have.
+abbrev pub launch_by : Data → Option Member → SeenRequest
+launch_by request (Some member) = seen.wrong_launch member
+launch_by request None = seen.launch (launch_of request)
+
+abbrev pub launch_asked : Data → SeenRequest
+launch_asked request = launch_by request (wrong_member request)
+
 abbrev pub request_by : Data → RequestName → SeenRequest
 request_by message to.Initialize = seen.initialize (counting_of message)
-request_by message to.Launch = seen.launch (launch_of message)
+request_by message to.Launch = launch_asked message
 request_by message to.Disconnect = seen.disconnect
 request_by message (to.InSession name) = seen.in_session (asked_by message name)
 request_by message to.NoRequest = seen.no_request

@@ -2,6 +2,7 @@
 use Rattle.std.specs.Prelude.{ℕ, ℤ, Bool, List, map, string_bytes, Option, option_map, String}
 use Rattle.std.specs.declared.alloc.Global.{Global}
 use Rattle.dap_messages.specs.declared.counting.Counting.{Counting}
+use Rattle.dap_messages.specs.declared.members.Member.{Member}
 use Rattle.dap_messages.specs.declared.request.Breakpoints.{Breakpoints}
 use Rattle.dap_messages.specs.declared.request.Breakpoints.TheVariants as list
 use Rattle.dap_messages.specs.declared.request.Change.{Change}
@@ -157,6 +158,7 @@ launch_view l = record {
 pub data SeenRequest : Type 0 where
   initialize : Counting → SeenRequest
   launch : SeenLaunch → SeenRequest
+  wrong_launch : Member → SeenRequest
   disconnect : SeenRequest
   in_session : SeenSessionRequest → SeenRequest
   no_request : SeenRequest
@@ -164,6 +166,7 @@ pub data SeenRequest : Type 0 where
 abbrev pub request_view : Request → SeenRequest
 request_view (request.Initialize counting) = initialize counting
 request_view (request.Launch asked) = launch (launch_view asked)
+request_view (request.WrongLaunch member) = wrong_launch member
 request_view request.Disconnect = disconnect
 request_view (request.InSession asked) = in_session (session_view asked)
 request_view request.NoRequest = no_request

@@ -230,7 +230,8 @@ pub fn is_text(message: &Value, path: &str, text: &str) -> bool
     }
 }
 
-/// Returns which request a message is, by its command. A move by instructions is told apart.
+/// Returns which request a message is, by its command. A move by instructions is told apart. A
+/// request without a command is another request.
 pub fn name_of(message: &Value) -> RequestName
     ensures { result ≡ name_of (view message.now) }
 {
@@ -246,7 +247,7 @@ pub fn name_of(message: &Value) -> RequestName
                 asked
             }
         }
-        None => RequestName::NoRequest,
+        None => RequestName::InSession(SessionName::Other),
     }
 }
 

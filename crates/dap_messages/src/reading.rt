@@ -5,7 +5,8 @@ ghost use Rattle.dap_messages.specs.Requests.{asked_by, asked_of, breakpoints_by
 ghost use Rattle.dap_messages.specs.Requests.{condition_of, is_of_thread, needs_thread, page_in};
 ghost use Rattle.dap_messages.specs.Requests.{scope_in, scope_of};
 ghost use Rattle.dap_messages.specs.Requests.{count_in, data_of, instruction_of, is_console};
-ghost use Rattle.dap_messages.specs.Requests.{items_in, listed_in, launch_of, memory_in, query_by};
+ghost use Rattle.dap_messages.specs.Requests.{items_in, listed_in, launch_asked};
+ghost use Rattle.dap_messages.specs.Requests.{launch_of, memory_in, query_by};
 ghost use Rattle.dap_messages.specs.Requests.{request_of, source_of, target_in};
 ghost use Rattle.dap_messages.specs.Seen.{breakpoints_view, change_view, condition_view};
 ghost use Rattle.dap_messages.specs.Seen.{instruction_view, launch_view, query_view, request_view};
@@ -14,6 +15,7 @@ ghost use Rattle.json_messages.specs.Fields.{text_at};
 ghost use Rattle.serde_json.specs.View.{items_view, view};
 
 use crate::counting::Counting;
+use crate::members::wrong_member;
 use crate::names::{ChangeName, ListName, QueryName, RequestName, SessionName, name_of};
 use crate::references::{offset_at, place_at};
 use crate::request::{
@@ -385,6 +387,19 @@ fn launch_of(alloc: Global, request: &Value) -> Result<Launch, AllocError>
     })
 }
 
+/// Returns what a launch asks for, or which member has another value than one that it can have.
+fn launch_asked(alloc: Global, message: &Value) -> Result<Request<'_>, AllocError>
+    ensures { IfOk result (λ r. request_view r ≡ launch_asked (view message.now)) }
+{
+    match wrong_member(message) {
+        Some(member) => Ok(Request::WrongLaunch(member)),
+        None => {
+            let launch = launch_of(alloc, message)?;
+            Ok(Request::Launch(launch))
+        }
+    }
+}
+
 /// Returns what a message asks for.
 ///
 /// Errors: `AllocError` if an allocation fails.
@@ -393,10 +408,7 @@ pub fn request_of(alloc: Global, message: &Value) -> Result<Request<'_>, AllocEr
 {
     match name_of(message) {
         RequestName::Initialize => Ok(Request::Initialize(Counting::of(message))),
-        RequestName::Launch => {
-            let launch = launch_of(alloc, message)?;
-            Ok(Request::Launch(launch))
-        }
+        RequestName::Launch => launch_asked(alloc, message),
         RequestName::Disconnect => Ok(Request::Disconnect),
         RequestName::InSession(name) => {
             let asked = asked_by(alloc, message, name)?;

@@ -4,6 +4,7 @@ ghost use Rattle.std.specs.Prelude.{◌≡◌, IfOk};
 ghost use Rattle.dap_messages.specs.Seen.{launch_view, text_view};
 
 use crate::counting::Counting;
+use crate::members::Member;
 use std::alloc::{AllocError, Global};
 
 /// A move of the machine.
@@ -267,6 +268,8 @@ pub enum Request<'a> {
     Initialize(Counting),
     /// A session on a program.
     Launch(Launch),
+    /// A launch that gives this member another value than one that it can have.
+    WrongLaunch(Member),
     /// The end of the session.
     Disconnect,
     /// A request that needs a session.

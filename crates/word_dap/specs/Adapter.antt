@@ -18,7 +18,8 @@ use Rattle.word_dap.specs.declared.adapter.Adapter.{Adapter}
 use Rattle.dap_messages.specs.declared.counting.Counting.{Counting}
 use Rattle.mon_session.specs.Course.{ShowsOnly}
 
--- ---- a client that has said how it counts: a launch comes once, and before what needs a session
+-- ---- a client that has said how it counts: a launch comes once, and before what needs a session.
+-- What is no request is not answered
 
 abbrev pub ObeysLaunched : SessionRequest → Counting → Option Client → Option Client → List Said
     → Type 0
@@ -42,14 +43,16 @@ ObeysBegun (to.Launch launch) counting old new said = Launches (launch_view laun
 ObeysBegun to.Disconnect counting old new said = (new ≡ old) × (said ≡ all_done)
 ObeysBegun (to.InSession asked) counting old new said
     = ObeysLaunched asked counting old new said
+ObeysBegun to.NoRequest counting old new said = (new ≡ old) × (said ≡ [])
 ObeysBegun asked counting old new said = ⊥
 
 -- ---- a client that has not
 
-abbrev pub ObeysFirst : Request → Option Counting → List Said → Type 0
-ObeysFirst (to.Initialize counting) new said
+abbrev pub ObeysFirst : Request → Option Counting → Option Counting → List Said → Type 0
+ObeysFirst (to.Initialize counting) old new said
     = (new ≡ Some counting) × (said ≡ done capabilities ∷ [])
-ObeysFirst asked new said = ⊥
+ObeysFirst to.NoRequest old new said = (new ≡ old) × (said ≡ [])
+ObeysFirst asked old new said = ⊥
 
 -- ---- what a refused request changes: nothing of a session
 
@@ -71,7 +74,7 @@ RestsIfRefused f old new
 
 abbrev pub ObeysBy : Option Counting → Request → Adapter → Adapter → List Said → Type 0
 ObeysBy None asked old new said
-    = ObeysFirst asked new.counting said × (new.client ≡ old.client)
+    = ObeysFirst asked old.counting new.counting said × (new.client ≡ old.client)
 ObeysBy (Some counting) asked old new said
     = ObeysBegun asked counting old.client new.client said × (new.counting ≡ old.counting)
 
@@ -81,6 +84,7 @@ ObeysAdapter asked old new said = ObeysBy old.counting asked old new said
 -- A launch that leaves no session ends, which is said behind its refusal.
 abbrev pub is_launch : Request → Bool
 is_launch (to.Launch launch) = true
+is_launch (to.WrongLaunch member) = true
 is_launch asked = false
 
 abbrev pub ends : Request → Option Client → Bool
@@ -100,16 +104,18 @@ abbrev pub MayRefuseIn : SessionRequest → Option Client → Type 0
 MayRefuseIn asked (Some client) = MayRefuseAt asked client
 MayRefuseIn asked None = ⊤
 
--- A launch that comes again, or that names no program that can be loaded; `initialize` that comes
--- again, and what is no request.
+-- A launch that comes again, that gives a member a value that it cannot have, or that names no
+-- program that can be loaded; `initialize` that comes again.
 abbrev pub MayRefuseBegun : Request → Option Client → Type 0
 MayRefuseBegun to.Disconnect client = ⊥
+MayRefuseBegun to.NoRequest client = ⊥
 MayRefuseBegun (to.InSession asked) client = MayRefuseIn asked client
 MayRefuseBegun asked client = ⊤
 
 -- `initialize` comes first.
 abbrev pub MayRefuseFirst : Request → Type 0
 MayRefuseFirst (to.Initialize counting) = ⊥
+MayRefuseFirst to.NoRequest = ⊥
 MayRefuseFirst asked = ⊤
 
 abbrev pub MayRefuseBy : Option Counting → Request → Option Client → Type 0

@@ -33,6 +33,13 @@ fn launched(alloc: Global) -> Result<Vec<Message>, AllocError>
     with_event(all_done(alloc), "initialized", nothing(alloc))
 }
 
+/// Returns nothing, as the answer to what is no request.
+fn unanswered(alloc: Global) -> Result<Vec<Message>, AllocError>
+    ensures { IfOk result (λ ms. each said_of ms.items ≡ []) }
+{
+    Ok(Vec::new(alloc))
+}
+
 /// Begins a session, and returns the answer to its launch.
 fn begin_first<H: Files + AllocGlobal>(
     rt: &H,
@@ -80,10 +87,9 @@ fn serve_begun<H: Files + AllocGlobal>(
     ensures why { IfErr result (λ f. IfRefused f (MayRefuseBegun asked.entry client.old)) }
 {
     match asked {
-        Request::Initialize(_) | Request::NoRequest => {
-            Err(refused(rt.alloc(), "this cannot be served here"))
-        }
+        Request::Initialize(_) => Err(refused(rt.alloc(), "initialize comes once")),
         Request::Launch(asked) => launch(rt, client, &asked),
+        Request::WrongLaunch(member) => Err(refused(rt.alloc(), member.words())),
         Request::Disconnect => or_memory(all_done(rt.alloc())),
         Request::InSession(asked) => match client {
             Some(client) => answer(rt, client, counting, asked),
@@ -92,6 +98,7 @@ fn serve_begun<H: Files + AllocGlobal>(
                 Err(refused(rt.alloc(), "no program was launched"))
             }
         },
+        Request::NoRequest => or_memory(unanswered(rt.alloc())),
     }
 }
 
@@ -104,7 +111,7 @@ fn serve_first(
     asked: Request<'_>,
 ) -> Result<Vec<Message>, Fault>
     ensures done { IfOk result
-        (λ ms. ObeysFirst asked.entry counting.new (each said_of ms.items)) }
+        (λ ms. ObeysFirst asked.entry counting.old counting.new (each said_of ms.items)) }
     ensures refused { IfErr result (λ f. CountsIfRefused f counting.old counting.new) }
     ensures why { IfErr result (λ f. IfRefused f (MayRefuseFirst asked.entry)) }
 {
@@ -113,6 +120,7 @@ fn serve_first(
             *counting = Some(said);
             or_memory(answered(alloc, capabilities(alloc)))
         }
+        Request::NoRequest => or_memory(unanswered(alloc)),
         other => {
             drop(other);
             Err(refused(alloc, "initialize comes first"))
@@ -152,7 +160,7 @@ fn refusal(alloc: Global, words: String) -> Result<Vec<Message>, AllocError>
 fn is_launch(asked: &Request<'_>) -> bool
     ensures { result ≡ is_launch asked.now }
 {
-    matches!(asked, Request::Launch(_))
+    matches!(asked, Request::Launch(_) | Request::WrongLaunch(_))
 }
 
 /// Returns whether the session ends where a request is refused: at a launch that leaves none.
