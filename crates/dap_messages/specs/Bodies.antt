@@ -26,13 +26,14 @@ all_true names = object_of (map (λ name. (name, yes)) names)
 
 -- What the adapter can do.
 unfoldable pub capabilities : Data
-capabilities = all_true (codes "supportsCompletionsRequest"
+capabilities = all_true (codes "supportsCancelRequest" ∷ codes "supportsCompletionsRequest"
     ∷ codes "supportsConditionalBreakpoints" ∷ codes "supportsConfigurationDoneRequest"
     ∷ codes "supportsDataBreakpoints" ∷ codes "supportsDisassembleRequest"
     ∷ codes "supportsEvaluateForHovers" ∷ codes "supportsExceptionInfoRequest"
     ∷ codes "supportsGotoTargetsRequest" ∷ codes "supportsHitConditionalBreakpoints"
     ∷ codes "supportsInstructionBreakpoints" ∷ codes "supportsReadMemoryRequest"
-    ∷ codes "supportsRestartRequest" ∷ codes "supportsSetVariable" ∷ codes "supportsStepBack"
+    ∷ codes "supportsRestartRequest" ∷ codes "supportsSetExpression"
+    ∷ codes "supportsSetVariable" ∷ codes "supportsStepBack"
     ∷ codes "supportsSteppingGranularity" ∷ codes "supportsTerminateRequest"
     ∷ codes "supportsWriteMemoryRequest" ∷ [])
 

@@ -51,6 +51,7 @@ names = (codes "initialize", to.Initialize) ∷ (codes "launch", to.Launch)
     ∷ sets (codes "setInstructionBreakpoints") list.Instruction
     ∷ sets (codes "setDataBreakpoints") list.Data
     ∷ changes (codes "evaluate") change.Evaluate ∷ changes (codes "setVariable") change.SetVariable
+    ∷ changes (codes "setExpression") change.SetExpression
     ∷ changes (codes "goto") change.Goto ∷ changes (codes "writeMemory") change.WriteMemory
     ∷ shows (codes "threads") query.Threads ∷ shows (codes "stackTrace") query.StackTrace
     ∷ shows (codes "scopes") query.Scopes ∷ shows (codes "variables") query.Variables
@@ -60,7 +61,7 @@ names = (codes "initialize", to.Initialize) ∷ (codes "launch", to.Launch)
     ∷ shows (codes "completions") query.Completions
     ∷ shows (codes "exceptionInfo") query.ExceptionInfo
     ∷ shows (codes "setExceptionBreakpoints") query.SetExceptionBreakpoints
-    ∷ shows (codes "pause") query.Pause
+    ∷ shows (codes "pause") query.Pause ∷ shows (codes "cancel") query.Cancel
     ∷ in_session (codes "configurationDone") session.ConfigurationDone
     ∷ in_session (codes "restart") session.Restart
     ∷ in_session (codes "terminate") session.Terminate ∷ []

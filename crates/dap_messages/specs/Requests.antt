@@ -1,6 +1,6 @@
 -- What a message asks for, with its arguments. Source: Debug Adapter Protocol 1.65; what stands for
 -- an argument that is missing, mos65.
-use Rattle.std.specs.Prelude.{ℕ, ◌==◌, min, nat_le, Bool, false, true, bytes_eq, if◌then◌else◌, List, [], ◌∷◌, codes, map, Option, Some, None, option_and_then, unwrap_or}
+use Rattle.std.specs.Prelude.{ℕ, ◌==◌, min, ◌||◌, nat_le, Bool, false, true, bytes_eq, if◌then◌else◌, List, [], ◌∷◌, codes, map, Option, Some, None, option_and_then, unwrap_or}
 use Rattle.dap_messages.specs.Counting.{counting_of}
 use Rattle.dap_messages.specs.Members.{wrong_member}
 use Rattle.dap_messages.specs.Names.{name_of}
@@ -134,11 +134,27 @@ abbrev pub is_console : Data → Bool
 is_console request = bytes_eq
     (unwrap_or (text_at (codes "/arguments/context") request) (codes "repl")) (codes "repl")
 
+-- An expression is a register, or a place: a variable of their scope, or of that of names.
+abbrev pub is_register : List ℕ → Bool
+is_register text = bytes_eq text (codes "PC") || bytes_eq text (codes "A")
+    || bytes_eq text (codes "X") || bytes_eq text (codes "Y") || bytes_eq text (codes "S")
+    || bytes_eq text (codes "P")
+
+abbrev pub scope_expressed : List ℕ → Scope
+scope_expressed text = if is_register text then scope.Registers else scope.Symbols
+
+abbrev pub expression_change : Data → SeenChange
+expression_change request = seen.set_variable
+    (Some (scope_expressed (text_in (codes "/arguments/expression") request)))
+    (text_in (codes "/arguments/expression") request)
+    (text_in (codes "/arguments/value") request)
+
 abbrev pub change_by : Data → ChangeName → SeenChange
 change_by request change.Evaluate
     = seen.evaluate (text_in (codes "/arguments/expression") request) (is_console request)
 change_by request change.SetVariable = seen.set_variable (scope_in request)
     (text_in (codes "/arguments/name") request) (text_in (codes "/arguments/value") request)
+change_by request change.SetExpression = expression_change request
 change_by request change.Goto = seen.goto (target_in request)
 change_by request change.WriteMemory = seen.write_memory (memory_in request)
     (text_in (codes "/arguments/data") request) (is_set (codes "/arguments/allowPartial") request)
@@ -166,6 +182,7 @@ query_by request query.Completions = seen.completions (text_in (codes "/argument
 query_by request query.ExceptionInfo = seen.exception_info
 query_by request query.SetExceptionBreakpoints = seen.set_exception_breakpoints
 query_by request query.Pause = seen.pause
+query_by request query.Cancel = seen.cancel
 
 -- ---- requests
 

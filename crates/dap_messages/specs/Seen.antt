@@ -83,6 +83,7 @@ pub data SeenQuery : Type 0 where
   exception_info : SeenQuery
   set_exception_breakpoints : SeenQuery
   pause : SeenQuery
+  cancel : SeenQuery
 
 abbrev pub query_view : Query → SeenQuery
 query_view query.Threads = threads
@@ -97,6 +98,7 @@ query_view (query.Completions text column) = completions text.now column
 query_view query.ExceptionInfo = exception_info
 query_view query.SetExceptionBreakpoints = set_exception_breakpoints
 query_view query.Pause = pause
+query_view query.Cancel = cancel
 
 -- ---- requests of a session
 

@@ -15,6 +15,7 @@ pub fn capabilities(alloc: Global) -> Result<Value, AllocError>
     ensures { IfOk result (λ v. view v ≡ capabilities) }
 {
     Object::new(alloc)
+        .flag("supportsCancelRequest", true)
         .flag("supportsCompletionsRequest", true)
         .flag("supportsConditionalBreakpoints", true)
         .flag("supportsConfigurationDoneRequest", true)
@@ -27,6 +28,7 @@ pub fn capabilities(alloc: Global) -> Result<Value, AllocError>
         .flag("supportsInstructionBreakpoints", true)
         .flag("supportsReadMemoryRequest", true)
         .flag("supportsRestartRequest", true)
+        .flag("supportsSetExpression", true)
         .flag("supportsSetVariable", true)
         .flag("supportsStepBack", true)
         .flag("supportsSteppingGranularity", true)

@@ -23,6 +23,7 @@ pub enum ListName {
 pub enum ChangeName {
     Evaluate,
     SetVariable,
+    SetExpression,
     Goto,
     WriteMemory,
 }
@@ -42,6 +43,7 @@ pub enum QueryName {
     ExceptionInfo,
     SetExceptionBreakpoints,
     Pause,
+    Cancel,
 }
 
 /// Requests of a session.
@@ -68,7 +70,7 @@ pub enum RequestName {
 }
 
 /// The names of requests, each with what it asks for, but for moves by instructions.
-const NAMES: [(&str, RequestName); 31] = [
+const NAMES: [(&str, RequestName); 33] = [
     ("initialize", RequestName::Initialize),
     ("launch", RequestName::Launch),
     ("disconnect", RequestName::Disconnect),
@@ -115,6 +117,10 @@ const NAMES: [(&str, RequestName); 31] = [
     (
         "setVariable",
         RequestName::InSession(SessionName::Changes(ChangeName::SetVariable)),
+    ),
+    (
+        "setExpression",
+        RequestName::InSession(SessionName::Changes(ChangeName::SetExpression)),
     ),
     (
         "goto",
@@ -171,6 +177,10 @@ const NAMES: [(&str, RequestName); 31] = [
     (
         "pause",
         RequestName::InSession(SessionName::Shows(QueryName::Pause)),
+    ),
+    (
+        "cancel",
+        RequestName::InSession(SessionName::Shows(QueryName::Cancel)),
     ),
     (
         "configurationDone",

@@ -5,6 +5,7 @@ ghost use Rattle.dap_messages.specs.Requests.{asked_by, asked_of, breakpoints_by
 ghost use Rattle.dap_messages.specs.Requests.{condition_of, is_of_thread, needs_thread, page_in};
 ghost use Rattle.dap_messages.specs.Requests.{scope_in, scope_of};
 ghost use Rattle.dap_messages.specs.Requests.{count_in, data_of, instruction_of, is_console};
+ghost use Rattle.dap_messages.specs.Requests.{expression_change, is_register, scope_expressed};
 ghost use Rattle.dap_messages.specs.Requests.{items_in, listed_in, launch_asked};
 ghost use Rattle.dap_messages.specs.Requests.{launch_of, memory_in, query_by};
 ghost use Rattle.dap_messages.specs.Requests.{request_of, source_of, target_in};
@@ -219,6 +220,37 @@ fn is_console(request: &Value) -> bool
     text_or(request, "/arguments/context", "repl") == "repl"
 }
 
+/// Returns whether an expression is a register.
+fn is_register(text: &str) -> bool
+    ensures { result ≡ is_register text.now }
+{
+    text == "PC" || text == "A" || text == "X" || text == "Y" || text == "S" || text == "P"
+}
+
+/// Returns the scope that an expression is a variable of.
+fn scope_expressed(text: &str) -> Scope
+    ensures { result ≡ scope_expressed text.now }
+{
+    if is_register(text) {
+        Scope::Registers
+    } else {
+        Scope::Symbols
+    }
+}
+
+/// Returns the change of an expression that a request asks for.
+fn expression_change(request: &Value) -> Change<'_>
+    ensures { change_view result ≡ expression_change (view request.now) }
+{
+    let name = text_or(request, "/arguments/expression", "");
+    let value = text_or(request, "/arguments/value", "");
+    Change::SetVariable {
+        scope: Some(scope_expressed(name)),
+        name,
+        value,
+    }
+}
+
 /// Returns the change that a request asks for.
 fn change_by(request: &Value, name: ChangeName) -> Change<'_>
     ensures { change_view result ≡ change_by (view request.now) name }
@@ -233,6 +265,7 @@ fn change_by(request: &Value, name: ChangeName) -> Change<'_>
             name: text_or(request, "/arguments/name", ""),
             value: text_or(request, "/arguments/value", ""),
         },
+        ChangeName::SetExpression => expression_change(request),
         ChangeName::Goto => Change::Goto(target_in(request)),
         ChangeName::WriteMemory => Change::WriteMemory {
             address: memory_in(request),
@@ -282,6 +315,7 @@ fn query_by(request: &Value, name: QueryName) -> Query<'_>
         QueryName::ExceptionInfo => Query::ExceptionInfo,
         QueryName::SetExceptionBreakpoints => Query::SetExceptionBreakpoints,
         QueryName::Pause => Query::Pause,
+        QueryName::Cancel => Query::Cancel,
     }
 }
 

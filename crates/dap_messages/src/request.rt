@@ -173,6 +173,8 @@ pub enum Query<'a> {
     SetExceptionBreakpoints,
     /// A stop: the machine stands already.
     Pause,
+    /// The end of another request: each is answered before the next is read.
+    Cancel,
 }
 
 /// What a message asks of a session.
