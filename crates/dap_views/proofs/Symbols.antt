@@ -10,7 +10,7 @@ use Rattle.source_map.specs.Names.{Named, named}
 use Rattle.source_map.specs.declared.names.Name.{Name}
 
 abbrev pub symbol_shown : List ℕ → Name → Data
-symbol_shown memory name = byte_variable (utf8_lossy name.text.items) (slice_index memory name.address)
+symbol_shown memory name = byte_variable (utf8_lossy name.text.items) name.address (slice_index memory name.address)
 
 pub symbols_of : (memory : List ℕ) (names : List Name) → map (symbol_shown memory) names ≡ symbols_shown memory (map named names)
-symbols_of memory names = sym (map-map (λ (n : Named). byte_variable (utf8_lossy n.text) (slice_index memory n.address)) named names)
+symbols_of memory names = sym (map-map (λ (n : Named). byte_variable (utf8_lossy n.text) n.address (slice_index memory n.address)) named names)

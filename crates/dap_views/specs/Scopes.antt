@@ -17,7 +17,8 @@ use Rattle.source_map.specs.Names.{Named}
 
 -- The byte at an address, under its address.
 abbrev pub cell : List ℕ → ℕ → Data
-cell memory address = byte_variable (address_text address) (slice_index memory address)
+cell memory address
+    = byte_variable (address_text address) address (slice_index memory address)
 
 -- So many from an address on.
 unfoldable pub cells : List ℕ → ℕ → ℕ → List Data
@@ -33,7 +34,8 @@ stack_shown s = cells s.bus.memory (257 + s.regs.s) (512 - (257 + s.regs.s))
 -- The bytes at all names of the program, each under its name, in the order of their definition.
 abbrev pub symbols_shown : List ℕ → List Named → List Data
 symbols_shown memory names = each
-    (λ name. byte_variable (utf8_lossy name.text) (slice_index memory name.address)) names
+    (λ name. byte_variable (utf8_lossy name.text) name.address
+    (slice_index memory name.address)) names
 
 -- ---- scopes
 

@@ -3,7 +3,7 @@ use Rattle.std.specs.Prelude.{ℕ, Bool, false, if◌then◌else◌, List, [], �
 use Rattle.std.specs.Str.Lossy.{utf8_lossy}
 use Rattle.json_messages.specs.Values.{count, object_of, word}
 use Rattle.dap_messages.specs.Bodies.{list_body}
-use Rattle.dap_messages.specs.Texts.{address_text}
+use Rattle.dap_messages.specs.Texts.{address_text, reference}
 use Rattle.model.specs.Effect.{status}
 use Rattle.model.specs.declared.registers.Flags.{Flags}
 use Rattle.model.specs.declared.registers.Regs.{Regs}
@@ -39,8 +39,11 @@ abbrev pub plain_variable : List ℕ → List ℕ → Data
 plain_variable name value = object_of ((codes "name", word name) ∷ (codes "value", word value)
     ∷ (codes "variablesReference", count 0) ∷ [])
 
-abbrev pub byte_variable : List ℕ → ℕ → Data
-byte_variable name byte = variable name (byte_text byte)
+-- A byte has a reference to its address, by which the memory there is read.
+abbrev pub byte_variable : List ℕ → ℕ → ℕ → Data
+byte_variable name address byte = object_of ((codes "evaluateName", word name)
+    ∷ (codes "memoryReference", word (reference address)) ∷ (codes "name", word name)
+    ∷ (codes "value", word (byte_text byte)) ∷ (codes "variablesReference", count 0) ∷ [])
 
 abbrev pub register_variable : List ℕ → Regs → Register → Data
 register_variable name regs register = variable name (register_text regs register)

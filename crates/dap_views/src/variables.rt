@@ -14,7 +14,7 @@ ghost use Rattle.source_map.specs.Names.{named};
 
 use crate::paged::Paged;
 use crate::texts::byte_text;
-use dap_messages::{Page, Scope, address_text};
+use dap_messages::{Page, Scope, address_text, reference};
 use json_messages::Object;
 use model::{Flags, Regs};
 use mon_lines::Register;
@@ -83,11 +83,17 @@ fn plain_variable(
         .build()
 }
 
-/// Returns a byte as a variable.
-fn byte_variable(alloc: Global, name: &str, byte: u8) -> Result<Value, AllocError>
-    ensures { IfOk result (λ v. view v ≡ byte_variable name.now byte) }
+/// Returns the byte at an address as a variable.
+fn byte_variable(alloc: Global, name: &str, address: u16, byte: u8) -> Result<Value, AllocError>
+    ensures { IfOk result (λ v. view v ≡ byte_variable name.now address byte) }
 {
-    variable(alloc, name, byte_text(alloc, byte))
+    Object::new(alloc)
+        .word("evaluateName", name)
+        .text("memoryReference", reference(alloc, address))
+        .word("name", name)
+        .text("value", byte_text(alloc, byte))
+        .count("variablesReference", 0)
+        .build()
 }
 
 /// Returns a register as a variable.
@@ -141,17 +147,18 @@ fn flags(alloc: Global, page: Paged, flags: Flags) -> Paged
         .with(flag_variable(alloc, "C", flags.c))
 }
 
-/// Returns a byte as a variable of a name, if memory did not run out for that.
+/// Returns the byte at an address as a variable of a name, if memory did not run out for that.
 fn byte_named(
     alloc: Global,
     name: Result<String, AllocError>,
+    address: u16,
     byte: u8,
 ) -> Result<Value, AllocError>
     ensures { (bytes : List ℕ) → IfOk name (λ s. string_bytes s ≡ bytes)
-        → IfOk result (λ v. view v ≡ byte_variable bytes byte) }
+        → IfOk result (λ v. view v ≡ byte_variable bytes address byte) }
 {
     let name = name?;
-    byte_variable(alloc, name.as_str(), byte)
+    byte_variable(alloc, name.as_str(), address, byte)
 }
 
 /// Returns a page of the bytes at names, each under its name. None was shown.
@@ -162,7 +169,7 @@ fn symbols(alloc: Global, page: Paged, session: &Session, names: &[Name]) -> Pag
     let mut page = page;
     for name in names {
         let text = String::from_utf8_lossy(alloc, name.text.as_slice());
-        page = page.with(byte_named(alloc, text, session.peek(name.address)));
+        page = page.with(byte_named(alloc, text, name.address, session.peek(name.address)));
     }
     page
 }
@@ -176,7 +183,7 @@ fn cells(alloc: Global, page: Paged, session: &Session, from: u16, to: u16) -> P
     let mut page = page;
     for address in from..to {
         let name = address_text(alloc, address);
-        page = page.with(byte_named(alloc, name, session.peek(address)));
+        page = page.with(byte_named(alloc, name, address, session.peek(address)));
     }
     page
 }
