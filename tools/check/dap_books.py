@@ -122,7 +122,8 @@ class Book:
     def make(self):
         """A random request."""
         kinds = [self.move] * 6 + [self.stack] * 3 + [self.scopes] * 2 + [self.variables] * 3 + [
-            self.set_variable, self.evaluate, self.evaluate, self.breakpoints, self.breakpoints,
+            self.set_variable, self.set_expression, self.evaluate, self.evaluate,
+            self.breakpoints, self.breakpoints,
             self.instructions, self.watch, self.goto, self.memory, self.written, self.rows,
             self.completed, self.unserved, self.small]
         self.dice.choice(kinds)()
@@ -203,6 +204,17 @@ class Book:
             rows = self.ask("variables", variablesReference=number)[1]["variables"]
             shown = [it["value"] for it in rows if it["name"] == row["name"]]
             self.right(shown == [body["value"]], f"{row['name']} is set to {body}, and is {shown}")
+
+    def set_expression(self):
+        names = [it["evaluateName"] for rows in self.references.values() for it in rows or []
+                 if "evaluateName" in it]
+        name = self.dice.choice([*names, "A", "$0080", "x y", "", "cycles"])
+        value = self.dice.choice(("1", "0", "$12", "blue", "", "-1", "256", "65536", "1 2"))
+        is_good, is_spoiled, body, made = self.sent("setExpression", expression=name, value=value)
+        if is_good and not is_spoiled:
+            told = self.ask("evaluate", expression=name, context="watch")
+            self.right(told[0] and told[1]["result"] == body["value"],
+                       f"{name} is set to {body}, and is {told}")
 
     def evaluate(self):
         context = self.dice.choice(("repl", "repl", "watch", "hover", "clipboard", "variables"))
@@ -332,14 +344,14 @@ class Book:
         self.right(not is_good, f"{command} is served: {body}")
 
     def small(self):
-        command = self.dice.choice(("setExceptionBreakpoints", "exceptionInfo", "pause", "restart",
+        command = self.dice.choice(("setExceptionBreakpoints", "exceptionInfo", "pause", "cancel", "restart",
                                     "configurationDone", "initialize", "launch"))
         arguments = {"setExceptionBreakpoints": {"filters": []}, "exceptionInfo": {"threadId": 1},
                      "pause": {"threadId": 1}, "launch": {"program": self.path}}.get(command, {})
         is_good, is_spoiled, body, _ = self.sent(command, **arguments)
         if command in ("initialize", "launch"):
             self.right(not is_good, f"{command} a second time: {body}")
-        if command in ("setExceptionBreakpoints", "restart"):
+        if command in ("setExceptionBreakpoints", "cancel", "restart"):
             self.right(is_good or is_spoiled, f"{command}: {body}")
 
 

@@ -101,6 +101,7 @@ IsShown (query.Completions text column) counting client v
 IsShown query.ExceptionInfo counting client v = v ≡ exception_body (string_bytes client.told.words)
 IsShown query.SetExceptionBreakpoints counting client v = v ≡ breakpoints_body []
 IsShown query.Pause counting client v = v ≡ nothing
+IsShown query.Cancel counting client v = v ≡ nothing
 
 abbrev pub Shows : Query → Counting → Client → List Said → Type 0
 Shows query counting client said

@@ -263,6 +263,7 @@ fn shown<H: Files + AllocGlobal>(
         Query::ExceptionInfo => exception(alloc, client.told.words.as_str()),
         Query::SetExceptionBreakpoints => breakpoints_body(alloc, Vec::new(alloc)),
         Query::Pause => nothing(alloc),
+        Query::Cancel => nothing(alloc),
     }
 }
 
@@ -305,7 +306,7 @@ fn cannot_show(alloc: Global, client: &Client, query: &Query<'_>) -> Result<bool
         } => Ok(false),
         Query::Threads | Query::StackTrace(_) | Query::GotoTargets { .. } => Ok(false),
         Query::DataBreakpointInfo { .. } | Query::Completions { .. } => Ok(false),
-        Query::SetExceptionBreakpoints | Query::Pause => Ok(false),
+        Query::SetExceptionBreakpoints | Query::Pause | Query::Cancel => Ok(false),
     }
 }
 

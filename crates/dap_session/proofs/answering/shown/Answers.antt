@@ -31,6 +31,9 @@ returns-in-Completions g c = rw c.in-Completions.is c.completions.ensures
 pub returns-in-Pause : goal.returns-in-Pause
 returns-in-Pause g c = rw c.in-Pause.is c.nothing.ensures
 
+pub returns-in-Cancel : goal.returns-in-Cancel
+returns-in-Cancel g c = rw c.in-Cancel.is c.nothing-in-Cancel.ensures
+
 pub returns-in-StackTrace : goal.returns-in-StackTrace
 returns-in-StackTrace g c =
     let source = c.source_of-source.ensures in
