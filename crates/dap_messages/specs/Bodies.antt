@@ -26,7 +26,8 @@ all_true names = object_of (map (λ name. (name, yes)) names)
 
 -- What the adapter can do.
 unfoldable pub capabilities : Data
-capabilities = all_true (codes "supportsCancelRequest" ∷ codes "supportsCompletionsRequest"
+capabilities = all_true (codes "supportsBreakpointLocationsRequest"
+    ∷ codes "supportsCancelRequest" ∷ codes "supportsCompletionsRequest"
     ∷ codes "supportsConditionalBreakpoints" ∷ codes "supportsConfigurationDoneRequest"
     ∷ codes "supportsDataBreakpoints" ∷ codes "supportsDisassembleRequest"
     ∷ codes "supportsEvaluateForHovers" ∷ codes "supportsExceptionInfoRequest"

@@ -57,6 +57,7 @@ names = (codes "initialize", to.Initialize) ∷ (codes "launch", to.Launch)
     ∷ shows (codes "scopes") query.Scopes ∷ shows (codes "variables") query.Variables
     ∷ shows (codes "readMemory") query.ReadMemory ∷ shows (codes "disassemble") query.Disassemble
     ∷ shows (codes "gotoTargets") query.GotoTargets
+    ∷ shows (codes "breakpointLocations") query.BreakpointLocations
     ∷ shows (codes "dataBreakpointInfo") query.DataBreakpointInfo
     ∷ shows (codes "completions") query.Completions
     ∷ shows (codes "exceptionInfo") query.ExceptionInfo

@@ -161,6 +161,19 @@ change_by request change.WriteMemory = seen.write_memory (memory_in request)
 
 -- ---- questions
 
+-- The last of some lines: the first, if no last one is named.
+abbrev pub or_line : Option ℕ → Option ℕ → Option ℕ
+or_line (Some end) line = Some end
+or_line None line = line
+
+abbrev pub end_in : Data → Option ℕ
+end_in request = or_line (number_at (codes "/arguments/endLine") request)
+    (number_at (codes "/arguments/line") request)
+
+abbrev pub locations_query : Data → SeenQuery
+locations_query request = seen.breakpoint_locations (path_in request)
+    (number_at (codes "/arguments/line") request) (end_in request)
+
 abbrev pub query_by : Data → QueryName → SeenQuery
 query_by request query.Threads = seen.threads
 query_by request query.StackTrace = seen.stack_trace
@@ -175,6 +188,7 @@ query_by request query.Disassemble = seen.disassemble (memory_in request)
     (count_in (codes "/arguments/instructionCount") request)
 query_by request query.GotoTargets
     = seen.goto_targets (path_in request) (number_at (codes "/arguments/line") request)
+query_by request query.BreakpointLocations = locations_query request
 query_by request query.DataBreakpointInfo
     = seen.data_breakpoint_info (scope_in request) (text_in (codes "/arguments/name") request)
 query_by request query.Completions = seen.completions (text_in (codes "/arguments/text") request)

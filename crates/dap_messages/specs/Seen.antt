@@ -78,6 +78,7 @@ pub data SeenQuery : Type 0 where
   read_memory : Option ℕ → ℕ → SeenQuery
   disassemble : Option ℕ → ℤ → ℕ → SeenQuery
   goto_targets : List ℕ → Option ℕ → SeenQuery
+  breakpoint_locations : List ℕ → Option ℕ → Option ℕ → SeenQuery
   data_breakpoint_info : Option Scope → List ℕ → SeenQuery
   completions : List ℕ → Option ℕ → SeenQuery
   exception_info : SeenQuery
@@ -93,6 +94,7 @@ query_view (query.Variables scope page) = variables scope page
 query_view (query.ReadMemory address count) = read_memory address count
 query_view (query.Disassemble address offset count) = disassemble address offset count
 query_view (query.GotoTargets path line) = goto_targets path.now line
+query_view (query.BreakpointLocations path line end) = breakpoint_locations path.now line end
 query_view (query.DataBreakpointInfo scope name) = data_breakpoint_info scope name.now
 query_view (query.Completions text column) = completions text.now column
 query_view query.ExceptionInfo = exception_info

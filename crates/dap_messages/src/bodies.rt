@@ -15,6 +15,7 @@ pub fn capabilities(alloc: Global) -> Result<Value, AllocError>
     ensures { IfOk result (λ v. view v ≡ capabilities) }
 {
     Object::new(alloc)
+        .flag("supportsBreakpointLocationsRequest", true)
         .flag("supportsCancelRequest", true)
         .flag("supportsCompletionsRequest", true)
         .flag("supportsConditionalBreakpoints", true)

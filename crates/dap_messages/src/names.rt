@@ -38,6 +38,7 @@ pub enum QueryName {
     ReadMemory,
     Disassemble,
     GotoTargets,
+    BreakpointLocations,
     DataBreakpointInfo,
     Completions,
     ExceptionInfo,
@@ -70,7 +71,7 @@ pub enum RequestName {
 }
 
 /// The names of requests, each with what it asks for, but for moves by instructions.
-const NAMES: [(&str, RequestName); 33] = [
+const NAMES: [(&str, RequestName); 34] = [
     ("initialize", RequestName::Initialize),
     ("launch", RequestName::Launch),
     ("disconnect", RequestName::Disconnect),
@@ -157,6 +158,10 @@ const NAMES: [(&str, RequestName); 33] = [
     (
         "gotoTargets",
         RequestName::InSession(SessionName::Shows(QueryName::GotoTargets)),
+    ),
+    (
+        "breakpointLocations",
+        RequestName::InSession(SessionName::Shows(QueryName::BreakpointLocations)),
     ),
     (
         "dataBreakpointInfo",

@@ -5,7 +5,8 @@ ghost use Rattle.dap_messages.specs.Requests.{asked_by, asked_of, breakpoints_by
 ghost use Rattle.dap_messages.specs.Requests.{condition_of, is_of_thread, needs_thread, page_in};
 ghost use Rattle.dap_messages.specs.Requests.{scope_in, scope_of};
 ghost use Rattle.dap_messages.specs.Requests.{count_in, data_of, instruction_of, is_console};
-ghost use Rattle.dap_messages.specs.Requests.{expression_change, is_register, scope_expressed};
+ghost use Rattle.dap_messages.specs.Requests.{end_in, expression_change, is_register};
+ghost use Rattle.dap_messages.specs.Requests.{locations_query, scope_expressed};
 ghost use Rattle.dap_messages.specs.Requests.{items_in, listed_in, launch_asked};
 ghost use Rattle.dap_messages.specs.Requests.{launch_of, memory_in, query_by};
 ghost use Rattle.dap_messages.specs.Requests.{request_of, source_of, target_in};
@@ -275,6 +276,26 @@ fn change_by(request: &Value, name: ChangeName) -> Change<'_>
     }
 }
 
+/// Returns the last of some lines that a request names: the first, if it names no last one.
+fn end_in(request: &Value) -> Option<u64>
+    ensures { result ≡ end_in (view request.now) }
+{
+    match number_at(request, "/arguments/endLine") {
+        Some(end) => Some(end),
+        None => number_at(request, "/arguments/line"),
+    }
+}
+
+/// Returns the question at which lines breakpoints can stand.
+fn locations_query(request: &Value) -> Query<'_>
+    ensures { query_view result ≡ locations_query (view request.now) }
+{
+    let path = text_or(request, "/arguments/source/path", "");
+    let line = number_at(request, "/arguments/line");
+    let end = end_in(request);
+    Query::BreakpointLocations { path, line, end }
+}
+
 /// Returns the question that a request asks.
 fn query_by(request: &Value, name: QueryName) -> Query<'_>
     ensures { query_view result ≡ query_by (view request.now) name }
@@ -304,6 +325,7 @@ fn query_by(request: &Value, name: QueryName) -> Query<'_>
             path: text_or(request, "/arguments/source/path", ""),
             line: number_at(request, "/arguments/line"),
         },
+        QueryName::BreakpointLocations => locations_query(request),
         QueryName::DataBreakpointInfo => Query::DataBreakpointInfo {
             scope: scope_in(request),
             name: text_or(request, "/arguments/name", ""),

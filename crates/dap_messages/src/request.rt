@@ -157,6 +157,12 @@ pub enum Query<'a> {
         path: &'a str,
         line: Option<u64>,
     },
+    /// The lines of a source, from one to another, at which breakpoints can stand.
+    BreakpointLocations {
+        path: &'a str,
+        line: Option<u64>,
+        end: Option<u64>,
+    },
     /// Whether what a name of a scope stands for can be watched.
     DataBreakpointInfo {
         scope: Option<Scope>,

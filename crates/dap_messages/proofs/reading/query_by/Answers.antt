@@ -25,6 +25,9 @@ pub returns-in-GotoTargets : goal.returns-in-GotoTargets
 returns-in-GotoTargets c = rw c.in-GotoTargets.is
     (λ i. goto_targets (c.text_or.ensures i) (c.number_at-in-GotoTargets.ensures i))
 
+pub returns-in-BreakpointLocations : goal.returns-in-BreakpointLocations
+returns-in-BreakpointLocations c = rw c.in-BreakpointLocations.is c.locations_query.ensures
+
 pub returns-in-Completions : goal.returns-in-Completions
 returns-in-Completions c = rw c.in-Completions.is
     (λ i. completions (c.text_or-in-Completions.ensures i) (c.number_at-in-Completions.ensures i))
