@@ -4,6 +4,7 @@ mod Finding
 mod Following
 mod Joined
 mod Listing
+mod Locating
 mod Lossy
 mod Matching
 mod Numbered

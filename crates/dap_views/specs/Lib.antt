@@ -3,6 +3,7 @@ pub mod BreakValues
 pub mod Breaks
 pub mod Found
 pub mod Frames
+pub mod Locations
 pub mod Looks
 pub mod Memory
 pub mod Named

@@ -7,19 +7,22 @@
 //! nothing. `laws` has what holds of all frames.
 //!
 //! Each list of breakpoints replaces the one before: `wanted` reads the breakpoints of a list,
-//! `listed` sets them and answers, `watches` watches bytes. `targets` has the addresses at which a
-//! line can be gone to. `values` makes the values of answers.
+//! `listed` sets them and answers, `watches` watches bytes. `locations` has the lines at which they
+//! can stand, `targets` the addresses at which a line can be gone to. `values` makes the values of
+//! answers.
 //!
 //! What is shown stands in `specs/Frames.antt`, `specs/Scopes.antt`, `specs/Pages.antt`,
 //! `specs/Memory.antt`, `specs/Rows.antt`, `specs/Looks.antt` and `specs/Named.antt`, with the
 //! values of `specs/Values.antt` and `specs/Variables.antt`. What a list does stands in
 //! `specs/Breaks.antt` and `specs/Watches.antt`, what is answered in `specs/Answered.antt`, what
-//! can be chosen in `specs/Targets.antt`, with the values of `specs/BreakValues.antt`.
+//! can be chosen in `specs/Locations.antt` and `specs/Targets.antt`, with the values of
+//! `specs/BreakValues.antt`.
 #![tactic(auto)]
 
 mod frames;
 mod laws;
 mod listed;
+mod locations;
 mod looks;
 mod memory;
 mod named;
@@ -38,6 +41,7 @@ mod watches;
 pub use frames::frames_shown;
 pub use laws::frames_are_those_of_where;
 pub use listed::{set_addresses, set_lines, set_source};
+pub use locations::breakpoint_locations;
 pub use looks::look_at;
 pub use memory::memory_shown;
 pub use named::{Variable, value_shown, variable_named};

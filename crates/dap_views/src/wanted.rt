@@ -36,7 +36,7 @@ pub struct List {
 }
 
 /// Returns the number and the address of a line, if it is at a number or behind it, and has bytes.
-fn row_with(row: Option<SourceLine<'_>>, line: u32) -> Option<(u32, u16)>
+pub fn row_with(row: Option<SourceLine<'_>>, line: u32) -> Option<(u32, u16)>
     ensures { result ≡ row_with line (option_map line_view row.entry) }
 {
     let row = row?;
