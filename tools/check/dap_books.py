@@ -123,7 +123,7 @@ class Book:
         """A random request."""
         kinds = [self.move] * 6 + [self.stack] * 3 + [self.scopes] * 2 + [self.variables] * 3 + [
             self.set_variable, self.set_expression, self.evaluate, self.evaluate,
-            self.breakpoints, self.breakpoints,
+            self.breakpoints, self.breakpoints, self.locations,
             self.instructions, self.watch, self.goto, self.memory, self.written, self.rows,
             self.completed, self.unserved, self.small]
         self.dice.choice(kinds)()
@@ -259,6 +259,17 @@ class Book:
         is_good, is_spoiled, body, made = self.sent(
             "setBreakpoints", source={"path": path}, breakpoints=asked)
         self.took(made.get("source") == {"path": self.path}, asked, is_good, is_spoiled, body)
+
+    def locations(self):
+        first = self.dice.randrange(-1, self.count + 4)
+        more = {"endLine": first + self.dice.randrange(-2, 9)} if self.dice.random() < 0.6 else {}
+        is_good, is_spoiled, body, _ = self.sent("breakpointLocations", source={"path": self.path},
+                                                 line=first, **more)
+        if is_good and not is_spoiled:
+            told = [it["line"] for it in body["breakpoints"]]
+            self.right(told == sorted(set(told)) and all(
+                max(first, self.first) <= it <= more.get("endLine", first) for it in told),
+                f"places from {first} to {more}: {told}")
 
     def instructions(self):
         asked = [{"instructionReference": self.dice.choice(("0x0200", "0x0205", "0x8000", "0xFFFF",

@@ -37,6 +37,7 @@ use Rattle.dap_session.specs.declared.wording.TheConstants.{NOT_BEGUN}
 use Rattle.dap_messages.specs.Answers.{breakpoints_body, exception_body}
 use Rattle.dap_messages.specs.declared.counting.Counting.{Counting}
 use Rattle.dap_views.specs.Frames.{AreFrames}
+use Rattle.dap_views.specs.Locations.{AreLocations}
 use Rattle.dap_views.specs.Memory.{memory_shown}
 use Rattle.dap_views.specs.Rows.{disassembled}
 use Rattle.dap_views.specs.Scopes.{variables_shown}
@@ -94,6 +95,8 @@ IsShown (query.Disassemble address offset count) counting client v = v
     ≡ disassembled client.mon (program_of (launch_view client.launch)) counting address offset count
 IsShown (query.GotoTargets path line) counting client v = AreTargets counting
     (program_of (launch_view client.launch)) client.assembly path.now line v
+IsShown (query.BreakpointLocations path line end) counting client v = AreLocations counting
+    (program_of (launch_view client.launch)) client.assembly path.now line end v
 IsShown (query.DataBreakpointInfo scope name) counting client v
     = v ≡ data_shown client.mon scope name.now
 IsShown (query.Completions text column) counting client v

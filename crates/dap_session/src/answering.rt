@@ -32,8 +32,8 @@ use dap_messages::{
     number_addresses, number_lines, scopes, stand_by, threads,
 };
 use dap_views::{
-    data_shown, disassembled, frames_shown, goto_targets, is_frame, memory_shown, set_addresses,
-    set_data, set_lines, set_source, variables_shown,
+    breakpoint_locations, data_shown, disassembled, frames_shown, goto_targets, is_frame,
+    memory_shown, set_addresses, set_data, set_lines, set_source, variables_shown,
 };
 use mon_session::MonState;
 use serde_json::Value;
@@ -258,6 +258,9 @@ fn shown<H: Files + AllocGlobal>(
             count,
         } => disassembled(alloc, mon, &source, address, offset, count),
         Query::GotoTargets { path, line } => goto_targets(rt, &source, path, line),
+        Query::BreakpointLocations { path, line, end } => {
+            breakpoint_locations(rt, &source, path, line, end)
+        }
         Query::DataBreakpointInfo { scope, name } => data_shown(alloc, mon, scope, name),
         Query::Completions { text, column } => completions(alloc, mon, counting, text, column),
         Query::ExceptionInfo => exception(alloc, client.told.words.as_str()),
@@ -305,6 +308,7 @@ fn cannot_show(alloc: Global, client: &Client, query: &Query<'_>) -> Result<bool
             ..
         } => Ok(false),
         Query::Threads | Query::StackTrace(_) | Query::GotoTargets { .. } => Ok(false),
+        Query::BreakpointLocations { .. } => Ok(false),
         Query::DataBreakpointInfo { .. } | Query::Completions { .. } => Ok(false),
         Query::SetExceptionBreakpoints | Query::Pause | Query::Cancel => Ok(false),
     }

@@ -57,6 +57,11 @@ returns-in-GotoTargets g c =
     let source = c.source_of-source.ensures in
     rw (c.in-GotoTargets.is, ← source.path, ← source.assembly, ← source.counting) c.goto_targets.ensures
 
+pub returns-in-BreakpointLocations : goal.returns-in-BreakpointLocations
+returns-in-BreakpointLocations g c =
+    let source = c.source_of-source.ensures in
+    rw (c.in-BreakpointLocations.is, ← source.path, ← source.assembly, ← source.counting) c.breakpoint_locations.ensures
+
 pub returns-in-ExceptionInfo : goal.returns-in-ExceptionInfo
 returns-in-ExceptionInfo g c = rw (c.in-ExceptionInfo.is, ← c.as_str.ensures.value) c.exception.ensures
 
