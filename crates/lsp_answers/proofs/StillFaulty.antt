@@ -1,5 +1,5 @@
 -- A line in which a word stands has that word or another one.
-use Rattle.std.proofs.Common.{◌≡◌, ℕ, ◌+◌, Bool, true, false, List, [], ◌∷◌, Option, None, Some, Result, Ok, Err, IfOk, IfErr, if◌then◌else◌, inr, refl, subst, sym}
+use Rattle.std.proofs.Common.{◌≡◌, ℕ, ◌+◌, Bool, true, false, List, [], ◌∷◌, Option, Some, Result, Ok, Err, IfOk, IfErr, if◌then◌else◌, inr, refl, subst, sym}
 use Rattle.std.specs.Prelude.{◌&&◌, ◌||◌, is_err}
 use Rattle.std.proofs.lemmas.Option.{none-some}
 use Rattle.model.specs.SourceLine.{read_line}

@@ -1,7 +1,6 @@
 -- What may be written. Source: Language Server Protocol 3.17, "Completion Request"; what may be
 -- written where, mos65.
 use Rattle.std.specs.Prelude.{ℕ, nat_lt, ℤ, Bool, true, false, List, [], ◌++◌, codes, length, map, Option, None, Some}
-use Rattle.std.specs.Str.Lossy.{utf8_lossy}
 use Rattle.json_messages.specs.Values.{list_of}
 use Rattle.lsp_answers.specs.Items.{item_of}
 use Rattle.lsp_answers.specs.Lists.{defined}

@@ -1,6 +1,6 @@
 -- A branch that does not reach its target, turned round a jump: `BNE far` is `BEQ *+5` before
 -- `JMP far`. Source: mos65.
-use Rattle.std.specs.Prelude.{ℕ, ◌==◌, ◌&&◌, nat_le, nat_lt, not, if◌then◌else◌, Bool, true, false, List, [], ◌∷◌, ◌++◌, codes, drop, length, take, Option, Some, None, option_and_then}
+use Rattle.std.specs.Prelude.{ℕ, ◌==◌, ◌&&◌, nat_le, nat_lt, not, if◌then◌else◌, Bool, List, ◌++◌, codes, drop, length, take, Option, Some, None, option_and_then}
 use Rattle.std.specs.List.{list_any, prefix_len}
 use Rattle.lsp_answers.specs.Kinds.{is_far_branch as is_far}
 use Rattle.lsp_answers.specs.declared.kinds.Diagnostic.{Diagnostic}

@@ -1,5 +1,4 @@
 use Rattle.std.proofs.Common.{◌≡◌, drop}
-use Rattle.std.specs.List.{find}
 use Rattle.lsp_answers.specs.Above.{line_defining}
 use Rattle.name_uses.specs.Views.{use_views}
 use Rattle.lsp_answers.proofs.above.line_defining.Given as goal

@@ -3,7 +3,6 @@ use Rattle.lsp_answers.specs.Completion.{value_words}
 use Rattle.lsp_answers.specs.Items.{item_of}
 use Rattle.lsp_answers.specs.Named.{item_kind}
 use Rattle.lsp_answers.specs.Texts.{text_view}
-use Rattle.model.specs.Names.{number_in}
 use Rattle.name_uses.specs.Views.{use_view}
 use Rattle.serde_json.specs.View.{view}
 use Rattle.lsp_answers.proofs.completing.name_item.Goals as goal

@@ -1,4 +1,4 @@
-use Rattle.std.proofs.Common.{◌≡◌, None, [], IfOk, arith, refl, rules}
+use Rattle.std.proofs.Common.{None, [], IfOk, arith, refl, rules}
 use Rattle.fault_notes.specs.Blocks.{fault_blocks, means_first}
 use Rattle.fault_notes.specs.Marks.{IsPlain}
 use Rattle.lsp_answers.specs.Diagnostics.{fault_kind}

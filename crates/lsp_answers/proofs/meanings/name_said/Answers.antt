@@ -1,5 +1,4 @@
 use Rattle.std.proofs.Common.{◌≡◌, IfOk, List, subst}
-use Rattle.lsp_answers.specs.Above.{name_lines}
 use Rattle.lsp_answers.specs.Meanings.{said}
 use Rattle.lsp_answers.specs.Said.{name_words}
 use Rattle.lsp_answers.specs.Texts.{text_view, use_range}
