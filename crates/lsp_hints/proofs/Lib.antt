@@ -1,3 +1,4 @@
+pub mod CodeSteps
 pub mod EndSteps
 pub mod FlatSteps
 pub mod FoldSteps

@@ -1,5 +1,5 @@
 -- The operation that is written in a line, which need not be whole. Source: mos65.
-use Rattle.std.specs.Prelude.{ℕ, ◌+◌, ◌==◌, ◌&&◌, not, nat_le, nat_lt, Bool, false, if◌then◌else◌, List, [], ◌∷◌, codes, drop, take, Option, Some, None}
+use Rattle.std.specs.Prelude.{ℕ, suc, ◌+◌, ◌-◌, ◌==◌, ◌&&◌, not, nat_le, nat_lt, Bool, false, if◌then◌else◌, List, [], ◌∷◌, codes, drop, take, Option, Some, None}
 use Rattle.std.specs.List.{prefix_len}
 use Rattle.std.specs.Str.{str_eq_ignore_ascii_case}
 use Rattle.lsp_hints.specs.declared.operation.Operation.{Operation}
@@ -62,23 +62,58 @@ operation_of profile word behind = if begins_with 61 (without_blanks behind)
     then (if begins_with 42 word then Some Origin else Some Definition)
     else operation_by (mnemonic_named profile word) word
 
--- How many bytes stand before the first `;`.
-abbrev pub first_size : List ℕ → ℕ
-first_size bytes = prefix_len (λ b. not (b == 59)) bytes
+abbrev pub is_no_quote : ℕ → Bool
+is_no_quote b = not (b == 34)
 
--- The operation of a line where a column is behind its word and before any `;`.
+-- How many bytes stand before the first `"`.
+abbrev pub size_before_quote : List ℕ → ℕ
+size_before_quote bytes = prefix_len is_no_quote bytes
+
+-- How many bytes of a string stand behind its first `"`, its last one too; none if it does not end.
+abbrev pub string_rest : List ℕ → ℕ
+string_rest bytes
+    = if begins_with 34 (drop (size_before_quote bytes) bytes) then size_before_quote bytes + 1
+    else 0
+
+-- A byte between two `'`.
+abbrev pub is_character : List ℕ → Bool
+is_character bytes = begins_with 39 bytes && begins_with 39 (drop 2 bytes)
+
+-- How many bytes of a character or a string at the front stand behind its first one.
+abbrev pub quoted_rest : List ℕ → ℕ
+quoted_rest bytes = if is_character bytes then 2
+    else if begins_with 34 bytes then string_rest (drop 1 bytes) else 0
+
+-- How many bytes behind the first of some bytes are still quoted, where so many of these are.
+abbrev pub covered_then : ℕ → List ℕ → ℕ
+covered_then covered bytes = if covered == 0 then quoted_rest bytes else covered - 1
+
+-- A `;` outside a character or a string begins a comment.
+abbrev pub begins_comment : ℕ → ℕ → Bool
+begins_comment covered b = (covered == 0) && (b == 59)
+
+-- How many bytes stand before the comment of a line, of which so many are quoted.
+unfoldable pub code_from : ℕ → List ℕ → ℕ
+code_from covered [] = 0
+code_from covered (b ∷ bytes) = if begins_comment covered b then 0
+    else suc (code_from (covered_then covered (b ∷ bytes)) bytes)
+
+abbrev pub code_size : List ℕ → ℕ
+code_size line = code_from 0 line
+
+-- The operation of a line where a column is behind its word and before its comment.
 abbrev pub operation_at : Profile → List ℕ → ℕ → Option Operation
 operation_at profile line column =
     let rest = drop (start_of line) line in
     let size = word_size rest in
-    if nat_le (start_of line + size) column && nat_le column (first_size line)
+    if nat_le (start_of line + size) column && nat_le column (code_size line)
     then operation_of profile (take size rest) (drop size rest) else None
 
 -- ---- where a place of a line is
 
--- Up to the end of the word of its operation, behind that, or behind the first `;`.
+-- Up to the end of the word of its operation, behind that, or behind the `;` of its comment.
 abbrev pub spot_by : List ℕ → ℕ → Spot
-spot_by line column = if nat_lt (first_size line) column then Comment
+spot_by line column = if nat_lt (code_size line) column then Comment
     else if nat_le column (start_of line + word_size (drop (start_of line) line)) then InOperation
     else Operand
 

@@ -1,9 +1,11 @@
 //! The operation that is written in a line.
 
 ghost use Rattle.std.specs.Prelude.{◌≡◌, ◌≤◌, length};
-ghost use Rattle.lsp_hints.specs.Operations.{begins_with, blanks_after};
-ghost use Rattle.lsp_hints.specs.Operations.{directive_of, first_size, operation_at, operation_of};
-ghost use Rattle.lsp_hints.specs.Operations.{spot_at, start_of, word_after, word_size};
+ghost use Rattle.lsp_hints.specs.Operations.{begins_comment, begins_with, blanks_after};
+ghost use Rattle.lsp_hints.specs.Operations.{code_size, covered_then, directive_of, is_character};
+ghost use Rattle.lsp_hints.specs.Operations.{is_no_quote, operation_at, operation_of, quoted_rest};
+ghost use Rattle.lsp_hints.specs.Operations.{size_before_quote, spot_at, start_of, string_rest};
+ghost use Rattle.lsp_hints.specs.Operations.{word_after, word_size};
 
 use lsp_answers::Spot;
 use lsp_messages::column_of;
@@ -127,28 +129,96 @@ fn operation_of(profile: Profile, word: &[u8], behind: &[u8]) -> Option<Operatio
     }
 }
 
-/// Returns how many bytes stand before the first `;` of some bytes.
-pub fn first_size(bytes: &[u8]) -> usize
-    ensures { result ≡ first_size bytes.now }
+/// Returns whether a byte is no `"`.
+fn is_no_quote(byte: u8) -> bool
+    ensures { result ≡ is_no_quote byte }
 {
-    let mut size = 0;
-    for byte in bytes {
-        if *byte == b';' {
-            return size;
-        }
-        size += 1;
-    }
-    size
+    byte != b'"'
 }
 
-/// Returns the operation of a line, if a column stands behind its word and before any `;`.
+/// Returns how many bytes stand before the first `"` of some bytes.
+fn size_before_quote(bytes: &[u8]) -> usize
+    ensures size { result ≡ size_before_quote bytes.now }
+    ensures within { result ≤ length bytes.now }
+{
+    bytes.iter().take_while(|byte| is_no_quote(**byte)).count()
+}
+
+/// Returns how many bytes of a string stand behind its first `"`, its last one too; none if it does
+/// not end.
+fn string_rest(bytes: &[u8]) -> usize
+    ensures { result ≡ string_rest bytes.now }
+{
+    let inside = size_before_quote(bytes);
+    if begins_with(b'"', after(bytes, inside)) {
+        inside + 1
+    } else {
+        0
+    }
+}
+
+/// Returns whether some bytes begin with a byte between two `'`.
+fn is_character(bytes: &[u8]) -> bool
+    ensures { result ≡ is_character bytes.now }
+{
+    begins_with(b'\'', bytes) && begins_with(b'\'', after(bytes, 2))
+}
+
+/// Returns how many bytes of a character or a string at the front stand behind its first one.
+fn quoted_rest(bytes: &[u8]) -> usize
+    ensures { result ≡ quoted_rest bytes.now }
+{
+    if is_character(bytes) {
+        2
+    } else if begins_with(b'"', bytes) {
+        string_rest(after(bytes, 1))
+    } else {
+        0
+    }
+}
+
+/// Returns how many bytes behind the first of some bytes are still quoted, where so many of these
+/// are.
+fn covered_then(covered: usize, bytes: &[u8]) -> usize
+    ensures { result ≡ covered_then covered bytes.now }
+{
+    if covered == 0 {
+        quoted_rest(bytes)
+    } else {
+        covered - 1
+    }
+}
+
+/// Returns whether a byte begins a comment, where so many bytes are quoted.
+fn begins_comment(covered: usize, byte: u8) -> bool
+    ensures { result ≡ begins_comment covered byte }
+{
+    covered == 0 && byte == b';'
+}
+
+/// Returns how many bytes stand before the comment of a line, or how many it has without one.
+#[tactic(auto, using(crate::proofs::CodeSteps::at_end))]
+fn code_size(line: &[u8]) -> usize
+    ensures { result ≡ code_size line.now }
+{
+    let mut covered = 0usize;
+    for (index, byte) in line.iter().enumerate() {
+        if begins_comment(covered, *byte) {
+            return index;
+        }
+        covered = covered_then(covered, after(line, index));
+    }
+    line.len()
+}
+
+/// Returns the operation of a line, if a column stands behind its word and before its comment.
 pub fn operation_at(profile: Profile, line: &[u8], column: usize) -> Option<Operation>
     ensures { result ≡ operation_at profile line.now column }
 {
     let start = start_of(line);
     let rest = after(line, start);
     let size = word_size(rest);
-    if column >= start + size && column <= first_size(line) {
+    if column >= start + size && column <= code_size(line) {
         operation_of(profile, &rest[..size], &rest[size..])
     } else {
         None
@@ -156,14 +226,14 @@ pub fn operation_at(profile: Profile, line: &[u8], column: usize) -> Option<Oper
 }
 
 /// Returns where in a line a place is, counted in units of UTF-16: up to the end of the word of its
-/// operation, behind that, or behind a `;`.
+/// operation, behind that, or behind the `;` of its comment.
 pub fn spot_at(line: &[u8], character: u64) -> Spot
     ensures { result ≡ spot_at line.now character }
 {
     let column = column_of(line, character);
     let start = start_of(line);
     let size = word_size(after(line, start));
-    if column > first_size(line) {
+    if column > code_size(line) {
         Spot::Comment
     } else if column <= start + size {
         Spot::Operation
