@@ -2,6 +2,7 @@ pub mod Columns
 pub mod Fields
 pub mod Replies
 pub mod Requests
+pub mod Settings
 pub mod TextChanges
 pub mod TextPlaces
 pub mod Values

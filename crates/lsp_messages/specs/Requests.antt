@@ -3,6 +3,7 @@ use Rattle.std.specs.Prelude.{ℕ, bytes_eq, Bool, false, if◌then◌else◌, L
 use Rattle.serde_json.specs.Data.{Data, Items}
 use Rattle.json_messages.specs.Fields.{flag_at, text_at}
 use Rattle.lsp_messages.specs.Fields.{changes_in, lines_of, position_of, uri_of}
+use Rattle.lsp_messages.specs.Settings.{SettingsView, begun_with, told_settings}
 use Rattle.lsp_messages.specs.declared.asked.At.{At}
 use Rattle.lsp_messages.specs.declared.asked.At.TheVariants as positions
 use Rattle.lsp_messages.specs.declared.asked.Client.{Client}
@@ -13,11 +14,12 @@ use Rattle.lsp_messages.specs.declared.asked.Whole.TheVariants as documents
 use Rattle.lsp_messages.specs.declared.asked.Within.{Within}
 use Rattle.lsp_messages.specs.declared.asked.Within.TheVariants as ranges
 
--- A client says what it can do; a document has a text, another one by changes, or none any more;
--- something is asked of a document; names are searched for by letters; the name at a position is to
--- get another one, or gets it.
+-- A client says what it can do, and what it sets; it sets something else; a document has a text,
+-- another one by changes, or none any more; something is asked of a document; names are searched for
+-- by letters; the name at a position is to get another one, or gets it.
 pub data RequestView : Type 0 where
-  initialize : Client → RequestView
+  initialize : Client → Option SettingsView → RequestView
+  configures : Option SettingsView → RequestView
   shutdown : RequestView
   exit : RequestView
   opens : List ℕ → List ℕ → RequestView
@@ -48,6 +50,9 @@ client_of message = record {
       (codes "/params/capabilities/textDocument/rename/prepareSupport") message) false;
   markdown = takes_markdown message;
 }
+
+abbrev pub initialize_of : Data → RequestView
+initialize_of message = initialize (client_of message) (begun_with message)
 
 -- ---- by what a method needs: without it a message is invalid
 
@@ -144,13 +149,15 @@ question_by_method method message =
 
 abbrev pub by_method : List ℕ → Data → RequestView
 by_method method message =
-    if bytes_eq method (codes "initialize") then initialize (client_of message)
+    if bytes_eq method (codes "initialize") then initialize_of message
     else if bytes_eq method (codes "shutdown") then shutdown
     else if bytes_eq method (codes "exit") then exit
     else if bytes_eq method (codes "textDocument/didOpen") then open_by (uri_of message)
     (text_at (codes "/params/textDocument/text") message)
     else if bytes_eq method (codes "textDocument/didChange") then change_of message
     else if bytes_eq method (codes "textDocument/didClose") then close_by (uri_of message)
+    else if bytes_eq method (codes "workspace/didChangeConfiguration") then
+    configures (told_settings message)
     else if bytes_eq method (codes "workspace/symbol") then
     search_by (text_at (codes "/params/query") message)
     else question_by_method method message

@@ -1,7 +1,7 @@
 -- The values of answers. The members of an object stand in the order of their names. Source:
 -- Language Server Protocol 3.17, "Range", "Location", "TextEdit", "WorkspaceEdit",
 -- "DocumentHighlight", "Prepare Rename Request", "Hover", "CompletionItem", "DocumentSymbol",
--- "SymbolInformation", "Diagnostic", "PublishDiagnosticsParams".
+-- "SymbolInformation", "Diagnostic", "PublishDiagnosticsParams", "ShowMessageParams".
 use Rattle.std.specs.Prelude.{ℕ, List, [], ◌∷◌, codes}
 use Rattle.json_messages.specs.Values.{count, object_of, word}
 use Rattle.serde_json.specs.Data.{Data}
@@ -68,3 +68,10 @@ mark_data severity code words range = object_of ((codes "code", word code)
 
 abbrev pub marks_data : List ℕ → Data → Data
 marks_data uri marks = object_of ((codes "diagnostics", marks) ∷ (codes "uri", word uri) ∷ [])
+
+-- ---- texts that an editor shows
+
+-- As an error, which has the number 1.
+abbrev pub shown_data : List ℕ → Data
+shown_data words
+    = object_of ((codes "message", word words) ∷ (codes "type", count 1) ∷ [])

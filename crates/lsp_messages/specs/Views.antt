@@ -1,12 +1,15 @@
 -- Requests without where their texts lie in memory.
 use Rattle.std.specs.Option.{option_map}
-use Rattle.lsp_messages.specs.Requests.{RequestView, initialize, shutdown, exit, opens, changes, closes, asks, searches, prepares, renames, invalid, unknown, no_method}
+use Rattle.lsp_messages.specs.Requests.{RequestView, initialize, configures, shutdown, exit, opens, changes, closes, asks, searches, prepares, renames, invalid, unknown, no_method}
+use Rattle.lsp_messages.specs.Settings.{settings_view}
 use Rattle.lsp_messages.specs.declared.asked.Request.{Request}
 use Rattle.lsp_messages.specs.declared.asked.Request.TheVariants as requests
 use Rattle.serde_json.specs.View.{items_view}
 
 abbrev pub request_view : Request → RequestView
-request_view (requests.Initialize client) = initialize client
+request_view (requests.Initialize client settings)
+    = initialize client (option_map settings_view settings)
+request_view (requests.Configure settings) = configures (option_map settings_view settings)
 request_view requests.Shutdown = shutdown
 request_view requests.Exit = exit
 request_view (requests.Open uri text) = opens uri.now text.now

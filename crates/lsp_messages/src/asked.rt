@@ -60,12 +60,37 @@ pub struct Client {
     pub markdown: bool,
 }
 
+/// A value that an editor can set.
+#[derive(Clone, Copy)]
+pub enum Setting<'a> {
+    /// It is not set.
+    Unset,
+    /// It is set to this text.
+    Text(&'a str),
+    /// It is set to what is no text.
+    NoText,
+}
+
+/// What an editor sets.
+#[derive(Clone, Copy)]
+pub struct Settings<'a> {
+    /// The first of the port's addresses, or `none`.
+    pub port: Setting<'a>,
+    /// The letter of the processor.
+    pub profile: Setting<'a>,
+}
+
 /// What a message asks for.
 #[derive(Clone, Copy)]
 pub enum Request<'a> {
-    /// `initialize`
+    /// `initialize`: what the client can do, and what it sets, if it has settings.
     Initialize {
         client: Client,
+        settings: Option<Settings<'a>>,
+    },
+    /// `workspace/didChangeConfiguration`: what is set from now on, if the message has settings.
+    Configure {
+        settings: Option<Settings<'a>>,
     },
     /// `shutdown`
     Shutdown,

@@ -4,7 +4,7 @@
 ghost use Rattle.std.specs.Prelude.{◌≡◌, ℕ, IfOk, List, string_bytes};
 ghost use Rattle.lsp_messages.specs.Values.{changes_data, edit_data, highlight_data, hover_data};
 ghost use Rattle.lsp_messages.specs.Values.{item_data, mark_data, marks_data, ready_data};
-ghost use Rattle.lsp_messages.specs.Values.{found_symbol_data, symbol_data};
+ghost use Rattle.lsp_messages.specs.Values.{found_symbol_data, shown_data, symbol_data};
 ghost use Rattle.serde_json.specs.Data.{Data};
 ghost use Rattle.serde_json.specs.View.{view};
 
@@ -169,6 +169,16 @@ pub fn mark(
         .member("range", range)
         .count("severity", severity)
         .word("source", "mos65")
+        .build()
+}
+
+/// Returns a text that an editor is to show as an error.
+pub fn shown(alloc: Global, words: &str) -> Result<Value, AllocError>
+    ensures { IfOk result (λ v. view v ≡ shown_data words.now) }
+{
+    Object::new(alloc)
+        .word("message", words)
+        .count("type", 1)
         .build()
 }
 

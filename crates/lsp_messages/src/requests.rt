@@ -5,12 +5,15 @@ ghost use Rattle.std.specs.Option.{option_map};
 ghost use Rattle.serde_json.specs.View.{items_view, view};
 ghost use Rattle.lsp_messages.specs.Fields.{changes_in, uri_of};
 ghost use Rattle.lsp_messages.specs.Requests.{asked_at, asked_of, asked_within, change_of};
-ghost use Rattle.lsp_messages.specs.Requests.{client_of, open_by, position_by_method, prepare_of};
+ghost use Rattle.lsp_messages.specs.Requests.{client_of, configures, initialize_of, open_by};
+ghost use Rattle.lsp_messages.specs.Requests.{position_by_method, prepare_of};
 ghost use Rattle.lsp_messages.specs.Requests.{question_by_method, rename_of, request_of};
 ghost use Rattle.lsp_messages.specs.Requests.{search_by, takes_markdown};
+ghost use Rattle.lsp_messages.specs.Settings.{told_settings};
 ghost use Rattle.lsp_messages.specs.Views.{request_view};
 
 use crate::asked::{At, Client, Question, Request, Whole, Within};
+use crate::settings::{begun_with, told_settings};
 use json_messages::{flag_or, number_at, text_at};
 use serde_json::Value;
 
@@ -41,6 +44,23 @@ fn client_of(message: &Value) -> Client
         prepares: flag_or(message, PREPARES, false),
         markdown: takes_markdown(message),
     }
+}
+
+/// Reads `initialize`: what the client can do, and what it sets.
+fn initialize_of(message: &Value) -> Request<'_>
+    ensures { request_view result ≡ initialize_of (view message.now) }
+{
+    let client = client_of(message);
+    let settings = begun_with(message);
+    Request::Initialize { client, settings }
+}
+
+/// Reads `workspace/didChangeConfiguration`: what is set from now on.
+fn configure_of(message: &Value) -> Request<'_>
+    ensures { request_view result ≡ configures (told_settings (view message.now)) }
+{
+    let settings = told_settings(message);
+    Request::Configure { settings }
 }
 
 /// Returns the changes of a text, if there is a list of them.
@@ -234,9 +254,7 @@ pub fn read_request(message: &Value) -> Request<'_>
         return Request::NoMethod;
     };
     match method {
-        "initialize" => Request::Initialize {
-            client: client_of(message),
-        },
+        "initialize" => initialize_of(message),
         "shutdown" => Request::Shutdown,
         "exit" => Request::Exit,
         "textDocument/didOpen" => {
@@ -247,6 +265,7 @@ pub fn read_request(message: &Value) -> Request<'_>
             Some(uri) => Request::Close { uri },
             None => Request::Invalid,
         },
+        "workspace/didChangeConfiguration" => configure_of(message),
         "workspace/symbol" => search_by(text_at(message, "/params/query")),
         method => question_by_method(method, message),
     }

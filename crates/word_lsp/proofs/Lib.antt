@@ -4,4 +4,5 @@ pub mod Filtered
 pub mod Nothing
 pub mod Refused
 pub mod Small
+pub mod Told
 pub mod Written

@@ -3,6 +3,7 @@ use Rattle.std.specs.Prelude.{◌≡◌, ◌⊎◌, ℕ, List}
 use Rattle.word_lsp.specs.Capabilities.{capabilities}
 use Rattle.word_lsp.specs.Searches.{found_in_all}
 use Rattle.word_lsp.specs.Shown.{colours_in, completion_in, folds_in, hints_in, signatures_in}
+use Rattle.word_lsp.specs.Settings.{map_in}
 use Rattle.word_lsp.specs.State.{Opened, State, source_in, written_in}
 use Rattle.word_lsp.specs.declared.phase.Phase.{Phase}
 use Rattle.word_lsp.specs.declared.phase.Phase.TheVariants.{Fresh, Running, ShutDown}
@@ -114,7 +115,7 @@ IsRunning bus_map client ds id request v = IsFailure id failures.NoRequest v
 
 -- The answer of a server of which nothing was asked: `initialize` comes first.
 abbrev pub IsFresh : Data → RequestView → Data → Type 0
-IsFresh id (initialize client) v = v ≡ result_data id (capabilities client)
+IsFresh id (initialize client settings) v = v ≡ result_data id (capabilities client)
 IsFresh id request v = IsFailure id failures.NotInitialized v
 
 -- The answer in each phase. After `shutdown` each request fails.
@@ -123,6 +124,7 @@ IsReplyIn bus_map Fresh ds id request v = IsFresh id request v
 IsReplyIn bus_map (Running client) ds id request v = IsRunning bus_map client ds id request v
 IsReplyIn bus_map ShutDown ds id request v = IsFailure id failures.NoRequest v
 
--- The answer to a request.
+-- The answer to a request, on the map in use.
 abbrev pub IsReply : Map → State → Data → RequestView → Data → Type 0
-IsReply bus_map s id request v = IsReplyIn bus_map s.phase s.documents id request v
+IsReply words s id request v
+    = IsReplyIn (map_in words s.chosen) s.phase s.documents id request v

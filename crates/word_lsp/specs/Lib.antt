@@ -4,6 +4,7 @@ pub mod CommandLine
 pub mod Messages
 pub mod Searches
 pub mod Sessions
+pub mod Settings
 pub mod Shown
 pub mod State
 pub mod Views

@@ -1,5 +1,6 @@
--- The state of a server: how far its client has come, and the documents that are open, each name
--- once. Source: Language Server Protocol 3.17, "Server lifecycle", "Text Document Synchronization".
+-- The state of a server: how far its client has come, the map that it has chosen, if it has, and the
+-- documents that are open, each name once. Source: Language Server Protocol 3.17, "Server lifecycle",
+-- "Text Document Synchronization".
 use Rattle.std.specs.Prelude.{ℕ, not, Bool, List, [], ◌∷◌, ◌++◌, Option, None, Some, map, string_bytes}
 use Rattle.std.specs.List.{filter, find}
 use Rattle.std.specs.Option.{option_map}
@@ -10,6 +11,7 @@ use Rattle.word_lsp.specs.declared.documents.Documents.{Documents}
 use Rattle.word_lsp.specs.declared.phase.Phase.{Phase}
 use Rattle.word_lsp.specs.declared.phase.Phase.TheVariants.{Fresh}
 use Rattle.word_lsp.specs.declared.server.Server.{Server}
+use Rattle.model.specs.State.{Map}
 
 -- A document's name and its text.
 abbrev pub Opened : Type 0
@@ -52,11 +54,12 @@ source_in ds uri = source_by (text_in ds uri)
 
 pub record State : Type 0 where
   pub phase : Phase
+  pub chosen : Option Map
   pub documents : List Opened
 
 -- Nothing was asked yet.
 abbrev pub start : State
-start = record { phase = Fresh; documents = [] }
+start = record { phase = Fresh; chosen = None; documents = [] }
 
 -- ---- without where the texts lie in memory
 
@@ -67,4 +70,8 @@ abbrev pub documents_view : Documents → List Opened
 documents_view ds = map document_view ds.all.items
 
 abbrev pub server_view : Server → State
-server_view s = record { phase = s.phase; documents = documents_view s.documents }
+server_view s = record {
+  phase = s.phase;
+  chosen = s.chosen;
+  documents = documents_view s.documents;
+}

@@ -175,6 +175,7 @@ fn running_reply(
         Request::Invalid => failed(alloc, id, Failure::WrongParameters),
         Request::Unknown => failed(alloc, id, Failure::UnknownMethod),
         Request::Initialize { .. }
+        | Request::Configure { .. }
         | Request::Exit
         | Request::Open { .. }
         | Request::Change { .. }
@@ -197,7 +198,7 @@ pub fn reply(
 {
     match phase {
         Phase::Fresh => match request {
-            Request::Initialize { client } => match capabilities(alloc, client) {
+            Request::Initialize { client, .. } => match capabilities(alloc, client) {
                 Ok(given) => result_reply(alloc, id, given),
                 Err(error) => Err(error),
             },

@@ -24,7 +24,7 @@ impl Phase {
     {
         match self {
             Phase::Fresh => match request {
-                Request::Initialize { client } => Phase::Running(client),
+                Request::Initialize { client, .. } => Phase::Running(client),
                 _ => Phase::Fresh,
             },
             Phase::Running(_) if matches!(request, Request::Shutdown) => Phase::ShutDown,

@@ -3,10 +3,13 @@
 ghost use Rattle.std.specs.Prelude.{◌≡◌, ◌∷◌, [], IfOk, IsErr, MatchResult, OnOk, is_some};
 ghost use Rattle.std.specs.Prelude.{map as each};
 ghost use Rattle.std.specs.Option.{option_map};
-ghost use Rattle.word_lsp.specs.Messages.{AreAnswers, AreRefused, AreToldIn, AreToldOf, end_of};
-ghost use Rattle.word_lsp.specs.Messages.{IsUnknown, changed_by, documents_in, is_answer};
-ghost use Rattle.word_lsp.specs.Messages.{published, state_after};
+ghost use Rattle.word_lsp.specs.Answers.{IsReply};
+ghost use Rattle.word_lsp.specs.Messages.{AreAnswers, AreNotices, AreRefused, AreReplies, AreSet};
+ghost use Rattle.word_lsp.specs.Messages.{AreToldIn, AreToldOf, AreToldOn, IsUnknown, asked_state};
+ghost use Rattle.word_lsp.specs.Messages.{changed_by, documents_in, end_of, has_method, is_answer};
+ghost use Rattle.word_lsp.specs.Messages.{noted_state, published, state_after};
 ghost use Rattle.word_lsp.specs.State.{documents_view, server_view, start};
+ghost use Rattle.lsp_messages.specs.Settings.{settings_view};
 ghost use Rattle.lsp_messages.specs.TextChanges.{text_view};
 ghost use Rattle.lsp_messages.specs.Views.{request_view};
 ghost use Rattle.serde_json.specs.Find.{get};
@@ -14,19 +17,23 @@ ghost use Rattle.serde_json.specs.View.{items_view, view};
 
 use crate::answers::{failed, reply};
 use crate::documents::Documents;
+use crate::marking::{marked, showing, told_of_all};
 use crate::phase::Phase;
+use crate::settings::{chosen_after, chosen_map, is_wrong, map_in, settings_asked, settings_noted};
 use bus::MapSpec;
-use clean_source::clean_source;
 use json_messages::ValueList;
-use lsp_answers::{Text, published};
-use lsp_messages::{Failure, Request, changed_text, mark, marks, notice, range, read_request};
+use lsp_messages::{
+    Failure, Request, Settings, changed_text, mark, marks, notice, range, read_request,
+};
 use serde_json::Value;
 use std::alloc::{AllocError, Global};
 
-/// A server: how far its client has come, and the documents that are open.
+/// A server: how far its client has come, the map that it has chosen, if it has, and the documents
+/// that are open.
 #[derive(Drop)]
 pub struct Server {
     pub phase: Phase,
+    pub chosen: Option<MapSpec>,
     pub documents: Documents,
 }
 
@@ -37,6 +44,7 @@ impl Server {
     {
         Server {
             phase: Phase::Fresh,
+            chosen: None,
             documents: Documents {
                 all: Vec::new(alloc),
             },
@@ -55,6 +63,25 @@ fn one(alloc: Global, reply: Result<Value, AllocError>) -> Result<Vec<Value>, Al
     let mut replies = Vec::new(alloc);
     replies.push(reply)?;
     Ok(replies)
+}
+
+/// Returns two values, if memory did not run out for the second.
+fn two(
+    alloc: Global,
+    first: Value,
+    second: Result<Value, AllocError>,
+) -> Result<Vec<Value>, AllocError>
+    ensures { MatchResult second
+        (λ v. IfOk result (λ vs. each view vs.items ≡ view first ∷ view v ∷ []))
+        (λ e. IsErr result) }
+{
+    let Ok(second) = second else {
+        return Err(AllocError);
+    };
+    let mut values = Vec::new(alloc);
+    values.push(first)?;
+    values.push(second)?;
+    Ok(values)
 }
 
 /// Returns the notice of some marks, if memory did not run out for them.
@@ -97,16 +124,10 @@ fn told_text(
     ensures { IfOk result (λ vs. AreToldOf map.now uri.now (text_view text.now)
         (each view vs.items)) }
 {
-    let Some(text) = text else {
-        return told_marks(alloc, unknown_marks(alloc, uri));
-    };
-    let Ok(source) = clean_source(alloc, text) else {
-        return Err(AllocError);
-    };
-    let Ok(text) = Text::read(alloc, map.profile(), &source) else {
-        return Err(AllocError);
-    };
-    told_marks(alloc, published(alloc, map, uri, &text))
+    match text {
+        Some(text) => one(alloc, marked(alloc, map, uri, text)),
+        None => told_marks(alloc, unknown_marks(alloc, uri)),
+    }
 }
 
 /// Returns the text of a document after changes, if it is known then.
@@ -125,10 +146,49 @@ fn changed_by(
     }
 }
 
+/// What is said where a setting is wrong.
+const NOT_TAKEN: &str =
+    "mos65.port is four hex digits, a multiple of 4 from 0200 to FFF4, or none, and mos65.profile \
+    is N or C: the settings are not taken";
+
+/// Returns what is told on a map that an editor has chosen: the marks of all documents, or that a
+/// setting is wrong where there is no map. The only error is that a request for memory was refused.
+fn told_on(
+    alloc: Global,
+    chosen: Option<MapSpec>,
+    documents: &Documents,
+) -> Result<Vec<Value>, AllocError>
+    ensures { IfOk result (λ vs. AreToldOn chosen (documents_view documents.now)
+        (each view vs.items)) }
+{
+    match chosen {
+        None => one(alloc, showing(alloc, NOT_TAKEN)),
+        Some(map) => told_of_all(alloc, &map, documents),
+    }
+}
+
+/// Returns what is told after an editor has set something. The only error is that a request for
+/// memory was refused.
+fn told_set(
+    alloc: Global,
+    words: &MapSpec,
+    documents: &Documents,
+    settings: Option<Settings<'_>>,
+) -> Result<Vec<Value>, AllocError>
+    ensures { IfOk result (λ vs. AreSet words.now (documents_view documents.now)
+        (option_map settings_view settings.entry) (each view vs.items)) }
+{
+    match settings {
+        Some(settings) => told_on(alloc, chosen_map(words, &settings), documents),
+        None => Ok(Vec::new(alloc)),
+    }
+}
+
 /// Does what a notice asks for in a phase, and returns what is told then. The only error is that a
 /// request for memory was refused.
 fn note(
     alloc: Global,
+    words: &MapSpec,
     map: &MapSpec,
     phase: Phase,
     documents: &mut Documents,
@@ -137,8 +197,8 @@ fn note(
     ensures documents { OnOk result (documents_view documents.new
         ≡ documents_in phase (documents_view documents.old) (request_view request.entry)) }
     ensures told { IfOk result
-        (λ vs. AreToldIn map.now phase (documents_view documents.old) (request_view request.entry)
-        (each view vs.items)) }
+        (λ vs. AreToldIn words.now map.now phase (documents_view documents.old)
+        (request_view request.entry) (each view vs.items)) }
 {
     match phase {
         Phase::Running(_) => {}
@@ -161,6 +221,7 @@ fn note(
             documents.close(uri);
             told_marks(alloc, marks(alloc, uri, ValueList::new(alloc).build()))
         }
+        Request::Configure { settings } => told_set(alloc, words, documents, settings),
         _ => Ok(Vec::new(alloc)),
     }
 }
@@ -189,42 +250,123 @@ fn is_answer(message: &Value) -> bool
     !has(message, "method") && (has(message, "result") || has(message, "error"))
 }
 
-/// Does what a message asks for, and returns what is to be told then: one answer to a request, and
-/// the marks of a document after its text was told. The only error is that a request for memory was
+/// Returns the answer to a request, on the map in use. The only error is that a request for memory
+/// was refused.
+fn answer_on(
+    alloc: Global,
+    words: &MapSpec,
+    server: &Server,
+    id: &Value,
+    request: Request<'_>,
+) -> Result<Value, AllocError>
+    ensures { IfOk result (λ v. IsReply words.now (server_view server.now) (view id.now)
+        (request_view request.entry) (view v)) }
+{
+    let map = map_in(words, server.chosen);
+    reply(alloc, &map, server.phase, &server.documents, id, request)
+}
+
+/// Returns one answer to a request, and behind it that a setting is wrong with which a client begins;
+/// nothing for an answer. The only error is that a request for memory was refused.
+fn replies(
+    alloc: Global,
+    words: &MapSpec,
+    server: &Server,
+    message: &Value,
+    id: &Value,
+    request: Request<'_>,
+) -> Result<Vec<Value>, AllocError>
+    ensures { IfOk result (λ vs. AreReplies (is_answer (view message.now)) words.now
+        (server_view server.now) (view id.now) (request_view request.entry)
+        (each view vs.items)) }
+{
+    if is_answer(message) {
+        return Ok(Vec::new(alloc));
+    }
+    let given = answer_on(alloc, words, server, id, request);
+    let settings = settings_asked(server.phase, request);
+    if is_wrong(words, settings) {
+        let given = given?;
+        two(alloc, given, showing(alloc, NOT_TAKEN))
+    } else {
+        one(alloc, given)
+    }
+}
+
+/// Does what a request asks for, and returns what is to be told then. The only error is that a
+/// request for memory was refused.
+fn asked(
+    alloc: Global,
+    words: &MapSpec,
+    server: &mut Server,
+    message: &Value,
+    id: &Value,
+    request: Request<'_>,
+) -> Result<Vec<Value>, AllocError>
+    ensures state { OnOk result (server_view server.new
+        ≡ asked_state words.now (server_view server.old) (request_view request.entry)) }
+    ensures told { IfOk result (λ vs. AreReplies (is_answer (view message.now)) words.now
+        (server_view server.old) (view id.now) (request_view request.entry)
+        (each view vs.items)) }
+{
+    let told = replies(alloc, words, server, message, id, request)?;
+    let settings = settings_asked(server.phase, request);
+    server.chosen = chosen_after(words, server.chosen, settings);
+    server.phase = server.phase.after(request);
+    Ok(told)
+}
+
+/// Does what a notice asks for, and returns what is to be told then. What is no notice is refused.
+/// The only error is that a request for memory was refused.
+fn noted(
+    alloc: Global,
+    words: &MapSpec,
+    server: &mut Server,
+    message: &Value,
+    request: Request<'_>,
+) -> Result<Vec<Value>, AllocError>
+    ensures state { OnOk result (server_view server.new
+        ≡ noted_state words.now (server_view server.old) (request_view request.entry)) }
+    ensures told { IfOk result (λ vs. AreNotices (has_method (view message.now)) words.now
+        (server_view server.old) (request_view request.entry) (each view vs.items)) }
+{
+    let map = map_in(words, server.chosen);
+    let settings = settings_noted(server.phase, request);
+    server.chosen = chosen_after(words, server.chosen, settings);
+    let told = note(
+        alloc,
+        words,
+        &map,
+        server.phase,
+        &mut server.documents,
+        request,
+    )?;
+    if has(message, "method") {
+        Ok(told)
+    } else {
+        refused(alloc, Failure::NoRequest)
+    }
+}
+
+/// Does what a message asks for, and returns what is to be told then: one answer to a request, the
+/// marks of a document after its text was told, and those of all after settings. `words` is the map
+/// that the words of the command line ask for. The only error is that a request for memory was
 /// refused.
 pub fn serve(
     alloc: Global,
-    map: &MapSpec,
+    words: &MapSpec,
     server: &mut Server,
     message: &Value,
 ) -> Result<Vec<Value>, AllocError>
-    ensures state { OnOk result
-        (server_view server.new ≡ state_after (server_view server.old) (view message.now)) }
-    ensures answers { IfOk result (λ vs. AreAnswers map.now (server_view server.old)
+    ensures state { OnOk result (server_view server.new
+        ≡ state_after words.now (server_view server.old) (view message.now)) }
+    ensures answers { IfOk result (λ vs. AreAnswers words.now (server_view server.old)
         (view message.now) (each view vs.items)) }
 {
     let request = read_request(message);
     match message.get("id") {
-        Some(id) => {
-            let phase = server.phase;
-            server.phase = phase.after(request);
-            if is_answer(message) {
-                Ok(Vec::new(alloc))
-            } else {
-                one(
-                    alloc,
-                    reply(alloc, map, phase, &server.documents, id, request),
-                )
-            }
-        }
-        None => {
-            let told = note(alloc, map, server.phase, &mut server.documents, request)?;
-            if has(message, "method") {
-                Ok(told)
-            } else {
-                refused(alloc, Failure::NoRequest)
-            }
-        }
+        Some(id) => asked(alloc, words, server, message, id, request),
+        None => noted(alloc, words, server, message, request),
     }
 }
 
