@@ -110,9 +110,17 @@ async function server(document) {
   const first = await document();
   await names(first);
   await lines(first);
+  const servers = started.length;
   at.set("mos65.port", "none such");
-  await wait(() => at.shown.some(it => it.includes("has ended")), "a server that ends is told");
+  await wait(() => at.shown.some(it => it.includes("mos65.port")), "a wrong setting is told");
+  at.set("mos65.port", "0200");
+  await wait(() => at.marks(first).some(it => it.code === "PortAddress"), "the marks on another port");
   at.set("mos65.port", "");
+  await wait(() => at.marks(first).length === 0, "the marks as before");
+  say(started.length === servers, "one server with all settings");
+  started[started.length - 1].kill();
+  await wait(() => at.shown.some(it => it.includes("has ended")), "a server that ends is told");
+  at.set("mos65.profile", "N");
   await wait(() => at.marks(first) && at.marks(first).length === 0, "it starts again with another setting");
   at.close(first);
   say(at.marks(first) === undefined, "a text that is closed has no marks");

@@ -123,7 +123,7 @@ module.exports = {
     marks: document => marks.get(document.uri.toString()),
     set(name, value) {
       settings[name] = value;
-      configured.fire({affectsConfiguration: section => name.startsWith(`${section}.`)});
+      configured.fire({affectsConfiguration: section => name === section || name.startsWith(`${section}.`)});
     },
     open(path, text) {
       const document = new Document(Uri.file(path), text);
