@@ -28,6 +28,16 @@
   "Words for the language server, as (\"--profile\" \"C\")."
   :type '(repeat string) :group 'mos65)
 
+(defcustom mos65-port nil
+  "The first of the port's four addresses for faults while typing, as \"0200\", or \"none\".
+Where nothing is set, `mos65-arguments' says it.  lsp-mode tells it to the server."
+  :type '(choice (const :tag "not set" nil) string) :safe #'string-or-null-p :group 'mos65)
+
+(defcustom mos65-profile nil
+  "The processor for faults while typing, as \"C\".
+Where nothing is set, `mos65-arguments' says it.  lsp-mode tells it to the server."
+  :type '(choice (const :tag "not set" nil) (const "N") (const "C")) :safe #'string-or-null-p :group 'mos65)
+
 (defconst mos65-script (expand-file-name "mos65-dap.sh" (file-name-directory (or load-file-name buffer-file-name)))
   "The script beside this file, with which a run of the debugger can be paused.")
 
@@ -113,11 +123,15 @@
 (declare-function lsp-register-client "lsp-mode")
 (declare-function make-lsp-client "lsp-mode")
 (declare-function lsp-stdio-connection "lsp-mode")
+(declare-function lsp-register-custom-settings "lsp-mode")
+(declare-function lsp-configuration-section "lsp-mode")
 (with-eval-after-load 'lsp-mode
   (add-to-list 'lsp-language-id-configuration '(mos65-mode . "mos65"))
+  (lsp-register-custom-settings '(("mos65.port" mos65-port) ("mos65.profile" mos65-profile)))
   (lsp-register-client
    (make-lsp-client :new-connection (lsp-stdio-connection #'mos65-server (lambda () t))
                     :major-modes '(mos65-mode)
+                    :initialization-options (lambda () (lsp-configuration-section "mos65"))
                     :server-id 'mos65)))
 
 ;;; The debugger

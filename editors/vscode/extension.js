@@ -1,5 +1,5 @@
-// The extension: it starts `mos65 lsp` when the first source is opened, again when a setting changes,
-// and says so where that fails. Debugging is in debugger.js. It needs no package.
+// The extension: it starts `mos65 lsp` when the first source is opened, again when another program is
+// set, tells it other settings, and says so where that fails. Debugging is in debugger.js. It needs no package.
 const vscode = require("vscode");
 const program = require("./program.js"), features = require("./features.js"), debuggers = require("./debugger.js");
 const {Server, LANGUAGE} = require("./server.js");
@@ -13,6 +13,7 @@ function told(method, params) {
   if (method === "textDocument/publishDiagnostics")
     marks.set(vscode.Uri.parse(params.uri), params.diagnostics.map(features.diagnostic));
   if (method === "window/logMessage" || method === "window/showMessage") log.appendLine(params.message);
+  if (method === "window/showMessage") vscode.window.showErrorMessage(`mos65: ${params.message}`);
 }
 
 /** The server has ended. Unless it was told to, that is said. */
@@ -31,13 +32,10 @@ function forget() {
   marks.clear();
 }
 
-/** The words for the server from the settings. */
-const words = () => Object.entries(program.options()).flatMap(([name, value]) => [`--${name}`, value]);
-
 async function start() {
   const file = program.found();
   if (!file) return program.complainOfNone();
-  const begun = new Server(file, words(), {told, ended: (...how) => ended(begun, ...how)});
+  const begun = new Server(file, program.options(), {told, ended: (...how) => ended(begun, ...how)});
   server = begun;
   const answers = await begun.begin();
   if (!answers || server !== begun) return undefined;
@@ -58,6 +56,13 @@ function restart() {
   return start();
 }
 
+/** Other settings are told to the server; it is started again where it does not run, or is another program. */
+function configured(change) {
+  if (!change.affectsConfiguration("mos65")) return undefined;
+  if (change.affectsConfiguration("mos65.path") || !server || !server.capabilities) return restart();
+  return server.configure(program.options());
+}
+
 /** Calls `what` with a document that is a source, where the server has begun. */
 const withServer = what => (document, ...more) => {
   if (isOurs(document) && server && server.capabilities) what(document, ...more);
@@ -74,7 +79,7 @@ function listeners() {
     workspace.onDidChangeTextDocument(({document, contentChanges}) => {
       if (contentChanges.length) withServer(it => server.change(it, contentChanges))(document);
     }),
-    workspace.onDidChangeConfiguration(it => (it.affectsConfiguration("mos65") ? restart() : undefined)),
+    workspace.onDidChangeConfiguration(configured),
   ];
 }
 

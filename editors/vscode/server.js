@@ -22,11 +22,11 @@ exports.range = it => ({start: place(it.start), end: place(it.end)});
 exports.LANGUAGE = LANGUAGE;
 
 exports.Server = class {
-  /** Starts a program. `told` is called with the method and the parameters of each notification, and
+  /** Starts a program, to which the settings are told. `told` is called with the method and the parameters of each notification, and
    *  `ended` with its status, or why it did not start, and what it wrote on its error stream. */
-  constructor(program, words, {told, ended}) {
-    Object.assign(this, {told, ended, asked: new Map(), changed: new Map(), number: 0, errors: "", isOver: false});
-    this.process = spawn(program, ["lsp", ...words]);
+  constructor(program, settings, {told, ended}) {
+    Object.assign(this, {settings, told, ended, asked: new Map(), changed: new Map(), number: 0, errors: "", isOver: false});
+    this.process = spawn(program, ["lsp"]);
     const reader = new Reader(it => this.take(it));
     this.process.stdout.on("data", it => reader.add(it));
     this.process.stderr.on("data", it => { this.errors += it; });
@@ -40,7 +40,7 @@ exports.Server = class {
     const folders = (vscode.workspace.workspaceFolders || []).map(it => ({uri: it.uri.toString(), name: it.name}));
     const answer = await this.ask("initialize", {
       processId: process.pid, rootUri: folders.length ? folders[0].uri : null, workspaceFolders: folders,
-      capabilities: CAPABILITIES,
+      capabilities: CAPABILITIES, initializationOptions: this.settings,
     });
     if (!answer) return false;
     this.capabilities = answer.capabilities;
@@ -103,6 +103,12 @@ exports.Server = class {
     });
     await gone;
     clearTimeout(timer);
+  }
+
+  /** Tells other settings: the marks of all texts come again. */
+  configure(settings) {
+    this.flush();
+    this.tell("workspace/didChangeConfiguration", {settings: {[LANGUAGE]: settings}});
   }
 
   open(document) {

@@ -1,6 +1,7 @@
 -- Neovim's client for `mos65 lsp`, and nvim-dap's for `mos65 dap`. Settings, before a source is opened:
 -- vim.g.mos65_program      the program, mos65 on the path where nothing is set
 -- vim.g.mos65_arguments    words for the server, as {"--profile", "C"}
+-- vim.g.mos65_settings     its settings, as {port = "0200", profile = "C"}
 -- vim.g.mos65_server       false: no server
 local M = {}
 local told = {}
@@ -52,9 +53,24 @@ function M.start(buffer)
   local command = { path, "lsp" }
   vim.list_extend(command, vim.g.mos65_arguments or {})
   local start = vim.lsp.start or start_shared
-  local client = start({ name = "mos65", cmd = command, root_dir = vim.fn.getcwd() }, { bufnr = buffer })
+  local client = start({
+    name = "mos65",
+    cmd = command,
+    root_dir = vim.fn.getcwd(),
+    init_options = vim.g.mos65_settings,
+  }, { bufnr = buffer })
   if client then set_keys(buffer) end
   return client
+end
+
+-- Gives the server that runs other settings: the marks of all buffers come again.
+function M.set(settings)
+  vim.g.mos65_settings = settings
+  for _, client in pairs((vim.lsp.get_clients or vim.lsp.get_active_clients)()) do
+    if client.name == "mos65" then
+      client.notify("workspace/didChangeConfiguration", { settings = { mos65 = settings } })
+    end
+  end
 end
 
 -- The script beside this file, with which a run can be paused; nil where there is no shell for it.
