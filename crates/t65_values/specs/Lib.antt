@@ -1,3 +1,4 @@
 pub mod FaultWords
+pub mod StringText
 pub mod ValueText
 pub mod Visible

@@ -1,6 +1,6 @@
 -- What stands at the front of a text of a test file: words, signs, numbers, addresses and values.
 -- Source: mos65.
-use Rattle.std.specs.Prelude.{ℕ, ℤ, pos, negsuc, ◌+◌, ◌==◌, ◌/◌, ◌%◌, ◌&&◌, ◌||◌, nat_le, nat_lt, Bool, true, false, if◌then◌else◌, List, [], ◌∷◌, length, take, drop, Option, Some, None, Result, Ok, Err}
+use Rattle.std.specs.Prelude.{ℕ, ℤ, pos, negsuc, ◌+◌, ◌==◌, ◌/◌, ◌%◌, ◌&&◌, ◌||◌, nat_le, nat_lt, Bool, true, false, if◌then◌else◌, List, [], ◌∷◌, length, take, drop, codes, Option, Some, None, Result, Ok, Err}
 use Rattle.std.specs.Str.{byte, bytes_eq}
 use Rattle.std.specs.List.{list_all, prefix_len}
 use Rattle.model.specs.Digits.{hex_number, decimal_number, is_hex_byte}
@@ -8,12 +8,12 @@ use Rattle.model.specs.Names.{Definitions, number_in}
 use Rattle.model.specs.Token.{is_blank, is_digit, is_word_byte, begins}
 use Rattle.t65_values.specs.declared.fault.RowFault.{RowFault}
 use Rattle.t65_values.specs.declared.fault.RowFaultKind.{RowFaultKind}
-use Rattle.t65_values.specs.declared.fault.RowFaultKind.TheVariants.{Syntax, LongNumber, UndefinedName, AddressRange}
+use Rattle.t65_values.specs.declared.fault.RowFaultKind.TheVariants.{Syntax, NoNumber, NoAddress, NoEquals, NoColon, NoBracket, LongNumber, UndefinedName, AddressRange}
 use Rattle.t65_values.specs.declared.fault.Base.{Base}
 use Rattle.t65_values.specs.declared.fault.Base.TheVariants.{Hex, Decimal}
 use Rattle.t65_values.specs.declared.value.Letters.{Letters}
 use Rattle.t65_values.specs.declared.expression.Atom.{Atom}
-use Rattle.t65_values.specs.declared.expression.Atom.TheVariants.{Number, First, Second, Third, Fourth}
+use Rattle.t65_values.specs.declared.expression.Atom.TheVariants.{Number, First, Second, Third, Fourth, Byte, Word}
 use Rattle.t65_values.specs.declared.expression.Operation.{Operation}
 use Rattle.t65_values.specs.declared.expression.Operation.TheVariants.{Add, Subtract, Multiply, Divide, Remainder, And, Or, ExclusiveOr}
 use Rattle.t65_values.specs.declared.expression.Operator.{Operator}
@@ -52,10 +52,18 @@ abbrev pub ends : List ℕ → Bool
 ends [] = true
 ends (b ∷ text) = b == byte ";"
 
+-- The fault where a sign has to come next.
+abbrev pub lack_of : ℕ → RowFaultKind
+lack_of sign =
+    if sign == byte "=" then NoEquals
+    else if sign == byte ":" then NoColon
+    else if sign == byte "]" then NoBracket
+    else Syntax
+
 -- A sign that has to come next: the text after it.
 abbrev pub after_sign : ℕ → List ℕ → Result (List ℕ) RowFault
 after_sign sign text = if is_next sign text then Ok (skip_blanks (drop 1 text))
-    else Err (fault_at Syntax text)
+    else Err (fault_at (lack_of sign) text)
 
 -- One to four hex digits, or one to seven decimal ones.
 abbrev pub up_to : ℕ → List ℕ → Option ℕ → Option ℕ
@@ -73,7 +81,7 @@ is_long Decimal word = nat_lt 7 (length word) && list_all is_digit word
 
 -- Why a word is no number.
 abbrev pub number_fault : Base → List ℕ → RowFaultKind
-number_fault base word = if is_long base word then LongNumber base else Syntax
+number_fault base word = if is_long base word then LongNumber base else NoNumber base
 
 -- The number of the word at the front, if it is one.
 abbrev pub number_or_fault : Base → List ℕ → Option ℕ → Reads ℕ
@@ -107,7 +115,7 @@ address_or_fault text after (Some (negsuc n)) = Err (fault_at AddressRange text)
 
 -- The address of a name.
 abbrev pub name_of : Definitions → List ℕ → Reads ℕ
-name_of names text = if length (word_of text) == 0 then Err (fault_at Syntax text)
+name_of names text = if length (word_of text) == 0 then Err (fault_at NoAddress text)
     else address_or_fault text (after_word text) (number_in names (word_of text))
 
 -- Hex digits that begin with a digit or with `$`, a name, or four hex digits that are no name.
@@ -154,10 +162,31 @@ abbrev pub letter_or_number : Base → List ℕ → Option Atom → Reads Atom
 letter_or_number base text (Some atom) = Ok (atom, after_word text)
 letter_or_number base text None = and_then (number_of base text) as_number
 
--- A number, a letter, or one byte of an address: the low one after `<`, the high one after `>`.
+-- Whether `.w` comes next.
+abbrev pub is_word_next : List ℕ → Bool
+is_word_next text = is_next (byte ".") text
+    && bytes_eq (word_of (skip_blanks (drop 1 text))) (codes "w")
+
+-- The byte of memory at an address, or where `.w` comes next the two bytes from there on.
+abbrev pub in_memory : ℕ → List ℕ → Atom × List ℕ
+in_memory address text = if is_word_next text
+    then (Word address, after_word (skip_blanks (drop 1 text))) else (Byte address, text)
+
+abbrev pub memory_by : ℕ → Result (List ℕ) RowFault → Reads Atom
+memory_by address (Ok rest) = Ok (in_memory address rest)
+memory_by address (Err fault) = Err fault
+
+-- What stands after `[`: an address, `]`, and `.w` for two bytes.
+unfoldable pub memory_atom : Definitions → List ℕ → Reads Atom
+memory_atom names text = and_then (address_of names text) (λ address rest.
+    memory_by address (after_sign (byte "]") rest))
+
+-- A number, a letter, one byte of an address, the low one after `<`, the high one after `>`, or what
+-- is in memory.
 unfoldable pub atom_of : Definitions → Letters → Base → List ℕ → Reads Atom
 atom_of names letters base text =
-    if is_next (byte "<") text then and_then (address_of names (skip_blanks (drop 1 text))) low_byte
+    if is_next (byte "[") text then memory_atom names (skip_blanks (drop 1 text))
+    else if is_next (byte "<") text then and_then (address_of names (skip_blanks (drop 1 text))) low_byte
     else if is_next (byte ">") text
     then and_then (address_of names (skip_blanks (drop 1 text))) high_byte
     else letter_or_number base text (letter_in letters (word_of text))

@@ -15,7 +15,7 @@ pub enum Operation {
     ExclusiveOr,
 }
 
-/// A number, or the value of one of a row's ranges.
+/// A number, the value of one of a row's ranges, or what is in memory.
 #[derive(Clone, Copy)]
 pub enum Atom {
     Number(u32),
@@ -23,6 +23,10 @@ pub enum Atom {
     Second,
     Third,
     Fourth,
+    /// The byte of memory at an address.
+    Byte(u16),
+    /// The two bytes of memory from an address on, the low one first.
+    Word(u16),
 }
 
 /// An operation and its right side.

@@ -18,6 +18,34 @@ pub enum Base {
 pub enum RowFaultKind {
     /// Something else has to stand there.
     Syntax,
+    /// A number has to stand there.
+    NoNumber(Base),
+    /// A name or an address has to stand there.
+    NoAddress,
+    /// `=` has to stand there.
+    NoEquals,
+    /// `:` has to stand there.
+    NoColon,
+    /// `]` has to stand there.
+    NoBracket,
+    /// A string has no second `"`.
+    OpenString,
+    /// `call` or `interrupt` has to stand there.
+    NoCall,
+    /// The line ends, and has no `->`.
+    NoArrow,
+    /// A place has to stand there: a register, a flag, memory, input, output or the cycles.
+    NoPlace,
+    /// What a place is compared by has to stand there.
+    NoRelation,
+    /// Before `->` a place is given a value, and not compared with one.
+    NotGiven,
+    /// A range has to stand there.
+    NoRange,
+    /// Where random numbers begin has to stand there.
+    NoSeed,
+    /// When an interrupt comes has to stand there.
+    NoTime,
     /// A number has more than four hex digits, or more than seven decimal ones.
     LongNumber(Base),
     /// The source does not define the name.
@@ -41,6 +69,21 @@ impl RowFaultKind {
     {
         match self {
             RowFaultKind::Syntax => wording::SYNTAX,
+            RowFaultKind::NoNumber(Base::Hex) => wording::NO_HEX,
+            RowFaultKind::NoNumber(Base::Decimal) => wording::NO_DECIMAL,
+            RowFaultKind::NoAddress => wording::NO_ADDRESS,
+            RowFaultKind::NoEquals => wording::NO_EQUALS,
+            RowFaultKind::NoColon => wording::NO_COLON,
+            RowFaultKind::NoBracket => wording::NO_BRACKET,
+            RowFaultKind::OpenString => wording::OPEN_STRING,
+            RowFaultKind::NoCall => wording::NO_CALL,
+            RowFaultKind::NoArrow => wording::NO_ARROW,
+            RowFaultKind::NoPlace => wording::NO_PLACE,
+            RowFaultKind::NoRelation => wording::NO_RELATION,
+            RowFaultKind::NotGiven => wording::NOT_GIVEN,
+            RowFaultKind::NoRange => wording::NO_RANGE,
+            RowFaultKind::NoSeed => wording::NO_SEED,
+            RowFaultKind::NoTime => wording::NO_TIME,
             RowFaultKind::LongNumber(Base::Hex) => wording::LONG_HEX,
             RowFaultKind::LongNumber(Base::Decimal) => wording::LONG_DECIMAL,
             RowFaultKind::UndefinedName => wording::UNDEFINED_NAME,
@@ -58,9 +101,22 @@ impl RowFaultKind {
         ensures { result.now ≡ example_words self.now }
     {
         match self {
-            RowFaultKind::Syntax => wording::ROW_EXAMPLE,
+            RowFaultKind::Syntax
+            | RowFaultKind::NoCall
+            | RowFaultKind::NoArrow
+            | RowFaultKind::NoPlace
+            | RowFaultKind::NoRelation => wording::ROW_EXAMPLE,
+            RowFaultKind::NoRange | RowFaultKind::NoSeed => wording::RANDOM_EXAMPLE,
+            RowFaultKind::NoTime => wording::TIME_EXAMPLE,
             RowFaultKind::NoSource => wording::SOURCE_EXAMPLE,
-            RowFaultKind::LongNumber(_)
+            RowFaultKind::NoNumber(_)
+            | RowFaultKind::NoAddress
+            | RowFaultKind::NoEquals
+            | RowFaultKind::NoColon
+            | RowFaultKind::NoBracket
+            | RowFaultKind::OpenString
+            | RowFaultKind::NotGiven
+            | RowFaultKind::LongNumber(_)
             | RowFaultKind::UndefinedName
             | RowFaultKind::AddressRange
             | RowFaultKind::EmptyRange

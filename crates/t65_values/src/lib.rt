@@ -1,10 +1,12 @@
-//! What stands at the front of a text of a test file: words, signs, numbers, addresses and values.
+//! What stands at the front of a text of a test file: words, signs, numbers, addresses, values, and
+//! the characters of a string.
 //!
 //! A call that reads one of these returns it with the text after it. The definitions are
-//! `specs/ValueText.antt`; a fault's words are in `specs/FaultWords.antt`, and `specs/Visible.antt`
-//! says how a byte of a file is told.
+//! `specs/ValueText.antt` and `specs/StringText.antt`; a fault's words are in
+//! `specs/FaultWords.antt`, and `specs/Visible.antt` says how a byte of a file is told.
 #![tactic(auto)]
 
+mod characters;
 mod expression;
 mod fault;
 mod scan;
@@ -13,6 +15,7 @@ mod visible;
 mod wording;
 
 pub use assembler::Assembly;
+pub use characters::character_of;
 pub use expression::{Atom, Operation, Operator, Value};
 pub use fault::{Base, RowFault, RowFaultKind, TextFault};
 pub use scan::{

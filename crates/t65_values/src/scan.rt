@@ -8,7 +8,7 @@ ghost use Rattle.model.specs.Digits.{hex_number, is_hex_byte};
 ghost use Rattle.model.specs.Token.{begins, is_blank, is_digit, is_word_byte};
 ghost use Rattle.t65_values.specs.ValueText.{address_of, address_or_fault, after_sign, after_word};
 ghost use Rattle.t65_values.specs.ValueText.{base_address_of, ends, fault_at, is_next, name_of};
-ghost use Rattle.t65_values.specs.ValueText.{is_long, number_fault, number_in_word, number_of};
+ghost use Rattle.t65_values.specs.ValueText.{is_long, lack_of, number_fault, number_in_word, number_of};
 ghost use Rattle.t65_values.specs.ValueText.{number_or_fault, skip_blanks};
 ghost use Rattle.t65_values.specs.ValueText.{sum_or_fault, unnamed, word_of};
 
@@ -96,6 +96,18 @@ pub fn after(count: usize, text: &[u8]) -> &[u8]
     skip_blanks(&text[count.min(text.len())..])
 }
 
+/// Returns the fault where a sign has to come next.
+fn lack_of(sign: u8) -> RowFaultKind
+    ensures { result ≡ lack_of sign }
+{
+    match sign {
+        b'=' => RowFaultKind::NoEquals,
+        b':' => RowFaultKind::NoColon,
+        b']' => RowFaultKind::NoBracket,
+        _ => RowFaultKind::Syntax,
+    }
+}
+
 /// Returns the text after a sign that has to come next.
 pub fn after_sign(sign: u8, text: &[u8]) -> Result<&[u8], RowFault>
     ensures ok { IfOk result (λ rest. after_sign sign text.now ≡ Ok rest.now) }
@@ -104,7 +116,7 @@ pub fn after_sign(sign: u8, text: &[u8]) -> Result<&[u8], RowFault>
     if is_next(sign, text) {
         Ok(after(1, text))
     } else {
-        Err(fault_at(RowFaultKind::Syntax, text))
+        Err(fault_at(lack_of(sign), text))
     }
 }
 
@@ -193,7 +205,7 @@ fn number_fault(base: Base, word: &[u8]) -> RowFaultKind
     if is_long(base, word) {
         RowFaultKind::LongNumber(base)
     } else {
-        RowFaultKind::Syntax
+        RowFaultKind::NoNumber(base)
     }
 }
 
@@ -286,7 +298,7 @@ fn name_of<'a>(names: &Assembly, text: &'a [u8]) -> Result<(u16, &'a [u8]), RowF
 {
     let word = word_of(text);
     if word.is_empty() {
-        return Err(fault_at(RowFaultKind::Syntax, text));
+        return Err(fault_at(RowFaultKind::NoAddress, text));
     }
     match names.value_of(word) {
         None => unnamed(text),

@@ -2,13 +2,16 @@
 
 ghost use Rattle.std.specs.Prelude.{◌≡◌, ◌==◌, drop, false, IfErr, IfOk, None, Some};
 ghost use Rattle.std.specs.Str.{bytes_eq};
-ghost use Rattle.t65_values.specs.ValueText.{atom_of, base_after, is_letter_of, letter_in};
+ghost use Rattle.t65_values.specs.ValueText.{atom_of, base_after, in_memory, is_letter_of};
+ghost use Rattle.t65_values.specs.ValueText.{is_word_next, letter_in, memory_atom};
 ghost use Rattle.t65_values.specs.ValueText.{letter_or_number, operation_at, operation_of, operator_by};
 ghost use Rattle.t65_values.specs.ValueText.{operator_of, value_of, word_of};
 
 use crate::expression::{Atom, Operation, Operator, Value};
 use crate::fault::{Base, RowFault};
-use crate::scan::{address_of, after, after_word, is_next, number_of, word_of};
+use crate::scan::{
+    address_of, after, after_sign, after_word, is_next, is_text, number_of, word_of,
+};
 use assembler::Assembly;
 
 /// The letters of a row's ranges.
@@ -62,7 +65,37 @@ fn letter_or_number(letters: Letters, base: Base, text: &[u8]) -> Result<(Atom, 
     }
 }
 
-/// Reads a number, a letter, or one byte of an address.
+/// Returns whether `.w` comes next.
+fn is_word_next(text: &[u8]) -> bool
+    ensures { result ≡ is_word_next text.now }
+{
+    is_next(b'.', text) && is_text(word_of(after(1, text)), b"w")
+}
+
+/// Returns the byte at an address, or the two bytes from there on where `.w` comes next, and the
+/// text after it.
+fn in_memory(address: u16, text: &[u8]) -> (Atom, &[u8])
+    ensures { (result.0, result.1.now) ≡ in_memory address text.now }
+{
+    if is_word_next(text) {
+        (Atom::Word(address), after_word(after(1, text)))
+    } else {
+        (Atom::Byte(address), text)
+    }
+}
+
+/// Reads what stands after a `[`: an address, `]`, and `.w` for two bytes.
+#[tactic(auto, unfolding(crate::specs::ValueText::memory_atom))]
+fn memory_atom<'a>(names: &Assembly, text: &'a [u8]) -> Result<(Atom, &'a [u8]), RowFault>
+    ensures ok { IfOk result (λ p. memory_atom names.now.names text.now ≡ Ok (p.0, p.1.now)) }
+    ensures err { IfErr result (λ fault. memory_atom names.now.names text.now ≡ Err fault) }
+{
+    let (address, rest) = address_of(names, text)?;
+    let rest = after_sign(b']', rest)?;
+    Ok(in_memory(address, rest))
+}
+
+/// Reads a number, a letter, one byte of an address, or what is in memory.
 #[tactic(auto, unfolding(crate::specs::ValueText::atom_of))]
 fn atom_of<'a>(
     names: &Assembly,
@@ -75,7 +108,9 @@ fn atom_of<'a>(
     ensures err { IfErr result
         (λ fault. atom_of names.now.names letters base text.now ≡ Err fault) }
 {
-    if is_next(b'<', text) {
+    if is_next(b'[', text) {
+        memory_atom(names, after(1, text))
+    } else if is_next(b'<', text) {
         let (address, rest) = address_of(names, after(1, text))?;
         Ok((Atom::Number(address as u32 % 256), rest))
     } else if is_next(b'>', text) {

@@ -3,6 +3,36 @@
 
 pub const SYNTAX: &str = "something else has to stand here";
 
+pub const NO_HEX: &str = "a hex number has to stand here";
+
+pub const NO_DECIMAL: &str = "a decimal number has to stand here";
+
+pub const NO_ADDRESS: &str = "a name or an address has to stand here";
+
+pub const NO_EQUALS: &str = "= has to stand here";
+
+pub const NO_COLON: &str = ": has to stand here";
+
+pub const NO_BRACKET: &str = "] has to stand here";
+
+pub const OPEN_STRING: &str = "this string has no second \"";
+
+pub const NO_CALL: &str = "call or interrupt has to stand here";
+
+pub const NO_ARROW: &str = "-> is missing; behind it stands what the call has to leave";
+
+pub const NO_PLACE: &str = "a register, a flag or memory has to stand here";
+
+pub const NO_RELATION: &str = "=, !=, <, <=, > or >= has to stand here";
+
+pub const NOT_GIVEN: &str = "before -> a place is given a value by =; it is compared behind ->";
+
+pub const NO_RANGE: &str = "a letter and its values have to stand here";
+
+pub const NO_SEED: &str = "seed and a decimal number have to stand here";
+
+pub const NO_TIME: &str = "at cycle and a decimal number have to stand here";
+
 pub const LONG_HEX: &str = "a number has at most four hex digits";
 
 pub const LONG_DECIMAL: &str = "a number has at most seven decimal digits";
@@ -21,6 +51,12 @@ pub const OUT_OF_MEMORY: &str = "out of memory";
 
 /// Stands behind the words where something else has to stand.
 pub const ROW_EXAMPLE: &str = ", as in: call NAME A=07 [10]=FF -> A=46 C=0 cycles<900";
+
+/// Stands behind the words where a range or a seed has to stand.
+pub const RANDOM_EXAMPLE: &str = ", as in: random 1000 seed 7: A in 00..FF: call NAME A -> A=A*2";
+
+/// Stands behind the words where it has to stand when an interrupt comes.
+pub const TIME_EXAMPLE: &str = ", as in: irq at cycle 12: call NAME -> A=46";
 
 /// Stands behind the words where no source is named.
 pub const SOURCE_EXAMPLE: &str = ", as in: source NAME.a65";
