@@ -2,10 +2,9 @@
 use Rattle.std.proofs.Common.{◌≡◌, ℕ, zero, suc, ◌+◌, Bool, true, false, List, [], ◌++◌, refl, ap, sym, ◌∙◌, append_assoc, append-nil, arith, Ok, Err}
 use Rattle.std.proofs.lemmas.Bool.{false≢true}
 use Rattle.model.specs.Names.{Definitions}
-use Rattle.t65_values.specs.ValueText.{and_then, fault_at}
-use Rattle.t65_reader.specs.RowText.{Items, before, is_over, item_of, items_within}
+use Rattle.t65_values.specs.ValueText.{and_then}
+use Rattle.t65_reader.specs.RowText.{Items, before, is_over, item_of, items_within, lack_at}
 use Rattle.t65_values.specs.declared.fault.RowFault.{RowFault}
-use Rattle.t65_values.specs.declared.fault.RowFaultKind.TheVariants.{Syntax}
 use Rattle.t65_reader.specs.declared.item.Side.{Side}
 use Rattle.t65_reader.specs.declared.row.Item.{Item}
 use Rattle.t65_values.specs.declared.value.Letters.{Letters}
@@ -27,7 +26,7 @@ over zero names letters side text front h = rw h (ap (λ (x : List Item). Ok (x,
 over (suc n) names letters side text front h = rw h (ap (λ (x : List Item). Ok (x, text)) (append-nil front))
 
 pub not_over : (n : ℕ) (names : Definitions) (letters : Letters) (side : Side) (text : List ℕ) (front : List Item) → n ≡ 0 → is_over side text ≡ false
-    → before front (items_within n names letters side text) ≡ Err (fault_at Syntax text)
+    → before front (items_within n names letters side text) ≡ Err (lack_at side text)
 unfolding before items_within
 not_over zero names letters side text front e h = rw h refl
 not_over (suc n) names letters side text front e h = absurd (omega arith)

@@ -1,3 +1,4 @@
 mod Items
+mod Pieces
 mod Rows
 pub mod Passed

@@ -6,7 +6,7 @@ use Rattle.std.specs.List.{prefix_len}
 use Rattle.model.specs.Names.{Definitions}
 use Rattle.model.specs.Token.{is_string_byte}
 use Rattle.t65_values.specs.declared.fault.RowFault.{RowFault}
-use Rattle.t65_values.specs.declared.fault.RowFaultKind.TheVariants.{Syntax, AddressRange, EmptyRange, SecondSource}
+use Rattle.t65_values.specs.declared.fault.RowFaultKind.TheVariants.{Syntax, AddressRange, EmptyRange, SecondSource, NoArrow, NoCall, NoPlace, NoRange, NoRelation, NoSeed, NoTime, NotGiven}
 use Rattle.t65_values.specs.declared.fault.TextFault.{TextFault}
 use Rattle.t65_reader.specs.declared.item.Side.{Side}
 use Rattle.t65_reader.specs.declared.item.Side.TheVariants.{Given, Wanted}
@@ -35,18 +35,16 @@ use Rattle.t65_reader.specs.declared.row.Range.{Range}
 use Rattle.t65_reader.specs.declared.row.Ranges.{Ranges}
 use Rattle.t65_reader.specs.declared.row.Register.TheVariants as register
 use Rattle.t65_reader.specs.declared.row.Relation.{Relation}
-use Rattle.t65_reader.specs.declared.row.Relation.TheVariants.{Equal, Below, Above}
+use Rattle.t65_reader.specs.declared.row.Relation.TheVariants.{Equal, Unequal, Below, Above, AtMost, AtLeast}
 use Rattle.t65_reader.specs.declared.row.Row.{Row}
 use Rattle.t65_values.specs.declared.expression.Value.{Value}
 use Rattle.t65_reader.specs.declared.row.Request.{Request}
 use Rattle.t65_reader.specs.declared.row.Signal.{Signal}
 use Rattle.t65_reader.specs.declared.row.Signal.TheVariants.{Irq, Nmi}
+use Rattle.t65_reader.specs.Sequences.{just, sequence_of}
 use Rattle.t65_values.specs.ValueText.{Reads, address_of, after_sign, after_word, and_then, ends, fault_at, is_next, letter_in, number_of, skip_blanks, value_of, word_of}
 
 -- ---- items
-
-abbrev pub just : Atom → Value
-just atom = record { first = atom; second = None; third = None }
 
 abbrev pub item : Target → Relation → Value → Item
 item place relation value = record { place = place; relation = relation; value = value }
@@ -80,17 +78,30 @@ place_of word =
     else if bytes_eq word (codes "cycles") then Some place.Cycles
     else None
 
-abbrev pub relation_of : ℕ → Option Relation
-relation_of sign =
+abbrev pub either_of : Bool → Relation → Relation → Relation
+either_of is_equal with_equal alone = if is_equal then with_equal else alone
+
+-- The relation that a sign begins, behind which `=` comes or not.
+abbrev pub relation_of : ℕ → Bool → Option Relation
+relation_of sign is_equal =
     if sign == byte "=" then Some Equal
-    else if sign == byte "<" then Some Below
-    else if sign == byte ">" then Some Above
+    else if sign == byte "<" then Some (either_of is_equal AtMost Below)
+    else if sign == byte ">" then Some (either_of is_equal AtLeast Above)
+    else if sign == byte "!" then (if is_equal then Some Unequal else None)
     else None
 
--- The relation that comes next.
+-- The relation that comes next: `=`, `!=`, `<`, `<=`, `>` or `>=`.
 abbrev pub relation_at : List ℕ → Option Relation
 relation_at [] = None
-relation_at (sign ∷ text) = relation_of sign
+relation_at (sign ∷ text) = relation_of sign (is_next (byte "=") text)
+
+abbrev pub sign_count : Relation → ℕ
+sign_count Equal = 1
+sign_count Unequal = 2
+sign_count Below = 1
+sign_count Above = 1
+sign_count AtMost = 2
+sign_count AtLeast = 2
 
 -- Cycles are counted, so their number is decimal.
 abbrev pub base_of : Target → Base
@@ -111,38 +122,42 @@ place_in InMemory index = place.Byte index
 place_in InInput index = place.Input
 place_in InOutput index = place.Output index
 
--- An item of each byte, at places in order.
-abbrev pub string_items : StringPlace → ℕ → List ℕ → List Item
-string_items at index [] = []
-string_items at index (b ∷ bytes)
-    = equals (place_in at index) (just (Number b)) ∷ string_items at (index + 1) bytes
+-- An item of each value, at places in order.
+abbrev pub value_items : StringPlace → ℕ → List Value → List Item
+value_items at index [] = []
+value_items at index (value ∷ values)
+    = equals (place_in at index) value ∷ value_items at (index + 1) values
 
 abbrev pub Items : Type 0
 Items = Reads (List Item)
 
 -- How many bytes of output are expected.
-abbrev pub count_items : StringPlace → List ℕ → List Item
-count_items InOutput bytes = equals place.OutputCount (just (Number (length bytes))) ∷ []
-count_items InMemory bytes = []
-count_items InInput bytes = []
+abbrev pub count_items : StringPlace → List Value → List Item
+count_items InOutput values = equals place.OutputCount (just (Number (length values))) ∷ []
+count_items InMemory values = []
+count_items InInput values = []
 
--- The items of a string from an index on; none of them past 65535.
-abbrev pub within_addresses : List ℕ → StringPlace → ℕ → List ℕ → List ℕ → Items
-within_addresses text at index bytes rest = if nat_le (index + length bytes) 65536
-    then Ok (string_items at index bytes ++ count_items at bytes, rest) else Err (fault_at AddressRange text)
+-- The items of bytes in order from an index on; none of them past 65535.
+abbrev pub within_addresses : List ℕ → StringPlace → ℕ → List Value → List ℕ → Items
+within_addresses text at index values rest = if nat_le (index + length values) 65536
+    then Ok (value_items at index values ++ count_items at values, rest)
+    else Err (fault_at AddressRange text)
 
-unfoldable pub string_at : StringPlace → ℕ → List ℕ → Items
-string_at at index text = and_then (string_of text) (within_addresses text at index)
+-- Bytes in order: values and strings, with commas between them.
+unfoldable pub sequence_at : Definitions → Letters → StringPlace → ℕ → List ℕ → Items
+sequence_at names letters at index text
+    = and_then (sequence_of names letters text) (within_addresses text at index)
 
 abbrev pub one_item : Target → Relation → Value → List ℕ → Items
 one_item place relation value rest = Ok (item place relation value ∷ [], rest)
 
 -- A place and what it is given or compared with.
 abbrev pub item_by : Definitions → Letters → Side → Target → List ℕ → Option Relation → Items
-item_by names letters side place text None = Err (fault_at Syntax text)
+item_by names letters side place text None = Err (fault_at NoRelation text)
 item_by names letters side place text (Some relation) = if fits side place relation
-    then and_then (value_of names letters (base_of place) (skip_blanks (drop 1 text))) (one_item place relation)
-    else Err (fault_at Syntax text)
+    then and_then (value_of names letters (base_of place)
+    (skip_blanks (drop (sign_count relation) text))) (one_item place relation)
+    else Err (fault_at NotGiven text)
 
 -- What stands after an address and `.`: `w`, and what the two bytes from there on are given or
 -- compared with.
@@ -152,12 +167,13 @@ word_item names letters side address text = if bytes_eq (word_of text) (codes "w
     (relation_at (after_word text))
     else Err (fault_at Syntax text)
 
--- Bytes of memory: a value, a value of two bytes, or a string.
+-- Bytes of memory: those that they are given or equal, in order, a value of two bytes, or another
+-- relation and a value.
 unfoldable pub memory_item : Definitions → Letters → Side → ℕ → List ℕ → Items
 memory_item names letters side address text =
     if is_next (byte ".") text then word_item names letters side address (skip_blanks (drop 1 text))
-    else if is_next (byte "=") text && is_next 34 (skip_blanks (drop 1 text))
-    then string_at InMemory address (skip_blanks (drop 1 text))
+    else if is_next (byte "=") text
+    then sequence_at names letters InMemory address (skip_blanks (drop 1 text))
     else item_by names letters side (place.Byte address) text (relation_at text)
 
 abbrev pub after_bracket : Definitions → Letters → Side → ℕ → Result (List ℕ) RowFault → Items
@@ -172,20 +188,25 @@ bracket_item names letters side text = and_then (address_of names text) (λ addr
 -- A place alone is given the value of its letter, or compared with it.
 abbrev pub letter_item : Target → List ℕ → Option Atom → Items
 letter_item place text (Some atom) = Ok (equals place (just atom) ∷ [], text)
-letter_item place text None = Err (fault_at Syntax text)
+letter_item place text None = Err (fault_at NoRelation text)
+
+-- The fault where a side of a row has no item: `->` is missing where the line ends.
+abbrev pub lack_at : Side → List ℕ → RowFault
+lack_at Given text = if ends text then fault_at NoArrow text else fault_at NoPlace text
+lack_at Wanted text = fault_at NoPlace text
 
 abbrev pub place_item : Definitions → Letters → Side → List ℕ → Option Target → Items
-place_item names letters side text None = Err (fault_at Syntax text)
+place_item names letters side text None = Err (lack_at side text)
 place_item names letters side text (Some place) =
     if is_some (relation_at (after_word text))
     then item_by names letters side place (after_word text) (relation_at (after_word text))
     else letter_item place (after_word text) (letter_in letters (word_of text))
 
-abbrev pub string_after : StringPlace → Result (List ℕ) RowFault → Items
-string_after at (Ok rest) = string_at at 0 rest
-string_after at (Err fault) = Err fault
+abbrev pub sequence_after : Definitions → Letters → StringPlace → Result (List ℕ) RowFault → Items
+sequence_after names letters at (Ok rest) = sequence_at names letters at 0 rest
+sequence_after names letters at (Err fault) = Err fault
 
--- The word before a string, and where its bytes stand.
+-- The word before bytes of input or output, and where they stand.
 abbrev pub string_word : Side → List ℕ
 string_word Given = codes "in"
 string_word Wanted = codes "out"
@@ -200,7 +221,8 @@ unfoldable pub item_of : Definitions → Letters → Side → List ℕ → Items
 item_of names letters side text =
     if is_next (byte "[") text then bracket_item names letters side (skip_blanks (drop 1 text))
     else if bytes_eq (word_of text) (string_word side)
-    then string_after (string_place side) (after_sign (byte "=") (after_word text))
+    then sequence_after names letters (string_place side)
+    (after_sign (byte "=") (after_word text))
     else place_item names letters side text (place_of (word_of text))
 
 -- ---- rows
@@ -221,7 +243,7 @@ before items more = and_then more (λ others rest. Ok (items ++ others, rest))
 -- enough.
 unfoldable pub items_within : ℕ → Definitions → Letters → Side → List ℕ → Items
 items_within zero names letters side text = if is_over side text then Ok ([], text)
-    else Err (fault_at Syntax text)
+    else Err (lack_at side text)
 items_within (suc n) names letters side text =
     if is_over side text then Ok ([], text)
     else and_then (item_of names letters side text)
@@ -296,19 +318,19 @@ entered_of names letters text =
     then call_of names letters Subroutine (after_word text)
     else if bytes_eq (word_of text) (codes "interrupt")
     then call_of names letters Interrupt (after_word text)
-    else Err (fault_at Syntax text)
+    else Err (fault_at NoCall text)
 
 -- `cycle` and how many cycles, which are decimal.
 unfoldable pub cycle_of : Definitions → Letters → List ℕ → Reads Value
 cycle_of names letters text = if bytes_eq (word_of text) (codes "cycle")
     then value_of names letters Decimal (after_word text)
-    else Err (fault_at Syntax text)
+    else Err (fault_at NoTime text)
 
 -- When an interrupt is asked for: `at cycle`, and how many cycles.
 unfoldable pub time_of : Definitions → Letters → List ℕ → Reads Value
 time_of names letters text = if bytes_eq (word_of text) (codes "at")
     then cycle_of names letters (after_word text)
-    else Err (fault_at Syntax text)
+    else Err (fault_at NoTime text)
 
 -- A call with an interrupt that comes into it.
 abbrev pub requested : Signal → Value → Result SeenCall RowFault → Result SeenCall RowFault
@@ -364,7 +386,7 @@ range_between text letter first last rest = if nat_le first last
 -- The two dots between the first value and the last.
 abbrev pub after_dots : List ℕ → Result (List ℕ) RowFault
 after_dots text = if is_next (byte ".") text && is_next (byte ".") (drop 1 text)
-    then Ok (skip_blanks (drop 2 text)) else Err (fault_at Syntax text)
+    then Ok (skip_blanks (drop 2 text)) else Err (fault_at NoRange text)
 
 abbrev pub last_after : List ℕ → ℕ → ℕ → Result (List ℕ) RowFault → Reads Range
 last_after text letter first (Ok rest) = and_then (number_of Hex rest) (range_between text letter first)
@@ -375,10 +397,10 @@ unfoldable pub values_of : ℕ → List ℕ → Reads Range
 values_of letter text = if bytes_eq (word_of text) (codes "in")
     then and_then (number_of Hex (after_word text)) (λ first rest.
     last_after (after_word text) letter first (after_dots rest))
-    else Err (fault_at Syntax text)
+    else Err (fault_at NoRange text)
 
 abbrev pub range_by : List ℕ → Option ℕ → Reads Range
-range_by text None = Err (fault_at Syntax text)
+range_by text None = Err (fault_at NoRange text)
 range_by text (Some letter) = values_of letter (after_word text)
 
 -- A letter, `in`, the first value, `..` and the last.
@@ -423,7 +445,7 @@ count_of text = and_then (number_of Decimal text) (λ count rest.
 -- Where the numbers begin.
 unfoldable pub seed_of : List ℕ → Reads ℕ
 seed_of text = if bytes_eq (word_of text) (codes "seed") then number_of Decimal (after_word text)
-    else Err (fault_at Syntax text)
+    else Err (fault_at NoSeed text)
 
 abbrev pub random_by : Definitions → ℕ → ℕ → Result (List ℕ) RowFault → Result SeenRow RowFault
 random_by names count seed (Ok rest) = chosen_of names (Random count seed) rest

@@ -4,16 +4,17 @@ ghost use Rattle.std.specs.Prelude.{◌≡◌, ◌≢◌, ◌==◌, ◌+◌, ◌
 ghost use Rattle.std.specs.Prelude.{IfOk, length, Some, None, take, true, List};
 ghost use Rattle.std.specs.List.{prefix_len};
 ghost use Rattle.model.specs.Token.{is_string_byte};
-ghost use Rattle.t65_reader.specs.RowText.{base_of, before, bracket_item, count_items, fits};
-ghost use Rattle.t65_reader.specs.RowText.{is_over, item_by, item_of, items_of, items_within, just};
-ghost use Rattle.t65_reader.specs.RowText.{letter_item, memory_item, place_in, place_item};
-ghost use Rattle.t65_reader.specs.RowText.{place_of, relation_at, relation_of, string_after};
-ghost use Rattle.t65_reader.specs.RowText.{string_at, string_items, string_of, string_place};
-ghost use Rattle.t65_reader.specs.RowText.{string_word, word_item};
+ghost use Rattle.t65_reader.specs.RowText.{base_of, before, bracket_item, count_items, either_of};
+ghost use Rattle.t65_reader.specs.RowText.{fits, is_over, item_by, item_of, items_of, items_within};
+ghost use Rattle.t65_reader.specs.RowText.{lack_at, letter_item, memory_item, place_in, place_item};
+ghost use Rattle.t65_reader.specs.RowText.{place_of, relation_at, relation_of, sequence_after};
+ghost use Rattle.t65_reader.specs.RowText.{sequence_at, sign_count, string_of, string_place};
+ghost use Rattle.t65_reader.specs.RowText.{string_word, value_items, word_item};
 ghost use Rattle.t65_values.specs.ValueText.{fault_at, letter_in, word_of};
 ghost use Rattle.t65_reader.specs.declared.row.Item.{Item as SeenItem};
 
 use crate::row::{Item, Register, Relation, Target};
+use crate::sequence::{just, out_of_memory, sequence_of, without_first};
 use assembler::Assembly;
 use opcode_facts::Flag;
 use std::alloc::Global;
@@ -35,16 +36,6 @@ pub enum StringPlace {
     InMemory,
     InInput,
     InOutput,
-}
-
-fn just(atom: Atom) -> Value
-    ensures { result ≡ just atom }
-{
-    Value {
-        first: atom,
-        second: None,
-        third: None,
-    }
 }
 
 fn place_in(at: StringPlace, index: u16) -> Target
@@ -91,16 +82,49 @@ fn place_of(word: &[u8]) -> Option<Target>
     }
 }
 
+/// Returns one relation where `=` comes next, and otherwise the other.
+fn either_of(is_equal: bool, with_equal: Relation, alone: Relation) -> Relation
+    ensures { result ≡ either_of is_equal with_equal alone }
+{
+    if is_equal { with_equal } else { alone }
+}
+
+/// Returns the relation that a sign begins, behind which `=` comes or not.
+fn relation_of(sign: u8, is_equal: bool) -> Option<Relation>
+    ensures { result ≡ relation_of sign is_equal }
+{
+    match sign {
+        b'=' => Some(Relation::Equal),
+        b'<' => Some(either_of(is_equal, Relation::AtMost, Relation::Below)),
+        b'>' => Some(either_of(is_equal, Relation::AtLeast, Relation::Above)),
+        b'!' => {
+            if is_equal {
+                Some(Relation::Unequal)
+            } else {
+                None
+            }
+        }
+        _ => None,
+    }
+}
+
 /// The relation that comes next.
 fn relation_at(text: &[u8]) -> Option<Relation>
     ensures { result ≡ relation_at text.now }
 {
     match text {
         [] => None,
-        [b'=', ..] => Some(Relation::Equal),
-        [b'<', ..] => Some(Relation::Below),
-        [b'>', ..] => Some(Relation::Above),
-        _ => None,
+        [sign, rest @ ..] => relation_of(*sign, is_next(b'=', rest)),
+    }
+}
+
+/// Returns how many signs a relation is written with.
+fn sign_count(relation: Relation) -> usize
+    ensures { result ≡ sign_count relation }
+{
+    match relation {
+        Relation::Equal | Relation::Below | Relation::Above => 1,
+        Relation::Unequal | Relation::AtMost | Relation::AtLeast => 2,
     }
 }
 
@@ -126,16 +150,6 @@ fn fits(side: Side, place: Target, relation: Relation) -> bool
     }
 }
 
-/// The fault of a request for memory that was refused.
-fn out_of_memory() -> RowFault
-    ensures { result.kind ≡ RowFaultKind.OutOfMemory }
-{
-    RowFault {
-        left: 0,
-        kind: RowFaultKind::OutOfMemory,
-    }
-}
-
 fn push(found: &mut Vec<Item>, item: Item) -> Result<(), RowFault>
     ensures ok { IfOk result (λ _. found.new.items ≡ found.old.items ++ item ∷ []) }
     ensures err { IfErr result (λ fault. fault.kind ≡ RowFaultKind.OutOfMemory) }
@@ -143,23 +157,23 @@ fn push(found: &mut Vec<Item>, item: Item) -> Result<(), RowFault>
     found.push(item).map_err(|_| out_of_memory())
 }
 
-/// Appends an item for each byte of a string, at places in order.
-fn push_string(
+/// Appends an item for each value, at places in order.
+fn push_items(
     found: &mut Vec<Item>,
     at: StringPlace,
     start: u16,
-    bytes: &[u8],
+    values: &[Value],
 ) -> Result<(), RowFault>
-    requires { start + length bytes.now ≤ 65536 }
+    requires { start + length values.now ≤ 65536 }
     ensures ok { IfOk result
-        (λ _. found.new.items ≡ found.old.items ++ string_items at start bytes.now) }
+        (λ _. found.new.items ≡ found.old.items ++ value_items at start values.now) }
     ensures err { IfErr result (λ fault. fault.kind ≡ RowFaultKind.OutOfMemory) }
 {
-    for i in 0..bytes.len() {
+    for i in 0..values.len() {
         let item = Item {
             place: place_in(at, (start as usize + i) as u16),
             relation: Relation::Equal,
-            value: just(Atom::Number(bytes[i] as u32)),
+            value: values[i],
         };
         push(found, item)?;
     }
@@ -174,16 +188,6 @@ fn string_run(text: &[u8]) -> usize
     text.iter()
         .take_while(|byte| matches!(**byte, b' ' | b'!' | b'#'..=b'~'))
         .count()
-}
-
-/// A text without its first byte.
-fn without_first(text: &[u8]) -> &[u8]
-    ensures { result.now ≡ drop 1 text.now }
-{
-    match text {
-        [] => text,
-        [_, rest @ ..] => rest,
-    }
 }
 
 /// Reads the bytes between two `"`.
@@ -202,9 +206,9 @@ pub fn string_of(text: &[u8]) -> Result<(&[u8], &[u8]), RowFault>
 }
 
 /// Appends how many bytes of output are expected.
-fn push_count(found: &mut Vec<Item>, at: StringPlace, bytes: &[u8]) -> Result<(), RowFault>
-    requires { length bytes.now ≤ 65536 }
-    ensures ok { IfOk result (λ _. found.new.items ≡ found.old.items ++ count_items at bytes.now) }
+fn push_count(found: &mut Vec<Item>, at: StringPlace, values: &[Value]) -> Result<(), RowFault>
+    requires { length values.now ≤ 65536 }
+    ensures ok { IfOk result (λ _. found.new.items ≡ found.old.items ++ count_items at values.now) }
     ensures err { IfErr result (λ fault. fault.kind ≡ RowFaultKind.OutOfMemory) }
 {
     match at {
@@ -214,31 +218,35 @@ fn push_count(found: &mut Vec<Item>, at: StringPlace, bytes: &[u8]) -> Result<()
             Item {
                 place: Target::OutputCount,
                 relation: Relation::Equal,
-                value: just(Atom::Number(bytes.len() as u32)),
+                value: just(Atom::Number(values.len() as u32)),
             },
         ),
     }
 }
 
-/// Reads a string, and appends its items.
-#[tactic(auto, unfolding(crate::specs::RowText::string_at, crate::specs::RowText::before))]
-fn string_at<'a>(
+/// Reads bytes in order, and appends their items.
+#[tactic(auto, unfolding(crate::specs::RowText::sequence_at, crate::specs::RowText::before))]
+fn sequence_at<'a>(
+    alloc: Global,
     found: &mut Vec<Item>,
+    names: &Assembly,
+    letters: Letters,
     at: StringPlace,
     start: u16,
     text: &'a [u8],
 ) -> Result<&'a [u8], RowFault>
-    ensures ok { IfOk result (λ rest. before found.old.items (string_at at start text.now)
+    ensures ok { IfOk result (λ rest. before found.old.items
+        (sequence_at names.now.names letters at start text.now)
         ≡ Ok (found.new.items, rest.now)) }
     ensures err { IfErr result (λ fault. fault.kind ≢ RowFaultKind.OutOfMemory
-        → string_at at start text.now ≡ Err fault) }
+        → sequence_at names.now.names letters at start text.now ≡ Err fault) }
 {
-    let (bytes, rest) = string_of(text)?;
-    if bytes.len() > 65536 - start as usize {
+    let (values, rest) = sequence_of(alloc, names, letters, text)?;
+    if values.len() > 65536 - start as usize {
         return Err(fault_at(RowFaultKind::AddressRange, text));
     }
-    push_string(found, at, start, bytes)?;
-    push_count(found, at, bytes)?;
+    push_items(found, at, start, &values)?;
+    push_count(found, at, &values)?;
     Ok(rest)
 }
 
@@ -261,7 +269,8 @@ fn item_by<'a>(
 {
     match relation_at(text) {
         Some(relation) if fits(side, place, relation) => {
-            let (value, rest) = value_of(names, letters, base_of(place), after(1, text))?;
+            let behind = after(sign_count(relation), text);
+            let (value, rest) = value_of(names, letters, base_of(place), behind)?;
             let item = Item {
                 place,
                 relation,
@@ -270,7 +279,8 @@ fn item_by<'a>(
             push(found, item)?;
             Ok(rest)
         }
-        _ => Err(fault_at(RowFaultKind::Syntax, text)),
+        Some(_) => Err(fault_at(RowFaultKind::NotGiven, text)),
+        None => Err(fault_at(RowFaultKind::NoRelation, text)),
     }
 }
 
@@ -304,9 +314,11 @@ fn word_item<'a>(
     }
 }
 
-/// Reads bytes of memory: a value, a value of two bytes, or a string.
+/// Reads bytes of memory: those that they are given or equal, in order, a value of two bytes, or
+/// another relation and a value.
 #[tactic(auto, unfolding(crate::specs::RowText::memory_item))]
 fn memory_item<'a>(
+    alloc: Global,
     found: &mut Vec<Item>,
     names: &Assembly,
     letters: Letters,
@@ -322,8 +334,9 @@ fn memory_item<'a>(
 {
     if is_next(b'.', text) {
         word_item(found, names, letters, side, address, after(1, text))
-    } else if is_next(b'=', text) && is_next(b'"', after(1, text)) {
-        string_at(found, StringPlace::InMemory, address, after(1, text))
+    } else if is_next(b'=', text) {
+        let place = StringPlace::InMemory;
+        sequence_at(alloc, found, names, letters, place, address, after(1, text))
     } else {
         item_by(found, names, letters, side, Target::Byte(address), text)
     }
@@ -332,6 +345,7 @@ fn memory_item<'a>(
 /// Reads what stands after a `[`.
 #[tactic(auto, unfolding(crate::specs::RowText::bracket_item))]
 fn bracket_item<'a>(
+    alloc: Global,
     found: &mut Vec<Item>,
     names: &Assembly,
     letters: Letters,
@@ -346,7 +360,23 @@ fn bracket_item<'a>(
 {
     let (address, rest) = address_of(names, text)?;
     let rest = after_sign(b']', rest)?;
-    memory_item(found, names, letters, side, address, rest)
+    memory_item(alloc, found, names, letters, side, address, rest)
+}
+
+/// Returns the fault where a side of a row has no item: `->` is missing where the line ends.
+fn lack_at(side: Side, text: &[u8]) -> RowFault
+    ensures { result ≡ lack_at side text.now }
+{
+    match side {
+        Side::Given => {
+            if ends(text) {
+                fault_at(RowFaultKind::NoArrow, text)
+            } else {
+                fault_at(RowFaultKind::NoPlace, text)
+            }
+        }
+        Side::Wanted => fault_at(RowFaultKind::NoPlace, text),
+    }
 }
 
 /// Reads a register, a flag or the cycles, and what follows.
@@ -366,7 +396,7 @@ fn place_item<'a>(
         ≡ Err fault) }
 {
     let Some(place) = place_of(word_of(text)) else {
-        return Err(fault_at(RowFaultKind::Syntax, text));
+        return Err(lack_at(side, text));
     };
     let rest = after_word(text);
     if relation_at(rest).is_some() {
@@ -382,7 +412,7 @@ fn place_item<'a>(
             push(found, item)?;
             Ok(rest)
         }
-        None => Err(fault_at(RowFaultKind::Syntax, rest)),
+        None => Err(fault_at(RowFaultKind::NoRelation, rest)),
     }
 }
 
@@ -407,6 +437,7 @@ fn string_place(side: Side) -> StringPlace
 /// Reads one item of a side of a row.
 #[tactic(auto, unfolding(crate::specs::RowText::item_of))]
 fn item_of<'a>(
+    alloc: Global,
     found: &mut Vec<Item>,
     names: &Assembly,
     letters: Letters,
@@ -420,10 +451,10 @@ fn item_of<'a>(
         → item_of names.now.names letters side text.now ≡ Err fault) }
 {
     if is_next(b'[', text) {
-        bracket_item(found, names, letters, side, after(1, text))
+        bracket_item(alloc, found, names, letters, side, after(1, text))
     } else if is_text(word_of(text), string_word(side)) {
         let rest = after_sign(b'=', after_word(text))?;
-        string_at(found, string_place(side), 0, rest)
+        sequence_at(alloc, found, names, letters, string_place(side), 0, rest)
     } else {
         place_item(found, names, letters, side, text)
     }
@@ -458,11 +489,11 @@ pub fn items_of<'a>(
         if is_over(side, rest) {
             return Ok((found, rest));
         }
-        rest = item_of(&mut found, names, letters, side, rest)?;
+        rest = item_of(alloc, &mut found, names, letters, side, rest)?;
     }
     if is_over(side, rest) {
         Ok((found, rest))
     } else {
-        Err(fault_at(RowFaultKind::Syntax, rest))
+        Err(lack_at(side, rest))
     }
 }

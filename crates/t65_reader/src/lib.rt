@@ -2,12 +2,14 @@
 //!
 //! `read_row` reads a line, and `read_rows` all lines after the one that names the source. A row
 //! that cannot be read stands among the others.
-//! `specs/RowText.antt` has the definitions; `t65_values` has those of numbers and values.
+//! `specs/RowText.antt` has the definitions, and `specs/Sequences.antt` those of bytes in order;
+//! `t65_values` has those of numbers and values.
 #![tactic(auto)]
 
 mod item;
 mod line;
 mod row;
+mod sequence;
 mod text;
 
 pub use assembler::Assembly;

@@ -97,7 +97,7 @@ fn entered_of(
     } else if is_text(word_of(text), b"interrupt") {
         call_of(alloc, names, letters, Entry::Interrupt, after_word(text))
     } else {
-        Err(fault_at(RowFaultKind::Syntax, text))
+        Err(fault_at(RowFaultKind::NoCall, text))
     }
 }
 
@@ -115,7 +115,7 @@ fn cycle_of<'a>(
     if is_text(word_of(text), b"cycle") {
         value_of(names, letters, Base::Decimal, after_word(text))
     } else {
-        Err(fault_at(RowFaultKind::Syntax, text))
+        Err(fault_at(RowFaultKind::NoTime, text))
     }
 }
 
@@ -133,7 +133,7 @@ fn time_of<'a>(
     if is_text(word_of(text), b"at") {
         cycle_of(names, letters, after_word(text))
     } else {
-        Err(fault_at(RowFaultKind::Syntax, text))
+        Err(fault_at(RowFaultKind::NoTime, text))
     }
 }
 
@@ -245,7 +245,7 @@ fn after_dots(text: &[u8]) -> Result<&[u8], RowFault>
     if is_next(b'.', text) && is_next(b'.', &text[1..]) {
         Ok(after(2, text))
     } else {
-        Err(fault_at(RowFaultKind::Syntax, text))
+        Err(fault_at(RowFaultKind::NoRange, text))
     }
 }
 
@@ -256,7 +256,7 @@ fn values_of(letter: u8, text: &[u8]) -> Result<(Range, &[u8]), RowFault>
     ensures err { IfErr result (λ fault. values_of letter text.now ≡ Err fault) }
 {
     if !is_text(word_of(text), b"in") {
-        return Err(fault_at(RowFaultKind::Syntax, text));
+        return Err(fault_at(RowFaultKind::NoRange, text));
     }
     let values = after_word(text);
     let (first, rest) = hex_of(values)?;
@@ -273,7 +273,7 @@ fn range_of(text: &[u8]) -> Result<(Range, &[u8]), RowFault>
 {
     match range_letter(word_of(text)) {
         Some(letter) => values_of(letter, after_word(text)),
-        None => Err(fault_at(RowFaultKind::Syntax, text)),
+        None => Err(fault_at(RowFaultKind::NoRange, text)),
     }
 }
 
@@ -345,7 +345,7 @@ fn seed_of(text: &[u8]) -> Result<(u32, &[u8]), RowFault>
     if is_text(word_of(text), b"seed") {
         number_of(Base::Decimal, after_word(text))
     } else {
-        Err(fault_at(RowFaultKind::Syntax, text))
+        Err(fault_at(RowFaultKind::NoSeed, text))
     }
 }
 

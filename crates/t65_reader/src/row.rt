@@ -41,8 +41,11 @@ pub enum Target {
 #[derive(Clone, Copy)]
 pub enum Relation {
     Equal,
+    Unequal,
     Below,
     Above,
+    AtMost,
+    AtLeast,
 }
 
 /// A place and the value that it is given, or with which it is compared.

@@ -25,4 +25,4 @@ pub returns-in_err-rest-clause-err : goal.returns-in_err-rest-clause-err
 returns-in_err-rest-clause-err c = passed _ c.from_residual.result c.in_err-rest.field-0.0 c.from_residual.ensures.1 (λ other. sym c.loop.invariant.read ∙ item_refused (length c.args.text.now - c.loop.counter) (length c.args.text.now - (c.loop.counter + 1)) _ _ _ _ _ _ (omega arith) (sym c.is_over.ensures ∙ c.if-is_over.false) (c.in_err-rest.ensures.err other))
 
 pub returns-clause-err : goal.returns-clause-err
-returns-clause-err c = λ other. sym c.loop.invariant.read ∙ (not_over (length c.args.text.now - c.loop.counter) _ _ _ _ _ (omega arith) (sym c.is_over-2.ensures ∙ c.if-is_over-2.false) ∙ ap Err (sym c.fault_at.ensures))
+returns-clause-err c = λ other. sym c.loop.invariant.read ∙ (not_over (length c.args.text.now - c.loop.counter) _ _ _ _ _ (omega arith) (sym c.is_over-2.ensures ∙ c.if-is_over-2.false) ∙ ap Err (sym c.lack_at.ensures))
