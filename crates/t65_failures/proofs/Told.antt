@@ -12,7 +12,7 @@ use Rattle.t65_reader.specs.RowText.{row_seen}
 use Rattle.t65_reader.specs.declared.row.Row.{Row}
 use Rattle.t65_reader.specs.declared.row.Item.{Item}
 use Rattle.t65_reader.specs.declared.row.Ranges.{Ranges}
-use Rattle.t65_runner.specs.Passes.{given_all, given_one, if_given, is_return, item_holds, passed, passed_after, rows_seen}
+use Rattle.t65_runner.specs.Passes.{given_all, given_one, if_given, is_return, item_holds, number_of, passed, passed_after, rows_seen}
 use Rattle.t65_runner.proofs.Firsts.{given_end, given_more, seen_end, seen_next}
 use Rattle.t65_runner.specs.declared.range_values.Values.{Values}
 use Rattle.t65_runner.specs.declared.requests.CallEnd.{CallEnd}
@@ -20,7 +20,7 @@ use Rattle.t65_failures.specs.Failures.{about_text, if_done, is_back, refusal_te
 
 module _ (about : List ℕ) (values : Values) (items : List Item) (i : ℕ) (s : Session) where
   told-next : (item : Item) → i < length items → refusal_text about values (drop i items) s
-      ≡ if_done (untaken_text values (get_or items i item) ++ about) (refusal_text about values (drop (i + 1) items)) (given_one values (get_or items i item) s)
+      ≡ if_done (untaken_text (get_or items i item) (number_of values s.current.bus.memory (get_or items i item).value) ++ about) (refusal_text about values (drop (i + 1) items)) (given_one values (get_or items i item) s)
   unfolding refusal_text
   told-next item h = rw (drop_more items i item h) refl
 
@@ -29,14 +29,16 @@ module _ (about : List ℕ) (values : Values) (items : List Item) (i : ℕ) (s :
       → given_one values (get_or items i item) s ≡ Some next → refusal_text about values (drop i items) s ≡ whole
       → refusal_text about values (drop (i + 1) items) next ≡ whole
   one_taken item next whole h taken left =
-      sym (told-next item h ∙ ap (if_done (untaken_text values (get_or items i item) ++ about) (refusal_text about values (drop (i + 1) items))) taken) ∙ left
+      sym (told-next item h ∙ ap (if_done (untaken_text (get_or items i item) (number_of values s.current.bus.memory (get_or items i item).value) ++ about) (refusal_text about values (drop (i + 1) items))) taken) ∙ left
 
   -- The next item cannot be given.
-  pub one_refused : (item : Item) (whole : List ℕ) → i < length items
+  pub one_refused : (item : Item) (number : ℕ) (whole : List ℕ) → i < length items
+      → number ≡ number_of values s.current.bus.memory (get_or items i item).value
       → given_one values (get_or items i item) s ≡ None → refusal_text about values (drop i items) s ≡ whole
-      → untaken_text values (get_or items i item) ++ about ≡ whole
-  one_refused item whole h refused left =
-      sym (told-next item h ∙ ap (if_done (untaken_text values (get_or items i item) ++ about) (refusal_text about values (drop (i + 1) items))) refused) ∙ left
+      → untaken_text (get_or items i item) number ++ about ≡ whole
+  one_refused item number whole h number_is refused left =
+      ap (λ (n : ℕ). untaken_text (get_or items i item) n ++ about) number_is
+      ∙ (sym (told-next item h ∙ ap (if_done (untaken_text (get_or items i item) (number_of values s.current.bus.memory (get_or items i item).value) ++ about) (refusal_text about values (drop (i + 1) items))) refused) ∙ left)
 
 module _ (values : Values) (items : List Item) (i : ℕ) (s : Session) where
   -- The next item was given, of all.

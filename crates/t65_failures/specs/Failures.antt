@@ -26,7 +26,7 @@ use Rattle.t65_runner.specs.declared.range_values.Values.{Values}
 use Rattle.t65_runner.specs.declared.requests.CallEnd.{CallEnd}
 use Rattle.t65_failures.specs.Steps.{signal_name, steps_by}
 use Rattle.t65_failures.specs.declared.wording.TheConstants.{CALLED_WITH, CAME, CAME_BEFORE, CANNOT_BE_GIVEN, DECIMAL_HINT, EXPECTED, FOR, HAS_COME, HEX_HINT, IN_SETUP, IN_TEARDOWN, NOTHING_CAME, NO_RETURN, NO_SIGNAL, RETURNED_WITH, STOPPED, THEN_AT}
-use Rattle.t65_failures.specs.Texts.{hex_of, named_address, named_byte, named_count, number_text, place_text, relation_sign, value_text}
+use Rattle.t65_failures.specs.Texts.{hex_of, named_address, named_byte, named_count, number_text, place_text, relation_text, value_text}
 
 -- ---- which row, and for which values
 
@@ -63,10 +63,9 @@ hint_of number = codes " (" ++ hex_of 2 number ++ HEX_HINT.now ++ decimal number
 abbrev pub hint_text : ℕ → List ℕ
 hint_text number = if nat_lt 255 number then hint_of number else []
 
-abbrev pub untaken_text : Values → Item → List ℕ
-untaken_text values item = place_text item.place ++ CANNOT_BE_GIVEN.now
-    ++ number_text item.place (number_of values item.value)
-    ++ hint_text (number_of values item.value) ++ codes "\n"
+abbrev pub untaken_text : Item → ℕ → List ℕ
+untaken_text item number = place_text item.place ++ CANNOT_BE_GIVEN.now
+    ++ number_text item.place number ++ hint_text number ++ codes "\n"
 
 -- ---- how the call has ended
 
@@ -126,7 +125,7 @@ came_text place (Some number) = CAME.now ++ number_text place number
 -- What was expected of an item, and what came.
 abbrev pub expected_text : Item → ℕ → Option ℕ → List ℕ
 expected_text item wanted found = EXPECTED.now ++ place_text item.place
-    ++ relation_sign item.relation ∷ number_text item.place wanted
+    ++ relation_text item.relation ++ number_text item.place wanted
     ++ came_text item.place found ++ codes "\n"
 
 -- The same, if it is not what was expected.
@@ -137,7 +136,8 @@ unlike_text item wanted found = if if_came item.relation found wanted then []
 -- What a call from one state to another has left in a place, if it is not what was expected.
 abbrev pub miss_text : Values → State → State → Item → List ℕ
 miss_text values before after item
-    = unlike_text item (number_of values item.value) (came before after item.place)
+    = unlike_text item (number_of values after.bus.memory item.value)
+    (came before after item.place)
 
 -- The same of all items, if the call is back.
 abbrev pub misses_text : Bool → Values → State → State → List Item → List ℕ
@@ -169,7 +169,8 @@ if_done undone next (Some s) = next s
 -- The first of some items that cannot be given.
 unfoldable pub refusal_text : List ℕ → Values → List Item → Session → List ℕ
 refusal_text about values [] s = []
-refusal_text about values (item ∷ items) s = if_done (untaken_text values item ++ about)
+refusal_text about values (item ∷ items) s = if_done
+    (untaken_text item (number_of values s.current.bus.memory item.value) ++ about)
     (refusal_text about values items) (given_one values item s)
 
 -- What is told of a call that fails: what cannot be given, or how it has ended.

@@ -8,7 +8,7 @@ use Rattle.t65_reader.specs.declared.row.Range.{Range}
 use Rattle.t65_reader.specs.declared.row.Register.{Register}
 use Rattle.t65_reader.specs.declared.row.Register.TheVariants as register
 use Rattle.t65_reader.specs.declared.row.Relation.{Relation}
-use Rattle.t65_reader.specs.declared.row.Relation.TheVariants.{Equal, Below, Above}
+use Rattle.t65_reader.specs.declared.row.Relation.TheVariants.{Equal, Unequal, Below, Above, AtMost, AtLeast}
 use Rattle.t65_failures.specs.declared.wording.TheConstants.{CYCLES, INPUT, OUTPUT_BYTE, OUTPUT_COUNT}
 
 -- So many capital hex digits, more where a number has more.
@@ -45,10 +45,13 @@ place_text place.OutputCount = OUTPUT_COUNT.now
 place_text place.Cycles = CYCLES.now
 
 -- A relation as a row writes it.
-abbrev pub relation_sign : Relation → ℕ
-relation_sign Equal = 61
-relation_sign Below = 60
-relation_sign Above = 62
+abbrev pub relation_text : Relation → List ℕ
+relation_text Equal = codes "="
+relation_text Unequal = codes "!="
+relation_text Below = codes "<"
+relation_text Above = codes ">"
+relation_text AtMost = codes "<="
+relation_text AtLeast = codes ">="
 
 -- A number as a row would write it for a place.
 abbrev pub number_text : Target → ℕ → List ℕ

@@ -135,29 +135,23 @@ fn push_hint(text: &mut String, number: u32) -> Result<(), AllocError>
 }
 
 /// Appends what was to be given and cannot be.
-fn push_untaken(text: &mut String, values: Values, item: Item) -> Result<(), AllocError>
+fn push_untaken(text: &mut String, item: Item, number: u32) -> Result<(), AllocError>
     ensures { OnOk result (string_bytes text.new
-        ≡ string_bytes text.old ++ untaken_text values item) }
+        ≡ string_bytes text.old ++ untaken_text item number) }
 {
     push_place(text, item.place)?;
     text.push_str(CANNOT_BE_GIVEN)?;
-    let number = number_of(values, item.value);
     push_number(text, item.place, number as u64)?;
     push_hint(text, number)?;
     text.push('\n')
 }
 
 /// Appends what was to be given and cannot be, and what is said of its row.
-fn push_refusal(
-    text: &mut String,
-    about: &str,
-    values: Values,
-    item: Item,
-) -> Result<(), AllocError>
+fn push_refusal(text: &mut String, about: &str, item: Item, number: u32) -> Result<(), AllocError>
     ensures { OnOk result (string_bytes text.new ≡ string_bytes text.old
-        ++ (untaken_text values item ++ about.now)) }
+        ++ (untaken_text item number ++ about.now)) }
 {
-    push_untaken(text, values, item)?;
+    push_untaken(text, item, number)?;
     text.push_str(about)
 }
 
@@ -357,7 +351,7 @@ fn push_miss(
         → OnOk result (string_bytes text.new ≡ string_bytes text.old
         ++ miss_text values state session.now.current item) }
 {
-    let wanted = number_of(values, item.value);
+    let wanted = number_of(session, values, item.value);
     let found = came(session, before, item.place);
     push_unlike(text, item, wanted, found)
 }
@@ -476,8 +470,9 @@ fn push_given(
     ensures stops { session.new.breaks ≡ session.old.breaks }
 {
     for item in items {
+        let number = number_of(session, values, item.value);
         if !given_one(session, values, *item) {
-            push_refusal(text, about, values, *item)?;
+            push_refusal(text, about, *item, number)?;
             return Ok(false);
         }
     }

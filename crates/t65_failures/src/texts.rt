@@ -2,7 +2,8 @@
 
 ghost use Rattle.std.specs.Prelude.{◌≡◌, ◌++◌, ◌∷◌, [], OnOk, map, string_bytes};
 ghost use Rattle.t65_failures.specs.Texts.{named_address, named_byte, named_count};
-ghost use Rattle.t65_failures.specs.Texts.{number_text, place_text, register_name, relation_sign, value_text};
+ghost use Rattle.t65_failures.specs.Texts.{number_text, place_text, register_name, relation_text};
+ghost use Rattle.t65_failures.specs.Texts.{value_text};
 ghost use Rattle.t65_values.specs.Visible.{visible};
 
 use crate::wording::{CYCLES, INPUT, OUTPUT_BYTE, OUTPUT_COUNT};
@@ -49,16 +50,25 @@ pub fn push_place(text: &mut String, place: Target) -> Result<(), AllocError>
     }
 }
 
+fn relation_text(relation: Relation) -> &'static str
+    ensures { result.now ≡ relation_text relation }
+{
+    match relation {
+        Relation::Equal => "=",
+        Relation::Unequal => "!=",
+        Relation::Below => "<",
+        Relation::Above => ">",
+        Relation::AtMost => "<=",
+        Relation::AtLeast => ">=",
+    }
+}
+
 /// Appends a relation as a row writes it.
 pub fn push_relation(text: &mut String, relation: Relation) -> Result<(), AllocError>
     ensures { OnOk result (string_bytes text.new
-        ≡ string_bytes text.old ++ relation_sign relation ∷ []) }
+        ≡ string_bytes text.old ++ relation_text relation) }
 {
-    text.push(match relation {
-        Relation::Equal => '=',
-        Relation::Below => '<',
-        Relation::Above => '>',
-    })
+    text.push_str(relation_text(relation))
 }
 
 /// Appends a number as a row would write it for a place.

@@ -1,6 +1,6 @@
 -- When a row passes: what its values are, what is given before its call, and what is wanted after
 -- it. Source: mos65.
-use Rattle.std.specs.Prelude.{ℕ, zero, suc, ◌+◌, ◌-◌, ◌*◌, ◌/◌, ◌%◌, ◌==◌, ◌&&◌, nat_lt, Bool, false, if◌then◌else◌, bit_and, bit_or, bit_xor, is_some, List, [], ◌∷◌, length, map, slice_get, slice_index, Option, Some, None, Result, Ok, Err}
+use Rattle.std.specs.Prelude.{ℕ, zero, suc, ◌+◌, ◌-◌, ◌*◌, ◌/◌, ◌%◌, ◌==◌, ◌&&◌, nat_le, nat_lt, not, Bool, false, if◌then◌else◌, bit_and, bit_or, bit_xor, is_some, List, [], ◌∷◌, length, map, slice_get, slice_index, Option, Some, None, Result, Ok, Err}
 use Rattle.std.specs.Borrow.{Bor}
 use Rattle.std.specs.List.{list_all}
 use Rattle.std.specs.Option.{option_or}
@@ -23,7 +23,7 @@ use Rattle.opcode_facts.specs.Flag.{has_flag, with_flag}
 use Rattle.rig.specs.Subroutine.{byte_patched, call_of, return_address}
 use Rattle.t65_reader.specs.RowText.{SeenCall, SeenRow, row_seen}
 use Rattle.t65_values.specs.declared.expression.Atom.{Atom}
-use Rattle.t65_values.specs.declared.expression.Atom.TheVariants.{Number, First, Second, Third, Fourth}
+use Rattle.t65_values.specs.declared.expression.Atom.TheVariants as atom
 use Rattle.t65_reader.specs.declared.row.Entry.{Entry}
 use Rattle.t65_reader.specs.declared.row.Entry.TheVariants.{Subroutine, Interrupt}
 use Rattle.t65_reader.specs.declared.row.Item.{Item}
@@ -36,7 +36,7 @@ use Rattle.t65_reader.specs.declared.row.Register.{Register}
 use Rattle.t65_reader.specs.declared.row.Register.TheVariants.{A, X, Y, S, P}
 use Rattle.t65_reader.specs.declared.row.Relation.{Relation}
 use Rattle.t65_reader.specs.declared.row.Row.{Row}
-use Rattle.t65_reader.specs.declared.row.Relation.TheVariants.{Equal, Below, Above}
+use Rattle.t65_reader.specs.declared.row.Relation.TheVariants.{Equal, Unequal, Below, Above, AtMost, AtLeast}
 use Rattle.t65_values.specs.declared.expression.Value.{Value}
 use Rattle.t65_reader.specs.declared.row.Request.{Request}
 use Rattle.t65_runner.specs.Interrupts.{interrupt_of}
@@ -52,12 +52,19 @@ rows_seen rows = map row_seen rows
 
 -- ---- values
 
-abbrev pub atom_number : Values → Atom → ℕ
-atom_number values (Number number) = number
-atom_number values First = values.first
-atom_number values Second = values.second
-atom_number values Third = values.third
-atom_number values Fourth = values.fourth
+-- The number of two bytes, the low one first. $0000 comes after $FFFF.
+abbrev pub word_at : List ℕ → ℕ → ℕ
+word_at memory address
+    = slice_index memory address + 256 * slice_index memory ((address + 1) % 65536)
+
+abbrev pub atom_number : Values → List ℕ → Atom → ℕ
+atom_number values memory (atom.Number number) = number
+atom_number values memory atom.First = values.first
+atom_number values memory atom.Second = values.second
+atom_number values memory atom.Third = values.third
+atom_number values memory atom.Fourth = values.fourth
+atom_number values memory (atom.Byte address) = slice_index memory address
+atom_number values memory (atom.Word address) = word_at memory address
 
 -- Modulo 2^32; a quotient and its rest by 0 are 0.
 abbrev pub operate : Operation → ℕ → ℕ → ℕ
@@ -70,13 +77,16 @@ operate And a b = bit_and a b
 operate Or a b = bit_or a b
 operate ExclusiveOr a b = bit_xor a b
 
-abbrev pub joined : Values → ℕ → Option Operator → ℕ
-joined values number None = number
-joined values number (Some by) = operate by.operation number (atom_number values by.right)
+abbrev pub joined : Values → List ℕ → ℕ → Option Operator → ℕ
+joined values memory number None = number
+joined values memory number (Some by)
+    = operate by.operation number (atom_number values memory by.right)
 
-unfoldable pub number_of : Values → Value → ℕ
-number_of values value
-    = joined values (joined values (atom_number values value.first) value.second) value.third
+-- The number that a value is, where memory has these bytes: after the call for what is wanted, and
+-- at the time where it is given for what is given.
+unfoldable pub number_of : Values → List ℕ → Value → ℕ
+number_of values memory value = joined values memory
+    (joined values memory (atom_number values memory value.first) value.second) value.third
 
 -- ---- what is given
 
@@ -123,7 +133,8 @@ given_event s (Some event) = accepted s (event_of s.current event)
 
 -- The session after one item is given; none if the value is too large or the event is rejected.
 unfoldable pub given_one : Values → Item → Session → Option Session
-given_one values item s = given_event s (giving s.current.regs item.place (number_of values item.value))
+given_one values item s = given_event s
+    (giving s.current.regs item.place (number_of values s.current.bus.memory item.value))
 
 abbrev pub if_given : Option Session → (Session → Option Session) → Option Session
 if_given None next = None
@@ -142,11 +153,6 @@ register_of Y regs = regs.y
 register_of S regs = regs.s
 register_of P regs = status false regs.flags
 
--- The number of two bytes, the low one first. $0000 comes after $FFFF.
-abbrev pub word_at : List ℕ → ℕ → ℕ
-word_at memory address
-    = slice_index memory address + 256 * slice_index memory ((address + 1) % 65536)
-
 -- What is in a place after a call, which began in another state.
 unfoldable pub came : State → State → Target → Option ℕ
 came before after (InRegister register) = Some (register_of register after.regs)
@@ -160,8 +166,11 @@ came before after Cycles = Some (after.cycles - before.cycles)
 
 abbrev pub compares : Relation → ℕ → ℕ → Bool
 compares Equal came wanted = came == wanted
+compares Unequal came wanted = not (came == wanted)
 compares Below came wanted = nat_lt came wanted
 compares Above came wanted = nat_lt wanted came
+compares AtMost came wanted = nat_le came wanted
+compares AtLeast came wanted = nat_le wanted came
 
 abbrev pub if_came : Relation → Option ℕ → ℕ → Bool
 if_came relation None wanted = false
@@ -169,7 +178,8 @@ if_came relation (Some number) wanted = compares relation number wanted
 
 unfoldable pub item_holds : Values → State → State → Item → Bool
 item_holds values before after item
-    = if_came item.relation (came before after item.place) (number_of values item.value)
+    = if_came item.relation (came before after item.place)
+    (number_of values after.bus.memory item.value)
 
 -- ---- rows
 
@@ -187,7 +197,7 @@ abbrev pub awaited_of : Values → State → Request → Awaited
 awaited_of values s request = record {
   signal = request.signal;
   start = s.cycles;
-  cycle = number_of values request.cycle;
+  cycle = number_of values s.bus.memory request.cycle;
 }
 
 abbrev pub ended_whole : Result (RunEnd × Session) SessionFault

@@ -68,7 +68,7 @@ pub fn awaited_of(session: &Session, values: Values, request: Request) -> Awaite
     Awaited {
         signal: request.signal,
         start: session.cycles(),
-        cycle: number_of(values, request.cycle),
+        cycle: number_of(session, values, request.cycle),
     }
 }
 

@@ -1,7 +1,7 @@
 //! The values of a row, what is given, and what came.
 
 ghost use Rattle.std.specs.Prelude.{◌≡◌, ◌≤◌, ◌<◌, ◌==◌, ◌+◌, IfSome, Some, None, MatchOption, true, false};
-ghost use Rattle.std.specs.Prelude.{length};
+ghost use Rattle.std.specs.Prelude.{length, not};
 ghost use Rattle.std.specs.List.{list_all};
 ghost use Rattle.model.specs.Arithmetic.{bit};
 ghost use Rattle.model.specs.Effect.{status};
@@ -25,8 +25,18 @@ pub struct CallStart {
     pub stack: u8,
 }
 
-fn atom_number(values: Values, atom: Atom) -> u32
-    ensures { result ≡ atom_number values atom }
+/// Returns the number that the bytes of a session at an address and at the next one are, the low
+/// one first.
+fn word_at(session: &Session, address: u16) -> u32
+    ensures { result ≡ word_at session.now.current.bus.memory address }
+{
+    let low = session.peek(address);
+    let high = session.peek(address.wrapping_add(1));
+    low as u32 + 256 * high as u32
+}
+
+fn atom_number(session: &Session, values: Values, atom: Atom) -> u32
+    ensures { result ≡ atom_number values session.now.current.bus.memory atom }
 {
     match atom {
         Atom::Number(number) => number,
@@ -34,6 +44,8 @@ fn atom_number(values: Values, atom: Atom) -> u32
         Atom::Second => values.second,
         Atom::Third => values.third,
         Atom::Fourth => values.fourth,
+        Atom::Byte(address) => session.peek(address) as u32,
+        Atom::Word(address) => word_at(session, address),
     }
 }
 
@@ -52,22 +64,23 @@ fn operate(operation: Operation, a: u32, b: u32) -> u32
     }
 }
 
-fn joined(values: Values, number: u32, by: Option<Operator>) -> u32
-    ensures { result ≡ joined values number by }
+fn joined(session: &Session, values: Values, number: u32, by: Option<Operator>) -> u32
+    ensures { result ≡ joined values session.now.current.bus.memory number by }
 {
     match by {
         None => number,
-        Some(by) => operate(by.operation, number, atom_number(values, by.right)),
+        Some(by) => operate(by.operation, number, atom_number(session, values, by.right)),
     }
 }
 
-/// Returns the number that a value is for values of the ranges.
+/// Returns the number that a value is for values of the ranges, and what is in memory.
 #[tactic(auto, unfolding(crate::specs::Passes::number_of))]
-pub fn number_of(values: Values, value: Value) -> u32
-    ensures { result ≡ number_of values value }
+pub fn number_of(session: &Session, values: Values, value: Value) -> u32
+    ensures { result ≡ number_of values session.now.current.bus.memory value }
 {
-    let first = atom_number(values, value.first);
-    joined(values, joined(values, first, value.second), value.third)
+    let first = atom_number(session, values, value.first);
+    let second = joined(session, values, first, value.second);
+    joined(session, values, second, value.third)
 }
 
 fn setting_of(register: Register, byte: u8) -> Setting
@@ -146,7 +159,11 @@ pub fn given_one(session: &mut Session, values: Values, item: Item) -> bool
     ensures since { (s : State) → IsSince s session.old → IsSince s session.new }
     ensures stops { session.new.breaks ≡ session.old.breaks }
 {
-    match giving(session.regs(), item.place, number_of(values, item.value)) {
+    match giving(
+        session.regs(),
+        item.place,
+        number_of(session, values, item.value),
+    ) {
         Some(event) => session.event(event).is_ok(),
         None => false,
     }
@@ -180,16 +197,6 @@ fn register_of(register: Register, regs: Regs) -> u8
     }
 }
 
-/// Returns the number that the bytes of a session at an address and at the next one are, the low
-/// one first.
-fn word_at(session: &Session, address: u16) -> u64
-    ensures { result ≡ word_at session.now.current.bus.memory address }
-{
-    let low = session.peek(address);
-    let high = session.peek(address.wrapping_add(1));
-    low as u64 + 256 * high as u64
-}
-
 /// Returns what is in a place after a call, or `None` where nothing is.
 #[tactic(auto, unfolding(crate::specs::Passes::came))]
 pub fn came(session: &Session, before: CallStart, place: Target) -> Option<u64>
@@ -201,7 +208,7 @@ pub fn came(session: &Session, before: CallStart, place: Target) -> Option<u64>
         Target::Register(register) => Some(register_of(register, session.regs()) as u64),
         Target::Flag(flag) => Some(flag.of(session.regs().flags) as u64),
         Target::Byte(address) => Some(session.peek(address) as u64),
-        Target::Word(address) => Some(word_at(session, address)),
+        Target::Word(address) => Some(word_at(session, address) as u64),
         Target::Input => None,
         Target::Output(index) => {
             let byte = session.output_at(before.output_count + index as u32)?;
@@ -219,8 +226,11 @@ pub fn compares(relation: Relation, came: u64, wanted: u32) -> bool
 {
     match relation {
         Relation::Equal => came == wanted as u64,
+        Relation::Unequal => came != wanted as u64,
         Relation::Below => came < wanted as u64,
         Relation::Above => came > wanted as u64,
+        Relation::AtMost => came <= wanted as u64,
+        Relation::AtLeast => came >= wanted as u64,
     }
 }
 
@@ -250,7 +260,7 @@ fn item_holds(session: &Session, before: CallStart, values: Values, item: &Item)
         → result ≡ item_holds values state session.now.current item.now }
 {
     match came(session, before, item.place) {
-        Some(came) => compares(item.relation, came, number_of(values, item.value)),
+        Some(came) => compares(item.relation, came, number_of(session, values, item.value)),
         None => false,
     }
 }
