@@ -6,15 +6,29 @@ use Rattle.std.specs.Str.Lines.{lines}
 use Rattle.std.specs.List.{flat_map, prefix_len, suffix_len}
 use Rattle.t65_reports.specs.declared.wording.TheConstants.{AT_LINE, CASE, CASE_END, CASE_FAILS, CASE_PASSES, FAILS, FAILURES, FAULT_NAME, IN_FILE, LINE, PASSES, QUOTE, SUITE, TAG_END, TESTS}
 use Rattle.t65_values.specs.Visible.{visible}
+use Rattle.t65_reports.specs.declared.reports.Quoted.{Quoted}
+use Rattle.t65_reports.specs.declared.reports.Quoted.TheVariants.{Outside, Inside, Escaped}
 use Rattle.t65_reports.specs.declared.reports.Score.{Score}
 
 -- ---- the text of a row
 
--- What stands before a comment: before a `;` that is in no string.
-abbrev pub before_comment : Bool → List ℕ → List ℕ
-before_comment in_string [] = []
-before_comment in_string (b ∷ bs) = if (b == 59) && not in_string then []
-    else b ∷ before_comment (if b == 34 then not in_string else in_string) bs
+-- A comment begins with a `;` that is in no string.
+abbrev pub begins_comment : ℕ → Quoted → Bool
+begins_comment b Outside = b == 59
+begins_comment b Inside = false
+begins_comment b Escaped = false
+
+-- Where the byte stands behind a byte: a `"` ends a string, but not behind a `\`.
+abbrev pub behind : ℕ → Quoted → Quoted
+behind b Outside = if b == 34 then Inside else Outside
+behind b Inside = if b == 34 then Outside else if b == 92 then Escaped else Inside
+behind b Escaped = Inside
+
+-- What stands before a comment.
+abbrev pub before_comment : Quoted → List ℕ → List ℕ
+before_comment quoted [] = []
+before_comment quoted (b ∷ bs) = if begins_comment b quoted then []
+    else b ∷ before_comment (behind b quoted) bs
 
 abbrev pub without_front_blanks : List ℕ → List ℕ
 without_front_blanks text = drop (prefix_len is_ascii_whitespace text) text
@@ -24,7 +38,7 @@ without_end_blanks text = take (length text - suffix_len is_ascii_whitespace tex
 
 -- A row's text without its comment, and without blanks in front of it and behind it.
 unfoldable pub row_of : List ℕ → List ℕ
-row_of line = without_end_blanks (without_front_blanks (before_comment false line))
+row_of line = without_end_blanks (without_front_blanks (before_comment Outside line))
 
 -- ---- TAP
 

@@ -1,10 +1,11 @@
 //! TAP and JUnit: a test's text is made when it has ended.
 
-ghost use Rattle.std.specs.Prelude.{◌≡◌, ◌==◌, ◌&&◌, ◌++◌, if◌then◌else◌, false};
+ghost use Rattle.std.specs.Prelude.{◌≡◌, ◌==◌, ◌++◌};
 ghost use Rattle.std.specs.Prelude.{not, string_bytes, IfOk, OnOk};
 ghost use Rattle.std.specs.List.{prefix_len};
 ghost use Rattle.std.specs.Option.{option_map};
-ghost use Rattle.t65_reports.specs.Reports.{before_comment, case_end, case_fails, case_front};
+ghost use Rattle.t65_reports.specs.Reports.{before_comment, begins_comment, behind, case_end};
+ghost use Rattle.t65_reports.specs.Reports.{case_fails, case_front};
 ghost use Rattle.t65_reports.specs.Reports.{fault_front, first_line, junit_case};
 ghost use Rattle.t65_reports.specs.Reports.{junit_fault, line_text, numbers_text, place_text};
 ghost use Rattle.t65_reports.specs.Reports.{plan_text, row_of, score_text};
@@ -46,31 +47,64 @@ pub struct Score {
     pub worth: u64,
 }
 
-/// Returns whether a comment begins with this byte of a row, where a string is open or not.
-fn begins_comment(byte: u8, is_string: bool) -> bool
-    ensures { result ≡ ((byte == 59) && not is_string) }
-{
-    byte == b';' && !is_string
+/// Where a byte of a row stands.
+#[derive(Clone, Copy)]
+pub enum Quoted {
+    /// In no string.
+    Outside,
+    /// In a string.
+    Inside,
+    /// In a string, behind a `\`.
+    Escaped,
 }
 
-/// Returns whether a string is open after a byte of a row.
-fn string_after(byte: u8, is_string: bool) -> bool
-    ensures { result ≡ (if byte == 34 then not is_string else is_string) }
+/// Returns whether a comment begins with a byte of a row that stands there.
+fn begins_comment(byte: u8, quoted: Quoted) -> bool
+    ensures { result ≡ begins_comment byte quoted }
 {
-    if byte == b'"' { !is_string } else { is_string }
+    match quoted {
+        Quoted::Outside => byte == b';',
+        Quoted::Inside => false,
+        Quoted::Escaped => false,
+    }
+}
+
+/// Returns where the byte stands behind a byte of a row that stands there.
+fn behind(byte: u8, quoted: Quoted) -> Quoted
+    ensures { result ≡ behind byte quoted }
+{
+    match quoted {
+        Quoted::Outside => {
+            if byte == b'"' {
+                Quoted::Inside
+            } else {
+                Quoted::Outside
+            }
+        }
+        Quoted::Inside => {
+            if byte == b'"' {
+                Quoted::Outside
+            } else if byte == b'\\' {
+                Quoted::Escaped
+            } else {
+                Quoted::Inside
+            }
+        }
+        Quoted::Escaped => Quoted::Inside,
+    }
 }
 
 /// Returns a row's text without its comment.
 fn without_comment(line: &[u8]) -> &[u8]
-    ensures { result.now ≡ before_comment false line.now }
+    ensures { result.now ≡ before_comment Quoted.Outside line.now }
 {
-    let mut is_string = false;
+    let mut quoted = Quoted::Outside;
     for at in 0..line.len() {
         let byte = line[at];
-        if begins_comment(byte, is_string) {
+        if begins_comment(byte, quoted) {
             return &line[..at];
         }
-        is_string = string_after(byte, is_string);
+        quoted = behind(byte, quoted);
     }
     line
 }
