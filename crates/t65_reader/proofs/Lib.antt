@@ -1,4 +1,5 @@
 mod Items
 mod Pieces
+mod Routines
 mod Rows
 pub mod Passed

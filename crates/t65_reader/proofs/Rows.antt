@@ -3,7 +3,7 @@ use Rattle.std.proofs.Common.{◌≡◌, ℕ, ◌+◌, List, [], ◌∷◌, ◌+
 use Rattle.model.specs.Names.{Definitions}
 use Rattle.model.specs.TextLines.{lines_from, lines_of}
 use Rattle.t65_values.specs.declared.fault.TextFault.{TextFault}
-use Rattle.t65_reader.specs.RowText.{Rows, SeenLine, line_before, line_of, one_before, points_of, rows_after, rows_from, worth_of}
+use Rattle.t65_reader.specs.RowText.{Rows, SeenAsking, SeenLine, line_before, line_of, one_before, points_of, rows_after, rows_from, worth_of}
 
 pub after_none : (rows : Rows) → rows_after [] rows ≡ rows
 unfolding rows_after
@@ -15,27 +15,27 @@ unfolding rows_after
 line_pushed front line (Ok lines) = ap (λ (x : List SeenLine). Ok x) (sym (append_assoc front (line ∷ []) lines))
 line_pushed front line (Err fault) = refl
 
-pub line_more : (steps : ℕ) (names : Definitions) (number : ℕ) (line : List ℕ) (lines : List (List ℕ)) → rows_from steps names number (line ∷ lines) ≡ line_before number line (line_of steps names line) (rows_from steps names (number + 1) lines)
+pub line_more : (asking : SeenAsking) (names : Definitions) (number : ℕ) (line : List ℕ) (lines : List (List ℕ)) → rows_from asking names number (line ∷ lines) ≡ line_before number line (line_of asking names line) (rows_from asking names (number + 1) lines)
 unfolding rows_from
-line_more steps names number line lines = refl
+line_more asking names number line lines = refl
 
 pub after_fault : (front : List SeenLine) (rows : Rows) (fault : TextFault) → rows ≡ Err fault → rows_after front rows ≡ Err fault
 unfolding rows_after
 after_fault front rows fault h = rw h refl
 
-pub at_end : (steps : ℕ) (names : Definitions) (number : ℕ) (front : List SeenLine) (text : List ℕ) → length text ≡ 0 → rows_after front (rows_from steps names number (lines_of text)) ≡ Ok front
+pub at_end : (asking : SeenAsking) (names : Definitions) (number : ℕ) (front : List SeenLine) (text : List ℕ) → length text ≡ 0 → rows_after front (rows_from asking names number (lines_of text)) ≡ Ok front
 unfolding rows_from rows_after lines_from
-at_end steps names number front (b ∷ text) h = absurd (omega arith)
-at_end steps names number front [] h = ap (λ (x : List SeenLine). Ok x) (append-nil front)
+at_end asking names number front (b ∷ text) h = absurd (omega arith)
+at_end asking names number front [] h = ap (λ (x : List SeenLine). Ok x) (append-nil front)
 
 -- ---- points
 
-pub points_more : (points : ℕ) (line : List ℕ) (lines : List (List ℕ)) (worth whole : ℕ) → worth ≡ worth_of line
-    → points + points_of (line ∷ lines) ≡ whole → (points + worth) + points_of lines ≡ whole
+pub points_more : (only : List ℕ) (points : ℕ) (line : List ℕ) (lines : List (List ℕ)) (worth whole : ℕ) → worth ≡ worth_of only line
+    → points + points_of only (line ∷ lines) ≡ whole → (points + worth) + points_of only lines ≡ whole
 unfolding points_of
-points_more points line lines worth whole is left = rw is (omega (arith, left))
+points_more only points line lines worth whole is left = rw is (omega (arith, left))
 
-pub no_points : (points : ℕ) (text : List ℕ) (whole : ℕ) → length text ≡ 0 → points + points_of (lines_of text) ≡ whole → points ≡ whole
+pub no_points : (only : List ℕ) (points : ℕ) (text : List ℕ) (whole : ℕ) → length text ≡ 0 → points + points_of only (lines_of text) ≡ whole → points ≡ whole
 unfolding points_of lines_from
-no_points points (b ∷ text) whole h left = absurd (omega arith)
-no_points points [] whole h left = omega (arith, left)
+no_points only points (b ∷ text) whole h left = absurd (omega arith)
+no_points only points [] whole h left = omega (arith, left)

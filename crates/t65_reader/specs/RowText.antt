@@ -1,5 +1,5 @@
 -- What a line of a test file says. Source: mos65.
-use Rattle.std.specs.Prelude.{ℕ, zero, suc, ◌+◌, ◌-◌, ◌==◌, ◌&&◌, ◌||◌, nat_le, Bool, true, false, is_some, if◌then◌else◌, List, [], ◌∷◌, ◌++◌, length, take, drop, codes, Option, Some, None, Result, Ok, Err}
+use Rattle.std.specs.Prelude.{ℕ, zero, suc, ◌+◌, ◌-◌, ◌==◌, ◌&&◌, ◌||◌, nat_le, Bool, true, false, not, is_some, if◌then◌else◌, List, [], ◌∷◌, ◌++◌, length, take, drop, codes, Option, Some, None, Result, Ok, Err}
 use Rattle.std.specs.Borrow.{Bor}
 use Rattle.std.specs.Str.{byte, bytes_eq}
 use Rattle.std.specs.List.{prefix_len}
@@ -17,6 +17,7 @@ use Rattle.t65_values.specs.declared.fault.Base.TheVariants.{Hex, Decimal}
 use Rattle.t65_values.specs.declared.value.Letters.{Letters}
 use Rattle.t65_values.specs.declared.expression.Atom.{Atom}
 use Rattle.t65_values.specs.declared.expression.Atom.TheVariants.{Number}
+use Rattle.t65_reader.specs.declared.row.Asking.{Asking}
 use Rattle.t65_reader.specs.declared.row.Call.{Call}
 use Rattle.t65_reader.specs.declared.row.Choice.{Choice}
 use Rattle.t65_reader.specs.declared.row.Choice.TheVariants.{All, Random}
@@ -499,39 +500,88 @@ around_by names part (Err fault) = Err fault
 unfoldable pub around_of : Definitions → Part → List ℕ → Result SeenRow RowFault
 around_of names part text = around_by names part (after_sign (byte ":") text)
 
+-- The text of a row behind `hidden`, if that stands before it: of such a row no text is told.
+abbrev pub unhidden : List ℕ → List ℕ
+unhidden text = if bytes_eq (word_of text) (codes "hidden") then after_word text else text
+
 -- A call before each row, one after each, or a row.
 unfoldable pub part_of : Definitions → List ℕ → Result SeenRow RowFault
 part_of names text =
     if bytes_eq (word_of text) (codes "setup") then around_of names Setup (after_word text)
     else if bytes_eq (word_of text) (codes "teardown")
     then around_of names Teardown (after_word text)
-    else pointed_row_of names text
+    else pointed_row_of names (unhidden text)
 
--- A row whose calls have so many steps at most.
-abbrev pub limited : ℕ → SeenRow → SeenRow
-limited steps row = record row { call = record row.call { steps = steps } }
+-- ---- what is asked of rows
 
-abbrev pub some_row : ℕ → Result SeenRow RowFault → Result (Option SeenRow) RowFault
-some_row steps (Ok row) = Ok (Some (limited steps row))
-some_row steps (Err fault) = Err fault
+-- The most steps of a call; where random numbers begin, if not where the rows say; and the routine
+-- whose rows alone are read: those of all routines, where this is no byte.
+pub record SeenAsking : Type 0 where
+  pub steps : ℕ
+  pub seed : Option ℕ
+  pub only : List ℕ
 
-abbrev pub line_at : ℕ → Definitions → List ℕ → Result (Option SeenRow) RowFault
-line_at steps names text =
-    if ends text then Ok None
-    else if bytes_eq (word_of text) (codes "source") then Err (fault_at SecondSource text)
-    else some_row steps (part_of names text)
+abbrev pub is_call : List ℕ → Bool
+is_call word = bytes_eq word (codes "call") || bytes_eq word (codes "interrupt")
 
--- What a line says after the one that names the source: nothing, or a row, whose calls have so many
--- steps at most.
-unfoldable pub line_of : ℕ → Definitions → List ℕ → Result (Option SeenRow) RowFault
-line_of steps names line = line_at steps names (skip_blanks line)
+-- A text without the word, or the byte that is in none, at its front.
+abbrev pub behind_word : List ℕ → List ℕ
+behind_word text = if length (word_of text) == 0 then drop 1 text else after_word text
 
--- ---- rows that cannot be read
+-- The word behind the first `call` or `interrupt` of a text, or no byte; so many words are looked at.
+unfoldable pub routine_in : ℕ → List ℕ → List ℕ
+routine_in zero text = []
+routine_in (suc n) text = if is_call (word_of text) then word_of (after_word text)
+    else routine_in n (behind_word text)
+
+-- The routine that a line names, whether it can be read as a row or not.
+abbrev pub routine_of : List ℕ → List ℕ
+routine_of line = routine_in (length line) line
+
+abbrev pub is_picked : List ℕ → List ℕ → Bool
+is_picked only line = (length only == 0) || bytes_eq (routine_of line) only
 
 -- A line says what is run before or after each row.
 abbrev pub is_around : List ℕ → Bool
 is_around line = bytes_eq (word_of (skip_blanks line)) (codes "setup")
     || bytes_eq (word_of (skip_blanks line)) (codes "teardown")
+
+-- A row of another routine than the one whose rows alone are read.
+abbrev pub is_left_out : List ℕ → List ℕ → Bool
+is_left_out only line = not (is_picked only line) && not (is_around line)
+
+abbrev pub seeded : Option ℕ → Choice → Choice
+seeded None choice = choice
+seeded (Some seed) All = All
+seeded (Some seed) (Random count old) = Random count seed
+
+-- A row as it is asked for.
+abbrev pub asked_for : SeenAsking → SeenRow → SeenRow
+asked_for asking row = record row {
+  choice = seeded asking.seed row.choice;
+  call = record row.call { steps = asking.steps };
+}
+
+abbrev pub some_row : SeenAsking → Result SeenRow RowFault → Result (Option SeenRow) RowFault
+some_row asking (Ok row) = Ok (Some (asked_for asking row))
+some_row asking (Err fault) = Err fault
+
+abbrev pub line_at : SeenAsking → Definitions → List ℕ → Result (Option SeenRow) RowFault
+line_at asking names text =
+    if ends text then Ok None
+    else if bytes_eq (word_of text) (codes "source") then Err (fault_at SecondSource text)
+    else some_row asking (part_of names text)
+
+-- What a line says after the one that names the source: nothing, or a row as it is asked for.
+unfoldable pub line_of : SeenAsking → Definitions → List ℕ → Result (Option SeenRow) RowFault
+line_of asking names line = if is_left_out asking.only line then Ok None
+    else line_at asking names (skip_blanks line)
+
+-- ---- rows that cannot be read
+
+-- No text is told of the row of a line.
+abbrev pub is_hidden : List ℕ → Bool
+is_hidden line = bytes_eq (word_of (skip_blanks line)) (codes "hidden")
 
 abbrev pub points_or_one : Reads ℕ → ℕ
 points_or_one (Ok read) = read.0
@@ -544,17 +594,21 @@ points_before text = if bytes_eq (word_of text) (codes "points")
 
 -- How many points the row of a line is worth, whether it can be read or not.
 abbrev pub points_in : List ℕ → ℕ
-points_in line = points_before (skip_blanks line)
+points_in line = points_before (unhidden (skip_blanks line))
 
 -- How many points a line is worth: none where it is blank or a comment, or says what is run before
--- or after each row.
-abbrev pub worth_of : List ℕ → ℕ
-worth_of line = if ends (skip_blanks line) then 0 else if is_around line then 0 else points_in line
+-- or after each row, or is left out.
+abbrev pub worth_of : List ℕ → List ℕ → ℕ
+worth_of only line =
+    if ends (skip_blanks line) then 0
+    else if is_around line then 0
+    else if is_left_out only line then 0
+    else points_in line
 
 -- How many points the rows of some lines are worth together, whether they can be read or not.
-unfoldable pub points_of : List (List ℕ) → ℕ
-points_of [] = 0
-points_of (line ∷ lines) = worth_of line + points_of lines
+unfoldable pub points_of : List ℕ → List (List ℕ) → ℕ
+points_of only [] = 0
+points_of only (line ∷ lines) = worth_of only line + points_of only lines
 
 -- The fault of a line: its line and its column, both counted from 1, and its kind.
 abbrev pub fault_in : ℕ → List ℕ → RowFault → TextFault
@@ -603,10 +657,15 @@ line_before number line (Ok row) rows = row_before number row rows
 line_before number line (Err fault) rows
     = fault_before (is_around line) (points_in line) (fault_in number line fault) rows
 
-unfoldable pub rows_from : ℕ → Definitions → ℕ → List (List ℕ) → Rows
-rows_from steps names number [] = Ok []
-rows_from steps names number (line ∷ lines) = line_before number line (line_of steps names line)
-    (rows_from steps names (number + 1) lines)
+unfoldable pub rows_from : SeenAsking → Definitions → ℕ → List (List ℕ) → Rows
+rows_from asking names number [] = Ok []
+rows_from asking names number (line ∷ lines) = line_before number line (line_of asking names line)
+    (rows_from asking names (number + 1) lines)
+
+-- What is asked of rows as the code keeps it.
+abbrev pub asking_view : Asking → SeenAsking
+asking_view asking
+    = record { steps = asking.steps; seed = asking.seed; only = asking.only.now }
 
 -- A call and a row as the code keeps them.
 abbrev pub call_view : Call → SeenCall

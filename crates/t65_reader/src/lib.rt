@@ -14,8 +14,9 @@ mod text;
 
 pub use assembler::Assembly;
 pub use item::string_of;
+pub use line::is_hidden;
 pub use row::{
-    Call, Choice, Entry, Faulty, Item, Line, MOST_STEPS, Part, Range, Ranges, Register, Relation,
-    Request, Row, Signal, Target,
+    Asking, Call, Choice, Entry, Faulty, Item, Line, MOST_STEPS, Part, Range, Ranges, Register,
+    Relation, Request, Row, Signal, Target,
 };
 pub use text::{fault_of, points_of, read_rows};

@@ -1,9 +1,13 @@
 //! One line of a test file.
 
 ghost use Rattle.std.specs.Prelude.{◌≤◌, ◌≡◌, ◌≢◌, IfErr, IfOk, None, Option, Some, MatchOption};
+ghost use Rattle.std.specs.Prelude.{length};
 ghost use Rattle.std.specs.Option.{option_map};
 ghost use Rattle.t65_reader.specs.RowText.{after_dots, around_of, call_of, call_view, called_of};
-ghost use Rattle.t65_reader.specs.RowText.{is_around, points_after, points_before, points_in, worth_of};
+ghost use Rattle.t65_reader.specs.RowText.{asked_for, asking_view, behind_word, is_around, is_call};
+ghost use Rattle.t65_reader.specs.RowText.{is_hidden, is_left_out, is_picked, points_after};
+ghost use Rattle.t65_reader.specs.RowText.{points_before, points_in, routine_in, routine_of, seeded};
+ghost use Rattle.t65_reader.specs.RowText.{unhidden, worth_of};
 ghost use Rattle.t65_reader.specs.RowText.{chosen_of, count_of, cycle_of, entered_of, letter_of};
 ghost use Rattle.t65_reader.specs.RowText.{letters_of, line_at, requested_of, time_of};
 ghost use Rattle.t65_reader.specs.RowText.{line_of, next_range, no_ranges, part_of, pointed_row_of};
@@ -13,7 +17,10 @@ ghost use Rattle.t65_reader.specs.RowText.{values_of};
 ghost use Rattle.t65_values.specs.ValueText.{after_word, word_of};
 
 use crate::item::{Side, items_of};
-use crate::row::{Call, Choice, Entry, MOST_STEPS, Part, Range, Ranges, Request, Row, Signal};
+use crate::row::{
+    Asking, Call, Choice, Entry, MOST_STEPS, Part, Range, Ranges, Request, Row, Signal,
+};
+use crate::sequence::without_first;
 use assembler::Assembly;
 use std::alloc::Global;
 use t65_values::{
@@ -415,6 +422,17 @@ fn around_of(alloc: Global, names: &Assembly, part: Part, text: &[u8]) -> Result
     row_with(alloc, names, part, no_ranges(), Choice::All, rest)
 }
 
+/// Returns the text of a row behind `hidden`, if that stands before it.
+fn unhidden(text: &[u8]) -> &[u8]
+    ensures { result.now ≡ unhidden text.now }
+{
+    if is_text(word_of(text), b"hidden") {
+        after_word(text)
+    } else {
+        text
+    }
+}
+
 /// Reads a call before each row, one after each, or a row.
 #[tactic(auto, unfolding(crate::specs::RowText::part_of))]
 fn part_of(alloc: Global, names: &Assembly, text: &[u8]) -> Result<Row, RowFault>
@@ -427,7 +445,7 @@ fn part_of(alloc: Global, names: &Assembly, text: &[u8]) -> Result<Row, RowFault
     } else if is_text(word_of(text), b"teardown") {
         around_of(alloc, names, Part::Teardown, after_word(text))
     } else {
-        pointed_row_of(alloc, names, text)
+        pointed_row_of(alloc, names, unhidden(text))
     }
 }
 
@@ -437,6 +455,84 @@ pub fn is_around(line: &[u8]) -> bool
 {
     let word = word_of(skip_blanks(line));
     is_text(word, b"setup") || is_text(word, b"teardown")
+}
+
+/// Returns whether no text is told of the row of a line.
+pub fn is_hidden(line: &[u8]) -> bool
+    ensures { result ≡ is_hidden line.now }
+{
+    is_text(word_of(skip_blanks(line)), b"hidden")
+}
+
+fn is_call(word: &[u8]) -> bool
+    ensures { result ≡ is_call word.now }
+{
+    is_text(word, b"call") || is_text(word, b"interrupt")
+}
+
+/// Returns whether `call` or `interrupt` comes next.
+fn is_call_next(text: &[u8]) -> bool
+    ensures { result ≡ is_call (word_of text.now) }
+{
+    is_call(word_of(text))
+}
+
+/// Returns the second word of a text.
+fn second_word(text: &[u8]) -> &[u8]
+    ensures { result.now ≡ word_of (after_word text.now) }
+{
+    word_of(after_word(text))
+}
+
+/// Returns a text without the word, or the byte that is in none, at its front.
+fn behind_word(text: &[u8]) -> &[u8]
+    ensures { result.now ≡ behind_word text.now }
+{
+    if word_of(text).is_empty() {
+        without_first(text)
+    } else {
+        after_word(text)
+    }
+}
+
+/// Returns the routine that a line names: the word behind its first `call` or `interrupt`, or no
+/// byte.
+fn routine_of(line: &[u8]) -> &[u8]
+    ensures { result.now ≡ routine_of line.now }
+{
+    let mut rest = line;
+    for _ in 0..line.len() {
+        if is_call_next(rest) {
+            return second_word(rest);
+        }
+        rest = behind_word(rest);
+    }
+    b""
+}
+
+/// Returns whether a row is read where the rows of a routine alone are.
+fn is_picked(only: &[u8], line: &[u8]) -> bool
+    ensures { result ≡ is_picked only.now line.now }
+{
+    only.is_empty() || is_text(routine_of(line), only)
+}
+
+/// Returns whether a row is one of another routine than the one whose rows alone are read.
+fn is_left_out(only: &[u8], line: &[u8]) -> bool
+    ensures { result ≡ is_left_out only.now line.now }
+{
+    !is_picked(only, line) && !is_around(line)
+}
+
+/// Returns the values of its ranges that a row is run for, where random numbers begin elsewhere.
+fn seeded(seed: Option<u32>, choice: Choice) -> Choice
+    ensures { result ≡ seeded seed choice }
+{
+    match (seed, choice) {
+        (None, _) => choice,
+        (Some(_), Choice::All) => Choice::All,
+        (Some(seed), Choice::Random { count, .. }) => Choice::Random { count, seed },
+    }
 }
 
 /// Returns how many points a row is worth that begins with this text, or 1 where the number cannot
@@ -459,25 +555,27 @@ fn points_before(text: &[u8]) -> u32
 pub fn points_in(line: &[u8]) -> u32
     ensures { result ≡ points_in line.now }
 {
-    points_before(skip_blanks(line))
+    points_before(unhidden(skip_blanks(line)))
 }
 
-/// Returns how many points a line is worth: none where it is blank or a comment, or says what is
-/// run before or after each row.
-pub fn worth_of(line: &[u8]) -> u32
-    ensures { result ≡ worth_of line.now }
+/// Returns how many points a line is worth: none where it is blank or a comment, says what is run
+/// before or after each row, or is left out.
+pub fn worth_of(only: &[u8], line: &[u8]) -> u32
+    ensures { result ≡ worth_of only.now line.now }
 {
     if ends(skip_blanks(line)) {
         0
     } else if is_around(line) {
+        0
+    } else if is_left_out(only, line) {
         0
     } else {
         points_in(line)
     }
 }
 
-/// Reads a line after the one that names the source: a row, whose calls have so many steps at most,
-/// or nothing where the line is blank or a comment.
+/// Reads a line after the one that names the source: a row as it is asked for, or nothing where the
+/// line is blank or a comment, or a row that is left out.
 ///
 /// # Errors
 ///
@@ -493,14 +591,17 @@ pub fn worth_of(line: &[u8]) -> u32
 pub fn read_row(
     alloc: Global,
     names: &Assembly,
-    steps: u32,
+    asking: Asking<'_>,
     line: &[u8],
 ) -> Result<Option<Row>, RowFault>
-    ensures ok { IfOk result
-        (λ row. line_of steps names.now.names line.now ≡ Ok (option_map row_view row)) }
+    ensures ok { IfOk result (λ row. line_of (asking_view asking.entry) names.now.names line.now
+        ≡ Ok (option_map row_view row)) }
     ensures err { IfErr result (λ fault. fault.kind ≢ RowFaultKind.OutOfMemory
-        → line_of steps names.now.names line.now ≡ Err fault) }
+        → line_of (asking_view asking.entry) names.now.names line.now ≡ Err fault) }
 {
+    if is_left_out(asking.only, line) {
+        return Ok(None);
+    }
     let text = skip_blanks(line);
     if ends(text) {
         Ok(None)
@@ -508,7 +609,8 @@ pub fn read_row(
         Err(fault_at(RowFaultKind::SecondSource, text))
     } else {
         let mut row = part_of(alloc, names, text)?;
-        row.call.steps = steps;
+        row.call.steps = asking.steps;
+        row.choice = seeded(asking.seed, row.choice);
         Ok(Some(row))
     }
 }

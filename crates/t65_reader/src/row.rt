@@ -182,5 +182,16 @@ impl Line {
     }
 }
 
+/// What is asked of rows.
+#[derive(Clone, Copy)]
+pub struct Asking<'a> {
+    /// The most steps of a call.
+    pub steps: u32,
+    /// Where random numbers begin, if not where the rows say.
+    pub seed: Option<u32>,
+    /// The routine whose rows alone are read; those of all, where this is empty.
+    pub only: &'a [u8],
+}
+
 /// The most steps of a call, where nothing else is asked for. Source: mos65.
 pub const MOST_STEPS: u32 = 10_000_000;

@@ -2,12 +2,13 @@
 
 ghost use Rattle.std.specs.Prelude.{◌≡◌, ◌≢◌, ◌<◌, ◌+◌, ◌-◌, ◌++◌, ◌∷◌, [], length, IfErr, IfOk, map};
 ghost use Rattle.model.specs.TextLines.{lines_of};
-ghost use Rattle.t65_reader.specs.RowText.{Rows, fault_before, fault_in, is_around, line_before};
+ghost use Rattle.t65_reader.specs.RowText.{Rows, asking_view, fault_before, fault_in, is_around};
+ghost use Rattle.t65_reader.specs.RowText.{line_before};
 ghost use Rattle.t65_reader.specs.RowText.{line_of, line_view, points_in, points_of};
 ghost use Rattle.t65_reader.specs.RowText.{rows_after, rows_from};
 
 use crate::line::{is_around, points_in, read_row, worth_of};
-use crate::row::{Faulty, Line};
+use crate::row::{Asking, Faulty, Line};
 use assembler::Assembly;
 use line_parts::next_line;
 use std::alloc::Global;
@@ -54,18 +55,20 @@ fn push_faulty(lines: &mut Vec<Line>, line: &[u8], fault: TextFault) -> Result<(
 fn push_line(
     alloc: Global,
     names: &Assembly,
-    steps: u32,
+    asking: Asking<'_>,
     lines: &mut Vec<Line>,
     number: u32,
     line: &[u8],
 ) -> Result<(), TextFault>
     ensures ok { IfOk result (λ _. (behind : Rows) → rows_after (map line_view lines.old.items)
-        (line_before number line.now (line_of steps names.now.names line.now) behind)
+        (line_before number line.now
+        (line_of (asking_view asking.entry) names.now.names line.now) behind)
         ≡ rows_after (map line_view lines.new.items) behind) }
     ensures err { IfErr result (λ fault. fault.kind ≢ RowFaultKind.OutOfMemory → (behind : Rows)
-        → line_before number line.now (line_of steps names.now.names line.now) behind ≡ Err fault) }
+        → line_before number line.now
+        (line_of (asking_view asking.entry) names.now.names line.now) behind ≡ Err fault) }
 {
-    match read_row(alloc, names, steps, line) {
+    match read_row(alloc, names, asking, line) {
         Ok(Some(row)) => {
             push_one(lines, number, Line::Row((number, row)))?;
             Ok(())
@@ -78,8 +81,8 @@ fn push_line(
     }
 }
 
-/// Reads the rows of a text under the names of a source, those that cannot be read among them. The
-/// first line of the text has the number `first`; a call of a row has `steps` steps at most.
+/// Reads the rows of a text under the names of a source, as they are asked for, also those that
+/// cannot be read. The first line of the text has the number `first`.
 ///
 /// # Errors
 ///
@@ -90,37 +93,40 @@ pub fn read_rows(
     alloc: Global,
     names: &Assembly,
     first: u32,
-    steps: u32,
+    asking: Asking<'_>,
     text: &[u8],
 ) -> Result<Vec<Line>, TextFault>
     requires { first + length text.now < 4294967296 }
-    ensures ok { IfOk result (λ lines. rows_from steps names.now.names first (lines_of text.now)
+    ensures ok { IfOk result
+        (λ lines. rows_from (asking_view asking.entry) names.now.names first (lines_of text.now)
         ≡ Ok (map line_view lines.items)) }
     ensures err { IfErr result (λ fault. fault.kind ≢ RowFaultKind.OutOfMemory
-        → rows_from steps names.now.names first (lines_of text.now) ≡ Err fault) }
+        → rows_from (asking_view asking.entry) names.now.names first (lines_of text.now)
+        ≡ Err fault) }
 {
     let mut lines = Vec::new(alloc);
     let mut rest = text;
     let mut number = first;
     while rest.len() > 0 {
         let (line, behind) = next_line(rest);
-        push_line(alloc, names, steps, &mut lines, number, line)?;
+        push_line(alloc, names, asking, &mut lines, number, line)?;
         rest = behind;
         number += 1;
     }
     Ok(lines)
 }
 
-/// Returns how many points the rows of a text are worth together, whether they can be read or not.
-pub fn points_of(text: &[u8]) -> u64
+/// Returns how many points the rows of a text are worth together, whether they can be read or not;
+/// those of a routine alone, unless `only` is empty.
+pub fn points_of(only: &[u8], text: &[u8]) -> u64
     requires { length text.now < 4294967296 }
-    ensures { result ≡ points_of (lines_of text.now) }
+    ensures { result ≡ points_of only.now (lines_of text.now) }
 {
     let mut points = 0u64;
     let mut rest = text;
     while rest.len() > 0 {
         let (line, behind) = next_line(rest);
-        points += worth_of(line) as u64;
+        points += worth_of(only, line) as u64;
         rest = behind;
     }
     points
