@@ -12,11 +12,11 @@ use Rattle.model.specs.TextLines.{lines_of}
 use Rattle.model.specs.declared.bus_fault.BusFault.TheVariants.{BadMap}
 use Rattle.model.specs.Names.{Definitions}
 use Rattle.t65_suites.specs.HeadText.{SeenHead, head_from}
-use Rattle.t65_reader.specs.RowText.{SeenLine, points_of, rows_from}
+use Rattle.t65_reader.specs.RowText.{SeenAsking, SeenLine, points_of, rows_from}
 use Rattle.t65_values.specs.declared.fault.TextFault.{TextFault}
 use Rattle.t65_suites.specs.Ends.{EndsAnyTest, EndsFile, EndsRows, EndsTest, HeadedFile}
 use Rattle.t65_suites.specs.Programs.{EndsProgram, IsProgram, file_asked}
-use Rattle.t65_suites.specs.Suites.{ReadingAsked}
+use Rattle.t65_suites.specs.Suites.{ReadingAsked, asking_of}
 use Rattle.t65_runner.specs.Parts.{tests_of}
 use Rattle.t65_suites.specs.declared.fault.Unprepared.{Unprepared}
 use Rattle.t65_suites.specs.declared.fault.FileFault.TheVariants.{InProgram, InRows}
@@ -26,9 +26,9 @@ use Rattle.t65_suites.specs.declared.fault.TestFault.TheVariants.{Rows, TooLarge
 pub head_ends : (text : List ℕ) (fault : TextFault) → head_from 1 (lines_of text) ≡ Err fault → EndsAnyTest (Rows fault)
 head_ends text fault refused = λ reading. inl (text, refused, refl)
 
-pub no_test : (steps : ℕ) (names : Definitions) (next : ℕ) (lines : List (List ℕ)) (rows : List SeenLine) → rows_from steps names next lines ≡ Ok rows → tests_of rows ≡ []
-    → EndsRows steps names next lines NoRow
-no_test steps names next lines rows read none = (rows, read, none)
+pub no_test : (asking : SeenAsking) (names : Definitions) (next : ℕ) (lines : List (List ℕ)) (rows : List SeenLine) → rows_from asking names next lines ≡ Ok rows → tests_of rows ≡ []
+    → EndsRows asking names next lines NoRow
+no_test asking names next lines rows read none = (rows, read, none)
 
 abbrev is_too_large : TestFault → Bool
 is_too_large TooLarge = true
@@ -47,13 +47,13 @@ map_ends text head next lines fault headed is none =
     subst EndsAnyTest (sym is) (λ reading. (headed_file text head next lines headed, refl, none, refl))
 
 pub program_ends : (reading : ReadingAsked) (text : List ℕ) (head : SeenHead) (next : ℕ) (lines : List (List ℕ)) (path : String Global) (name : List ℕ) (fault : NamedFault) (points : ℕ)
-    → head_from 1 (lines_of text) ≡ Ok (head, next, lines) → name ≡ string_bytes path → EndsProgram (file_asked reading head name) reading.symbols fault → points ≡ points_of lines
+    → head_from 1 (lines_of text) ≡ Ok (head, next, lines) → name ≡ string_bytes path → EndsProgram (file_asked reading head name) reading.symbols fault → points ≡ points_of reading.only lines
     → EndsFile reading points (InProgram path fault)
 program_ends reading text head next lines path name fault points headed named ends are =
     (headed_file text head next lines headed, subst (λ n. EndsProgram (file_asked reading head n) reading.symbols fault) named ends, are)
 
 pub rows_end : (reading : ReadingAsked) (text : List ℕ) (head : SeenHead) (next : ℕ) (lines : List (List ℕ)) (path : List ℕ) (assembly : AssemblyView) (steps : ℕ) (fault : TestFault) (points : ℕ)
-    → head_from 1 (lines_of text) ≡ Ok (head, next, lines) → IsProgram (file_asked reading head path) reading.symbols assembly → EndsRows steps assembly.names next lines fault → points ≡ points_of lines
+    → head_from 1 (lines_of text) ≡ Ok (head, next, lines) → IsProgram (file_asked reading head path) reading.symbols assembly → EndsRows (asking_of steps reading) assembly.names next lines fault → points ≡ points_of reading.only lines
     → EndsTest reading points fault
 rows_end reading text head next lines path assembly steps (Rows fault) points headed program ends are =
     inr (record {

@@ -8,7 +8,7 @@ use Rattle.t65_suites.specs.HeadText.{SeenHead, head_from}
 use Rattle.t65_reader.specs.RowText.{SeenLine, line_view, rows_from}
 use Rattle.t65_reader.specs.declared.row.Part.TheVariants.{Setup, Teardown}
 use Rattle.t65_suites.specs.Programs.{IsProgram, file_asked}
-use Rattle.t65_suites.specs.Suites.{SuiteAsked}
+use Rattle.t65_suites.specs.Suites.{SuiteAsked, asking_of}
 use Rattle.t65_runner.specs.Parts.{rows_of}
 use Rattle.t65_suites.specs.Prepared.{Ground, IsPrepared, map_of, path_of}
 use Rattle.t65_suites.specs.declared.prepared.Prepared.{Prepared}
@@ -26,7 +26,7 @@ pub ready : (prepared : Prepared) (steps : ℕ) (suite : SuiteAsked) (text : Lis
     → head_from 1 (lines_of text) ≡ Ok (head, next, lines) → text ≡ prepared.text.items
     → prepared.map ≡ map_of head → path ≡ path_of suite head.source
     → IsProgram (file_asked suite.reading head path) suite.reading.symbols prepared.assembly → prepared.places ≡ places_of path prepared.assembly
-    → rows_from steps prepared.assembly.names next lines ≡ Ok (map line_view prepared.rows.items)
+    → rows_from (asking_of steps suite.reading) prepared.assembly.names next lines ≡ Ok (map line_view prepared.rows.items)
     → prepared.form ≡ suite.reading.form → IsPrepared steps suite prepared
 ready prepared steps suite text head next lines path headed same mapped named program placed read form = record {
   file = record {

@@ -11,10 +11,10 @@ use Rattle.model.specs.State.{is_map}
 use Rattle.model.specs.TextLines.{lines_of}
 use Rattle.model.specs.declared.bus_fault.BusFault.TheVariants.{BadMap}
 use Rattle.t65_suites.specs.HeadText.{SeenHead, head_from}
-use Rattle.t65_reader.specs.RowText.{Rows, SeenLine, points_of, rows_from}
+use Rattle.t65_reader.specs.RowText.{Rows, SeenAsking, SeenLine, points_of, rows_from}
 use Rattle.t65_runner.specs.Parts.{tests_of}
 use Rattle.t65_suites.specs.Programs.{EndsProgram, IsProgram, file_asked}
-use Rattle.t65_suites.specs.Suites.{ReadingAsked}
+use Rattle.t65_suites.specs.Suites.{ReadingAsked, asking_of}
 use Rattle.t65_suites.specs.declared.fault.FileFault.{FileFault}
 use Rattle.t65_suites.specs.declared.fault.FileFault.TheVariants.{InProgram, InRows}
 use Rattle.t65_suites.specs.declared.fault.TestFault.{TestFault}
@@ -36,8 +36,8 @@ pub record AreRead (reading : ReadingAsked) (points : ℕ) (rows : Rows) : Type 
   pub assembly : AssemblyView
   pub program : IsProgram (file_asked reading file.head path) reading.symbols assembly
   pub steps : ℕ
-  pub read : rows_from steps assembly.names file.next file.lines ≡ rows
-  pub points_are : points ≡ points_of file.lines
+  pub read : rows_from (asking_of steps reading) assembly.names file.next file.lines ≡ rows
+  pub points_are : points ≡ points_of reading.only file.lines
 
 -- Why a file cannot be tested, where it is what other words are refused for too: its head asks for a
 -- map that is none, it cannot be read, or memory ran out.
@@ -70,11 +70,11 @@ abbrev pub EndsFile : ReadingAsked → ℕ → FileFault → Type 0
 EndsFile reading points (InRows fault) = EndsTest reading points fault
 EndsFile reading points (InProgram path fault) = (file : HeadedFile)
     × EndsProgram (file_asked reading file.head (string_bytes path)) reading.symbols fault
-    × (points ≡ points_of file.lines)
+    × (points ≡ points_of reading.only file.lines)
 
 -- Why rows are not read under some names.
-abbrev pub EndsRows : ℕ → Definitions → ℕ → List (List ℕ) → TestFault → Type 0
-EndsRows steps names next lines (NotRows fault) = rows_from steps names next lines ≡ Err fault
-EndsRows steps names next lines NoRow = (rows : List SeenLine)
-    × (rows_from steps names next lines ≡ Ok rows) × (tests_of rows ≡ [])
-EndsRows steps names next lines fault = fault ≡ Refused OutOfMemory
+abbrev pub EndsRows : SeenAsking → Definitions → ℕ → List (List ℕ) → TestFault → Type 0
+EndsRows asking names next lines (NotRows fault) = rows_from asking names next lines ≡ Err fault
+EndsRows asking names next lines NoRow = (rows : List SeenLine)
+    × (rows_from asking names next lines ≡ Ok rows) × (tests_of rows ≡ [])
+EndsRows asking names next lines fault = fault ≡ Refused OutOfMemory

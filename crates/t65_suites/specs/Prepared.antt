@@ -12,7 +12,7 @@ use Rattle.t65_reader.specs.declared.row.Part.TheVariants.{Setup, Teardown}
 use Rattle.t65_runner.specs.Parts.{rows_of, tests_of}
 use Rattle.t65_suites.specs.Paths.{source_path}
 use Rattle.t65_suites.specs.Programs.{IsProgram, file_asked}
-use Rattle.t65_suites.specs.Suites.{SuiteAsked}
+use Rattle.t65_suites.specs.Suites.{SuiteAsked, asking_of}
 use Rattle.t65_suites.specs.declared.prepared.Prepared.{Prepared}
 
 -- The map that a head asks for.
@@ -41,7 +41,7 @@ pub record TestedFile (steps : ℕ) (suite : SuiteAsked) : Type 0 where
   pub assembly : AssemblyView
   pub program : IsProgram (file_asked suite.reading head path) suite.reading.symbols assembly
   pub rows : List SeenLine
-  pub read : rows_from steps assembly.names next lines ≡ Ok rows
+  pub read : rows_from (asking_of steps suite.reading) assembly.names next lines ≡ Ok rows
 
 -- ---- its machine
 

@@ -1,16 +1,24 @@
 -- Which files of rows are run on which files, and how these are read. Source: mos65.
-use Rattle.std.specs.Prelude.{◌==◌, if◌then◌else◌, List, [], ◌∷◌, Option, Some, None, length, map, option_map}
+use Rattle.std.specs.Prelude.{ℕ, ◌==◌, if◌then◌else◌, List, [], ◌∷◌, Option, Some, None, length, map, option_map}
 use Rattle.std.specs.List.{flat_map}
 use Rattle.arguments.specs.declared.file_options.FileForm.{FileForm}
 use Rattle.clap.specs.Words.{Text}
+use Rattle.t65_reader.specs.RowText.{SeenAsking}
 use Rattle.t65_suites.specs.declared.suites.Reading.{Reading}
 use Rattle.t65_suites.specs.declared.suites.Suite.{Suite}
 
 -- How a file is read that rows are run on: its form, and the file whose names an image has, where
--- one is named.
+-- one is named; where random numbers begin, if not where the rows say; and the routine whose rows
+-- alone are run: those of all routines, where this is no byte.
 pub record ReadingAsked : Type 0 where
   pub form : FileForm
   pub symbols : Option Text
+  pub seed : Option ℕ
+  pub only : Text
+
+-- What is asked of the rows of a suite that is read so.
+abbrev pub asking_of : ℕ → ReadingAsked → SeenAsking
+asking_of steps reading = record { steps = steps; seed = reading.seed; only = reading.only }
 
 -- A file of rows, the file that its rows are run on where it is not the one that the file of rows
 -- names, and how that is read.
@@ -47,6 +55,8 @@ abbrev pub reading_view : Reading → ReadingAsked
 reading_view reading = record {
   form = reading.form;
   symbols = option_map (λ s. s.now) reading.symbols;
+  seed = reading.seed;
+  only = reading.only.now;
 }
 
 abbrev pub suite_view : Suite → SuiteAsked

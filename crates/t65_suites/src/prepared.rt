@@ -8,11 +8,11 @@ ghost use Rattle.model.specs.State.{is_map};
 ghost use Rattle.model.specs.TextLines.{lines_of};
 ghost use Rattle.source_map.specs.Lines.{places_of};
 ghost use Rattle.t65_suites.specs.HeadText.{head_from, head_view};
-ghost use Rattle.t65_reader.specs.RowText.{line_view, rows_from};
+ghost use Rattle.t65_reader.specs.RowText.{asking_view, line_view, points_of, rows_from};
 ghost use Rattle.t65_suites.specs.Ends.{EndsAnyTest, EndsFile, EndsRows};
 ghost use Rattle.t65_suites.specs.Prepared.{IsPrepared, map_of};
 ghost use Rattle.t65_suites.specs.Programs.{EndsProgram, IsProgram, file_asked};
-ghost use Rattle.t65_suites.specs.Suites.{reading_view, suite_view};
+ghost use Rattle.t65_suites.specs.Suites.{asking_of, reading_view, suite_view};
 
 use crate::fault::{FileFault, TestFault, Unprepared};
 use crate::head::{Head, Opened, read_head};
@@ -27,7 +27,7 @@ use model::BusFault;
 use source_map::Places;
 use std::alloc::Global;
 use std::rt::Files;
-use t65_reader::{Line, points_of, read_rows};
+use t65_reader::{Asking, Line, points_of, read_rows};
 use t65_runner::has_test;
 use t65_values::RowFaultKind;
 
@@ -146,6 +146,25 @@ fn opened_in(text: &[u8]) -> Result<Opened<'_>, TestFault>
     read_head(text).map_err(TestFault::Rows)
 }
 
+/// Returns what is asked of the rows of a suite that is read so.
+fn asking_of<'a>(steps: u32, reading: Reading<'a>) -> Asking<'a>
+    ensures { asking_view result ≡ asking_of steps (reading_view reading.entry) }
+{
+    Asking {
+        steps,
+        seed: reading.seed,
+        only: reading.only.as_bytes(),
+    }
+}
+
+/// Returns how many points the rows of a suite that is read so are worth together.
+fn worth_of(reading: Reading<'_>, text: &[u8]) -> u64
+    requires { length text.now < 4294967296 }
+    ensures { result ≡ points_of (reading_view reading.entry).only (lines_of text.now) }
+{
+    points_of(reading.only.as_bytes(), text)
+}
+
 /// Returns what the lines of a text ask for under the names of a source, one of them a test at
 /// least.
 #[tactic(auto, using(crate::proofs::Ends::no_test))]
@@ -154,14 +173,16 @@ fn rows_in(
     names: &Assembly,
     first: u32,
     steps: u32,
+    reading: Reading<'_>,
     text: &[u8],
 ) -> Result<Vec<Line>, TestFault>
     requires { first + length text.now < 4294967296 }
-    ensures rows { IfOk result (λ rows. rows_from steps names.now.names first (lines_of text.now)
-        ≡ Ok (map line_view rows.items)) }
-    ensures refused { IfErr result (EndsRows steps names.now.names first (lines_of text.now)) }
+    ensures rows { IfOk result (λ rows. rows_from (asking_of steps (reading_view reading.entry))
+        names.now.names first (lines_of text.now) ≡ Ok (map line_view rows.items)) }
+    ensures refused { IfErr result (EndsRows (asking_of steps (reading_view reading.entry))
+        names.now.names first (lines_of text.now)) }
 {
-    match read_rows(alloc, names, first, steps, text) {
+    match read_rows(alloc, names, first, asking_of(steps, reading), text) {
         Ok(rows) => match has_test(alloc, &rows) {
             Ok(true) => Ok(rows),
             Ok(false) => Err(TestFault::NoRow),
@@ -199,10 +220,18 @@ pub fn prepare<H: Files + AllocGlobal>(
     let opened = opened_in(&text)?;
     let map = map_of(opened.head)?;
     let path = path_of(rt.alloc(), suite, opened.head.source)?;
-    let points = points_of(opened.rest);
+    let points = worth_of(suite.reading, opened.rest);
     match placed(rt, suite.reading, opened.head, &path, &map) {
         Ok((assembly, places)) => {
-            match rows_in(rt.alloc(), &assembly, opened.next, steps, opened.rest) {
+            let reading = suite.reading;
+            match rows_in(
+                rt.alloc(),
+                &assembly,
+                opened.next,
+                steps,
+                reading,
+                opened.rest,
+            ) {
                 Ok(rows) => Ok(Prepared {
                     text,
                     map,

@@ -8,13 +8,17 @@ ghost use Rattle.t65_suites.specs.Suites.{suites_of, suites_of_file};
 use arguments::FileForm;
 use std::alloc::{AllocError, Global};
 
-/// How a file is read that rows are run on.
+/// How a file is read that rows are run on, and which rows are, from which random numbers on.
 #[derive(Clone, Copy)]
 pub struct Reading<'a> {
     /// As a source, or as an image in this form.
     pub form: FileForm,
     /// The file whose names an image has, if one is named.
     pub symbols: Option<&'a str>,
+    /// Where random numbers begin, if not where the rows say.
+    pub seed: Option<u32>,
+    /// The routine whose rows alone are run; those of all, where this is empty.
+    pub only: &'a str,
 }
 
 /// A file of rows, and what its rows are run on.

@@ -29,9 +29,9 @@ returns-in-Ok-rows_in-clause-prepared g c = ready _ c.args.steps (suite_view c.a
 
 pub returns-in-Err-rows_in-clause-refused : goal.returns-in-Err-rows_in-clause-refused
 returns-in-Err-rows_in-clause-refused g c =
-    rows_end (suite_view c.args.suite).reading c.deref.result.now (head_view c.in_ok-opened.opened.head) c.in_ok-opened.opened.next (lines_of c.in_ok-opened.opened.rest.now) _ _ c.args.steps c.in-Err-rows_in.fault c.points_of-points.result
-    c.in_ok-opened.ensures.head c.in-Ok.ensures.program c.in-Err-rows_in.ensures.refused c.points_of-points.ensures
+    rows_end (suite_view c.args.suite).reading c.deref.result.now (head_view c.in_ok-opened.opened.head) c.in_ok-opened.opened.next (lines_of c.in_ok-opened.opened.rest.now) _ _ c.args.steps c.in-Err-rows_in.fault c.worth_of-points.result
+    c.in_ok-opened.ensures.head c.in-Ok.ensures.program c.in-Err-rows_in.ensures.refused c.worth_of-points.ensures
 
 pub returns-in-Err-clause-refused : goal.returns-in-Err-clause-refused
-returns-in-Err-clause-refused g c = program_ends (suite_view c.args.suite).reading c.deref.result.now (head_view c.in_ok-opened.opened.head) c.in_ok-opened.opened.next (lines_of c.in_ok-opened.opened.rest.now) c.in_ok-path.path _ c.in-Err.fault c.points_of-points.result
-    c.in_ok-opened.ensures.head c.deref-2.ensures c.in-Err.ensures.refused c.points_of-points.ensures
+returns-in-Err-clause-refused g c = program_ends (suite_view c.args.suite).reading c.deref.result.now (head_view c.in_ok-opened.opened.head) c.in_ok-opened.opened.next (lines_of c.in_ok-opened.opened.rest.now) c.in_ok-path.path _ c.in-Err.fault c.worth_of-points.result
+    c.in_ok-opened.ensures.head c.deref-2.ensures c.in-Err.ensures.refused c.worth_of-points.ensures
