@@ -13,10 +13,8 @@ use Rattle.t65_reader.specs.declared.row.Line.{Line}
 use Rattle.t65_runner.specs.Parts.{lines_seen}
 use Rattle.t65_reports.specs.Lines.{line_at, lines_after, next_after}
 use Rattle.t65_reports.specs.Junit.{ReportTold, with_test}
-use Rattle.t65_reports.specs.Reports.{junit_case}
-use Rattle.t65_reports.specs.Telling.{case_text}
 use Rattle.t65_reports.specs.declared.telling.Telling.{Telling}
-use Rattle.word_test.specs.Tested.{passes, plus, rows_reported, rows_text, tally_after, tally_rows, why}
+use Rattle.word_test.specs.Tested.{passes, plus, rows_reported, rows_text, tally_after, tally_rows, told_case, told_junit, why}
 use Rattle.t65_suites.specs.Prepared.{Ground}
 use Rattle.t65_suites.specs.Suites.{SuiteAsked, name_of}
 use Rattle.word_test.specs.declared.tally.Tally.{Tally}
@@ -63,7 +61,7 @@ module _ (telling : Telling) (bench : Ground) (suite : SuiteAsked) (tests : List
   left j count next lines = rows_text telling bench suite count next lines (lines_seen (drop j tests))
 
   text-more : (count next : ℕ) (lines : List (List ℕ)) (test other : Bor Line) → i < length tests → test ≡ get_or tests i other → left i count next lines
-      ≡ case_text telling (plus count 1) (name_of suite) (line_number (line_seen test)) (line_at (line_number (line_seen test)) next lines) (why bench suite.rows (line_at (line_number (line_seen test)) next lines) (line_seen test))
+      ≡ told_case telling (plus count 1) (name_of suite) (line_number (line_seen test)) (line_points (line_seen test)) (line_at (line_number (line_seen test)) next lines) (why bench suite.rows (line_at (line_number (line_seen test)) next lines) (line_seen test))
       ++ left (i + 1) (plus count 1) (next_after (line_number (line_seen test)) next lines) (lines_after (line_number (line_seen test)) next lines)
   unfolding rows_text
   text-more count next lines test other h is = rw (drop_more tests i other h, is) refl
@@ -71,7 +69,7 @@ module _ (telling : Telling) (bench : Ground) (suite : SuiteAsked) (tests : List
   -- The next test was told of.
   pub test_told : (old now new : Option (List ℕ)) (count count_then number at next next_then : ℕ) (lines lines_then : List (List ℕ)) (test other : Bor Line) (file line tap whole : List ℕ)
       → i < length tests → test ≡ get_or tests i other → TextLeft old now (left i count next lines) whole → Appends now new tap
-      → tap ≡ case_text telling number file at line (why bench suite.rows line (line_seen test)) → file ≡ name_of suite → at ≡ line_number (line_seen test)
+      → tap ≡ told_case telling number file at (line_points (line_seen test)) line (why bench suite.rows line (line_seen test)) → file ≡ name_of suite → at ≡ line_number (line_seen test)
       → number ≡ plus count 1 → line ≡ line_at at next lines
       → lines_then ≡ lines_after at next lines → next_then ≡ next_after at next lines
       → count_then ≡ plus count 1
@@ -83,7 +81,7 @@ module _ (telling : Telling) (bench : Ground) (suite : SuiteAsked) (tests : List
   -- A beginning of what is told of the next test was written.
   pub test_begun : (old now new : Option (List ℕ)) (count number at next : ℕ) (lines : List (List ℕ)) (test other : Bor Line) (file line tap whole : List ℕ)
       → i < length tests → test ≡ get_or tests i other → TextLeft old now (left i count next lines) whole → AppendsFront now new tap
-      → tap ≡ case_text telling number file at line (why bench suite.rows line (line_seen test)) → file ≡ name_of suite → at ≡ line_number (line_seen test)
+      → tap ≡ told_case telling number file at (line_points (line_seen test)) line (why bench suite.rows line (line_seen test)) → file ≡ name_of suite → at ≡ line_number (line_seen test)
       → number ≡ plus count 1 → line ≡ line_at at next lines
       → AppendsFront old new whole
   test_begun old now new count number at next lines test other file line tap whole h is so_far front tap_is file_is at_is number_is line_is =
@@ -100,7 +98,7 @@ module _ (telling : Telling) (bench : Ground) (suite : SuiteAsked) (tests : List
 
   reported-more : (next : ℕ) (lines : List (List ℕ)) (test other : Bor Line) (report : ReportTold) → i < length tests → test ≡ get_or tests i other → reported_left i next lines report
       ≡ reported_left (i + 1) (next_after (line_number (line_seen test)) next lines) (lines_after (line_number (line_seen test)) next lines)
-      (with_test (passes bench (line_seen test)) (junit_case (name_of suite) suite.rows (line_number (line_seen test)) (line_at (line_number (line_seen test)) next lines) (why bench suite.rows (line_at (line_number (line_seen test)) next lines) (line_seen test))) report)
+      (with_test (passes bench (line_seen test)) (told_junit (name_of suite) suite.rows (line_number (line_seen test)) (line_points (line_seen test)) (line_at (line_number (line_seen test)) next lines) (why bench suite.rows (line_at (line_number (line_seen test)) next lines) (line_seen test))) report)
   unfolding rows_reported
   reported-more next lines test other report h is = rw (drop_more tests i other h, is) refl
 
@@ -108,7 +106,7 @@ module _ (telling : Telling) (bench : Ground) (suite : SuiteAsked) (tests : List
   pub one_reported : (now new whole : Option ReportTold) (at next next_then : ℕ) (lines lines_then : List (List ℕ)) (passing : Bool) (test other : Bor Line) (file line junit : List ℕ)
       → i < length tests → test ≡ get_or tests i other → new ≡ option_map (with_test passing junit) now
       → passing ≡ passes bench (line_seen test)
-      → junit ≡ junit_case file suite.rows at line (why bench suite.rows line (line_seen test)) → file ≡ name_of suite → at ≡ line_number (line_seen test)
+      → junit ≡ told_junit file suite.rows at (line_points (line_seen test)) line (why bench suite.rows line (line_seen test)) → file ≡ name_of suite → at ≡ line_number (line_seen test)
       → line ≡ line_at at next lines
       → lines_then ≡ lines_after at next lines → next_then ≡ next_after at next lines
       → option_map (reported_left i next lines) now ≡ whole → option_map (reported_left (i + 1) next_then lines_then) new ≡ whole

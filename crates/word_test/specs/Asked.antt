@@ -1,6 +1,6 @@
 -- What the words of `test` ask for, by the values that clap's definition of a parse finds among
 -- them. Source: mos65.
-use Rattle.std.specs.Prelude.{ℕ, nat_lt, Bool, false, ◌||◌, if◌then◌else◌, List, [], ◌∷◌, Option, Some, None, codes}
+use Rattle.std.specs.Prelude.{ℕ, nat_lt, Bool, true, false, ◌||◌, if◌then◌else◌, List, [], ◌∷◌, Option, Some, None, codes}
 use Rattle.std.specs.List.{list_any}
 use Rattle.std.specs.Str.{bytes_eq}
 use Rattle.arguments.specs.Asked.{is_flag}
@@ -59,23 +59,46 @@ abbrev pub sources_asked : Option (List Text) → List Text
 sources_asked None = []
 sources_asked (Some sources) = sources
 
+-- Where random numbers begin: at most 4,294,967,295; where the rows say, if no word says it.
+abbrev pub seed_of : Option ℕ → Option (Option ℕ)
+seed_of None = None
+seed_of (Some seed) = if nat_lt seed 4294967296 then Some (Some seed) else None
+
+abbrev pub seed_asked : Option Text → Option (Option ℕ)
+seed_asked None = Some None
+seed_asked (Some word) = seed_of (steps_asked (Some word))
+
+-- The routine whose rows alone are run; no byte for all routines.
+abbrev pub only_asked : Option Text → Text
+only_asked None = []
+only_asked (Some word) = word
+
+abbrev pub reading_in : FileForm → Option Text → Option ℕ → Text → ReadingAsked
+reading_in form symbols seed only
+    = record { form = form; symbols = symbols; seed = seed; only = only }
+
 -- A source has its own names: a file of names is for an image.
-abbrev pub named_as : FileForm → Text → Option ReadingAsked
-named_as Source names = None
-named_as form names = Some (record { form = form; symbols = Some names })
+abbrev pub takes_names : FileForm → Bool
+takes_names Source = false
+takes_names form = true
 
-abbrev pub reading_as : FileForm → Option Text → Option ReadingAsked
-reading_as form None = Some (record { form = form; symbols = None })
-reading_as form (Some names) = named_as form names
+abbrev pub reading_as : FileForm → Option Text → Option (Option ℕ) → Text → Option ReadingAsked
+reading_as form symbols None only = None
+reading_as form None (Some seed) only = Some (reading_in form None seed only)
+reading_as form (Some names) (Some seed) only = if takes_names form
+    then Some (reading_in form (Some names) seed only) else None
 
-abbrev pub reading_by : Option FileForm → Option Text → Option ReadingAsked
-reading_by None symbols = None
-reading_by (Some form) symbols = reading_as form symbols
+abbrev pub reading_by : Option FileForm → Option Text → Option (Option ℕ) → Text
+    → Option ReadingAsked
+reading_by None symbols seed only = None
+reading_by (Some form) symbols seed only = reading_as form symbols seed only
 
--- How the files are read that rows are run on: as images with `--image`, `--bin HHHH` or `--prg`.
+-- How the files are read that rows are run on: as images with `--image`, `--bin HHHH` or `--prg`;
+-- and which rows are run.
 abbrev pub reading_asked : (Text → Option Text) → Option ReadingAsked
 reading_asked value = reading_by (form_asked (is_flag (value (codes "image")))
     (value (codes "bin")) (is_flag (value (codes "prg")))) (value (codes "symbols"))
+    (seed_asked (value (codes "seed"))) (only_asked (value (codes "only")))
 
 -- TAP, unless something else is asked for; CSV has no line that sums up, and no row.
 abbrev pub telling_asked : Bool → Bool → Bool → Option Telling

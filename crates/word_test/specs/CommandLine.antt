@@ -1,6 +1,6 @@
 -- The command line of `test FILE .. [--source FILE ..] [--image] [--bin HHHH] [--prg] [--symbols
--- FILE] [--junit FILE] [--coverage FILE] [--steps N] [--summary] [--quiet] [--csv]`, as clap's
--- definitions describe one. How words are matched with it is clap's to say. Source: mos65.
+-- FILE] [--junit FILE] [--coverage FILE] [--steps N] [--seed N] [--only NAME] [--summary] [--quiet]
+-- [--csv]`, as clap's definitions describe one. How words are matched with it is clap's to say. Source: mos65.
 use Rattle.std.specs.Prelude.{◌≡◌, List, Option, Some, codes}
 use Rattle.arguments.specs.CommandLine.{files_rule, flag_rule, list_rule, option_rule, unnamed}
 use Rattle.arguments.specs.Words.{Fits, value_in, values_in}
@@ -19,13 +19,17 @@ with_files app = with_rule (with_rule (with_rule (with_rule app
     (option_rule (codes "symbols"))) (option_rule (codes "junit")))
     (option_rule (codes "coverage"))) (option_rule (codes "steps"))
 
+-- A command line with which rows are run, and from which random numbers on.
+abbrev pub with_rows : App → App
+with_rows app = with_rule (with_rule app (option_rule (codes "seed"))) (option_rule (codes "only"))
+
 -- A command line with what is written of tests.
 abbrev pub with_telling : App → App
 with_telling app = with_rule (with_rule (with_rule app
     (flag_rule (codes "summary"))) (flag_rule (codes "quiet"))) (flag_rule (codes "csv"))
 
 abbrev pub test : App
-test = with_telling (with_files (with_image test_files))
+test = with_telling (with_rows (with_files (with_image test_files)))
 
 -- What words ask for, where the values that clap finds are right.
 abbrev pub words_asked : List Text → Option TestAsked

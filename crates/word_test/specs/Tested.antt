@@ -1,10 +1,10 @@
 -- What is told of the tests of a suite, and what they come to. Source: mos65.
-use Rattle.std.specs.Prelude.{◌≡◌, ℕ, ◌+◌, ◌-◌, ◌^◌, ◌&&◌, min, Bool, true, false, is_none, List, [], ◌∷◌, ◌++◌, Option, None, Some, option_map}
+use Rattle.std.specs.Prelude.{◌≡◌, ℕ, ◌+◌, ◌-◌, ◌^◌, ◌&&◌, min, Bool, true, false, if◌then◌else◌, is_none, List, [], ◌∷◌, ◌++◌, Option, None, Some, codes, decimal, option_map}
 use Rattle.arguments.specs.Shown.{shown_name}
 use Rattle.clap.specs.Words.{Text}
 use Rattle.t65_suites.specs.Prepared.{Ground, ground_in}
 use Rattle.t65_suites.specs.Suites.{SuiteAsked, name_of}
-use Rattle.t65_reader.specs.RowText.{SeenLine, SeenRow, faulty, line_number, line_points, readable}
+use Rattle.t65_reader.specs.RowText.{SeenLine, SeenRow, faulty, is_hidden, line_number, line_points, readable}
 use Rattle.t65_failures.specs.Failures.{detail_text}
 use Rattle.t65_failures.specs.Faulty.{faulty_text}
 use Rattle.t65_reports.specs.Lines.{line_at, lines_after, next_after}
@@ -47,6 +47,34 @@ abbrev pub passes : Ground → SeenLine → Bool
 passes bench (readable row) = is_none (failure_of bench row)
 passes bench (faulty row) = false
 
+-- ---- hidden rows
+
+-- What is told of a hidden row, which is worth so many points, in the place of its text.
+unfoldable pub hidden_line : ℕ → List ℕ
+hidden_line points = codes "hidden points=" ++ decimal points
+
+-- Of why it fails, if it does, no byte is told.
+abbrev pub hidden_why : Option (List ℕ) → Option (List ℕ)
+hidden_why None = None
+hidden_why (Some why) = Some []
+
+abbrev pub told_line : ℕ → List ℕ → List ℕ
+told_line points text = if is_hidden text then hidden_line points else text
+
+abbrev pub told_why : List ℕ → Option (List ℕ) → Option (List ℕ)
+told_why text why = if is_hidden text then hidden_why why else why
+
+-- What TAP tells of a row with this text, which is worth so many points, and why it fails, if it
+-- does.
+abbrev pub told_case : Telling → ℕ → List ℕ → ℕ → ℕ → List ℕ → Option (List ℕ) → List ℕ
+told_case telling number file line points text why
+    = case_text telling number file line (told_line points text) (told_why text why)
+
+-- What the report for JUnit tells of it.
+abbrev pub told_junit : List ℕ → List ℕ → ℕ → ℕ → List ℕ → Option (List ℕ) → List ℕ
+told_junit file rows line points text why
+    = junit_case file rows line (told_line points text) (told_why text why)
+
 -- A count, at most 2^64 - 1.
 abbrev pub plus : ℕ → ℕ → ℕ
 plus count more = min (count + more) (2 ^ 64 - 1)
@@ -57,7 +85,7 @@ unfoldable pub rows_text : Telling → Ground → SuiteAsked → ℕ → ℕ →
     → List ℕ
 rows_text telling bench suite count next lines [] = []
 rows_text telling bench suite count next lines (test ∷ tests)
-    = case_text telling (plus count 1) (name_of suite) (line_number test)
+    = told_case telling (plus count 1) (name_of suite) (line_number test) (line_points test)
     (line_at (line_number test) next lines)
     (why bench suite.rows (line_at (line_number test) next lines) test)
     ++ rows_text telling bench suite (plus count 1) (next_after (line_number test) next lines)
@@ -70,7 +98,7 @@ rows_reported bench suite next lines [] report = report
 rows_reported bench suite next lines (test ∷ tests) report = rows_reported bench suite
     (next_after (line_number test) next lines) (lines_after (line_number test) next lines) tests
     (with_test (passes bench test)
-    (junit_case (name_of suite) suite.rows (line_number test)
+    (told_junit (name_of suite) suite.rows (line_number test) (line_points test)
     (line_at (line_number test) next lines)
     (why bench suite.rows (line_at (line_number test) next lines) test)) report)
 

@@ -5,7 +5,7 @@ ghost use Rattle.std.specs.Prelude.{string_bytes};
 ghost use Rattle.std.specs.Option.{option_map};
 ghost use Rattle.model.specs.TextLines.{lines_of};
 ghost use Rattle.model.specs.Writers.{Writes};
-ghost use Rattle.t65_reader.specs.RowText.{line_view, numbered_view};
+ghost use Rattle.t65_reader.specs.RowText.{is_hidden, line_points, line_view, numbered_view};
 ghost use Rattle.t65_failures.specs.Failures.{detail_text};
 ghost use Rattle.t65_failures.specs.Faulty.{faulty_text};
 ghost use Rattle.t65_reports.specs.Junit.{with_test};
@@ -13,8 +13,9 @@ ghost use Rattle.t65_reports.specs.Reports.{junit_case};
 ghost use Rattle.t65_reports.specs.Telling.{case_text};
 ghost use Rattle.t65_runner.specs.Start.{fresh};
 ghost use Rattle.word_test.specs.Covered.{told_in};
-ghost use Rattle.word_test.specs.Tested.{IsAround, failure_of, passes, plus, rows_reported};
-ghost use Rattle.word_test.specs.Tested.{rows_text, run_of};
+ghost use Rattle.word_test.specs.Tested.{IsAround, failure_of, hidden_line, hidden_why, passes};
+ghost use Rattle.word_test.specs.Tested.{plus, rows_reported, rows_text, run_of, told_case};
+ghost use Rattle.word_test.specs.Tested.{told_junit};
 ghost use Rattle.t65_suites.specs.Prepared.{ground_in};
 ghost use Rattle.t65_suites.specs.Suites.{suite_view};
 ghost use Rattle.word_test.specs.Tested.{tally_rows, why, why_row};
@@ -31,7 +32,7 @@ use std::alloc::{AllocError, Global};
 use std::io::Write;
 use std::rt::Files;
 use t65_failures::{Bench, detail_of, faulty_text};
-use t65_reader::{Faulty, Line, Ranges, Row};
+use t65_reader::{Faulty, Line, Ranges, Row, is_hidden};
 use t65_reports::{Case, RowLines, Telling, case_text, junit_case};
 use t65_runner::{Around, HISTORY, Values, first_failed};
 use t65_suites::{Prepared, Suite};
@@ -65,13 +66,35 @@ fn detail_in(
     detail_of(alloc, bench, ranges, rows, values)
 }
 
-/// Returns the texts of a row by its number among all tests, which fails for the reason that is
-/// given, if one is.
-fn texts_of(
+/// Returns the text that is told of a hidden row, which is worth so many points.
+#[tactic(auto, unfolding(crate::specs::Tested::hidden_line))]
+fn hidden_line(alloc: Global, points: u32) -> Result<String, AllocError>
+    ensures { IfOk result (λ text. string_bytes text ≡ hidden_line points) }
+{
+    let mut text = String::new(alloc);
+    write!(text, "hidden points={points}")?;
+    Ok(text)
+}
+
+/// Returns why a hidden row fails, if it does: no byte.
+fn hidden_why(detail: Option<&str>) -> Option<&'static str>
+    ensures { option_map (λ why. why.now) result
+        ≡ hidden_why (option_map (λ why. why.now) detail.entry) }
+{
+    match detail {
+        None => None,
+        Some(_) => Some(""),
+    }
+}
+
+/// Returns the texts of a row by its number among all tests, which passes or not; its text is told,
+/// and the reason that is given, if one is.
+fn plain_texts(
     alloc: Global,
     telling: Telling,
     number: u64,
     case: Case<'_>,
+    has_passed: bool,
     detail: Option<&str>,
 ) -> Result<Told, AllocError>
     ensures tap { IfOk result (λ told. string_bytes told.tap
@@ -80,13 +103,74 @@ fn texts_of(
     ensures junit { IfOk result (λ told. string_bytes told.junit
         ≡ junit_case case.entry.file.now case.entry.rows.now case.entry.line case.entry.text.now
         (option_map (λ why. why.now) detail.entry)) }
-    ensures passes { IfOk result (λ told. told.passes ≡ is_none detail.entry) }
+    ensures passes { IfOk result (λ told. told.passes ≡ has_passed) }
 {
     Ok(Told {
         tap: case_text(alloc, telling, number, case, detail)?,
         junit: junit_case(alloc, case, detail)?,
-        passes: detail.is_none(),
+        passes: has_passed,
     })
+}
+
+/// Returns the texts of a hidden row by its number among all tests, which fails for the reason that
+/// is given, if one is.
+fn hidden_texts(
+    alloc: Global,
+    telling: Telling,
+    number: u64,
+    case: Case<'_>,
+    points: u32,
+    detail: Option<&str>,
+) -> Result<Told, AllocError>
+    ensures tap { IfOk result (λ told. string_bytes told.tap
+        ≡ case_text telling number case.entry.file.now case.entry.line (hidden_line points)
+        (hidden_why (option_map (λ why. why.now) detail.entry))) }
+    ensures junit { IfOk result (λ told. string_bytes told.junit
+        ≡ junit_case case.entry.file.now case.entry.rows.now case.entry.line (hidden_line points)
+        (hidden_why (option_map (λ why. why.now) detail.entry))) }
+    ensures passes { IfOk result (λ told. told.passes ≡ is_none detail.entry) }
+{
+    let line = hidden_line(alloc, points)?;
+    let shown = Case {
+        file: case.file,
+        rows: case.rows,
+        line: case.line,
+        text: line.as_bytes(),
+    };
+    let has_passed = detail.is_none();
+    plain_texts(
+        alloc,
+        telling,
+        number,
+        shown,
+        has_passed,
+        hidden_why(detail),
+    )
+}
+
+/// Returns the texts of a row by its number among all tests, which is worth so many points, and
+/// fails for the reason that is given, if one is. Of a hidden row neither is told.
+fn texts_of(
+    alloc: Global,
+    telling: Telling,
+    number: u64,
+    case: Case<'_>,
+    points: u32,
+    detail: Option<&str>,
+) -> Result<Told, AllocError>
+    ensures tap { IfOk result (λ told. string_bytes told.tap
+        ≡ told_case telling number case.entry.file.now case.entry.line points case.entry.text.now
+        (option_map (λ why. why.now) detail.entry)) }
+    ensures junit { IfOk result (λ told. string_bytes told.junit
+        ≡ told_junit case.entry.file.now case.entry.rows.now case.entry.line points
+        case.entry.text.now (option_map (λ why. why.now) detail.entry)) }
+    ensures passes { IfOk result (λ told. told.passes ≡ is_none detail.entry) }
+{
+    if is_hidden(case.text) {
+        hidden_texts(alloc, telling, number, case, points, detail)
+    } else {
+        plain_texts(alloc, telling, number, case, detail.is_none(), detail)
+    }
 }
 
 /// Returns what is run for a test of a suite, one row after another.
@@ -121,11 +205,11 @@ fn run_row(
     ensures back { OnOk result
         (session.new ≡ fresh prepared.now.map prepared.now.assembly.image) }
     ensures tap { IfOk result (λ told. string_bytes told.tap
-        ≡ case_text telling number case.entry.file.now case.entry.line case.entry.text.now
-        (why_row (ground_in prepared.now) (numbered_view row.now))) }
+        ≡ told_case telling number case.entry.file.now case.entry.line row.now.1.points
+        case.entry.text.now (why_row (ground_in prepared.now) (numbered_view row.now))) }
     ensures junit { IfOk result (λ told. string_bytes told.junit
-        ≡ junit_case case.entry.file.now case.entry.rows.now case.entry.line case.entry.text.now
-        (why_row (ground_in prepared.now) (numbered_view row.now))) }
+        ≡ told_junit case.entry.file.now case.entry.rows.now case.entry.line row.now.1.points
+        case.entry.text.now (why_row (ground_in prepared.now) (numbered_view row.now))) }
     ensures passes { IfOk result (λ told. told.passes
         ≡ is_none (failure_of (ground_in prepared.now) (numbered_view row.now))) }
 {
@@ -134,10 +218,11 @@ fn run_row(
     let failed = first_failed(alloc, session, prepared.map, image, &row.1, &rows)?;
     coverage.count(alloc, session, prepared, &row.1, &rows, failed)?;
     match failed {
-        None => texts_of(alloc, telling, number, case, None),
+        None => texts_of(alloc, telling, number, case, row.1.points, None),
         Some(values) => {
             let detail = detail_in(alloc, prepared, row.1.ranges, &rows, values)?;
-            texts_of(alloc, telling, number, case, Some(detail.as_str()))
+            let points = row.1.points;
+            texts_of(alloc, telling, number, case, points, Some(detail.as_str()))
         }
     }
 }
@@ -152,15 +237,24 @@ fn faulty_row(
     row: Faulty,
 ) -> Result<Told, AllocError>
     ensures tap { IfOk result (λ told. string_bytes told.tap
-        ≡ case_text telling number case.entry.file.now case.entry.line case.entry.text.now
+        ≡ told_case telling number case.entry.file.now case.entry.line row.points
+        case.entry.text.now
         (Some (faulty_text (suite_view suite.entry).rows case.entry.text.now row.fault))) }
     ensures junit { IfOk result (λ told. string_bytes told.junit
-        ≡ junit_case case.entry.file.now case.entry.rows.now case.entry.line case.entry.text.now
+        ≡ told_junit case.entry.file.now case.entry.rows.now case.entry.line row.points
+        case.entry.text.now
         (Some (faulty_text (suite_view suite.entry).rows case.entry.text.now row.fault))) }
     ensures passes { IfOk result (λ told. told.passes ≡ false) }
 {
     let detail = faulty_text(alloc, suite.rows, case.text, row.fault)?;
-    texts_of(alloc, telling, number, case, Some(detail.as_str()))
+    texts_of(
+        alloc,
+        telling,
+        number,
+        case,
+        row.points,
+        Some(detail.as_str()),
+    )
 }
 
 /// Runs a test of a suite from the start of the machine, if it can be read, goes back there, and
@@ -182,11 +276,13 @@ fn run_test(
     ensures back { OnOk result
         (session.new ≡ fresh prepared.now.map prepared.now.assembly.image) }
     ensures tap { IfOk result (λ told. string_bytes told.tap
-        ≡ case_text telling number case.entry.file.now case.entry.line case.entry.text.now
+        ≡ told_case telling number case.entry.file.now case.entry.line
+        (line_points (line_view test.now)) case.entry.text.now
         (why (ground_in prepared.now) (suite_view suite.entry).rows case.entry.text.now
         (line_view test.now))) }
     ensures junit { IfOk result (λ told. string_bytes told.junit
-        ≡ junit_case case.entry.file.now case.entry.rows.now case.entry.line case.entry.text.now
+        ≡ told_junit case.entry.file.now case.entry.rows.now case.entry.line
+        (line_points (line_view test.now)) case.entry.text.now
         (why (ground_in prepared.now) (suite_view suite.entry).rows case.entry.text.now
         (line_view test.now))) }
     ensures passes { IfOk result (λ told. told.passes

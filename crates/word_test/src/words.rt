@@ -8,10 +8,12 @@ ghost use Rattle.arguments.specs.Values.{form_asked};
 ghost use Rattle.arguments.specs.Words.{Fits, IsRefusalOf, all_values, texts};
 ghost use Rattle.clap.specs.Words.{app_of, first_value, found_of, kind_of};
 ghost use Rattle.clap.specs.declared.builder.command.Command.TheViews.{out-Command};
-ghost use Rattle.word_test.specs.Asked.{are_one, clash, has_name, limit_asked, reading_as};
-ghost use Rattle.word_test.specs.Asked.{reading_asked, replaces, sources_asked, telling_asked};
-ghost use Rattle.word_test.specs.Asked.{telling_in, test_asked, test_of};
-ghost use Rattle.word_test.specs.CommandLine.{test, test_files, with_files, with_telling};
+ghost use Rattle.word_test.specs.Asked.{are_one, clash, has_name, limit_asked, only_asked};
+ghost use Rattle.word_test.specs.Asked.{reading_as, reading_asked, replaces, seed_asked};
+ghost use Rattle.word_test.specs.Asked.{sources_asked, takes_names, telling_asked, telling_in};
+ghost use Rattle.word_test.specs.Asked.{test_asked, test_of};
+ghost use Rattle.word_test.specs.CommandLine.{test, test_files, with_files, with_rows};
+ghost use Rattle.word_test.specs.CommandLine.{with_telling};
 ghost use Rattle.word_test.specs.CommandLine.{words_asked};
 ghost use Rattle.word_test.specs.Views.{test_view};
 ghost use Rattle.t65_suites.specs.Suites.{reading_view};
@@ -95,6 +97,21 @@ fn with_files<'a>(alloc: Global, command: Command<'a>) -> Result<Command<'a>, Er
     Ok(command)
 }
 
+/// Returns a command with the options added of which rows are run, and where random numbers begin.
+fn with_rows<'a>(alloc: Global, command: Command<'a>) -> Result<Command<'a>, Error>
+    ensures shape { IfOk result (λ c. app_of c ≡ with_rows (app_of command.entry)) }
+    ensures local { IfOk result (λ c. (out-Command command.entry).has_globals ≡ false
+        → (out-Command c).has_globals ≡ false) }
+    ensures memory { IfErr result (λ e. kind_of e ≡ ErrorKind.OutOfMemory) }
+{
+    let seed = "The seed of all rows for random values [default: the one of each row]";
+    let only = "Runs the rows alone that call this routine, by its name in the row [default: all]";
+    let command = command
+        .arg(option(alloc, "seed", "N", seed))?
+        .arg(option(alloc, "only", "NAME", only))?;
+    Ok(command)
+}
+
 /// Returns a command with the flags added of what is written of tests.
 fn with_telling<'a>(alloc: Global, command: Command<'a>) -> Result<Command<'a>, Error>
     ensures shape { IfOk result (λ c. app_of c ≡ with_telling (app_of command.entry)) }
@@ -121,7 +138,8 @@ pub fn test_command<'a>(alloc: Global) -> Result<Command<'a>, Error>
     let raw = "What rows are run on is a raw image, from this address on, four hex digits";
     let prg = "What rows are run on is a PRG file: its address in two bytes, and bytes from it on";
     let command = with_image_options(alloc, files_command(alloc)?, raw, prg)?;
-    with_telling(alloc, with_files(alloc, command)?)
+    let command = with_files(alloc, command)?;
+    with_telling(alloc, with_rows(alloc, command)?)
 }
 
 /// Returns whether a name is among those of files.
@@ -203,18 +221,74 @@ fn sources_asked<'a, 'b>(sources: Option<&'b [&'a str]>) -> &'b [&'a str]
     }
 }
 
-/// Returns how files are read in a form, with the names of a file if one is named; `None` if a
-/// source is given names.
-fn reading_as<'a>(form: FileForm, symbols: Option<&'a str>) -> Option<Reading<'a>>
-    ensures { option_map reading_view result
-        ≡ reading_as form (option_map (λ f. f.now) symbols.entry) }
+/// Returns where random numbers begin, if a word says it; `None` if the word is wrong.
+fn seed_asked(word: Option<&str>) -> Option<Option<u32>>
+    ensures { result ≡ seed_asked (option_map (λ w. w.now) word.entry) }
 {
-    match symbols {
-        None => Some(Reading { form, symbols }),
-        Some(_) => match form {
-            FileForm::Source => None,
-            FileForm::Records | FileForm::Raw(_) | FileForm::Prg => Some(Reading { form, symbols }),
+    match word {
+        None => Some(None),
+        Some(word) => match steps_asked(Some(word)) {
+            Some(seed) if seed <= u32::MAX as u64 => Some(Some(seed as u32)),
+            _ => None,
         },
+    }
+}
+
+/// Returns the routine whose rows alone are run; no byte where no word names one.
+fn only_asked<'a>(word: Option<&'a str>) -> &'a str
+    ensures { result.now ≡ only_asked (option_map (λ w. w.now) word.entry) }
+{
+    match word {
+        None => "",
+        Some(word) => word,
+    }
+}
+
+/// Returns whether names can be given to what is read in a form: to an image, and not to a source.
+fn takes_names(form: FileForm) -> bool
+    ensures { result ≡ takes_names form }
+{
+    match form {
+        FileForm::Source => false,
+        FileForm::Records | FileForm::Raw(_) | FileForm::Prg => true,
+    }
+}
+
+/// Returns how files are read in a form, with the names of a file if one is named, and which rows
+/// are run; `None` if the seed is wrong, or a source is given names.
+fn reading_as<'a>(
+    form: FileForm,
+    symbols: Option<&'a str>,
+    seed: Option<Option<u32>>,
+    only: Option<&'a str>,
+) -> Option<Reading<'a>>
+    ensures { option_map reading_view result
+        ≡ reading_as form (option_map (λ f. f.now) symbols.entry) seed
+        (only_asked (option_map (λ w. w.now) only.entry)) }
+{
+    let Some(seed) = seed else {
+        return None;
+    };
+    let only = only_asked(only);
+    match symbols {
+        None => Some(Reading {
+            form,
+            symbols: None,
+            seed,
+            only,
+        }),
+        Some(names) => {
+            if takes_names(form) {
+                Some(Reading {
+                    form,
+                    symbols: Some(names),
+                    seed,
+                    only,
+                })
+            } else {
+                None
+            }
+        }
     }
 }
 
@@ -231,14 +305,20 @@ fn form_of(matches: &ArgMatches<'_>) -> Option<FileForm>
     )
 }
 
-/// Returns how files are read, or `None` if a value is wrong or a source is given names.
+/// Returns how files are read, and which rows are run, or `None` if a value is wrong or a source is
+/// given names.
 fn reading_asked<'a>(matches: &ArgMatches<'a>) -> Option<Reading<'a>>
     ensures { option_map reading_view result
         ≡ reading_asked (first_value (found_of matches.now)) }
 {
     match form_of(matches) {
         None => None,
-        Some(form) => reading_as(form, matches.get_str("symbols")),
+        Some(form) => reading_as(
+            form,
+            matches.get_str("symbols"),
+            seed_asked(matches.get_str("seed")),
+            matches.get_str("only"),
+        ),
     }
 }
 
@@ -363,6 +443,8 @@ fn wrong_words(matches: &ArgMatches<'_>) -> &'static str {
         "--steps takes a decimal number up to 4294967295"
     } else if form_of(matches).is_none() {
         "--bin takes four hex digits; only one of --image, --bin and --prg can be said"
+    } else if seed_asked(matches.get_str("seed")).is_none() {
+        "--seed takes a decimal number up to 4294967295"
     } else if reading_asked(matches).is_none() {
         "--symbols is for an image; a source has its own names"
     } else if telling_in(matches).is_none() {
