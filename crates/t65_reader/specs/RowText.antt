@@ -144,10 +144,10 @@ within_addresses text at index values rest = if nat_le (index + length values) 6
     then Ok (value_items at index values ++ count_items at values, rest)
     else Err (fault_at AddressRange text)
 
--- Bytes in order: values and strings, with commas between them.
+-- Bytes in order: values, random bytes and strings, with commas between them.
 unfoldable pub sequence_at : Definitions → Letters → StringPlace → ℕ → List ℕ → Items
 sequence_at names letters at index text
-    = and_then (sequence_of names letters text) (within_addresses text at index)
+    = and_then (sequence_of names letters index text) (within_addresses text at index)
 
 abbrev pub one_item : Target → Relation → Value → List ℕ → Items
 one_item place relation value rest = Ok (item place relation value ∷ [], rest)
@@ -448,15 +448,21 @@ unfoldable pub seed_of : List ℕ → Reads ℕ
 seed_of text = if bytes_eq (word_of text) (codes "seed") then number_of Decimal (after_word text)
     else Err (fault_at NoSeed text)
 
+-- A call for values of ranges, or where no letter of a range stands there, a call alone.
+unfoldable pub drawn_of : Definitions → Choice → List ℕ → Result SeenRow RowFault
+drawn_of names choice text = if is_some (range_letter (word_of text))
+    then chosen_of names choice text
+    else row_with Test no_ranges choice (called_of names (letters_of no_ranges) text)
+
 abbrev pub random_by : Definitions → ℕ → ℕ → Result (List ℕ) RowFault → Result SeenRow RowFault
-random_by names count seed (Ok rest) = chosen_of names (Random count seed) rest
+random_by names count seed (Ok rest) = drawn_of names (Random count seed) rest
 random_by names count seed (Err fault) = Err fault
 
 abbrev pub random_in : Definitions → Reads (ℕ × ℕ) → Result SeenRow RowFault
 random_in names (Ok read) = random_by names read.0.0 read.0.1 (after_sign (byte ":") read.1)
 random_in names (Err fault) = Err fault
 
--- How many times, `seed`, where the numbers begin, `:`, and a call for values of ranges.
+-- How many times, `seed`, where the numbers begin, `:`, and a call, for values of ranges or alone.
 unfoldable pub random_of : Definitions → List ℕ → Result SeenRow RowFault
 random_of names text = random_in names (and_then (count_of text) (λ count rest.
     and_then (seed_of rest) (λ seed rest. Ok ((count, seed), rest))))

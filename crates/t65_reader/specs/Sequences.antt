@@ -1,14 +1,14 @@
--- Bytes in order: values and strings, with commas between them. Source: mos65.
-use Rattle.std.specs.Prelude.{ℕ, zero, suc, Bool, not, if◌then◌else◌, List, [], ◌∷◌, ◌++◌, length, drop, Option, Some, None, Ok, Err}
-use Rattle.std.specs.Str.{byte}
+-- Bytes in order: values, random bytes and strings, with commas between them. Source: mos65.
+use Rattle.std.specs.Prelude.{ℕ, zero, suc, ◌+◌, nat_le, Bool, not, if◌then◌else◌, List, [], ◌∷◌, ◌++◌, length, drop, codes, Option, Some, None, Ok, Err}
+use Rattle.std.specs.Str.{byte, bytes_eq}
 use Rattle.model.specs.Names.{Definitions}
 use Rattle.t65_values.specs.StringText.{Character, character_of}
-use Rattle.t65_values.specs.ValueText.{Reads, and_then, fault_at, is_next, skip_blanks, value_of}
+use Rattle.t65_values.specs.ValueText.{Reads, after_word, and_then, fault_at, is_next, number_of, skip_blanks, value_of, word_of}
 use Rattle.t65_values.specs.declared.expression.Atom.{Atom}
-use Rattle.t65_values.specs.declared.expression.Atom.TheVariants.{Number}
+use Rattle.t65_values.specs.declared.expression.Atom.TheVariants.{Number, Random}
 use Rattle.t65_values.specs.declared.expression.Value.{Value}
-use Rattle.t65_values.specs.declared.fault.Base.TheVariants.{Hex}
-use Rattle.t65_values.specs.declared.fault.RowFaultKind.TheVariants.{OpenString}
+use Rattle.t65_values.specs.declared.fault.Base.TheVariants.{Decimal, Hex}
+use Rattle.t65_values.specs.declared.fault.RowFaultKind.TheVariants.{AddressRange, OpenString}
 use Rattle.t65_values.specs.declared.value.Letters.{Letters}
 
 -- A value of one part.
@@ -52,23 +52,43 @@ string_piece found text = closed text (characters_of (length (drop 1 text)) foun
 abbrev pub one_value : List Value → Value → List ℕ → Sequence
 one_value found value rest = Ok (found ++ value ∷ [], rest)
 
--- A string, or a value of a byte.
-unfoldable pub piece_of : Definitions → Letters → List Value → List ℕ → Sequence
-piece_of names letters found text = if is_next 34 text then string_piece found text
+-- The random bytes of so many places in order.
+abbrev pub random_values : ℕ → ℕ → List Value
+random_values first zero = []
+random_values first (suc n) = just (Random first) ∷ random_values (first + 1) n
+
+-- So many values behind others end at the last place or before it.
+abbrev pub has_room : ℕ → ℕ → ℕ → Bool
+has_room start before count = nat_le (start + before + count) 65536
+
+abbrev pub randoms : ℕ → List Value → List ℕ → ℕ → List ℕ → Sequence
+randoms start found text count rest = if has_room start (length found) count
+    then Ok (found ++ random_values (start + length found) count, rest)
+    else Err (fault_at AddressRange text)
+
+-- How many random bytes stand there: each is that of its place.
+unfoldable pub random_piece : ℕ → List Value → List ℕ → Sequence
+random_piece start found text = and_then (number_of Decimal text) (randoms start found text)
+
+-- A string, random bytes, or a value of a byte.
+unfoldable pub piece_of : Definitions → Letters → ℕ → List Value → List ℕ → Sequence
+piece_of names letters start found text =
+    if is_next 34 text then string_piece found text
+    else if bytes_eq (word_of text) (codes "random") then random_piece start found (after_word text)
     else and_then (value_of names letters Hex text) (one_value found)
 
 abbrev pub is_last : List ℕ → Bool
 is_last text = not (is_next (byte ",") text)
 
 -- Further pieces, each behind a comma; so many at most.
-unfoldable pub pieces_after : ℕ → Definitions → Letters → List Value → List ℕ → Sequence
-pieces_after zero names letters found text = Ok (found, text)
-pieces_after (suc n) names letters found text =
+unfoldable pub pieces_after : ℕ → Definitions → Letters → ℕ → List Value → List ℕ → Sequence
+pieces_after zero names letters start found text = Ok (found, text)
+pieces_after (suc n) names letters start found text =
     if is_last text then Ok (found, text)
-    else and_then (piece_of names letters found (skip_blanks (drop 1 text)))
-    (λ more rest. pieces_after n names letters more rest)
+    else and_then (piece_of names letters start found (skip_blanks (drop 1 text)))
+    (λ more rest. pieces_after n names letters start more rest)
 
--- Pieces with commas between them, one at least.
-unfoldable pub sequence_of : Definitions → Letters → List ℕ → Sequence
-sequence_of names letters text = and_then (piece_of names letters [] text)
-    (λ found rest. pieces_after (length rest) names letters found rest)
+-- Pieces with commas between them, one at least; the first byte stands in a place.
+unfoldable pub sequence_of : Definitions → Letters → ℕ → List ℕ → Sequence
+sequence_of names letters start text = and_then (piece_of names letters start [] text)
+    (λ found rest. pieces_after (length rest) names letters start found rest)

@@ -241,7 +241,7 @@ fn sequence_at<'a>(
     ensures err { IfErr result (λ fault. fault.kind ≢ RowFaultKind.OutOfMemory
         → sequence_at names.now.names letters at start text.now ≡ Err fault) }
 {
-    let (values, rest) = sequence_of(alloc, names, letters, text)?;
+    let (values, rest) = sequence_of(alloc, names, letters, start, text)?;
     if values.len() > 65536 - start as usize {
         return Err(fault_at(RowFaultKind::AddressRange, text));
     }

@@ -8,7 +8,8 @@ ghost use Rattle.t65_reader.specs.RowText.{asked_for, asking_view, behind_word, 
 ghost use Rattle.t65_reader.specs.RowText.{is_hidden, is_left_out, is_picked, points_after};
 ghost use Rattle.t65_reader.specs.RowText.{points_before, points_in, routine_in, routine_of, seeded};
 ghost use Rattle.t65_reader.specs.RowText.{unhidden, worth_of};
-ghost use Rattle.t65_reader.specs.RowText.{chosen_of, count_of, cycle_of, entered_of, letter_of};
+ghost use Rattle.t65_reader.specs.RowText.{chosen_of, count_of, cycle_of, drawn_of, entered_of};
+ghost use Rattle.t65_reader.specs.RowText.{letter_of};
 ghost use Rattle.t65_reader.specs.RowText.{letters_of, line_at, requested_of, time_of};
 ghost use Rattle.t65_reader.specs.RowText.{line_of, next_range, no_ranges, part_of, pointed_row_of};
 ghost use Rattle.t65_reader.specs.RowText.{random_of, range_between, range_letter, range_of};
@@ -356,7 +357,22 @@ fn seed_of(text: &[u8]) -> Result<(u32, &[u8]), RowFault>
     }
 }
 
-/// Reads how many times, `seed`, where the numbers begin, and a call for values of ranges.
+/// Reads a call for values of ranges, or a call alone where no letter of a range stands there.
+#[tactic(auto, unfolding(crate::specs::RowText::drawn_of))]
+fn drawn_of(alloc: Global, names: &Assembly, choice: Choice, text: &[u8]) -> Result<Row, RowFault>
+    ensures ok { IfOk result
+        (λ row. drawn_of names.now.names choice text.now ≡ Ok (row_view row)) }
+    ensures err { IfErr result (λ fault. fault.kind ≢ RowFaultKind.OutOfMemory
+        → drawn_of names.now.names choice text.now ≡ Err fault) }
+{
+    if range_letter(word_of(text)).is_some() {
+        chosen_of(alloc, names, choice, text)
+    } else {
+        row_with(alloc, names, Part::Test, no_ranges(), choice, text)
+    }
+}
+
+/// Reads how many times, `seed`, where the numbers begin, and a call, with ranges or alone.
 #[tactic(auto, unfolding(crate::specs::RowText::random_of))]
 fn random_of(alloc: Global, names: &Assembly, text: &[u8]) -> Result<Row, RowFault>
     ensures ok { IfOk result (λ row. random_of names.now.names text.now ≡ Ok (row_view row)) }
@@ -366,7 +382,7 @@ fn random_of(alloc: Global, names: &Assembly, text: &[u8]) -> Result<Row, RowFau
     let (count, rest) = count_of(text)?;
     let (seed, rest) = seed_of(rest)?;
     let rest = after_sign(b':', rest)?;
-    chosen_of(alloc, names, Choice::Random { count, seed }, rest)
+    drawn_of(alloc, names, Choice::Random { count, seed }, rest)
 }
 
 /// Reads a call for all values of ranges or for some, or a call alone.

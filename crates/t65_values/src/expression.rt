@@ -15,7 +15,7 @@ pub enum Operation {
     ExclusiveOr,
 }
 
-/// A number, the value of one of a row's ranges, or what is in memory.
+/// A number, the value of one of a row's ranges, what is in memory, or a random byte.
 #[derive(Clone, Copy)]
 pub enum Atom {
     Number(u32),
@@ -27,6 +27,8 @@ pub enum Atom {
     Byte(u16),
     /// The two bytes of memory from an address on, the low one first.
     Word(u16),
+    /// The random byte of a place.
+    Random(u16),
 }
 
 /// An operation and its right side.
