@@ -1,5 +1,5 @@
 -- Why a row fails, as text. Source: mos65.
-use Rattle.std.specs.Prelude.{ℕ, ◌+◌, ◌==◌, ◌&&◌, nat_lt, Bool, if◌then◌else◌, List, [], ◌∷◌, ◌++◌, Option, None, Some, Result, Ok, Err, codes, decimal}
+use Rattle.std.specs.Prelude.{ℕ, ◌+◌, ◌==◌, ◌&&◌, nat_lt, Bool, if◌then◌else◌, List, [], ◌∷◌, ◌++◌, Option, None, Some, Result, Ok, Err, codes, decimal, length}
 use Rattle.std.specs.List.{flat_map}
 use Rattle.model.specs.FaultNames.{event_fault_name, event_fault_number}
 use Rattle.model.specs.Session.{Session}
@@ -12,6 +12,8 @@ use Rattle.model.specs.declared.session_fault.SessionFault.{SessionFault}
 use Rattle.source_map.specs.Lines.{PlacesView}
 use Rattle.rig.specs.Subroutine.{return_address}
 use Rattle.t65_reader.specs.RowText.{SeenCall, SeenRow}
+use Rattle.t65_values.specs.declared.expression.Atom.{Atom}
+use Rattle.t65_values.specs.declared.expression.Atom.TheVariants as atom
 use Rattle.t65_reader.specs.declared.row.Item.{Item}
 use Rattle.t65_reader.specs.declared.row.Part.{Part}
 use Rattle.t65_reader.specs.declared.row.Part.TheVariants.{Test, Setup, Teardown}
@@ -21,11 +23,12 @@ use Rattle.t65_reader.specs.declared.row.Ranges.{Ranges}
 use Rattle.t65_reader.specs.declared.row.Request.{Request}
 use Rattle.t65_reader.specs.declared.row.Signal.{Signal}
 use Rattle.t65_runner.specs.Passes.{called, came, given_all, given_one, if_came, is_return, number_of, passed}
+use Rattle.t65_runner.specs.RangeValues.{random_byte}
 use Rattle.t65_runner.specs.Start.{fresh}
 use Rattle.t65_runner.specs.declared.range_values.Values.{Values}
 use Rattle.t65_runner.specs.declared.requests.CallEnd.{CallEnd}
 use Rattle.t65_failures.specs.Steps.{signal_name, steps_by}
-use Rattle.t65_failures.specs.declared.wording.TheConstants.{CALLED_WITH, CAME, CAME_BEFORE, CANNOT_BE_GIVEN, DECIMAL_HINT, EXPECTED, FOR, HAS_COME, HEX_HINT, IN_SETUP, IN_TEARDOWN, NOTHING_CAME, NO_RETURN, NO_SIGNAL, RETURNED_WITH, STOPPED, THEN_AT}
+use Rattle.t65_failures.specs.declared.wording.TheConstants.{CALLED_WITH, CAME, CAME_BEFORE, CANNOT_BE_GIVEN, DECIMAL_HINT, EXPECTED, FOR, HAS_COME, HEX_HINT, IN_SETUP, IN_TEARDOWN, NOTHING_CAME, NO_RETURN, NO_SIGNAL, RETURNED_WITH, STOPPED, THEN_AT, WITH}
 use Rattle.t65_failures.specs.Texts.{hex_of, named_address, named_byte, named_count, number_text, place_text, relation_text, value_text}
 
 -- ---- which row, and for which values
@@ -50,9 +53,26 @@ part_text Test line = []
 part_text Setup line = named_count IN_SETUP.now line ++ codes "\n"
 part_text Teardown line = named_count IN_TEARDOWN.now line ++ codes "\n"
 
+-- The random byte of an item that was given, if it is one.
+abbrev pub drawn_by : Values → Target → Atom → List ℕ
+drawn_by values place (atom.Random at) = codes " " ++ place_text place ++ codes "="
+    ++ number_text place (random_byte values.number at)
+drawn_by values place other = []
+
+abbrev pub drawn_item : Values → Item → List ℕ
+drawn_item values item = drawn_by values item.place item.value.first
+
+abbrev pub drawn_line : List ℕ → List ℕ
+drawn_line drawn = if length drawn == 0 then [] else WITH.now ++ drawn ++ codes "\n"
+
+-- The random bytes that were given, if there are any.
+abbrev pub drawn_text : Values → List Item → List ℕ
+drawn_text values items = drawn_line (flat_map (drawn_item values) items)
+
 -- What is said of a row that fails for values of the test's ranges.
 abbrev pub about_text : Ranges → Values → ℕ × SeenRow → List ℕ
 about_text ranges values row = part_text row.1.part row.0 ++ values_text ranges values
+    ++ drawn_text values row.1.call.given
 
 -- ---- what cannot be given
 

@@ -8,13 +8,14 @@ ghost use Rattle.t65_reader.specs.RowText.{call_view};
 ghost use Rattle.t65_runner.specs.Passes.{called, given_all, item_holds, passed, passed_given};
 ghost use Rattle.t65_runner.specs.Passes.{rows_seen};
 ghost use Rattle.t65_failures.specs.Failures.{about_text, arrival_by, called_text, came_text};
-ghost use Rattle.t65_failures.specs.Failures.{detail_text, request_text, step_count};
+ghost use Rattle.t65_failures.specs.Failures.{detail_text, drawn_by, drawn_item, drawn_line};
+ghost use Rattle.t65_failures.specs.Failures.{drawn_text, request_text, step_count};
 ghost use Rattle.t65_failures.specs.Failures.{end_text, ending_by, expected_text, fault_text};
 ghost use Rattle.t65_failures.specs.Failures.{further_text, hint_of, hint_text, is_back, miss_text};
 ghost use Rattle.t65_failures.specs.Failures.{no_return_text, other_stack_text, part_text};
 ghost use Rattle.t65_failures.specs.Failures.{refusal_text, refused_text, told_in, told_text};
 ghost use Rattle.t65_failures.specs.Failures.{unlike_text, untaken_text, values_text};
-ghost use Rattle.t65_failures.specs.Texts.{named_count};
+ghost use Rattle.t65_failures.specs.Texts.{named_count, number_text, place_text};
 
 use crate::steps::{push_call_steps, signal_name};
 use crate::texts::{
@@ -24,7 +25,7 @@ use crate::texts::{
 use crate::wording::{
     CALLED_WITH, CAME, CAME_BEFORE, CANNOT_BE_GIVEN, DECIMAL_HINT, EXPECTED, FOR, HAS_COME,
     HEX_HINT, IN_SETUP, IN_TEARDOWN, NO_RETURN, NO_SIGNAL, NOTHING_CAME, RETURNED_WITH, STOPPED,
-    THEN_AT,
+    THEN_AT, WITH,
 };
 use bus::{Image, MapSpec};
 use debugger::{EventFault, Regs, Session, Why};
@@ -33,8 +34,9 @@ use std::alloc::{AllocError, Global};
 use t65_reader::{Call, Item, Part, Range, Ranges, Request, Row, Signal, Target};
 use t65_runner::{
     CallEnd, CallStart, HISTORY, Values, all_hold, call_start, came, compares, given_one,
-    number_of, run_called,
+    number_of, random_byte, run_called,
 };
+use t65_values::Atom;
 
 /// The machine that rows run on, and the places of its source.
 #[derive(Clone, Copy)]
@@ -98,20 +100,82 @@ fn push_part(text: &mut String, part: Part, line: u32) -> Result<(), AllocError>
     }
 }
 
+/// Appends a number that was given to a place.
+fn push_gift(text: &mut String, place: Target, number: u32) -> Result<(), AllocError>
+    ensures { OnOk result (string_bytes text.new ≡ string_bytes text.old
+        ++ (codes " " ++ place_text place ++ codes "=" ++ number_text place number)) }
+{
+    text.push(' ')?;
+    push_place(text, place)?;
+    text.push('=')?;
+    push_number(text, place, number as u64)
+}
+
+/// Appends the random byte of an item that was given, if it is one.
+fn push_drawn_item(text: &mut String, values: Values, item: Item) -> Result<(), AllocError>
+    ensures { OnOk result (string_bytes text.new
+        ≡ string_bytes text.old ++ drawn_item values item) }
+{
+    match item.value.first {
+        Atom::Random(at) => push_gift(text, item.place, random_byte(values.number, at)),
+        _ => Ok(()),
+    }
+}
+
+/// Appends the random bytes of items that were given.
+fn push_drawn_items(text: &mut String, values: Values, items: &[Item]) -> Result<(), AllocError>
+    ensures { OnOk result (string_bytes text.new
+        ≡ string_bytes text.old ++ flat_map (drawn_item values) items.now) }
+{
+    for item in items {
+        push_drawn_item(text, values, *item)?;
+    }
+    Ok(())
+}
+
+/// Appends a line with random bytes, if there are any.
+fn push_drawn_line(text: &mut String, drawn: &str) -> Result<(), AllocError>
+    ensures { OnOk result (string_bytes text.new
+        ≡ string_bytes text.old ++ drawn_line drawn.now) }
+{
+    if drawn.len() == 0 {
+        return Ok(());
+    }
+    text.push_str(WITH)?;
+    text.push_str(drawn)?;
+    text.push('\n')
+}
+
+/// Appends the random bytes that were given, if there are any.
+fn push_drawn(
+    alloc: Global,
+    text: &mut String,
+    values: Values,
+    items: &[Item],
+) -> Result<(), AllocError>
+    ensures { OnOk result (string_bytes text.new
+        ≡ string_bytes text.old ++ drawn_text values items.now) }
+{
+    let mut drawn = String::new(alloc);
+    push_drawn_items(&mut drawn, values, items)?;
+    push_drawn_line(text, &drawn)
+}
+
 /// Returns what is said of a row that fails for values of the test's ranges.
 fn about_of(
     alloc: Global,
     ranges: Ranges,
     values: Values,
     line: u32,
-    part: Part,
+    row: &Row,
 ) -> Result<String, AllocError>
-    ensures { IfOk result (λ text. string_bytes text
-        ≡ part_text part line ++ values_text ranges values) }
+    ensures { IfOk result (λ text. string_bytes text ≡ part_text row.now.part line
+        ++ values_text ranges values ++ drawn_text values row.now.call.given.items) }
 {
     let mut text = String::new(alloc);
-    push_part(&mut text, part, line)?;
+    push_part(&mut text, row.part, line)?;
     push_values(&mut text, ranges, values)?;
+    push_drawn(alloc, &mut text, values, &row.call.given)?;
     Ok(text)
 }
 
@@ -522,7 +586,7 @@ fn push_calls(
         session.old) }
 {
     for row in rows {
-        let about = about_of(alloc, ranges, values, row.0, row.1.part)?;
+        let about = about_of(alloc, ranges, values, row.0, &row.1)?;
         if !push_call(text, session, places, &about, values, &row.1.call)? {
             return Ok(());
         }

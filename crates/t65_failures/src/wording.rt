@@ -5,6 +5,9 @@
 /// What stands before the values of the ranges.
 pub const FOR: &str = "for ";
 
+/// What stands before the random bytes that were given.
+pub const WITH: &str = "with";
+
 /// What stands before the line of a row that is run before each test.
 pub const IN_SETUP: &str = "in the setup of line ";
 

@@ -104,7 +104,7 @@ rows_counted values (row ∷ rows) c
 
 abbrev pub are_same : Values → Values → Bool
 are_same one other = (one.first == other.first) && (one.second == other.second)
-    && (one.third == other.third) && (one.fourth == other.fourth)
+    && (one.third == other.third) && (one.fourth == other.fourth) && (one.number == other.number)
 
 -- The values for which a test fails are its last.
 abbrev pub is_last : Option Values → Values → Bool

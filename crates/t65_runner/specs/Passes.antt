@@ -43,7 +43,7 @@ use Rattle.t65_runner.specs.Interrupts.{interrupt_of}
 use Rattle.t65_runner.specs.Requests.{awaiting}
 use Rattle.t65_runner.specs.declared.requests.Awaited.{Awaited}
 use Rattle.t65_runner.specs.declared.requests.CallEnd.{CallEnd}
-use Rattle.t65_runner.specs.RangeValues.{count_of, values_at}
+use Rattle.t65_runner.specs.RangeValues.{count_of, random_byte, values_at}
 use Rattle.t65_runner.specs.declared.range_values.Values.{Values}
 
 -- Rows with their lines, without where they lie in memory.
@@ -65,6 +65,7 @@ atom_number values memory atom.Third = values.third
 atom_number values memory atom.Fourth = values.fourth
 atom_number values memory (atom.Byte address) = slice_index memory address
 atom_number values memory (atom.Word address) = word_at memory address
+atom_number values memory (atom.Random place) = random_byte values.number place
 
 -- Modulo 2^32; a quotient and its rest by 0 are 0.
 abbrev pub operate : Operation → ℕ → ℕ → ℕ

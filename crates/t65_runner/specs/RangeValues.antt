@@ -1,6 +1,7 @@
 -- The values of a row's ranges, one call after another. Source: mos65; the generator, Press and
--- others, Numerical Recipes in C, 2nd edition, chapter 7.1 (after D. E. Knuth and H. W. Lewis).
-use Rattle.std.specs.Prelude.{ℕ, zero, suc, ◌+◌, ◌-◌, ◌*◌, ◌/◌, ◌%◌, ◌^◌, min, Option, Some, None}
+-- others, Numerical Recipes in C, 2nd edition, chapter 7.1 (after D. E. Knuth and H. W. Lewis); how
+-- bits are mixed, `fmix32` of MurmurHash3 (A. Appleby).
+use Rattle.std.specs.Prelude.{ℕ, zero, suc, ◌+◌, ◌-◌, ◌*◌, ◌/◌, ◌%◌, ◌^◌, bit_xor, min, Option, Some, None}
 use Rattle.t65_reader.specs.declared.row.Choice.{Choice}
 use Rattle.t65_reader.specs.declared.row.Choice.TheVariants.{All, Random}
 use Rattle.t65_reader.specs.declared.row.Range.{Range}
@@ -38,6 +39,7 @@ all_at ranges n =
       second = value_in ranges.second (second % size_of ranges.second);
       third = value_in ranges.third (third % size_of ranges.third);
       fourth = value_in ranges.fourth (n % size_of ranges.fourth);
+      number = 0;
     }
 
 -- ---- random values
@@ -69,7 +71,24 @@ random_after ranges x =
       second = drawn ranges.second second;
       third = drawn ranges.third third;
       fourth = drawn ranges.fourth (next_number third);
+      number = x;
     }
+
+-- ---- random bytes
+
+abbrev pub spread : ℕ → ℕ → ℕ → ℕ
+spread x by factor = (bit_xor x (x / by) * factor) % 4294967296
+
+-- A number whose bits all depend on those of another.
+unfoldable pub mixed : ℕ → ℕ
+mixed x = spread (spread (spread x 65536 2246822507) 8192 3266489909) 65536 1
+
+abbrev pub place_number : ℕ → ℕ → ℕ
+place_number number place = (number + 2654435769 * place) % 4294967296
+
+-- The random byte of a place, in a call before which the generator has a number.
+abbrev pub random_byte : ℕ → ℕ → ℕ
+random_byte number place = mixed (place_number number place) / 16777216
 
 -- ---- which
 

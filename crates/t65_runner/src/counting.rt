@@ -209,6 +209,7 @@ fn are_same(one: Values, other: Values) -> bool
         && one.second == other.second
         && one.third == other.third
         && one.fourth == other.fourth
+        && one.number == other.number
 }
 
 /// Returns whether values are those for which a test fails.

@@ -23,6 +23,6 @@ pub use bench::{first_failed, run_called};
 pub use counting::count_test;
 pub use going_back::HISTORY;
 pub use passes::{CallStart, all_hold, call_start, came, compares, given_one, number_of};
-pub use range_values::Values;
+pub use range_values::{Values, random_byte};
 pub use requests::{Awaited, CallEnd, arrive};
 pub use t65_reader::Row;

@@ -12,7 +12,7 @@ ghost use Rattle.t65_runner.specs.Passes.{giving, giving_byte, giving_word, if_b
 ghost use Rattle.t65_runner.specs.Passes.{number_of, operate, word_at};
 ghost use Rattle.t65_runner.specs.Passes.{register_of, setting_of};
 
-use crate::range_values::Values;
+use crate::range_values::{Values, random_byte};
 use debugger::{Event, Regs, Session, Setting};
 use t65_reader::{Item, Register, Relation, Target};
 use t65_values::{Atom, Operation, Operator, Value};
@@ -46,6 +46,7 @@ fn atom_number(session: &Session, values: Values, atom: Atom) -> u32
         Atom::Fourth => values.fourth,
         Atom::Byte(address) => session.peek(address) as u32,
         Atom::Word(address) => word_at(session, address),
+        Atom::Random(place) => random_byte(values.number, place),
     }
 }
 

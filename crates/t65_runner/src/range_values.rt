@@ -2,18 +2,21 @@
 
 ghost use Rattle.std.specs.Prelude.{◌≡◌, ◌≤◌, ◌/◌, ◌%◌};
 ghost use Rattle.t65_runner.specs.RangeValues.{all_at, all_count, count_of, drawn, four_later};
-ghost use Rattle.t65_runner.specs.RangeValues.{next_number, random_after, seed_of, size_of, times};
+ghost use Rattle.t65_runner.specs.RangeValues.{mixed, next_number, place_number, random_after};
+ghost use Rattle.t65_runner.specs.RangeValues.{random_byte, seed_of, size_of, spread, times};
 ghost use Rattle.t65_runner.specs.RangeValues.{value_in, values_by};
 
 use t65_reader::{Choice, Range, Ranges};
 
-/// The values of a row's ranges; 0 for one that is not there.
+/// The values of a row's ranges; 0 for one that is not there. With them is the number of the
+/// generator before the call, from which random bytes come; 0 where a row is run for all values.
 #[derive(Clone, Copy)]
 pub struct Values {
     pub first: u32,
     pub second: u32,
     pub third: u32,
     pub fourth: u32,
+    pub number: u32,
 }
 
 /// Returns how many values a range has; 1 where there is none.
@@ -78,6 +81,7 @@ fn all_at(ranges: Ranges, n: u64) -> Values
         second: rest_in(ranges.second, second),
         third: rest_in(ranges.third, third),
         fourth: rest_in(ranges.fourth, n),
+        number: 0,
     }
 }
 
@@ -115,7 +119,40 @@ fn random_after(ranges: Ranges, x: u32) -> Values
         second: drawn(ranges.second, second),
         third: drawn(ranges.third, third),
         fourth: drawn(ranges.fourth, next_number(third)),
+        number: x,
     }
+}
+
+/// Returns a number with its higher bits spread over its lower ones, times a factor.
+fn spread(x: u32, by: u32, factor: u32) -> u32
+    requires { 1 ≤ by }
+    ensures { result ≡ spread x by factor }
+{
+    ((x ^ (x / by)) as u64 * factor as u64 % 4294967296) as u32
+}
+
+/// Returns a number whose bits all depend on those of another.
+#[tactic(auto, unfolding(crate::specs::RangeValues::mixed))]
+fn mixed(x: u32) -> u32
+    ensures { result ≡ mixed x }
+{
+    let once = spread(x, 65536, 2246822507);
+    let twice = spread(once, 8192, 3266489909);
+    spread(twice, 65536, 1)
+}
+
+/// Returns the number from which the random byte of a place comes.
+fn place_number(number: u32, place: u16) -> u32
+    ensures { result ≡ place_number number place }
+{
+    ((number as u64 + 2654435769 * place as u64) % 4294967296) as u32
+}
+
+/// Returns the random byte of a place in a call before which the generator has a number.
+pub fn random_byte(number: u32, place: u16) -> u32
+    ensures { result ≡ random_byte number place }
+{
+    mixed(place_number(number, place)) / 16777216
 }
 
 /// Returns for how many values a row is run.
