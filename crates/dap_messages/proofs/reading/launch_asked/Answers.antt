@@ -8,6 +8,6 @@ use Rattle.dap_messages.proofs.reading.launch_asked.Goals as goal
 pub returns-in-Some : goal.returns-in-Some
 returns-in-Some c = ap (λ (m : Option Member). launch_by (view c.args.message.now) m) (sym c.in-Some.is ∙ c.wrong_member.ensures)
 
-pub returns-in-None : goal.returns-in-None
-returns-in-None c = ap (λ (l : SeenLaunch). launch l) c.in_ok-launch.ensures
+pub returns-in_ok-launch-in-None : goal.returns-in_ok-launch-in-None
+returns-in_ok-launch-in-None c = ap (λ (l : SeenLaunch). launch l) c.in_ok-launch-in-None.ensures
     ∙ ap (λ (m : Option Member). launch_by (view c.args.message.now) m) (sym c.in-None.is ∙ c.wrong_member.ensures)
