@@ -1,4 +1,5 @@
-use Rattle.std.proofs.Common.{◌≡◌, ◌++◌, ◌+◌, ◌-◌, ℕ, ap, ap₂, arith}
+use Rattle.std.proofs.Common.{◌≡◌, ◌∙◌, ◌++◌, ◌+◌, ◌-◌, ℕ, [], ◌∷◌, ap, ap₂, arith}
+use Rattle.t65_values.specs.declared.expression.Value.{Value}
 use Rattle.t65_reader.specs.Sequences.{random_values}
 use Rattle.t65_reader.proofs.Pieces.{all_drawn, one_drawn}
 use Rattle.t65_reader.proofs.sequence.push_randoms.Goals as goal
@@ -11,7 +12,8 @@ loop-i-init c =
 
 pub loop-i-preserved : goal.loop-i-preserved
 loop-i-preserved c = record {
-  rest = one_drawn _ _ _ (c.args.first + c.loop-i.i) (c.args.first + (c.loop-i.i + 1)) (c.args.count - c.loop-i.i) (c.args.count - (c.loop-i.i + 1)) (omega arith) (omega arith) c.in_ok-push.ensures.ok c.loop-i.invariant.rest;
+  rest = one_drawn _ _ _ (c.args.first + c.loop-i.i) (c.args.first + (c.loop-i.i + 1)) (c.args.count - c.loop-i.i) (c.args.count - (c.loop-i.i + 1)) (omega arith) (omega arith)
+      (c.in_ok-push.ensures.ok ∙ ap (λ (v : Value). c.loop-i.found.items ++ v ∷ []) c.just.ensures) c.loop-i.invariant.rest;
 }
 
 pub returns-clause-ok : goal.returns-clause-ok
