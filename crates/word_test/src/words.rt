@@ -460,10 +460,10 @@ fn wrong_words(matches: &ArgMatches<'_>) -> &'static str {
 ///
 /// - `Help` if they ask for help, and `Usage` if they do not fit the command line, with `clap`'s
 ///   text.
-/// - `Wrong` if they name no file, a number of steps is wrong, more than one form of an image is
-///   said, an address is wrong, a file of names is named and no form of an image is said, CSV is
-///   asked for with another flag of what is written, or a report has the name of a file that is
-///   read or of the other report.
+/// - `Wrong` if they name no file, a number of steps or a seed is wrong, more than one form of an
+///   image is said, an address is wrong, a file of names is named and no form of an image is said,
+///   CSV is asked for with another flag of what is written, or a report has the name of a file that
+///   is read or of the other report.
 /// - `OutOfMemory` if an allocation failed.
 pub fn read_words<'a>(alloc: Global, words: &'a [&'a str]) -> Result<TestWords<'a>, WordsFault>
     ensures asked { IfOk result
