@@ -14,7 +14,8 @@ mod named;
 mod place;
 
 pub use loaded::{
-    ImageNames, Loaded, assembled_source, faults_of, load, load_names, load_with_history,
+    ImageNames, Loaded, assembled_source, faults_of, load, load_image_names, load_names,
+    load_with_history,
 };
 pub use named::{NamedFault, load_named};
 pub use place::place_of;

@@ -10,7 +10,7 @@ use Rattle.console.specs.declared.ending.Ending.{Ending}
 use Rattle.console.specs.declared.ending.PlayFault.{PlayFault}
 use Rattle.console.specs.declared.ending.Played.{Played}
 use Rattle.arguments.specs.Asked.{map_of}
-use Rattle.loading.specs.Loads.{IsLoaded}
+use Rattle.loading.specs.Named.{IsNamed}
 use Rattle.loading.specs.Place.{names_of, place_of}
 use Rattle.model.specs.Event.{start}
 use Rattle.model.specs.Names.{Definitions}
@@ -109,7 +109,7 @@ interrupted_to a assembly until s t streams interrupted heard status was silent 
     inr (was, (is, (broke.0, t, broke.1, broke.2, broke.3, broke.4, front, more, told)))
 
 -- A file that was loaded.
-ran_file : (a : RunAsked) (s : Session) (w : List Bool) (assembly : Option AssemblyView) (image : List (Option ℕ)) (streams : Streams) (interrupted : Bool) (heard : Heard) (status : ℕ) (Alone : Type 0) → IsLoaded a.file image assembly
+ran_file : (a : RunAsked) (s : Session) (w : List Bool) (assembly : Option AssemblyView) (image : List (Option ℕ)) (streams : Streams) (interrupted : Bool) (heard : Heard) (status : ℕ) (Alone : Type 0) → IsNamed a.file a.symbols image assembly
     → s ≡ new_session 0 (start (map_of a.file) image) → w ≡ bytes_in image
     → RanIfFound a assembly (place_asked (names_of assembly) a.until) (record { session = s; written = or_everywhere a.is_free w }) streams interrupted heard status Alone → IsDone a streams interrupted heard status Alone
 ran_file a s w assembly image streams interrupted heard status A loaded begins bytes ran =
@@ -121,7 +121,7 @@ ran_file a s w assembly image streams interrupted heard status A loaded begins b
 
 -- A file that was loaded, and a place that was found, of which nothing was told.
 pub ran_found : {E : Type 0} (contents : E → Option (List ℕ)) (a : RunAsked) (s : Session) (w v : List Bool) (assembly told : Option AssemblyView) (image : List (Option ℕ)) (until : Option ℕ)
-    (streams : Streams) (interrupted : Bool) (first middle last : E) (status : ℕ) (Alone : Type 0) → IsLoaded a.file image assembly
+    (streams : Streams) (interrupted : Bool) (first middle last : E) (status : ℕ) (Alone : Type 0) → IsNamed a.file a.symbols image assembly
     → s ≡ new_session 0 (start (map_of a.file) image) → w ≡ bytes_in image
     → Ok until ≡ place_asked (names_of assembly) a.until → middle ≡ first → told ≡ assembly → v ≡ or_everywhere a.is_free w
     → RanOrInterrupted a told until (record { session = s; written = v }) streams interrupted (record { held = contents middle; now = contents last }) status
@@ -136,7 +136,7 @@ ran_found contents a s w v assembly told image until streams interrupted first m
 
 -- A place that was not found.
 pub ran_unfound : (a : RunAsked) (s : Session) (w : List Bool) (assembly : Option AssemblyView) (image : List (Option ℕ)) (streams : Streams) (interrupted : Bool) (heard : Heard) (status : ℕ) (Alone : Type 0)
-    → IsLoaded a.file image assembly → s ≡ new_session 0 (start (map_of a.file) image) → w ≡ bytes_in image
+    → IsNamed a.file a.symbols image assembly → s ≡ new_session 0 (start (map_of a.file) image) → w ≡ bytes_in image
     → Err status ≡ place_asked (names_of assembly) a.until → Tells heard (unplaced_line a.until) → Alone → IsDone a streams interrupted heard status Alone
 ran_unfound a s w assembly image streams interrupted heard status A loaded begins bytes place told alone =
     let T : Start = record { session = s; written = or_everywhere a.is_free w } in

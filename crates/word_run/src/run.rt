@@ -17,7 +17,7 @@ use arguments_play::{RunWords, read_run_words};
 use assembler::Assembly;
 use console::{Played, play};
 use debugger::Session;
-use loading::{Loaded, load};
+use loading::{Loaded, load_named};
 use std::alloc::Global;
 use std::io::{Read, Write};
 use std::rt::Files;
@@ -141,9 +141,9 @@ fn run_words<H: Files + AllocGlobal, R: Read, W: Write, S: Read, E: Write>(
     ensures bad_map { is_map words.now.file.rom words.now.file.port ≡ false → result ≡ 2 }
     ensures quiet { words.now.tells_cycles ≡ false → result ≡ 0 → errors.new ≡ errors.old }
 {
-    let loaded = match load(rt, &words.file) {
+    let loaded = match load_named(rt, &words.file, words.symbols) {
         Ok(loaded) => loaded,
-        Err(fault) => return fault.tell(words.file.file, errors),
+        Err(fault) => return fault.tell(words.file.file, words.symbols, errors),
     };
     let until = match place_named(&loaded, words.until, errors) {
         Ok(until) => until,
@@ -175,7 +175,7 @@ fn run_words<H: Files + AllocGlobal, R: Read, W: Write, S: Read, E: Write>(
 /// - 10: the limit of steps. 11: a fault of the program. 12: the console is full.
 /// - 13: nothing stands where the program runs, or at the vector of its BRK. With `--free` a run
 ///   does not end there.
-/// - 1: the source or the tape is rejected. 2: the words, the place or the map are wrong. 3: memory
+/// - 1: the source, the tape or the file of names is rejected. 2: the words, the place or the map are wrong. 3: memory
 ///   ran out. 4: reading or writing failed. 130: the run was interrupted.
 ///
 /// The program's output goes to `output`. For each status but those of the first line a line on
