@@ -192,8 +192,8 @@ fn given_before(lines: &Lines, name: &[u8]) -> Option<i32>
     }
 }
 
-/// Keeps a name that cannot stand in the source, unless the name was given before. It is left out if
-/// it had another number.
+/// Keeps a name that cannot stand in the source, unless the name was given before. It is left out
+/// if it had another number.
 fn push_once(alloc: Global, lines: &mut Lines, name: &[u8], number: i32) -> Result<(), AllocError>
     requires most { lines.old.left_out < 2 ^ 63 }
     requires told { lines.old.told < 2 ^ 63 }
@@ -476,8 +476,9 @@ fn source_names(alloc: Global, file: &[u8]) -> Result<NamesFile, AllocError>
 /// name, and so does a line that defines one. Left out are names that cannot stand in a source,
 /// that have no number, or that were given before with another number, and lines in no form that
 /// is known. Names with a number that cannot stand in a source, and that an image may have, are
-/// given beside it; so is a name that had another number, with its address behind it. A file with a line of a source that defines nothing is one, and gives its names
-/// as it stands. The only error is that an allocation failed.
+/// given beside it; so is a name that had another number, with its address behind it. A file with
+/// a line of a source that defines nothing is one, and gives its names as it stands. The only error
+/// is that an allocation failed.
 ///
 /// Source: mos65.
 #[tactic(auto, unfolding(crate::specs::NamesFile::names_file))]

@@ -95,8 +95,8 @@ fn no_names(alloc: Global, map: &MapSpec) -> Result<Assembly, LoadFault>
 
 /// Returns the names that an image is given: those of a file, if one is named, or none.
 ///
-/// Errors: `OfNames` with the fault of `load_image_names`; `OfFile` with `OutOfMemory` if an allocation
-/// fails.
+/// Errors: `OfNames` with the fault of `load_image_names`; `OfFile` with `OutOfMemory` if an
+/// allocation fails.
 #[tactic(auto, using(crate::proofs::Programs::names_refused))]
 fn names_for<H: Files + AllocGlobal>(
     rt: &H,
