@@ -7,7 +7,7 @@ use Rattle.arguments.specs.declared.fault.WordsFault.TheVariants.{Help, Usage, V
 use Rattle.arguments.specs.declared.fault.WordsFault.TheVariants as words_fault
 use Rattle.arguments.specs.declared.load_fault.LoadFault.{LoadFault}
 use Rattle.arguments.specs.declared.load_fault.LoadFault.TheVariants.{AtPort, Faults, LooksLikeHex, LooksLikeSRecords, LooksLikeTape, NoImage, Refused}
-use Rattle.arguments.specs.declared.refusal.ReadFault.TheVariants.{NoName, NoSuchFile, PermissionDenied as permission_denied}
+use Rattle.arguments.specs.declared.refusal.ReadFault.TheVariants.{Folder, NoName, NoSuchFile, PermissionDenied as permission_denied}
 use Rattle.arguments.specs.declared.refusal.Refusal.{Refusal}
 use Rattle.arguments.specs.declared.refusal.Refusal.TheVariants.{Words, Map, Source, Tape, Session, OutOfMemory, Read, Write, WriteFile}
 use Rattle.arguments.specs.declared.write_fault.WriteFault.{WriteFault}
@@ -64,6 +64,7 @@ write_reason write_fault.Other = []
 unfoldable pub reason_part : Refusal → List ℕ
 reason_part (Read NoSuchFile) = NO_SUCH_FILE.now
 reason_part (Read permission_denied) = PERMISSION_DENIED.now
+reason_part (Read Folder) = IS_FOLDER.now
 reason_part (Read NoName) = NO_NAME.now
 reason_part (WriteFile fault) = write_reason fault
 reason_part refusal = []

@@ -8,7 +8,7 @@ ghost use Rattle.arguments.specs.Words.{texts};
 use crate::output::put;
 use crate::refusal::{ReadFault, Refusal};
 use crate::shown::put_shown;
-use crate::wording::{NO_NAME, NO_SUCH_FILE, PERMISSION_DENIED};
+use crate::wording::{IS_FOLDER, NO_NAME, NO_SUCH_FILE, PERMISSION_DENIED};
 use crate::write_fault::write_reason;
 use formatting::{Text, push_bytes, push_decimal};
 use model::AsmFault;
@@ -139,6 +139,7 @@ fn reason_text(refusal: Refusal) -> &'static str
     match refusal {
         Refusal::Read(ReadFault::NoSuchFile) => NO_SUCH_FILE,
         Refusal::Read(ReadFault::PermissionDenied) => PERMISSION_DENIED,
+        Refusal::Read(ReadFault::Folder) => IS_FOLDER,
         Refusal::Read(ReadFault::NoName) => NO_NAME,
         Refusal::WriteFile(fault) => write_reason(fault),
         _ => "",
