@@ -49,16 +49,19 @@ as_address (Ok (pos v)) = Some v
 as_address (Ok (negsuc v)) = None
 as_address (Err e) = None
 
-abbrev pub value_of_word : Numbers → ℕ → Option Term → Option ℕ
+unfoldable pub value_of_word : Numbers → ℕ → Option Term → Option ℕ
 value_of_word numbers address None = None
 value_of_word numbers address (Some e) = as_address (eval_of numbers (pos address) e)
 
+-- The number of the value of `.WORD` on a line whose two bytes stand at an address.
+abbrev pub target_at : Numbers → ℕ → Placed → Option ℕ
+target_at numbers at p = if nat_le p.address at && ((at - p.address) % 2 == 0)
+    then value_of_word numbers p.address (slice_get (words_of_line p.line) ((at - p.address) / 2))
+    else None
+
 -- Where a vector leads, if its two bytes are a value of `.WORD` on this line.
-abbrev pub target_of : Numbers → Vector → Placed → Option ℕ
-target_of numbers vector p =
-    if nat_le p.address (address_of vector) && ((address_of vector - p.address) % 2 == 0)
-    then value_of_word numbers p.address
-    (slice_get (words_of_line p.line) ((address_of vector - p.address) / 2)) else None
+unfoldable pub target_of : Numbers → Vector → Placed → Option ℕ
+target_of numbers vector p = target_at numbers (address_of vector) p
 
 -- ---- data
 

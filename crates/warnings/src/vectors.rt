@@ -1,6 +1,7 @@
 //! Where the vectors of a source lead.
 
 ghost use Rattle.std.specs.Prelude.{◌≡◌, ◌++◌, ◌<◌, ◌≤◌, ◌^◌, OnOk, length, map, slice_get};
+ghost use Rattle.std.specs.Option.{option_map};
 ghost use Rattle.line_parts.specs.Contents.{map_option};
 ghost use Rattle.line_parts.specs.LineViews.{line_view, statement_view};
 ghost use Rattle.line_parts.specs.TermViews.{term_view};
@@ -9,7 +10,7 @@ ghost use Rattle.warnings.specs.Vectors.{address_of, as_address, begun, behind, 
 ghost use Rattle.warnings.specs.Vectors.{course_of, gone};
 ghost use Rattle.warnings.specs.Vectors.{course_of_line, course_of_register, course_of_statement};
 ghost use Rattle.warnings.specs.Vectors.{data_at, data_in, has_byte_at, if_data, is_handled};
-ghost use Rattle.warnings.specs.Vectors.{is_returned, target_of, through, value_of_word, walked};
+ghost use Rattle.warnings.specs.Vectors.{is_returned, target_at, target_of, through, value_of_word, walked};
 ghost use Rattle.warnings.specs.Vectors.{walked_on, words_of_line, words_of_statement};
 ghost use Rattle.warnings.specs.Views.{placed_view, placed_views};
 ghost use Rattle.warnings.specs.Warnings.{data_warnings, led_warnings, target_warnings};
@@ -111,34 +112,54 @@ fn as_address(value: Result<i32, ExprFault>) -> Option<u32>
     }
 }
 
-/// Returns the value of an index among those of `.WORD` on a line at an address.
-fn value_of_word(names: &Symbols, address: u32, values: &[Expr<'_>], index: usize) -> Option<u32>
+/// Returns the value of an index.
+fn word_at<'t, 'a>(values: &'t [Expr<'a>], index: usize) -> Option<&'t Expr<'a>>
+    ensures { option_map (λ e. term_view e.now) result
+        ≡ slice_get (map term_view values.now) index }
+{
+    values.get(index)
+}
+
+/// Returns the value of an index among those of `.WORD` on a line.
+fn word_on_line<'t, 'a>(line: &'t Option<Line<'a>>, index: usize) -> Option<&'t Expr<'a>>
+    ensures { option_map (λ e. term_view e.now) result
+        ≡ slice_get (words_of_line (map_option line_view line.now)) index }
+{
+    word_at(words_of_line(line), index)
+}
+
+/// Returns the number of a value on a line at an address, if it has one that is not negative.
+#[tactic(auto, unfolding(crate::specs::Vectors::value_of_word))]
+fn value_of_word(names: &Symbols, address: u32, value: Option<&Expr<'_>>) -> Option<u32>
     requires { address < 2 ^ 31 }
     ensures { result ≡ value_of_word (number_in names.now) address
-        (slice_get (map term_view values.now) index) }
+        (option_map (λ e. term_view e.now) value.entry) }
 {
-    match values.get(index) {
+    match value {
         Some(value) => as_address(value_at(value, names, address)),
         None => None,
     }
 }
 
-/// Returns where a vector leads, if its two bytes are a value of `.WORD` on this line.
-fn target_of(names: &Symbols, vector: Vector, line: &PlacedLine<'_>) -> Option<u32>
-    ensures { result ≡ target_of (number_in names.now) vector (placed_view line.now) }
+/// Returns the number of the value of `.WORD` on a line whose two bytes stand at an address.
+fn target_at(names: &Symbols, at: u32, line: &PlacedLine<'_>) -> Option<u32>
+    ensures { result ≡ target_at (number_in names.now) at (placed_view line.now) }
 {
-    let at = address_of(vector);
     if line.address <= at && (at - line.address) % 2 == 0 {
         let index = (at - line.address) / 2;
-        value_of_word(
-            names,
-            line.address,
-            words_of_line(&line.line),
-            index as usize,
-        )
+        let value = word_on_line(&line.line, index as usize);
+        value_of_word(names, line.address, value)
     } else {
         None
     }
+}
+
+/// Returns where a vector leads, if its two bytes are a value of `.WORD` on this line.
+#[tactic(auto, unfolding(crate::specs::Vectors::target_of))]
+fn target_of(names: &Symbols, vector: Vector, line: &PlacedLine<'_>) -> Option<u32>
+    ensures { result ≡ target_of (number_in names.now) vector (placed_view line.now) }
+{
+    target_at(names, address_of(vector), line)
 }
 
 /// Returns whether a line has a byte at an address.
@@ -417,6 +438,7 @@ fn push_vector(
 }
 
 /// Appends the warnings of the vectors that a line has, among all lines.
+#[tactic(auto, unfolding(crate::specs::Warnings::vectors_warnings))]
 pub fn push_vectors(
     warnings: &mut Vec<Warning>,
     names: &Symbols,
