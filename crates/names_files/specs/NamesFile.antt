@@ -98,12 +98,15 @@ with_once (Some old) name number taken
 abbrev pub addressed_name : List ℕ → ℕ → List ℕ
 addressed_name name address = name ++ codes ":" ++ hex_address address
 
--- A name that was given before with another number is given with its address behind it.
-unfoldable pub with_addressed : List ℕ → ℕ → Taken → Taken
-with_addressed name address taken = if is_image_name (addressed_name name address)
-    then with_once (given_before taken (addressed_name name address)) (addressed_name name address)
-    (pos address) taken
+-- A name that was given before with another number is given as this text, if an image may have it.
+unfoldable pub with_text : List ℕ → List ℕ → ℕ → Taken → Taken
+with_text name text address taken = if is_image_name text
+    then with_once (given_before taken text) text (pos address) taken
     else with_left_out name taken
+
+-- The text has its address behind it.
+abbrev pub with_addressed : List ℕ → ℕ → Taken → Taken
+with_addressed name address taken = with_text name (addressed_name name address) address taken
 
 abbrev pub with_again : List ℕ → ℤ → Taken → Taken
 with_again name (pos n) taken = if nat_le n 65535 then with_addressed name n taken

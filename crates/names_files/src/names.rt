@@ -5,7 +5,7 @@ ghost use Rattle.std.specs.List.{list_all};
 ghost use Rattle.model.specs.Names.{number_in};
 ghost use Rattle.model.specs.TextLines.{lines_of};
 ghost use Rattle.names_files.specs.ImageNames.{is_image_name};
-ghost use Rattle.names_files.specs.NamesFile.{addressed_name, with_addressed, with_again, with_once};
+ghost use Rattle.names_files.specs.NamesFile.{addressed_name, with_addressed, with_again, with_once, with_text};
 ghost use Rattle.names_files.specs.NamesFile.{given_before, is_shown_byte, is_told, is_unknown, left_text};
 ghost use Rattle.names_files.specs.NamesFile.{more_lines, names_file, nothing_taken, shown_part, source_names, table_names};
 ghost use Rattle.names_files.specs.NamesFile.{one_line_more, with_empty, with_given, with_left_out};
@@ -225,8 +225,30 @@ fn addressed_name(alloc: Global, name: &[u8], address: u16) -> Result<Vec<u8>, A
     Ok(text)
 }
 
+/// Keeps a name that was given before for another address as this text, if an image may have it.
+#[tactic(auto, unfolding(crate::specs::NamesFile::with_text))]
+fn push_text(
+    alloc: Global,
+    lines: &mut Lines,
+    name: &[u8],
+    text: &[u8],
+    address: u16,
+) -> Result<(), AllocError>
+    requires most { lines.old.left_out < 2 ^ 63 }
+    requires told { lines.old.told < 2 ^ 63 }
+    ensures text { OnOk result
+        (taken_view lines.new ≡ with_text name.now text.now address (taken_view lines.old)) }
+    ensures most { OnOk result (lines.new.left_out ≤ lines.old.left_out + 1) }
+    ensures told { OnOk result (lines.new.told ≤ lines.old.told + 1) }
+{
+    if is_image_name(text) {
+        push_once(alloc, lines, text, address as i32)
+    } else {
+        push_left_out(lines, name)
+    }
+}
+
 /// Keeps a name that was given before for another address, with this one behind it.
-#[tactic(auto, unfolding(crate::specs::NamesFile::with_addressed))]
 fn push_addressed(
     alloc: Global,
     lines: &mut Lines,
@@ -241,11 +263,7 @@ fn push_addressed(
     ensures told { OnOk result (lines.new.told ≤ lines.old.told + 1) }
 {
     let text = addressed_name(alloc, name, address)?;
-    if is_image_name(text.as_slice()) {
-        push_once(alloc, lines, text.as_slice(), address as i32)
-    } else {
-        push_left_out(lines, name)
-    }
+    push_text(alloc, lines, name, text.as_slice(), address)
 }
 
 /// Keeps a name that was given before with another number, if this one is an address.
