@@ -91,6 +91,13 @@ impl Assembly {
         &self.image
     }
 
+    /// Returns the source.
+    pub fn source(&self) -> &[u8]
+        ensures { result.now ≡ self.now.source }
+    {
+        &self.source
+    }
+
     /// Returns how many names the source defines.
     pub fn symbol_count(&self) -> usize
         ensures { result ≡ length self.now.names }
