@@ -7,7 +7,7 @@ use Rattle.arguments.specs.declared.fault.WordsFault.TheVariants.{Help, Usage, V
 use Rattle.arguments.specs.declared.fault.WordsFault.TheVariants as words_fault
 use Rattle.arguments.specs.declared.load_fault.LoadFault.{LoadFault}
 use Rattle.arguments.specs.declared.load_fault.LoadFault.TheVariants.{AtPort, Faults, LooksLikeHex, LooksLikeSRecords, LooksLikeTape, NoImage, Refused}
-use Rattle.arguments.specs.declared.refusal.ReadFault.TheVariants.{NoName, NoSuchFile, PermissionDenied as permission_denied}
+use Rattle.arguments.specs.declared.refusal.ReadFault.TheVariants.{Folder, NoName, NoSuchFile, PermissionDenied as permission_denied}
 use Rattle.arguments.specs.declared.refusal.Refusal.{Refusal}
 use Rattle.arguments.specs.declared.refusal.Refusal.TheVariants.{Words, Map, Source, Tape, Session, OutOfMemory, Read, Write, WriteFile}
 use Rattle.arguments.specs.declared.write_fault.WriteFault.{WriteFault}
@@ -18,6 +18,7 @@ use Rattle.model.specs.FaultTexts.{bus_fault_text, session_fault_text, source_fa
 use Rattle.model.specs.Listing.{address_text}
 use Rattle.model.specs.Text.{hex_address}
 use Rattle.model.specs.Writers.{AppendsFront}
+use Rattle.model.specs.declared.source_fault.AsmFault.{AsmFault}
 
 -- The parts of a line, one after another.
 abbrev pub joined : List (List ℕ) → List ℕ
@@ -63,6 +64,7 @@ write_reason write_fault.Other = []
 unfoldable pub reason_part : Refusal → List ℕ
 reason_part (Read NoSuchFile) = NO_SUCH_FILE.now
 reason_part (Read permission_denied) = PERMISSION_DENIED.now
+reason_part (Read Folder) = IS_FOLDER.now
 reason_part (Read NoName) = NO_NAME.now
 reason_part (WriteFile fault) = write_reason fault
 reason_part refusal = []
@@ -71,17 +73,23 @@ reason_part refusal = []
 abbrev pub line_of : List ℕ → List ℕ → List ℕ
 line_of file rest = codes "mos65: " ++ (shown_name file ++ rest)
 
--- The same with the file's name, for example `mos65: first.a65: SOURCE line 2 Syntax 4`, and with the
--- reason, as `mos65: first.a65: READ no such file`.
+-- The same with the file's name, for example `mos65: first.tape: TAPE byte 2 Truncated 5`, and with
+-- the reason, as `mos65: first.a65: READ no such file`.
 abbrev pub named_line : List ℕ → Refusal → List ℕ
 named_line file refusal = line_of file (codes ": " ++ (place_part refusal ++ (reason_part refusal
     ++ (name_part refusal ++ 10 ∷ []))))
+
+-- The fault of a line has its number behind the file's name, as `mos65: names.a65:2: Syntax 4`.
+abbrev pub source_line : List ℕ → AsmFault → List ℕ
+source_line file fault = line_of file (codes ":" ++ (decimal fault.line ++ (codes ": "
+    ++ (name_part (Source fault) ++ 10 ∷ []))))
 
 -- Words, a map and memory are of no file.
 unfoldable pub file_line : List ℕ → Refusal → List ℕ
 file_line file Words = fault_line Words
 file_line file (Map fault) = fault_line (Map fault)
 file_line file OutOfMemory = fault_line OutOfMemory
+file_line file (Source fault) = source_line file fault
 file_line file refusal = named_line file refusal
 
 -- A file is given as a source, and begins with a record of an image.

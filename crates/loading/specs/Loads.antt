@@ -2,7 +2,7 @@
 -- whether memory is there, nor what is in a file. Source: mos65.
 use Rattle.std.specs.Prelude.{◌≡◌, ◌+◌, ◌⊎◌, ⊤, ℕ, true, false, List, Option, None, Some}
 use Rattle.arguments.specs.Shown.{shown_name}
-use Rattle.assembler.specs.Assembly.{AssemblyView, IsAssembled}
+use Rattle.assembler.specs.Assembly.{AssemblyView, IsAssembled, with_others}
 use Rattle.arguments.specs.Asked.{FileAsked, map_of}
 use Rattle.arguments.specs.declared.file_options.FileForm.{FileForm}
 use Rattle.arguments.specs.declared.file_options.FileForm.TheVariants.{Source}
@@ -56,6 +56,13 @@ abbrev pub AreOfFile : Profile → AssemblyView → Definitions → Type 0
 AreOfFile profile assembly others = (file : List ℕ)
     × (assembly.source ≡ (names_file profile file).source)
     × (others ≡ (names_file profile file).others)
+
+-- The names of an image: those that the source of some file of names gives, and then those of the
+-- file that cannot stand in a source.
+abbrev pub AreImageNames : Map → AssemblyView → Type 0
+AreImageNames bus_map names = (given : AssemblyView) × (others : Definitions)
+    × IsAssembled bus_map given × AreOfFile bus_map.profile given others
+    × (names ≡ with_others others given)
 
 -- Why a file of names is not assembled.
 abbrev pub EndsNames : FileAsked → Refusal → Type 0

@@ -6,9 +6,10 @@ ghost use Rattle.std.specs.Prelude.{◌⊎◌, true};
 ghost use Rattle.accesses.specs.Writing.{bytes_in};
 ghost use Rattle.arguments.specs.Asked.{file_view, map_of};
 ghost use Rattle.arguments.specs.declared.load_fault.LoadFault.TheVariants.{Refused};
-ghost use Rattle.assembler.specs.Assembly.{IsAssembled, out_of_memory};
+ghost use Rattle.assembler.specs.Assembly.{IsAssembled, out_of_memory, with_others};
 ghost use Rattle.clean_source.specs.Cleaned.{cleaned};
 ghost use Rattle.image_files.specs.Files.{IsOfFile};
+ghost use Rattle.loading.specs.Loads.{AreImageNames};
 ghost use Rattle.loading.specs.Loads.{AreOfFile, EndsAsImage, EndsFile, EndsImageFile, EndsLoad, EndsNames};
 ghost use Rattle.loading.specs.Loads.{EndsSource};
 ghost use Rattle.loading.specs.Loads.{EndsSourceFile, IsBadMap, IsImageOf, IsLoaded};
@@ -417,4 +418,36 @@ pub fn load_names<H: Files + AllocGlobal>(
     } = names;
     let assembly = assembled(rt.alloc(), source.as_slice(), &map)?;
     Ok(ImageNames { assembly, others })
+}
+
+/// Returns an assembly with more names.
+///
+/// Errors: `OutOfMemory` if an allocation fails.
+fn with_others(alloc: Global, assembly: Assembly, others: &Symbols) -> Result<Assembly, Refusal>
+    ensures all { IfOk result (λ a. a ≡ with_others others.now assembly) }
+    ensures refused { IfErr result (λ fault. fault ≡ Refusal.OutOfMemory) }
+{
+    assembly
+        .with_names(alloc, others)
+        .map_err(|_| Refusal::OutOfMemory)
+}
+
+/// Returns the names of a file of names as `load_names` reads them, all as names of one assembly:
+/// those of its source, and behind them those that cannot stand in one.
+///
+/// # Errors
+///
+/// Those of `load_names`.
+pub fn load_image_names<H: Files + AllocGlobal>(
+    rt: &H,
+    words: &FileWords<'_>,
+    path: &str,
+) -> Result<Assembly, Refusal>
+    ensures named { IfOk result (AreImageNames (map_of (file_view words.now))) }
+    ensures refused { IfErr result (EndsNames (file_view words.now)) }
+{
+    let names = load_names(rt, words, path)?;
+    let ImageNames { assembly, others } = names;
+    let all = with_others(rt.alloc(), assembly, &others)?;
+    Ok(all)
 }
