@@ -1,6 +1,6 @@
 //! The values of a row's ranges, one call after another.
 
-ghost use Rattle.std.specs.Prelude.{◌≡◌, ◌≤◌, ◌/◌, ◌%◌};
+ghost use Rattle.std.specs.Prelude.{◌≡◌, ◌≤◌, ◌/◌, ◌%◌, bit_xor};
 ghost use Rattle.t65_runner.specs.RangeValues.{all_at, all_count, count_of, drawn, four_later};
 ghost use Rattle.t65_runner.specs.RangeValues.{mixed, next_number, place_number, random_after};
 ghost use Rattle.t65_runner.specs.RangeValues.{random_byte, seed_of, size_of, spread, times};
@@ -123,12 +123,20 @@ fn random_after(ranges: Ranges, x: u32) -> Values
     }
 }
 
+/// Returns a number with its higher bits spread over its lower ones.
+fn spread_bits(x: u32, by: u32) -> u32
+    requires { 1 ≤ by }
+    ensures { result ≡ bit_xor x (x / by) }
+{
+    x ^ (x / by)
+}
+
 /// Returns a number with its higher bits spread over its lower ones, times a factor.
 fn spread(x: u32, by: u32, factor: u32) -> u32
     requires { 1 ≤ by }
     ensures { result ≡ spread x by factor }
 {
-    ((x ^ (x / by)) as u64 * factor as u64 % 4294967296) as u32
+    (spread_bits(x, by) as u64 * factor as u64 % 4294967296) as u32
 }
 
 /// Returns a number whose bits all depend on those of another.

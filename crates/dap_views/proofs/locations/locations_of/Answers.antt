@@ -1,4 +1,4 @@
-use Rattle.std.proofs.Common.{◌++◌, [], List, Option, arith, subst}
+use Rattle.std.proofs.Common.{◌++◌, ◌≤◌, [], List, Option, arith, length, subst}
 use Rattle.assembler.specs.Assembly.{source_lines}
 use Rattle.assembler.specs.Lines.{LineView}
 use Rattle.dap_views.proofs.Locating.{located_all, located_done, located_more}
@@ -21,5 +21,5 @@ pub returns : goal.returns
 returns c =
     let so_far = c.loop-index.invariant in
     let rows = source_lines c.args.assembly.now in
-    let past = omega (arith, c.loop-index-test.false, c.line_count-index-end.ensures) in
+    let past : length rows ≤ c.loop-index.index = omega (arith, c.loop-index-test.false, c.line_count-index-end.ensures) in
     subst (λ (ds : List Data). HasValues ds c.loop-index.list) (located_done c.args.counting c.args.first c.args.last rows c.loop-index.index so_far.0 _ past so_far.2) so_far.1

@@ -10,5 +10,5 @@ pub returns-clause-state : goal.returns-clause-state
 returns-clause-state c =
     let old = c.args.server.now in
     let state : Phase → Option Map → State = λ phase chosen. record { phase = phase; chosen = chosen; documents = documents_view old.documents } in
-    let set = c.chosen_after.ensures ∙ ap (λ (o : Option SettingsView). chosen_after c.args.words.now old.chosen o) c.settings_asked-settings.ensures in
+    let set = c.chosen_after-server.ensures ∙ ap (λ (o : Option SettingsView). chosen_after c.args.words.now old.chosen o) c.settings_asked-settings.ensures in
     ap₂ state c.after.ensures set

@@ -13,14 +13,14 @@ pub returns-then-has-clause-state : goal.returns-then-has-clause-state
 returns-then-has-clause-state c =
     let old = c.args.server.now in
     let state : Option Map → List Opened → State = λ chosen documents. record { phase = old.phase; chosen = chosen; documents = documents } in
-    let set = c.chosen_after.ensures ∙ ap (λ (o : Option SettingsView). chosen_after c.args.words.now old.chosen o) c.settings_noted-settings.ensures in
+    let set = c.chosen_after-server.ensures ∙ ap (λ (o : Option SettingsView). chosen_after c.args.words.now old.chosen o) c.settings_noted-settings.ensures in
     ap₂ state set c.in_ok-told.ensures.documents
 
 pub returns-else-has-clause-state : goal.returns-else-has-clause-state
 returns-else-has-clause-state c =
     let old = c.args.server.now in
     let state : Option Map → List Opened → State = λ chosen documents. record { phase = old.phase; chosen = chosen; documents = documents } in
-    let set = c.chosen_after.ensures ∙ ap (λ (o : Option SettingsView). chosen_after c.args.words.now old.chosen o) c.settings_noted-settings.ensures in
+    let set = c.chosen_after-server.ensures ∙ ap (λ (o : Option SettingsView). chosen_after c.args.words.now old.chosen o) c.settings_noted-settings.ensures in
     IfOk-weaker c.refused.result _ _ (λ vs h. ap₂ state set c.in_ok-told.ensures.documents) c.refused.ensures
 
 -- ---- what is told, on the map in use

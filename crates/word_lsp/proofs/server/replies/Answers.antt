@@ -9,8 +9,8 @@ use Rattle.word_lsp.specs.Settings.{is_wrong, settings_asked}
 use Rattle.word_lsp.specs.State.{server_view}
 use Rattle.word_lsp.proofs.server.replies.Goals as goal
 
-pub returns-then-is_wrong : goal.returns-then-is_wrong
-returns-then-is_wrong c =
+pub returns-in_ok-given : goal.returns-in_ok-given
+returns-in_ok-given c =
     let s = server_view c.args.server.now in
     let request = request_view c.args.request in
     let other : is_answer (view c.args.message.now) ≡ false = sym c.is_answer.ensures ∙ c.if-is_answer.false in
