@@ -15,7 +15,7 @@ use image_reader::Form;
 use std::alloc::Global;
 
 /// What the help of `--image` says.
-const IMAGE: &str = "The form is that of the first record, or what the name tells; as without it";
+const IMAGE: &str = "An image tells its form by its first record or its name";
 
 /// Returns a command with the options added that say the form of an image: `--bin HHHH` and
 /// `--prg`, whose help `raw` and `prg` are; and `--image`, whose other name is `--tape`.

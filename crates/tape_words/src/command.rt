@@ -16,7 +16,7 @@ const STATUSES: &str =
     "Exit status: 0 right, 1 a fault, 2 words or map wrong, 3 memory, 4 reading or writing";
 
 /// The help of the options that say the form of an image.
-const RAW: &str = "An image has bytes alone, from this address on, four hex digits, as FILE@HHHH";
+const RAW: &str = "An image has bytes alone, from this address on, four hex digits";
 
 const PRG: &str = "An image is a PRG file: its address in two bytes, and bytes from it on";
 
