@@ -4,7 +4,8 @@
 //! A crate for a word makes its command line of the options here, and reads the process's words by
 //! `matched`, whose clauses say what `clap`'s own definition of a parse finds. `Refusal` says why a
 //! word ends without an answer. `refuse` writes its line as `asm`, `dis` and `debug` do, and
-//! `refuse_file` with the file's name.
+//! `refuse_file` with the file's name. `form_for` says how the file of a word is read, by what the
+//! word tells and what options say, and `name_of` which file it is.
 //!
 //! A word that writes one file writes it with `write_output`, or bit by bit with `create`, which
 //! take the files that are read. A word that writes several calls `check_outputs` before it opens
