@@ -1,10 +1,10 @@
 //! The image that `save` writes.
 
-ghost use Rattle.std.specs.Prelude.{◌≡◌, ℕ, IfErr, IfOk, List, OnOk, Option};
+ghost use Rattle.std.specs.Prelude.{◌≡◌, ℕ, IfErr, IfOk, List, None, OnOk, Option, Some};
 ghost use Rattle.model.specs.Image.{empty_image};
 ghost use Rattle.image_files.specs.Ends.{AreEnds};
 ghost use Rattle.mon_dispatch.specs.Lines.{Says};
-ghost use Rattle.mon_files.specs.Saved.{IsSaved, IsSavedAs, IsTextBetween, is_asked, is_saved};
+ghost use Rattle.mon_files.specs.Saved.{IsSaved, IsSavedAs, is_asked, is_saved};
 ghost use Rattle.mon_files.specs.Saved.{save_form, with_saved};
 ghost use Rattle.mon_session.specs.Course.{ShowsOnly};
 
@@ -92,6 +92,16 @@ fn save_form(file: &[u8]) -> FormName
     }
 }
 
+/// Returns the text of an image without a byte in a form.
+///
+/// Errors: `AllocError` if an allocation fails.
+fn text_of_none(alloc: Global, form: FormName, image: &Image) -> Result<Vec<u8>, AllocError>
+    requires { AreEnds image.now None }
+    ensures { IfOk result (λ text. IsSavedAs form image.now text.items) }
+{
+    write_form(alloc, form, 0, 0, image)
+}
+
 /// Returns the text of an image in a form, from its first byte to its last.
 ///
 /// Errors: `AllocError` if an allocation fails.
@@ -99,15 +109,13 @@ fn text_between(
     alloc: Global,
     form: FormName,
     image: &Image,
-    ends: Option<(u16, u16)>,
+    low: u16,
+    high: u16,
 ) -> Result<Vec<u8>, AllocError>
-    requires { AreEnds image.now ends }
-    ensures { IfOk result (λ text. IsTextBetween form ends image.now text.items) }
+    requires { AreEnds image.now (Some (low, high)) }
+    ensures { IfOk result (λ text. IsSavedAs form image.now text.items) }
 {
-    match ends {
-        None => write_form(alloc, form, 0, 0, image),
-        Some((low, high)) => write_form(alloc, form, low, high, image),
-    }
+    write_form(alloc, form, low, high, image)
 }
 
 /// Returns the text of an image in a form.
@@ -116,7 +124,10 @@ fn text_between(
 fn text_of(alloc: Global, form: FormName, image: &Image) -> Result<Vec<u8>, AllocError>
     ensures { IfOk result (λ text. IsSavedAs form image.now text.items) }
 {
-    text_between(alloc, form, image, ends_of(image))
+    match ends_of(image) {
+        None => text_of_none(alloc, form, image),
+        Some((low, high)) => text_between(alloc, form, image, low, high),
+    }
 }
 
 /// Returns the text of what is saved in a form, and how many bytes that are.
