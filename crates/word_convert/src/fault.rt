@@ -9,4 +9,6 @@ pub enum ConvertFault {
     Refused(ImageRefusal),
     /// The image has no byte, and no addresses are said.
     NoByte,
+    /// The images of two files have two bytes for this address.
+    Clash(u16),
 }
