@@ -1,0 +1,5 @@
+use Rattle.tape_words.proofs.RecordBytes.{three_texts}
+use Rattle.word_mend.proofs.captures.push_some.Goals as goal
+
+pub returns : goal.returns
+returns c = three_texts _ _ _ _ _ _ _ c.in_ok-push_str.ensures.bytes c.in_ok-push_count.ensures c.in_ok-push_at_line.ensures
