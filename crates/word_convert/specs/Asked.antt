@@ -89,6 +89,16 @@ range_asked None (Some high) = None
 range_asked (Some low) None = None
 range_asked (Some low) (Some high) = in_order (both (address_of low) (address_of high))
 
+-- An address that a word writes.
+abbrev pub if_address : Option ℕ → Option (Option ℕ)
+if_address None = None
+if_address (Some address) = Some (Some address)
+
+-- The address of the byte that makes the sum 0, if one is said.
+abbrev pub sum_asked : Option Text → Option (Option ℕ)
+sum_asked None = Some None
+sum_asked (Some word) = if_address (address_of word)
+
 -- ---- all words
 
 pub record ConvertAsked : Type 0 where
@@ -98,12 +108,22 @@ pub record ConvertAsked : Type 0 where
   pub to : FormName
   pub range : Option (ℕ × ℕ)
   pub fill : Option ℕ
+  pub sum : Option ℕ
 
 abbrev pub asked_of : Text → Text → Option (Option Form) → Option FormName
-    → Option (Option (ℕ × ℕ)) → Option (Option ℕ) → Option ConvertAsked
-asked_of input out (Some from) (Some to) (Some range) (Some fill) = if bytes_eq input out then None
-    else Some (record { input = input; out = out; from = from; to = to; range = range; fill = fill })
-asked_of input out from to range fill = None
+    → Option (Option (ℕ × ℕ)) → Option (Option ℕ) → Option (Option ℕ) → Option ConvertAsked
+asked_of input out (Some from) (Some to) (Some range) (Some fill) (Some sum) =
+    if bytes_eq input out then None
+    else Some (record {
+      input = input;
+      out = out;
+      from = from;
+      to = to;
+      range = range;
+      fill = fill;
+      sum = sum;
+    })
+asked_of input out from to range fill sum = None
 
 -- The files have two names, and what is asked for is right.
 abbrev pub convert_of : Option Text → Option Text → (Text → Option Text) → Option ConvertAsked
@@ -112,6 +132,7 @@ convert_of (Some input) (Some out) value = asked_of input out
     (to_asked (value (codes "to")) out)
     (range_asked (value (codes "LO")) (value (codes "HI")))
     (fill_asked (value (codes "fill")))
+    (sum_asked (value (codes "sum8")))
 convert_of input out value = None
 
 abbrev pub convert_by : (Text → Option Text) → Option ConvertAsked
@@ -130,4 +151,5 @@ convert_view w = record {
   to = w.to;
   range = w.range;
   fill = w.fill;
+  sum = w.sum;
 }

@@ -9,8 +9,9 @@ use Rattle.image_reader.specs.Texts.{text_image}
 use Rattle.image_reader.specs.declared.form.TextForm.TheVariants as text_form
 use Rattle.image_writer.specs.Window.{IsFirst, IsLast, IsPart, IsReadPart}
 use Rattle.word_convert.specs.Asked.{ConvertAsked}
+use Rattle.word_convert.specs.Sums.{HasNoByteAt, IsSummed}
 use Rattle.word_convert.specs.declared.fault.ConvertFault.{ConvertFault}
-use Rattle.word_convert.specs.declared.fault.ConvertFault.TheVariants.{Refused, NoByte}
+use Rattle.word_convert.specs.declared.fault.ConvertFault.TheVariants.{Refused, NoByte, NoSumByte}
 use Rattle.word_convert.specs.declared.names.FormName.{FormName}
 use Rattle.word_convert.specs.declared.names.FormName.TheVariants.{Bin, Hex, SRecord, Tape, Prg}
 use Rattle.model.specs.Tape.{TapeDenotes}
@@ -49,12 +50,27 @@ ReadsAs Tape low high part out = TapeDenotes out part
 ReadsAs Bin low high part out = IsReadPart low high 255 part (raw_image low out)
 ReadsAs Prg low high part out = IsReadPart low high 255 part (prg_image out)
 
--- What is written for an image is read again as the part of it between two addresses.
+-- What is written for an image is read again as the part of it between two addresses, with the byte
+-- that makes the sum 0 if that is asked for.
 pub record IsPartWritten (asked : ConvertAsked) (image : List (Option ℕ)) (low high : ℕ)
     (out : List ℕ) : Type 0 where
   pub part : List (Option ℕ)
   pub is_part : IsPart low high (fill_for asked.to asked.fill) image part
-  pub reads : ReadsAs asked.to low high part out
+  pub summed : List (Option ℕ)
+  pub is_summed : IsSummed asked.sum part summed
+  pub reads : ReadsAs asked.to low high summed out
+
+-- The part has no byte at the address that is asked for, where one would make the sum 0.
+pub record LacksSumByte (asked : ConvertAsked) (image : List (Option ℕ)) (low high : ℕ)
+    : Type 0 where
+  pub part : List (Option ℕ)
+  pub is_part : IsPart low high (fill_for asked.to asked.fill) image part
+  pub none : HasNoByteAt asked.sum part
+
+abbrev pub IsPartNotWritten : ConvertAsked → List (Option ℕ) → ℕ → ℕ → ConvertFault → Type 0
+IsPartNotWritten asked image low high NoByte = ⊥
+IsPartNotWritten asked image low high NoSumByte = LacksSumByte asked image low high
+IsPartNotWritten asked image low high (Refused why) = why ≡ out_of_memory
 
 -- The same for the addresses that are asked for.
 pub record IsWritten (asked : ConvertAsked) (image : List (Option ℕ)) (out : List ℕ) : Type 0 where
@@ -63,8 +79,16 @@ pub record IsWritten (asked : ConvertAsked) (image : List (Option ℕ)) (out : L
   pub range : IsRange asked.range image low high
   pub written : IsPartWritten asked image low high out
 
+-- The same for the addresses that are asked for.
+pub record HasNoSumByte (asked : ConvertAsked) (image : List (Option ℕ)) : Type 0 where
+  pub low : ℕ
+  pub high : ℕ
+  pub range : IsRange asked.range image low high
+  pub lacks : LacksSumByte asked image low high
+
 abbrev pub IsNotWritten : ConvertAsked → List (Option ℕ) → ConvertFault → Type 0
 IsNotWritten asked image NoByte = HasNoRange asked.range image
+IsNotWritten asked image NoSumByte = HasNoSumByte asked image
 IsNotWritten asked image (Refused why) = why ≡ out_of_memory
 
 -- The bytes denote an image, of which this is written.
@@ -79,7 +103,14 @@ pub record HasNoByte (asked : ConvertAsked) (bytes : List ℕ) : Type 0 where
   pub denotes : IsImage asked.from bytes image
   pub none : HasNoRange asked.range image
 
+-- They denote an image without a byte where one would make the sum 0.
+pub record CannotSum (asked : ConvertAsked) (bytes : List ℕ) : Type 0 where
+  pub image : List (Option ℕ)
+  pub denotes : IsImage asked.from bytes image
+  pub none : HasNoSumByte asked image
+
 -- Why nothing is written for some bytes. Memory may run out at any bytes.
 abbrev pub IsRefused : ConvertAsked → List ℕ → ConvertFault → Type 0
 IsRefused asked bytes NoByte = HasNoByte asked bytes
+IsRefused asked bytes NoSumByte = CannotSum asked bytes
 IsRefused asked bytes (Refused why) = (why ≡ out_of_memory) ⊎ IsNoImage asked.from bytes why

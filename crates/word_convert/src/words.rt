@@ -6,13 +6,13 @@ ghost use Rattle.arguments.specs.Words.{Fits, IsRefusalOf, texts};
 ghost use Rattle.clap.specs.Words.{first_value, found_of};
 ghost use Rattle.word_convert.specs.Asked.{convert_asked, convert_by, convert_view};
 ghost use Rattle.word_convert.specs.Asked.{from_asked, from_name, in_order, range_asked, raw_at};
-ghost use Rattle.word_convert.specs.Asked.{to_asked};
+ghost use Rattle.word_convert.specs.Asked.{if_address, sum_asked, to_asked};
 ghost use Rattle.word_convert.specs.CommandLine.{convert};
 
 use crate::command::convert_command;
 use crate::names::{FormName, form_named, form_of_ending};
 use crate::wording::{
-    BIN_ALONE, BIN_TAKES, FILL_TAKES, FROM_TAKES, ONE_NAME, RANGE_TAKES, TO_TAKES,
+    BIN_ALONE, BIN_TAKES, FILL_TAKES, FROM_TAKES, ONE_NAME, RANGE_TAKES, SUM_TAKES, TO_TAKES,
 };
 use arguments::{WordsFault, address_asked, is_given, matched};
 use clap::ArgMatches;
@@ -35,6 +35,8 @@ pub struct ConvertWords<'a> {
     pub range: Option<(u16, u16)>,
     /// The byte that gaps are filled with, if one is said.
     pub fill: Option<u8>,
+    /// The address of the byte that makes the sum of all bytes 0, if one is said.
+    pub sum: Option<u16>,
 }
 
 /// Returns the form to write, by the word after `--to` and the name of the file.
@@ -125,6 +127,26 @@ fn range_asked(low: Option<&str>, high: Option<&str>) -> Option<Option<(u16, u16
     }
 }
 
+/// Returns an address that a word writes.
+fn if_address(address: Option<u16>) -> Option<Option<u16>>
+    ensures { result ≡ if_address address }
+{
+    match address {
+        None => None,
+        Some(address) => Some(Some(address)),
+    }
+}
+
+/// Returns the address of the byte that makes the sum 0, by the word after `--sum8`.
+fn sum_asked(word: Option<&str>) -> Option<Option<u16>>
+    ensures { result ≡ sum_asked (option_map (λ w. w.now) word.entry) }
+{
+    match word {
+        None => Some(None),
+        Some(_) => if_address(address_asked(word)),
+    }
+}
+
 /// Returns what the values that were found ask for, or `None` where one is wrong.
 fn convert_words<'a>(matches: &ArgMatches<'a>) -> Option<ConvertWords<'a>>
     ensures { option_map convert_view result ≡ convert_by (first_value (found_of matches.now)) }
@@ -136,6 +158,7 @@ fn convert_words<'a>(matches: &ArgMatches<'a>) -> Option<ConvertWords<'a>>
     let to = to_asked(matches.get_str("to"), out)?;
     let range = range_asked(matches.get_str("LO"), matches.get_str("HI"))?;
     let fill = fill_asked(matches.get_str("fill"))?;
+    let sum = sum_asked(matches.get_str("sum8"))?;
     if input == out {
         return None;
     }
@@ -146,6 +169,7 @@ fn convert_words<'a>(matches: &ArgMatches<'a>) -> Option<ConvertWords<'a>>
         to,
         range,
         fill,
+        sum,
     })
 }
 
@@ -169,6 +193,9 @@ fn wrong_value(matches: &ArgMatches<'_>) -> &'static str {
     }
     if fill_asked(matches.get_str("fill")).is_none() {
         return FILL_TAKES;
+    }
+    if sum_asked(matches.get_str("sum8")).is_none() {
+        return SUM_TAKES;
     }
     ONE_NAME
 }
