@@ -58,11 +58,11 @@ pub record IsCapture (text : List ℕ) (cells : List (Option ℕ)) : Type 0 wher
 abbrev pub at_line : List ℕ → ℕ → List ℕ
 at_line words line = words ++ decimal line ++ codes "\n"
 
-abbrev pub some_left_out : ℕ → List ℕ → ℕ → List ℕ
+unfoldable pub some_left_out : ℕ → List ℕ → ℕ → List ℕ
 some_left_out count words line = LEFT_OUT.now ++ counted count BYTE.now BYTES.now
     ++ at_line words line
 
-abbrev pub left_out : ℕ → List ℕ → ℕ → List ℕ
+unfoldable pub left_out : ℕ → List ℕ → ℕ → List ℕ
 left_out count words line = if count == 0 then [] else some_left_out count words line
 
 -- What came before the first record.

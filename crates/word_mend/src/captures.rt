@@ -1,7 +1,7 @@
 //! A tape from what the terminal of a KIM-1 showed while one was written.
 
 ghost use Rattle.std.specs.Prelude.{◌≡◌, ◌⊎◌, ◌≤◌, ◌+◌, ◌++◌, ℕ, List, Option, IfErr, IfOk, MatchResult, OnOk};
-ghost use Rattle.std.specs.Prelude.{codes, decimal, length, string_bytes};
+ghost use Rattle.std.specs.Prelude.{length, string_bytes};
 ghost use Rattle.std.specs.List.{prefix_len};
 ghost use Rattle.model.specs.Tape.{FirstFault, TapeDenotes};
 ghost use Rattle.model.specs.TapeFault.{out_of_memory};
@@ -136,6 +136,7 @@ fn push_at_line(words: &mut String, place: &str, line: u64) -> Result<(), AllocE
 }
 
 /// Appends how many bytes are left out where.
+#[tactic(auto, unfolding(crate::specs::Captures::some_left_out))]
 fn push_some(words: &mut String, count: u64, place: &str, line: u64) -> Result<(), AllocError>
     ensures { OnOk result (string_bytes words.new
         ≡ string_bytes words.old ++ some_left_out count place.now line) }
@@ -147,6 +148,7 @@ fn push_some(words: &mut String, count: u64, place: &str, line: u64) -> Result<(
 }
 
 /// Appends how many bytes are left out where, if any are.
+#[tactic(auto, unfolding(crate::specs::Captures::left_out))]
 fn push_left_out(words: &mut String, count: u64, place: &str, line: u64) -> Result<(), AllocError>
     ensures { OnOk result
         (string_bytes words.new ≡ string_bytes words.old ++ left_out count place.now line) }
