@@ -6,14 +6,14 @@ use Rattle.arguments.specs.declared.fault.WordsFault.{WordsFault}
 use Rattle.arguments.specs.declared.fault.WordsFault.TheVariants.{Help, Usage, Value, Wrong}
 use Rattle.arguments.specs.declared.fault.WordsFault.TheVariants as words_fault
 use Rattle.arguments.specs.declared.load_fault.LoadFault.{LoadFault}
-use Rattle.arguments.specs.declared.load_fault.LoadFault.TheVariants.{AtPort, Faults, LooksLikeHex, LooksLikeSRecords, LooksLikeTape, NoImage, Refused}
+use Rattle.arguments.specs.declared.load_fault.LoadFault.TheVariants.{AtPort, Faults, LooksLikeHex, LooksLikeRaw, LooksLikeSRecords, LooksLikeTape, NoImage, Refused}
 use Rattle.arguments.specs.declared.refusal.ReadFault.TheVariants.{NoName, NoSuchFile, PermissionDenied as permission_denied}
 use Rattle.arguments.specs.declared.refusal.Refusal.{Refusal}
 use Rattle.arguments.specs.declared.refusal.Refusal.TheVariants.{Words, Map, Source, Tape, Session, OutOfMemory, Read, Write, WriteFile}
 use Rattle.arguments.specs.declared.write_fault.WriteFault.{WriteFault}
 use Rattle.arguments.specs.declared.write_fault.WriteFault.TheVariants.{IsFolder, NoRoom, NoSuchFolder, SameFile}
 use Rattle.arguments.specs.declared.write_fault.WriteFault.TheVariants as write_fault
-use Rattle.arguments.specs.declared.wording.TheConstants.{AT_PORT, IS_FOLDER, IS_FREE, LIKE_HEX, LIKE_S_RECORDS, LIKE_TAPE, NONE_IS_FREE, NO_NAME, NO_ROOM, NO_SUCH_FILE, NO_SUCH_FOLDER, PERMISSION_DENIED, SAME_FILE, SOURCE_LIKE_TAPE, TRY_PORT, USE_TAPE}
+use Rattle.arguments.specs.declared.wording.TheConstants.{AT_PORT, IS_FOLDER, IS_FREE, LIKE_HEX, LIKE_RAW, LIKE_S_RECORDS, LIKE_TAPE, NONE_IS_FREE, NO_NAME, NO_ROOM, NO_SUCH_FILE, NO_SUCH_FOLDER, PERMISSION_DENIED, SAME_FILE, SOURCE_LIKE_TAPE, TRY_PORT, USE_TAPE}
 use Rattle.model.specs.FaultTexts.{bus_fault_text, session_fault_text, source_fault_text, tape_fault_text}
 use Rattle.model.specs.Listing.{address_text}
 use Rattle.model.specs.Text.{hex_address}
@@ -88,6 +88,10 @@ file_line file refusal = named_line file refusal
 abbrev pub like_line : List ℕ → List ℕ → List ℕ
 like_line like file = line_of file (like ++ USE_TAPE.now)
 
+-- A file is given as a source, and begins as a raw image.
+abbrev pub raw_line : List ℕ → List ℕ
+raw_line file = line_of file LIKE_RAW.now
+
 -- The number of what is wrong, if it has one, and the end of the line.
 unfoldable pub number_part : Option ℕ → List ℕ
 number_part None = codes "\n"
@@ -117,6 +121,7 @@ unfoldable pub load_text : LoadFault → List ℕ → List ℕ
 load_text LooksLikeTape file = like_line LIKE_TAPE.now file
 load_text LooksLikeHex file = like_line LIKE_HEX.now file
 load_text LooksLikeSRecords file = like_line LIKE_S_RECORDS.now file
+load_text LooksLikeRaw file = raw_line file
 load_text (NoImage place what number) file = no_image_line file place.items what.now number
 load_text (Faults fault text) file = text.items
 load_text (AtPort first last free) file = port_line file first last free

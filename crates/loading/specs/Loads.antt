@@ -7,13 +7,13 @@ use Rattle.arguments.specs.Asked.{FileAsked, map_of}
 use Rattle.arguments.specs.declared.file_options.FileForm.{FileForm}
 use Rattle.arguments.specs.declared.file_options.FileForm.TheVariants.{Source}
 use Rattle.arguments.specs.declared.load_fault.LoadFault.{LoadFault}
-use Rattle.arguments.specs.declared.load_fault.LoadFault.TheVariants.{AtPort, Faults, LooksLikeHex, LooksLikeSRecords, LooksLikeTape, NoImage, Refused}
+use Rattle.arguments.specs.declared.load_fault.LoadFault.TheVariants.{AtPort, Faults, LooksLikeHex, LooksLikeRaw, LooksLikeSRecords, LooksLikeTape, NoImage, Refused}
 use Rattle.arguments.specs.declared.refusal.Refusal.{Refusal}
 use Rattle.arguments.specs.declared.refusal.Refusal.TheVariants as refusal
 use Rattle.fault_notes.specs.Blocks.{IsToldText}
 use Rattle.image_files.specs.Files.{EndsImage, IsOfFile}
 use Rattle.image_files.specs.FreeBase.{IsFreeBase}
-use Rattle.image_files.specs.Looks.{EndsLooks}
+use Rattle.image_files.specs.Looks.{EndsLooks, looks_raw}
 use Rattle.image_files.specs.Options.{said_of}
 use Rattle.image_files.specs.Told.{IsUnloaded}
 use Rattle.image_files.specs.declared.refusal.ImageRefusal.{ImageRefusal}
@@ -73,12 +73,13 @@ EndsSourceFile bus_map file (Faults fault text) = TellsFaults bus_map file fault
 EndsSourceFile bus_map file (Refused fault) = EndsReading fault
 EndsSourceFile bus_map file fault = ⊥
 
--- Why a file is not loaded as a source: it may begin with a record of an image.
+-- Why a file is not loaded as a source: it may begin with a record of an image, or as a raw image.
 abbrev pub EndsAsSource : Map → List ℕ → LoadFault → Type 0
 EndsAsSource bus_map file LooksLikeTape = (source : List ℕ) × EndsLooks source LooksLikeTape
 EndsAsSource bus_map file LooksLikeHex = (source : List ℕ) × EndsLooks source LooksLikeHex
 EndsAsSource bus_map file LooksLikeSRecords
     = (source : List ℕ) × EndsLooks source LooksLikeSRecords
+EndsAsSource bus_map file LooksLikeRaw = (bytes : List ℕ) × (looks_raw bytes ≡ true)
 EndsAsSource bus_map file fault = EndsSourceFile bus_map file fault
 
 -- Why a file is no image, as why it is not loaded.

@@ -28,10 +28,10 @@ use assembler::{Assembly, assemble};
 use clean_source::clean_source;
 use debugger::Session;
 use fault_notes::told_faults;
-use image_files::{ImageRefusal, free_base, image_of_file, refuse_image, said_of};
+use image_files::{ImageRefusal, free_base, image_of_file, looks_raw, refuse_image, said_of};
 use image_reader::Form;
 use memory_map::{Image, MapSpec};
-use model::{AsmFault, Profile};
+use model::{AsmFault, AsmFaultKind, Profile};
 use names_files::{NamesFile, names_of_file};
 use std::alloc::Global;
 use std::rt::Files;
@@ -91,6 +91,26 @@ pub fn faults_of(
     }
 }
 
+/// Returns why the source of a file is refused, by its first fault: `LooksLikeRaw` where its bytes
+/// begin as no source does, and otherwise as `faults_of` says.
+#[tactic(auto, using(crate::proofs::Ends::in_file))]
+fn refused_source(
+    alloc: Global,
+    file: &str,
+    bytes: &[u8],
+    source: &[u8],
+    map: &MapSpec,
+    fault: AsmFault,
+) -> LoadFault
+    requires { (fault ≡ out_of_memory) ⊎ HasFault map.now source.now fault }
+    ensures { EndsFile FileForm.Source map.now file.now result }
+{
+    if fault.kind != AsmFaultKind::OutOfMemory && looks_raw(bytes) {
+        return LoadFault::LooksLikeRaw;
+    }
+    faults_of(alloc, file, source, map, fault)
+}
+
 /// Returns a source as it is read.
 ///
 /// Errors: `OutOfMemory` if an allocation fails.
@@ -106,8 +126,9 @@ fn cleaned_source(alloc: Global, bytes: &[u8]) -> Result<Vec<u8>, Refusal>
 ///
 /// # Errors
 ///
-/// `LooksLikeTape`, `LooksLikeHex` or `LooksLikeSRecords` by that record; `Faults` with all faults
-/// of the source; `OutOfMemory` if an allocation fails.
+/// `LooksLikeTape`, `LooksLikeHex` or `LooksLikeSRecords` by that record; `LooksLikeRaw` for a
+/// source with a fault that begins as a raw image; `Faults` with all faults of any other source;
+/// `OutOfMemory` if an allocation fails.
 #[tactic(auto, using(crate::proofs::Ends::in_file, crate::proofs::Ends::looks_end))]
 pub fn assembled_source(
     alloc: Global,
@@ -124,7 +145,7 @@ pub fn assembled_source(
     refuse_image(alloc, &source)?;
     match assemble(alloc, &source, map) {
         Ok(assembly) => Ok(assembly),
-        Err(fault) => Err(faults_of(alloc, file, &source, map, fault)),
+        Err(fault) => Err(refused_source(alloc, file, bytes, &source, map, fault)),
     }
 }
 
@@ -319,10 +340,10 @@ fn load_form<H: Files + AllocGlobal>(
 /// # Errors
 ///
 /// In this order: `Map` if the port and the ROM do not make a map; `Read` if the file cannot be
-/// read; `LooksLikeTape`, `LooksLikeHex` or `LooksLikeSRecords` if the file is given as a source
-/// and begins with such a record; `Faults` with all faults of a source; `Tape` with the fault of a
-/// tape; `NoImage` with why any other file is no image; `AtPort` if an image has a byte at the
-/// port. `OutOfMemory` if an allocation fails.
+/// read; `LooksLikeTape`, `LooksLikeHex`, `LooksLikeSRecords` or `LooksLikeRaw` if the file is
+/// given as a source and begins as such an image; `Faults` with all faults of a source; `Tape` with
+/// the fault of a tape; `NoImage` with why any other file is no image; `AtPort` if an image has a
+/// byte at the port. `OutOfMemory` if an allocation fails.
 pub fn load<H: Files + AllocGlobal>(rt: &H, words: &FileWords<'_>) -> Result<Loaded, LoadFault>
     ensures started { IfOk result (λ loaded. (image : List (Option ℕ))
         × IsLoaded (file_view words.now) image loaded.assembly

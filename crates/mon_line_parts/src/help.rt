@@ -120,7 +120,7 @@ pub const HELP: [(&str, &str, &str); 36] = [
     ),
     (
         "save FILE [FROM TO]",
-        "writes a tape of memory as it is now",
+        "writes memory in the form of the ending, or a tape",
         "save new.tape, save part.tape $0200 $02FF",
     ),
     (

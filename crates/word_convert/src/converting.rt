@@ -2,22 +2,22 @@
 
 ghost use Rattle.std.specs.Prelude.{◌≡◌, ◌≤◌, IfErr, IfOk, None, Some};
 ghost use Rattle.word_convert.specs.Asked.{convert_view};
+ghost use Rattle.image_files.specs.Bytes.{IsImage};
+ghost use Rattle.image_files.specs.Union.{IsFirstClash};
 ghost use Rattle.image_writer.specs.Window.{IsPart};
-ghost use Rattle.word_convert.specs.Converted.{IsConverted, IsNotWritten, IsPartNotWritten};
-ghost use Rattle.word_convert.specs.Converted.{IsPartWritten, IsRange, IsRangeOf, IsRefused};
-ghost use Rattle.word_convert.specs.Converted.{IsWritten, ReadsAs, fill_for};
+ghost use Rattle.word_convert.specs.Converted.{IsConverted, IsConvertedWith, IsNotWritten};
+ghost use Rattle.word_convert.specs.Converted.{IsPartNotWritten, IsPartWritten, IsRange};
+ghost use Rattle.word_convert.specs.Converted.{IsRangeOf, IsRefused, IsRefusedWith, IsWritten};
+ghost use Rattle.word_convert.specs.Converted.{fill_for};
 
 use crate::fault::ConvertFault;
-use crate::names::FormName;
 use crate::sums::with_sum;
 use crate::words::ConvertWords;
-use arguments::Refusal;
-use image_files::{ImageRefusal, ends_of, image_of_bytes};
-use image_reader::TextForm;
-use image_writer::{part_of, write_prg, write_raw, write_text};
+use arguments::{FormName, Refusal};
+use image_files::{ImageRefusal, ends_of, first_clash, image_of_bytes, union_of, write_form};
+use image_writer::part_of;
 use memory_map::Image;
-use papertape::write_tape;
-use std::alloc::{AllocError, Global};
+use std::alloc::Global;
 
 /// Returns the first and the last address to write: those that are said, or those of the first and
 /// of the last byte, if there is one.
@@ -46,29 +46,6 @@ fn fill_for(to: FormName, fill: Option<u8>) -> Option<u8>
     }
 }
 
-/// Writes a part of an image in a form.
-fn written(
-    alloc: Global,
-    to: FormName,
-    low: u16,
-    high: u16,
-    part: &Image,
-) -> Result<Vec<u8>, AllocError>
-    requires { low ≤ high }
-    ensures { IfOk result (λ out. ReadsAs to low high part.now out.items) }
-{
-    match to {
-        FormName::Hex => write_text(alloc, TextForm::Hex, part),
-        FormName::SRecord => write_text(alloc, TextForm::SRecord, part),
-        FormName::Tape => match write_tape(alloc, part) {
-            Ok(text) => Ok(text),
-            Err(_) => Err(AllocError),
-        },
-        FormName::Bin => write_raw(alloc, part, low, high, 0xff),
-        FormName::Prg => write_prg(alloc, part, low, high, 0xff),
-    }
-}
-
 /// Writes a part of an image, with the byte that makes its sum 0 if that is asked for.
 fn summed_written(
     alloc: Global,
@@ -87,7 +64,7 @@ fn summed_written(
 {
     match with_sum(part, words.sum) {
         None => Err(ConvertFault::NoSumByte),
-        Some(summed) => match written(alloc, words.to, low, high, &summed) {
+        Some(summed) => match write_form(alloc, words.to, low, high, &summed) {
             Ok(out) => Ok(out),
             Err(_) => Err(ConvertFault::Refused(ImageRefusal::Refused(Refusal::OutOfMemory))),
         },
@@ -168,6 +145,67 @@ pub fn converted(
 {
     match image_of_bytes(alloc, words.from, bytes) {
         Ok(image) => image_written(alloc, words, &image),
+        Err(why) => Err(ConvertFault::Refused(why)),
+    }
+}
+
+/// Writes what either of two images has.
+fn union_written(
+    alloc: Global,
+    words: &ConvertWords<'_>,
+    bytes: &[u8],
+    one: &Image,
+    other: &Image,
+) -> Result<Vec<u8>, ConvertFault>
+    requires denotes { IsImage words.now.from bytes.now one.now }
+    requires agrees { IsFirstClash one.now other.now None }
+    ensures found { IfOk result
+        (λ out. IsConvertedWith (convert_view words.now) bytes.now other.now out.items) }
+    ensures fault { IfErr result (IsRefusedWith (convert_view words.now) bytes.now other.now) }
+{
+    match union_of(alloc, one, other) {
+        Ok(both) => image_written(alloc, words, &both),
+        Err(_) => Err(ConvertFault::Refused(ImageRefusal::Refused(Refusal::OutOfMemory))),
+    }
+}
+
+/// Writes what either of two images has, unless they have two bytes for an address.
+fn joined_written(
+    alloc: Global,
+    words: &ConvertWords<'_>,
+    bytes: &[u8],
+    one: &Image,
+    other: &Image,
+) -> Result<Vec<u8>, ConvertFault>
+    requires { IsImage words.now.from bytes.now one.now }
+    ensures found { IfOk result
+        (λ out. IsConvertedWith (convert_view words.now) bytes.now other.now out.items) }
+    ensures fault { IfErr result (IsRefusedWith (convert_view words.now) bytes.now other.now) }
+{
+    match first_clash(one, other) {
+        None => union_written(alloc, words, bytes, one, other),
+        Some(address) => Err(ConvertFault::Clash(address)),
+    }
+}
+
+/// Returns the bytes of OUT for those of IN and the image of another file.
+///
+/// Errors: those of `converted`, and `Clash` with the lowest address for which both have a byte,
+/// and these differ.
+pub fn converted_with(
+    alloc: Global,
+    words: &ConvertWords<'_>,
+    bytes: &[u8],
+    other: &Image,
+) -> Result<Vec<u8>, ConvertFault>
+    // What is written, read again, is the part that is asked for of what both images have.
+    ensures found { IfOk result
+        (λ out. IsConvertedWith (convert_view words.now) bytes.now other.now out.items) }
+    // Each error says why the images are not joined, or that memory ran out.
+    ensures fault { IfErr result (IsRefusedWith (convert_view words.now) bytes.now other.now) }
+{
+    match image_of_bytes(alloc, words.from, bytes) {
+        Ok(one) => joined_written(alloc, words, bytes, &one, other),
         Err(why) => Err(ConvertFault::Refused(why)),
     }
 }

@@ -11,4 +11,6 @@ pub enum ConvertFault {
     NoByte,
     /// At the address of the byte that would make the sum 0 no byte is written.
     NoSumByte,
+    /// The images of two files have two bytes for this address.
+    Clash(u16),
 }

@@ -23,6 +23,5 @@ pub use converting::converted;
 pub use debugging::{debug_image, debug_image_command};
 pub use dis_rows::{dis_image, dis_image_command};
 pub use fault::ConvertFault;
-pub use names::FormName;
 pub use run::convert;
 pub use words::{ConvertWords, read_convert_words};

@@ -2,6 +2,7 @@
 -- finds among them. Source: mos65.
 use Rattle.std.specs.Prelude.{ℕ, Bool, List, [], ◌∷◌, Option, Some, None, codes, length, take, drop, get_or, nat_le, ◌==◌, ◌&&◌, if◌then◌else◌, option_map}
 use Rattle.arguments.specs.Asked.{is_flag}
+use Rattle.arguments.specs.FileNames.{name_of}
 use Rattle.arguments.specs.Values.{profile_asked}
 use Rattle.clap.specs.Words.{Text}
 use Rattle.image_files.specs.Options.{fill_asked, form_said}
@@ -149,7 +150,8 @@ source_of_values tape form bounds ranges following labels symbols profile fill =
 -- What the first values and all values of the names ask for, where each is one that its name can
 -- have.
 abbrev pub source_asked : (Text → Option Text) → (Text → Option (List Text)) → Option SourceAsked
-source_asked value values = source_of_values (value (codes "TAPE")) (form_said value)
+source_asked value values = source_of_values (option_map name_of (value (codes "TAPE")))
+    (form_said (value (codes "TAPE")) value)
     (bounds_asked (value (codes "LO")) (value (codes "HI")))
     (all_ranges_asked values) (following_asked values)
     (is_flag (value (codes "labels"))) (value (codes "symbols"))

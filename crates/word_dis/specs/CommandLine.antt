@@ -1,7 +1,7 @@
 -- The command line of `dis TAPE [LO HI] --source [--labels] [--data LO-HI ..] [--text LO-HI ..]
 -- [--words LO-HI ..] [--rts-words LO-HI ..] [--follow [ADDRESS ..]] [--follow-only ADDRESS ..]
--- [--inline ADDRESS=z|N ..] [--symbols FILE] [--fill HH] [--profile N|C] [--bin HHHH] [--prg]`,
--- as clap's definitions describe one. How words are matched with it is clap's to say. Source: mos65.
+-- [--inline ADDRESS=z|N ..] [--symbols FILE] [--fill HH] [--profile N|C] [--bin HHHH] [--prg]
+-- [--image] [--tape]`, as clap's definitions describe one. How words are matched with it is clap's to say. Source: mos65.
 use Rattle.std.specs.Prelude.{◌≡◌, List, Option, Some, codes}
 use Rattle.arguments.specs.CommandLine.{file_rule, flag_rule, list_rule, option_rule, unnamed}
 use Rattle.arguments.specs.Words.{Fits, value_in, values_in}

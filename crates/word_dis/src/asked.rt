@@ -9,7 +9,7 @@ ghost use Rattle.word_dis.specs.Views.{source_view};
 use crate::command::dis_source_command;
 use crate::following::{FollowWords, following_asked};
 use crate::ranges::{RangeWords, addresses, all_ranges_asked};
-use arguments::{WordsFault, is_given, matched, profile_asked, wrong_value};
+use arguments::{WordsFault, is_given, matched, name_of, profile_asked, wrong_value};
 use clap::ArgMatches;
 use image_files::{fill_asked, form_said};
 use image_reader::Form;
@@ -67,10 +67,10 @@ fn source_words<'a>(
     ensures { IfOk result (λ r. option_map source_view r
         ≡ source_asked (first_value (found_of matches.now)) (all_values (found_of matches.now))) }
 {
-    let Some(tape) = matches.get_str("TAPE") else {
+    let Some(word) = matches.get_str("TAPE") else {
         return Ok(None);
     };
-    let Some(form) = form_said(matches) else {
+    let Some(form) = form_said(Some(word), matches) else {
         return Ok(None);
     };
     let Some(bounds) = bounds_asked(matches.get_str("LO"), matches.get_str("HI")) else {
@@ -89,7 +89,7 @@ fn source_words<'a>(
         return Ok(None);
     };
     Ok(Some(SourceWords {
-        tape,
+        tape: name_of(word),
         form,
         first: bounds.0,
         last: bounds.1,

@@ -92,7 +92,7 @@ pub fn dis_source_command<'a>(alloc: Global) -> Result<Command<'a>, Error>
 {
     let symbols = "Labels, and names for addresses: lines NAME = $HHHH, as asm --symbols writes";
     let fill = "Leaves out runs of 16 or more of this byte, two hex digits; with --source";
-    let raw = "TAPE has bytes alone, from this address on, four hex digits; with --source";
+    let raw = "TAPE has bytes alone, from this address on, as TAPE@HHHH; with --source";
     let prg = "TAPE is a PRG file; with --source";
     let command = with_ranges(alloc, part_command(alloc)?)?;
     let command = with_following(alloc, command)?

@@ -47,7 +47,7 @@ pub record IsShown (old new : Terminal) : Type 0 where
   pub words : new.words ≡ old.words
 
 -- What a line does that asks for something of a file. A line that saves says something and changes
--- nothing else. Which bytes a file gets, no clause can say: those of the tape of the image that is
+-- nothing else. Which bytes a file gets, no clause can say: those of the image that is
 -- saved, or of the page of the session, as `mon_files` defines them. Any other line does nothing.
 abbrev pub Obeys : SeenCommand → Terminal → Terminal → Type 0
 Obeys (save file stretch) old new

@@ -18,7 +18,7 @@ use crate::wording::PROMPT;
 use arguments::{Refusal, write_text};
 use arguments_play::MonWords;
 use mon_dispatch::serve;
-use mon_files::{Known, save_tape, show_page};
+use mon_files::{Known, save_image, show_page};
 use mon_lines::{Command, ReadLine, Slip, Stretch};
 use mon_screen::{View, push_view};
 use mon_session::MonState;
@@ -183,7 +183,7 @@ fn serve_noted(
     Ok(is_over)
 }
 
-/// Writes the tape of memory to a file, of a stretch if one is given, and says what became of it.
+/// Writes the image of memory to a file, of a stretch if one is given, and says what became of it.
 fn save<H: Files + AllocGlobal>(
     rt: &H,
     terminal: &mut Terminal<'_>,
@@ -194,7 +194,7 @@ fn save<H: Files + AllocGlobal>(
     ensures said { OnOk result ((said : List ℕ) × Says said terminal.old.mon terminal.new.mon) }
     ensures refused { IfErr result EndsAnswer }
 {
-    save_tape(
+    save_image(
         rt,
         &mut terminal.mon,
         terminal.words,

@@ -3,8 +3,8 @@
 use Rattle.std.specs.Prelude.{ℕ, nat_lt, Bool, false, ◌||◌, if◌then◌else◌, List, [], ◌∷◌, Option, Some, None, codes}
 use Rattle.std.specs.List.{list_any}
 use Rattle.std.specs.Str.{bytes_eq}
-use Rattle.arguments.specs.Asked.{is_flag}
-use Rattle.arguments.specs.Values.{form_asked, steps_asked}
+use Rattle.arguments.specs.Asked.{form_by, is_flag}
+use Rattle.arguments.specs.Values.{steps_asked}
 use Rattle.arguments.specs.declared.file_options.FileForm.{FileForm}
 use Rattle.arguments.specs.declared.file_options.FileForm.TheVariants.{Source}
 use Rattle.clap.specs.Words.{Text}
@@ -74,8 +74,7 @@ reading_by (Some form) symbols = reading_as form symbols
 
 -- How the files are read that rows are run on: as images with `--image`, `--bin HHHH` or `--prg`.
 abbrev pub reading_asked : (Text → Option Text) → Option ReadingAsked
-reading_asked value = reading_by (form_asked (is_flag (value (codes "image")))
-    (value (codes "bin")) (is_flag (value (codes "prg")))) (value (codes "symbols"))
+reading_asked value = reading_by (form_by value) (value (codes "symbols"))
 
 -- TAP, unless something else is asked for; CSV has no line that sums up, and no row.
 abbrev pub telling_asked : Bool → Bool → Bool → Option Telling
