@@ -32,7 +32,7 @@ pub const LIKE_RAW: &str =
 pub const USE_TAPE: &str = ": use --image\n";
 
 /// That an image has bytes at the port's addresses, which follow, and which base is free.
-pub const AT_PORT: &str = ": TAPE PortAddress 5 at ";
+pub const AT_PORT: &str = ": IMAGE PortAddress 5 at ";
 
 pub const TRY_PORT: &str = "; --port ";
 

@@ -72,9 +72,9 @@ pub fn mend_command<'a>(alloc: Global) -> Result<Command<'a>, Error>
     ensures local { IfOk result (λ c. (out-Command c).has_globals ≡ false) }
     ensures memory { IfErr result (λ e. kind_of e ≡ ErrorKind.OutOfMemory) }
 {
-    let about = "Writes a tape with a right end record; data records stay as they are";
+    let about = "Mends a tape, Intel HEX or S-records; makes a tape of what a KIM-1 showed";
     let command = begin(alloc, "mend", "mos65 mend", about, STATUSES)?
-        .arg(file(alloc, "TAPE", "The tape to read"))?
-        .arg(file(alloc, "OUT", "The tape to write"))?;
+        .arg(file(alloc, "TAPE", "The file to mend"))?
+        .arg(file(alloc, "OUT", "The file to write"))?;
     Ok(command)
 }

@@ -79,6 +79,16 @@ range_asked None (Some high) = None
 range_asked (Some low) None = None
 range_asked (Some low) (Some high) = in_order (both (address_of low) (address_of high))
 
+-- An address that a word writes.
+abbrev pub if_address : Option ℕ → Option (Option ℕ)
+if_address None = None
+if_address (Some address) = Some (Some address)
+
+-- The address of the byte that makes the sum 0, if one is said.
+abbrev pub sum_asked : Option Text → Option (Option ℕ)
+sum_asked None = Some None
+sum_asked (Some word) = if_address (address_of word)
+
 -- Another file to read, whose bytes are written too.
 pub record OtherAsked : Type 0 where
   pub file : Text
@@ -92,6 +102,7 @@ pub record ConvertAsked : Type 0 where
   pub to : FormName
   pub range : Option (ℕ × ℕ)
   pub fill : Option ℕ
+  pub sum : Option ℕ
 
 -- The other file has this name.
 abbrev pub is_other : Option OtherAsked → Text → Bool
@@ -99,8 +110,8 @@ is_other None name = false
 is_other (Some other) name = bytes_eq other.file name
 
 abbrev pub asked_of : Text → Option OtherAsked → Text → Option (Option Form) → Option FormName
-    → Option (Option (ℕ × ℕ)) → Option (Option ℕ) → Option ConvertAsked
-asked_of input other out (Some from) (Some to) (Some range) (Some fill) =
+    → Option (Option (ℕ × ℕ)) → Option (Option ℕ) → Option (Option ℕ) → Option ConvertAsked
+asked_of input other out (Some from) (Some to) (Some range) (Some fill) (Some sum) =
     if bytes_eq input out then None
     else if is_other other out then None
     else Some (record {
@@ -111,8 +122,9 @@ asked_of input other out (Some from) (Some to) (Some range) (Some fill) =
       to = to;
       range = range;
       fill = fill;
+      sum = sum;
     })
-asked_of input other out from to range fill = None
+asked_of input other out from to range fill sum = None
 
 -- ---- IN OUT [LO HI]
 
@@ -121,7 +133,7 @@ one_file input out value = asked_of (name_of input) None out
     (from_asked input (value (codes "from")) value)
     (to_asked (value (codes "to")) out)
     (range_asked (value (codes "LO")) (value (codes "HI")))
-    (fill_asked (value (codes "fill")))
+    (fill_asked (value (codes "fill"))) (sum_asked (value (codes "sum8")))
 
 -- ---- IN OTHER OUT
 
@@ -132,15 +144,17 @@ both_asked input other None value = forms_said (Some input) (Some other) value
 both_asked input other (Some name) value = None
 
 abbrev pub two_of : Text → Text → Text → Option (Option Form × Option Form) → Option FormName
-    → Option (Option ℕ) → Option ConvertAsked
-two_of input other out None to fill = None
-two_of input other out (Some forms) to fill = asked_of (name_of input)
+    → Option (Option ℕ) → Option (Option ℕ) → Option ConvertAsked
+two_of input other out None to fill sum = None
+two_of input other out (Some forms) to fill sum = asked_of (name_of input)
     (Some (record { file = name_of other; form = forms.1 })) out (Some forms.0) to (Some None) fill
+    sum
 
 abbrev pub two_files : Text → Text → Text → (Text → Option Text) → Option ConvertAsked
 two_files input other out value = two_of input other out
     (both_asked input other (value (codes "from")) value)
     (to_asked (value (codes "to")) out) (fill_asked (value (codes "fill")))
+    (sum_asked (value (codes "sum8")))
 
 -- ---- all words
 
@@ -185,4 +199,5 @@ convert_view w = record {
   to = w.to;
   range = w.range;
   fill = w.fill;
+  sum = w.sum;
 }

@@ -22,8 +22,9 @@ address to write, as F000 FFFF.
 
 Exit status: 0 done, 1 IN is no image, 2 bad words, 3 out of memory, 4 reading or writing failed
 
-Example:
-  mos65 convert rom.hex rom.bin F000 FFFF --fill FF";
+Examples:
+  mos65 convert rom.hex rom.bin F000 FFFF --fill FF
+  mos65 convert patched.tape rom.bin F000 FFFF --sum8 FFF9";
 
 /// Returns a word that may be there.
 fn word<'a>(alloc: Global, name: &'a str, help: &'a str) -> Arg<'a>
@@ -44,6 +45,7 @@ pub fn convert_command<'a>(alloc: Global) -> Result<Command<'a>, Error>
     let bin = "IN has bytes alone, from this address on, four hex digits, as IN@HHHH";
     let to = "The form of OUT: bin, hex, srec, tape or prg [default: by its ending]";
     let fill = "The byte that gaps are filled with, two hex digits [default: FF in bin and prg]";
+    let sum = "Put a byte at this address such that all bytes of OUT sum to 0, modulo 256";
     let command = begin(alloc, "convert", "mos65 convert", about, STATUSES)?
         .arg(file(alloc, "IN", "The image to read"))?
         .arg(file(
@@ -65,6 +67,7 @@ pub fn convert_command<'a>(alloc: Global) -> Result<Command<'a>, Error>
         .arg(option(alloc, "bin", "HHHH", bin))?
         .arg(option(alloc, "to", "FORM", to))?
         .arg(option(alloc, "fill", "HH", fill))?
+        .arg(option(alloc, "sum8", "HHHH", sum))?
         .arg(flag(alloc, "prg", "IN is a PRG file, as with --from prg"))?
         .arg(flag(alloc, "image", "IN is an image; as without it"))?
         .arg(flag(alloc, "tape", "The same as --image"))?;

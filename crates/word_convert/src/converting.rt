@@ -4,17 +4,20 @@ ghost use Rattle.std.specs.Prelude.{◌≡◌, ◌≤◌, IfErr, IfOk, None, Som
 ghost use Rattle.word_convert.specs.Asked.{convert_view};
 ghost use Rattle.image_files.specs.Bytes.{IsImage};
 ghost use Rattle.image_files.specs.Union.{IsFirstClash};
+ghost use Rattle.image_writer.specs.Window.{IsPart};
 ghost use Rattle.word_convert.specs.Converted.{IsConverted, IsConvertedWith, IsNotWritten};
-ghost use Rattle.word_convert.specs.Converted.{IsPartWritten, IsRange, IsRefusedWith};
-ghost use Rattle.word_convert.specs.Converted.{IsRangeOf, IsRefused, IsWritten, fill_for};
+ghost use Rattle.word_convert.specs.Converted.{IsPartNotWritten, IsPartWritten, IsRange};
+ghost use Rattle.word_convert.specs.Converted.{IsRangeOf, IsRefused, IsRefusedWith, IsWritten};
+ghost use Rattle.word_convert.specs.Converted.{fill_for};
 
 use crate::fault::ConvertFault;
+use crate::sums::with_sum;
 use crate::words::ConvertWords;
 use arguments::{FormName, Refusal};
 use image_files::{ImageRefusal, ends_of, first_clash, image_of_bytes, union_of, write_form};
 use image_writer::part_of;
 use memory_map::Image;
-use std::alloc::{AllocError, Global};
+use std::alloc::Global;
 
 /// Returns the first and the last address to write: those that are said, or those of the first and
 /// of the last byte, if there is one.
@@ -43,6 +46,31 @@ fn fill_for(to: FormName, fill: Option<u8>) -> Option<u8>
     }
 }
 
+/// Writes a part of an image, with the byte that makes its sum 0 if that is asked for.
+fn summed_written(
+    alloc: Global,
+    words: &ConvertWords<'_>,
+    image: &Image,
+    low: u16,
+    high: u16,
+    part: Image,
+) -> Result<Vec<u8>, ConvertFault>
+    requires order { low ≤ high }
+    requires part { IsPart low high (fill_for words.now.to words.now.fill) image.now part }
+    ensures found { IfOk result
+        (λ out. IsPartWritten (convert_view words.now) image.now low high out.items) }
+    ensures fault { IfErr result
+        (IsPartNotWritten (convert_view words.now) image.now low high) }
+{
+    match with_sum(part, words.sum) {
+        None => Err(ConvertFault::NoSumByte),
+        Some(summed) => match write_form(alloc, words.to, low, high, &summed) {
+            Ok(out) => Ok(out),
+            Err(_) => Err(ConvertFault::Refused(ImageRefusal::Refused(Refusal::OutOfMemory))),
+        },
+    }
+}
+
 /// Writes the part of an image between two addresses.
 fn part_written(
     alloc: Global,
@@ -50,14 +78,18 @@ fn part_written(
     image: &Image,
     low: u16,
     high: u16,
-) -> Result<Vec<u8>, AllocError>
+) -> Result<Vec<u8>, ConvertFault>
     requires { low ≤ high }
-    ensures { IfOk result
+    ensures found { IfOk result
         (λ out. IsPartWritten (convert_view words.now) image.now low high out.items) }
+    ensures fault { IfErr result
+        (IsPartNotWritten (convert_view words.now) image.now low high) }
 {
     let fill = fill_for(words.to, words.fill);
-    let part = part_of(alloc, image, low, high, fill)?;
-    write_form(alloc, words.to, low, high, &part)
+    match part_of(alloc, image, low, high, fill) {
+        Ok(part) => summed_written(alloc, words, image, low, high, part),
+        Err(_) => Err(ConvertFault::Refused(ImageRefusal::Refused(Refusal::OutOfMemory))),
+    }
 }
 
 /// Writes the part of an image between the addresses that are asked for.
@@ -75,7 +107,7 @@ fn range_written(
 {
     match part_written(alloc, words, image, low, high) {
         Ok(out) => Ok(out),
-        Err(_) => Err(ConvertFault::Refused(ImageRefusal::Refused(Refusal::OutOfMemory))),
+        Err(why) => Err(why),
     }
 }
 
@@ -98,13 +130,14 @@ fn image_written(
 ///
 /// Errors: `Refused` with why the bytes are no image in the form that is said or told, or with
 /// `OutOfMemory` if an allocation fails; `NoByte` if the image has no byte and no addresses are
-/// said.
+/// said; `NoSumByte` if no byte is written at the address where one has to make the sum 0.
 pub fn converted(
     alloc: Global,
     words: &ConvertWords<'_>,
     bytes: &[u8],
 ) -> Result<Vec<u8>, ConvertFault>
-    // What is written, read again, is the part of the image that is asked for.
+    // What is written, read again, is the part of the image that is asked for, with the byte that
+    // makes its sum 0 if that is asked for too.
     ensures found { IfOk result
         (λ out. IsConverted (convert_view words.now) bytes.now out.items) }
     // Each error says why the bytes denote no image, or that memory ran out.

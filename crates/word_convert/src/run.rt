@@ -9,7 +9,7 @@ ghost use Rattle.word_convert.specs.Statuses.{EndsConvert, status_of};
 
 use crate::converting::{converted, converted_with};
 use crate::fault::ConvertFault;
-use crate::wording::{CLASH, NO_BYTE};
+use crate::wording::{CLASH, NO_BYTE, NO_SUM_BYTE};
 use crate::words::{ConvertWords, OtherFile, read_convert_words};
 use arguments::{Refusal, refused_words, tell_no_image, write_output};
 use formatting::{Text, push_bytes, push_hex_address};
@@ -148,6 +148,10 @@ fn tell<E: Write>(file: &str, fault: ConvertFault, errors: &mut E) -> u8
             tell_no_image(file, b"", NO_BYTE, None, errors);
             1
         }
+        ConvertFault::NoSumByte => {
+            tell_no_image(file, b"", NO_SUM_BYTE, None, errors);
+            1
+        }
         ConvertFault::Clash(address) => {
             tell_no_image(file, clash_place(address).as_slice(), CLASH, None, errors);
             1
@@ -181,7 +185,7 @@ fn served<H: Files + AllocGlobal, E: Write>(rt: &H, words: &ConvertWords<'_>, er
 /// Does what the words after `convert` ask for, and returns the exit status.
 ///
 /// - 0: OUT was written, or the help that is asked for.
-/// - 1: IN is no image, or has no byte to write.
+/// - 1: IN is no image, or has no byte to write, or none where one has to make the sum 0.
 /// - 2: the words are wrong. 3: memory ran out.
 /// - 4: reading or writing failed, or OUT is IN under another name.
 ///

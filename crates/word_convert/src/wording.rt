@@ -19,6 +19,8 @@ pub const RANGE_TAKES: &str = "LO and HI are two addresses of four hex digits, L
 
 pub const FILL_TAKES: &str = "--fill takes two hex digits";
 
+pub const SUM_TAKES: &str = "--sum8 takes four hex digits, the address of a byte of OUT";
+
 pub const ONE_NAME: &str = "IN and OUT have one name";
 
 /// What is wrong with an image whose file is read beside another one.
@@ -26,3 +28,6 @@ pub const CLASH: &str = "the other file has another byte";
 
 /// What is wrong with an image of which nothing is to be written.
 pub const NO_BYTE: &str = "has no byte: LO and HI say which addresses to write";
+
+/// What is wrong with an image in which no byte can make the sum 0.
+pub const NO_SUM_BYTE: &str = "has no byte to write at the address after --sum8";

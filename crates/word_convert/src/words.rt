@@ -8,14 +8,14 @@ ghost use Rattle.word_convert.specs.Asked.{asked_of, both_asked, convert_asked, 
 ghost use Rattle.word_convert.specs.Asked.{convert_view, is_other, one_file, other_view};
 ghost use Rattle.word_convert.specs.Asked.{third_word, two_files, two_of};
 ghost use Rattle.word_convert.specs.Asked.{from_asked, from_beside, from_name, from_named, in_order};
-ghost use Rattle.word_convert.specs.Asked.{range_asked, raw_at, to_asked};
+ghost use Rattle.word_convert.specs.Asked.{if_address, range_asked, raw_at, sum_asked, to_asked};
 ghost use Rattle.word_convert.specs.CommandLine.{convert};
 
 use crate::command::convert_command;
 use crate::names::form_named;
 use crate::wording::{
     BIN_ALONE, BIN_TAKES, FILL_TAKES, FROM_ONE, FROM_TAKES, IN_TELLS, ONE_NAME, RANGE_TAKES,
-    TO_TAKES,
+    SUM_TAKES, TO_TAKES,
 };
 use arguments::{
     FileForm, FormName, WordsFault, address_asked, address_at, form_for, form_of_ending, is_given,
@@ -52,6 +52,8 @@ pub struct ConvertWords<'a> {
     pub range: Option<(u16, u16)>,
     /// The byte that gaps are filled with, if one is said.
     pub fill: Option<u8>,
+    /// The address of the byte that makes the sum of all bytes 0, if one is said.
+    pub sum: Option<u16>,
 }
 
 /// Returns the form to write, by the word after `--to` and the name of the file.
@@ -173,6 +175,26 @@ fn range_asked(low: Option<&str>, high: Option<&str>) -> Option<Option<(u16, u16
     }
 }
 
+/// Returns an address that a word writes.
+fn if_address(address: Option<u16>) -> Option<Option<u16>>
+    ensures { result ≡ if_address address }
+{
+    match address {
+        None => None,
+        Some(address) => Some(Some(address)),
+    }
+}
+
+/// Returns the address of the byte that makes the sum 0, by the word after `--sum8`.
+fn sum_asked(word: Option<&str>) -> Option<Option<u16>>
+    ensures { result ≡ sum_asked (option_map (λ w. w.now) word.entry) }
+{
+    match word {
+        None => Some(None),
+        Some(_) => if_address(address_asked(word)),
+    }
+}
+
 /// Returns whether the other file to read has a name, if there is one.
 fn is_other(other: Option<OtherFile<'_>>, name: &str) -> bool
     ensures { result ≡ is_other (option_map other_view other.entry) name.now }
@@ -192,14 +214,16 @@ fn asked_of<'a>(
     to: Option<FormName>,
     range: Option<Option<(u16, u16)>>,
     fill: Option<Option<u8>>,
+    sum: Option<Option<u16>>,
 ) -> Option<ConvertWords<'a>>
     ensures { option_map convert_view result ≡ asked_of input.entry.now
-        (option_map other_view other.entry) out.entry.now from to range fill }
+        (option_map other_view other.entry) out.entry.now from to range fill sum }
 {
     let from = from?;
     let to = to?;
     let range = range?;
     let fill = fill?;
+    let sum = sum?;
     if input == out {
         return None;
     }
@@ -214,6 +238,7 @@ fn asked_of<'a>(
         to,
         range,
         fill,
+        sum,
     })
 }
 
@@ -230,6 +255,7 @@ fn one_file<'a>(input: &'a str, out: &'a str, matches: &ArgMatches<'a>) -> Optio
         to_asked(matches.get_str("to"), out),
         range_asked(matches.get_str("LO"), matches.get_str("HI")),
         fill_asked(matches.get_str("fill")),
+        sum_asked(matches.get_str("sum8")),
     )
 }
 
@@ -258,9 +284,10 @@ fn two_of<'a>(
     forms: Option<(Option<Form>, Option<Form>)>,
     to: Option<FormName>,
     fill: Option<Option<u8>>,
+    sum: Option<Option<u16>>,
 ) -> Option<ConvertWords<'a>>
     ensures { option_map convert_view result
-        ≡ two_of input.entry.now other.entry.now out.entry.now forms to fill }
+        ≡ two_of input.entry.now other.entry.now out.entry.now forms to fill sum }
 {
     let Some((form, other_form)) = forms else {
         return None;
@@ -277,6 +304,7 @@ fn two_of<'a>(
         to,
         Some(None),
         fill,
+        sum,
     )
 }
 
@@ -297,6 +325,7 @@ fn two_files<'a>(
         both_asked(input, other, matches.get_str("from"), matches),
         to_asked(matches.get_str("to"), out),
         fill_asked(matches.get_str("fill")),
+        sum_asked(matches.get_str("sum8")),
     )
 }
 
@@ -361,6 +390,8 @@ fn wrong_of_two(matches: &ArgMatches<'_>, out: &str) -> &'static str {
         TO_TAKES
     } else if fill_asked(matches.get_str("fill")).is_none() {
         FILL_TAKES
+    } else if sum_asked(matches.get_str("sum8")).is_none() {
+        SUM_TAKES
     } else {
         ONE_NAME
     }
@@ -383,6 +414,9 @@ fn wrong_value(matches: &ArgMatches<'_>) -> &'static str {
     }
     if fill_asked(matches.get_str("fill")).is_none() {
         return FILL_TAKES;
+    }
+    if sum_asked(matches.get_str("sum8")).is_none() {
+        return SUM_TAKES;
     }
     ONE_NAME
 }
