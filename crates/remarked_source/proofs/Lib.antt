@@ -1,0 +1,4 @@
+pub mod Notes
+pub mod Columns
+pub mod Lines
+pub mod Strings

@@ -1,0 +1,4 @@
+pub mod Rows
+pub mod Strings
+pub mod RemarkedText
+pub mod Views

@@ -1,0 +1,151 @@
+//! The source with comments or joined strings, or that without.
+
+ghost use Rattle.std.specs.Prelude.{◌≡◌, IfOk, false};
+ghost use Rattle.model.specs.Source.{Denotes};
+ghost use Rattle.model.specs.State.{Map, has_port_byte};
+ghost use Rattle.remarked_source.specs.RemarkedText.{AreJoined, AreJoinedText, IsRemarked};
+ghost use Rattle.remarked_source.specs.RemarkedText.{IsRemarkedText, has_text};
+ghost use Rattle.remarked_source.specs.Views.{beside_view};
+ghost use Rattle.source_forms.specs.Rows.{is_kind};
+
+use crate::beside::Beside;
+use crate::rows::rows;
+use crate::strings::joined;
+use assembler::assemble;
+use bus::Image;
+use model::Profile;
+use named_source::{is_right, map_for};
+use source_forms::Mark;
+use std::alloc::{AllocError, Global};
+
+/// The source with comments, or that without, of one that has some.
+fn with_comments(
+    alloc: Global,
+    profile: Profile,
+    image: &Image,
+    beside: Beside<'_>,
+    plain: Vec<u8>,
+) -> Result<Vec<u8>, AllocError>
+    ensures text { IfOk result (λ text. IsRemarked profile image.now (beside_view beside.entry)
+        plain.items text.items) }
+    ensures denotes { IfOk result (λ text. ((bus_map : Map) → bus_map.profile ≡ profile
+        → has_port_byte bus_map image.now ≡ false → Denotes bus_map plain.items image.now)
+        → (bus_map : Map) → bus_map.profile ≡ profile → has_port_byte bus_map image.now ≡ false
+        → Denotes bus_map text.items image.now) }
+{
+    let Some(map) = map_for(profile) else {
+        return Err(AllocError);
+    };
+    let Ok(assembly) = assemble(alloc, plain.as_slice(), &map) else {
+        return Err(AllocError);
+    };
+    let text = rows(alloc, beside, image.cells(), &assembly)?;
+    if is_right(alloc, profile, text.as_slice(), image)? {
+        Ok(text)
+    } else {
+        Ok(plain)
+    }
+}
+
+/// Writes a source of an image with comments beside its lines: with `addresses` its address and its
+/// first eight bytes beside each line that has some; and what is said of addresses, before the line
+/// or behind it. If the source with them is no source of the image, as where it is longer than a
+/// source may be, it is written without them.
+///
+/// If the source denotes the image under each map of the profile at whose port the image has no
+/// byte, so does what is written, whatever the comments are. The only error is that a request for
+/// memory was refused: a source of the image has no fault. Source: mos65.
+pub fn remarked_text(
+    alloc: Global,
+    profile: Profile,
+    image: &Image,
+    beside: Beside<'_>,
+    plain: Vec<u8>,
+) -> Result<Vec<u8>, AllocError>
+    ensures text { IfOk result (λ text. IsRemarkedText profile image.now
+        (beside_view beside.entry) plain.items text.items) }
+    ensures denotes { IfOk result (λ text. ((bus_map : Map) → bus_map.profile ≡ profile
+        → has_port_byte bus_map image.now ≡ false → Denotes bus_map plain.items image.now)
+        → (bus_map : Map) → bus_map.profile ≡ profile → has_port_byte bus_map image.now ≡ false
+        → Denotes bus_map text.items image.now) }
+{
+    if beside.addresses || beside.remarks.len() > 0 {
+        with_comments(alloc, profile, image, beside, plain)
+    } else {
+        Ok(plain)
+    }
+}
+
+/// The source with the numbers that end its strings on their lines, or as it was.
+fn with_joined(
+    alloc: Global,
+    profile: Profile,
+    image: &Image,
+    marks: &[Mark],
+    plain: Vec<u8>,
+) -> Result<Vec<u8>, AllocError>
+    ensures text { IfOk result (λ text. AreJoined profile image.now marks.now plain.items
+        text.items) }
+    ensures denotes { IfOk result (λ text. ((bus_map : Map) → bus_map.profile ≡ profile
+        → has_port_byte bus_map image.now ≡ false → Denotes bus_map plain.items image.now)
+        → (bus_map : Map) → bus_map.profile ≡ profile → has_port_byte bus_map image.now ≡ false
+        → Denotes bus_map text.items image.now) }
+{
+    let Some(map) = map_for(profile) else {
+        return Err(AllocError);
+    };
+    let Ok(assembly) = assemble(alloc, plain.as_slice(), &map) else {
+        return Err(AllocError);
+    };
+    let text = joined(alloc, marks, &assembly)?;
+    if is_right(alloc, profile, text.as_slice(), image)? {
+        Ok(text)
+    } else {
+        Ok(plain)
+    }
+}
+
+/// Whether a mark is that of text.
+fn is_text(mark: Mark) -> bool
+    ensures { result ≡ is_kind Mark.Text mark }
+{
+    match mark {
+        Mark::Text => true,
+        Mark::Code | Mark::Data | Mark::Address | Mark::Return => false,
+    }
+}
+
+/// Whether an address is marked as text.
+fn has_text(marks: &[Mark]) -> bool
+    ensures { result ≡ has_text marks.now }
+{
+    marks.iter().any(|mark| is_text(*mark))
+}
+
+/// Writes a source of an image with the numbers that end its strings on their lines, as
+/// `.BYTE "HI",$0D,$00`: of what stands behind letters those that are marked as text. If the source
+/// with them is no source of the image, as where a line gets too long, it is written as it was.
+///
+/// If the source denotes the image under each map of the profile at whose port the image has no
+/// byte, so does what is written. The only error is that a request for memory was refused: a source
+/// of the image has no fault. Source: mos65.
+pub fn joined_text(
+    alloc: Global,
+    profile: Profile,
+    image: &Image,
+    marks: &[Mark],
+    plain: Vec<u8>,
+) -> Result<Vec<u8>, AllocError>
+    ensures text { IfOk result (λ text. AreJoinedText profile image.now marks.now plain.items
+        text.items) }
+    ensures denotes { IfOk result (λ text. ((bus_map : Map) → bus_map.profile ≡ profile
+        → has_port_byte bus_map image.now ≡ false → Denotes bus_map plain.items image.now)
+        → (bus_map : Map) → bus_map.profile ≡ profile → has_port_byte bus_map image.now ≡ false
+        → Denotes bus_map text.items image.now) }
+{
+    if has_text(marks) {
+        with_joined(alloc, profile, image, marks, plain)
+    } else {
+        Ok(plain)
+    }
+}
