@@ -1,26 +1,20 @@
 //! The source of a tape, written.
-ghost use Rattle.std.specs.Prelude.{◌≡◌, ◌≢◌, ◌≤◌, ◌⊎◌, IfErr, IfOk, None, Some, option_map};
+ghost use Rattle.std.specs.Prelude.{◌≡◌, ◌≢◌, ◌≤◌, ◌⊎◌, IfErr, IfOk, None};
 ghost use Rattle.arguments.specs.Streams.{TellsFront};
 ghost use Rattle.arguments.specs.Words.{AsksForHelp, Fits, Misfits, texts};
 ghost use Rattle.word_dis.specs.CommandLine.{Asks, dis, words_asked};
 ghost use Rattle.word_dis.specs.Views.{source_view};
-ghost use Rattle.assembler.specs.Assembly.{AssemblyView};
-ghost use Rattle.word_dis.specs.Word.{AreFileNames, AreGiven, AreNames, EndsDefined, EndsNamed};
-ghost use Rattle.word_dis.specs.Word.{EndsSource};
-ghost use Rattle.names_files.specs.NamesFile.{names_file};
-ghost use Rattle.names_files.specs.Views.{names_view};
-ghost use Rattle.word_dis.specs.Word.{HasNamesFault, IsDone, IsSaid, IsSourceWith};
+ghost use Rattle.word_dis.specs.Word.{EndsSource, HasNamesFault, HasNoSource, IsDone, IsDoneWith};
+ghost use Rattle.word_dis.specs.Word.{IsSaid, IsSaidWith, IsSourceWith};
 ghost use Rattle.image_files.specs.Files.{HasNoImage};
 
 use crate::advice::{LeftOut, put_remarks};
 use crate::asked::{SourceWords, read_source_words};
-use crate::written::{SourceText, defined, written};
-use arguments::{FileRefusal, ReadFault, Refusal, read_source, refuse, refused_words, write_text};
-use assembler::Assembly;
+use crate::names::names_of;
+use crate::said::with_marks;
+use crate::written::{SourceText, written};
+use arguments::{Refusal, refuse, refused_words, write_text};
 use image_files::{ImageFileRefusal, ImageRefusal, image_of_file};
-use model::Profile;
-use names_files::{NamesFile, names_of_file};
-use std::alloc::Global;
 use std::io::Write;
 use std::rt::Files;
 
@@ -183,16 +177,40 @@ fn done<H: Files + AllocGlobal, O: Write, E: Write>(
     }
 }
 
+/// Does what the words ask for, with what their file of marks says, and returns the exit status.
+#[tactic(auto, using(crate::proofs::Said::not_marked, crate::proofs::Said::done_with, crate::proofs::Said::said_with, crate::proofs::Said::no_source))]
+fn done_with_marks<H: Files + AllocGlobal, O: Write, E: Write>(
+    rt: &H,
+    words: SourceWords<'_>,
+    output: &mut O,
+    errors: &mut E,
+) -> u8
+    ensures status { result ≤ 4 }
+    ensures untouched { 1 ≤ result → result ≤ 3 → output.new ≡ output.old }
+    ensures done { result ≡ 0 → IsDoneWith (source_view words.entry) (O.contents output.old)
+        (O.contents output.new) (E.contents errors.old) (E.contents errors.new) }
+    ensures wrong { result ≡ 1 → HasNoSource (source_view words.entry) }
+    ensures never { result ≢ 2 }
+    ensures begun { result ≡ 4 → TellsFront (IsSaidWith (source_view words.entry))
+        (O.contents output.old) (O.contents output.new) ⊎ (output.new ≡ output.old) }
+{
+    let path = words.marks.unwrap_or(words.tape);
+    match with_marks(rt, words) {
+        Ok(words) => done(rt, &words, output, errors),
+        Err(why) => why.tell(path, errors),
+    }
+}
+
 /// Does what the words after `dis` ask for if `--source` is among them, and returns the exit
 /// status.
 ///
-/// It is 0 if the source was written, 1 if the file is no image or the source of names has a fault,
-/// 2 if the words are wrong, 3 if memory ran out, 4 if reading or writing failed. For each but 0 a
-/// line on `errors` says why, with the name of the file that has the fault or cannot be read. For 0
-/// a line there says how many names of the file of names were left out, and some of these, if any
-/// were, one says how many bytes were left out as fill, if some were, and one says which options
-/// `asm` needs for the source, if it needs some. The status is the same if they cannot be written.
-/// The text is whole, and each file closed, before any of it is written.
+/// It is 0 if the source was written, 1 if the file is no image or the source of names or the file
+/// of marks has a fault, 2 if the words are wrong, 3 if memory ran out, 4 if reading or writing
+/// failed. For each but 0 a line on `errors` says why, with the name of the file that has the fault
+/// or cannot be read. For 0 a line there says how many names of the file of names were left out,
+/// and some of these, if any were, one says how many bytes were left out as fill, if some were, and
+/// one says which options `asm` needs for the source, if it needs some. The status is the same if
+/// they cannot be written. The text is whole, and each file closed, before any of it is written.
 pub fn dis_source<H: Files + AllocGlobal, O: Write, E: Write>(
     rt: &H,
     words: &[&str],
@@ -206,23 +224,22 @@ pub fn dis_source<H: Files + AllocGlobal, O: Write, E: Write>(
     // 0 means that a source was written of what the image of some file has between the addresses of
     // the words, and on the error stream what `asm` has to be told; or that help is asked for.
     ensures done { result ≡ 0 → AsksForHelp dis (texts words.entry.now)
-        ⊎ Asks (texts words.entry.now) (λ asked. IsDone asked (O.contents output.old)
+        ⊎ Asks (texts words.entry.now) (λ asked. IsDoneWith asked (O.contents output.old)
         (O.contents output.new) (E.contents errors.old) (E.contents errors.new)) }
     // 1 means that some file is no image, or that some source of names has a fault for the words'
-    // processor.
-    ensures wrong { result ≡ 1 → Asks (texts words.entry.now)
-        (λ asked. HasNoImage asked.form ⊎ HasNamesFault asked.profile) }
+    // processor, or some file of marks.
+    ensures wrong { result ≡ 1 → Asks (texts words.entry.now) HasNoSource }
     // 2 means that the words do not fit, or that a value is wrong.
     ensures refused { result ≡ 2 → Misfits dis (texts words.entry.now)
         ⊎ (Fits dis (texts words.entry.now)
         × (words_asked (texts words.entry.now) ≡ None)) }
     // 4 means that a beginning of such a source was written, or nothing; or help is asked for.
     ensures begun { result ≡ 4 → AsksForHelp dis (texts words.entry.now)
-        ⊎ Asks (texts words.entry.now) (λ asked. TellsFront (IsSaid asked)
+        ⊎ Asks (texts words.entry.now) (λ asked. TellsFront (IsSaidWith asked)
         (O.contents output.old) (O.contents output.new) ⊎ (output.new ≡ output.old)) }
 {
     match read_source_words(rt.alloc(), words) {
-        Ok(words) => done(rt, &words, output, errors),
+        Ok(words) => done_with_marks(rt, words, output, errors),
         Err(fault) => refused_words(fault, output, errors),
     }
 }

@@ -1,0 +1,28 @@
+-- The words of a range, one after another.
+use Rattle.std.proofs.Common.{◌≡◌, ◌∙◌, ℕ, zero, suc, ◌+◌, ◌-◌, ◌<◌, ◌≤◌, List, [], ◌++◌, Option, nat_lt, true, false, refl, sym, ap, append_assoc, append-nil, arith}
+use Rattle.std.proofs.lemmas.Bool.{lt-ltb, le-ltb}
+use Rattle.word_dis.specs.Written.{word_at, words_between}
+
+-- what was found, and what is left to find
+abbrev pub AreFound : List (Option ℕ) → ℕ → List ℕ → ℕ → ℕ → ℕ → List ℕ → Type 0
+AreFound part more out left at last whole = out ++ words_between part more left at last ≡ whole
+
+pub one_more : (part : List (Option ℕ)) (more left at last : ℕ) (out new whole : List ℕ) → 0 < left → at < last → new ≡ out ++ word_at part more at
+    → AreFound part more out left at last whole → AreFound part more new (left - 1) (at + 2) last whole
+unfolding words_between
+one_more part more zero at last out new whole some below put found = absurd (omega (arith, some))
+one_more part more (suc n) at last out new whole some below put found =
+    let one : suc n - 1 ≡ n = omega arith in
+    let is : nat_lt at last ≡ true = lt-ltb at last below in
+    rw (put, one) (append_assoc out (word_at part more at) (words_between part more n (at + 2) last) ∙ rw is at found)
+
+pub ended : (part : List (Option ℕ)) (more left at last : ℕ) (out whole : List ℕ) → last ≤ at → AreFound part more out left at last whole → out ≡ whole
+unfolding words_between
+ended part more zero at last out whole past found = sym (append-nil out) ∙ found
+ended part more (suc n) at last out whole past found =
+    let is : nat_lt at last ≡ false = le-ltb at last past in
+    sym (append-nil out) ∙ rw is at found
+
+pub none : (part : List (Option ℕ)) (more at last : ℕ) (out whole : List ℕ) → AreFound part more out 0 at last whole → out ≡ whole
+unfolding words_between
+none part more at last out whole found = sym (append-nil out) ∙ found
