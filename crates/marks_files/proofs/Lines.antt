@@ -5,7 +5,7 @@ use Rattle.std.specs.Result.{IsErrAnd}
 use Rattle.model.specs.TextLines.{lines_from, lines_of}
 use Rattle.model.specs.declared.instruction.Profile.{Profile}
 use Rattle.marks_files.specs.Marks.{Marks}
-use Rattle.marks_files.specs.MarksFile.{IsMarksFile, IsRead, Read, line_read, lines_read, then_read}
+use Rattle.marks_files.specs.MarksFile.{IsErrorOf, IsMarksFile, Read, line_read, lines_read, then_read}
 use Rattle.marks_files.specs.declared.fault.MarksError.{MarksError}
 use Rattle.marks_files.specs.declared.fault.MarksError.TheVariants.{Fault, Memory}
 use Rattle.marks_files.specs.declared.fault.MarksFault.{MarksFault}
@@ -29,16 +29,16 @@ one_more profile number rest line behind old new whole cut made so_far =
     sym (ap (λ (r : Read). then_read r (λ read. lines_left profile (number + 1) behind read)) made) ∙ next profile number rest line behind old whole cut so_far
 
 -- a line with a fault ends it, and so does memory
-by_error : (read whole : Read) (further : Marks → Read) (new : Marks) (e : MarksError) → IsRead {X = MarksError} (Err e) new read → then_read read further ≡ whole → IsMarksFile (Err e) whole
-by_error read whole further new (Fault f) is so_far = sym so_far ∙ ap (λ (r : Read). then_read r further) is
-by_error read whole further new Memory is so_far = tt
+by_error : (read whole : Read) (further : Marks → Read) (e : MarksError) → IsErrorOf e read → then_read read further ≡ whole → IsErrorOf e whole
+by_error read whole further (Fault f) is so_far = sym so_far ∙ ap (λ (r : Read). then_read r further) is
+by_error read whole further Memory is so_far = tt
 
-pub refused : (profile : Profile) (number : ℕ) (rest line behind : List ℕ) (old new : Marks) (whole : Read) (e : MarksError) (r : Result Held MarksError) → lines_of rest ≡ line ∷ lines_of behind
-    → IsRead {X = MarksError} (Err e) new (line_read profile number line old) → lines_left profile number rest old ≡ whole → IsErrAnd r (λ f. f ≡ e) → IsMarksFile r whole
-refused profile number rest line behind old new whole e (Ok m) cut is so_far passed = absurd passed
-refused profile number rest line behind old new whole e (Err f) cut is so_far passed =
-    subst (λ (x : MarksError). IsMarksFile (Err x) whole) (sym passed)
-    (by_error (line_read profile number line old) whole (λ read. lines_left profile (number + 1) behind read) new e is (next profile number rest line behind old whole cut so_far))
+pub refused : (profile : Profile) (number : ℕ) (rest line behind : List ℕ) (old : Marks) (whole : Read) (e : MarksError) (r : Result Held MarksError) → lines_of rest ≡ line ∷ lines_of behind
+    → IsErrorOf e (line_read profile number line old) → lines_left profile number rest old ≡ whole → IsErrAnd r (λ f. f ≡ e) → IsMarksFile r whole
+refused profile number rest line behind old whole e (Ok m) cut is so_far passed = absurd passed
+refused profile number rest line behind old whole e (Err f) cut is so_far passed =
+    subst (λ (x : MarksError). IsErrorOf x whole) (sym passed)
+    (by_error (line_read profile number line old) whole (λ read. lines_left profile (number + 1) behind read) e is (next profile number rest line behind old whole cut so_far))
 
 no_lines : (text : List ℕ) → length text ≡ 0 → lines_of text ≡ []
 unfolding lines_from

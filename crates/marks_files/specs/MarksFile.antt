@@ -139,14 +139,17 @@ marks_file profile given file = lines_read profile 1 (lines_of file) given
 
 -- ---- answers
 
--- What was said with a line, or why not. Memory may run out at any line.
+-- An error is the fault of what was read. Memory may run out at any line.
+abbrev pub IsErrorOf : MarksError → Read → Type 0
+IsErrorOf (Fault fault) read = read ≡ Err fault
+IsErrorOf Memory read = ⊤
+
+-- What was said with a line, or why not.
 abbrev pub IsRead : {X : Type 0} → Result X MarksError → Marks → Read → Type 0
 IsRead (Ok x) m read = read ≡ Ok m
-IsRead (Err (Fault fault)) m read = read ≡ Err fault
-IsRead (Err Memory) m read = ⊤
+IsRead (Err error) m read = IsErrorOf error read
 
 -- The answer of a whole file.
 abbrev pub IsMarksFile : Result HeldMarks MarksError → Read → Type 0
 IsMarksFile (Ok m) read = read ≡ Ok (marks_view m)
-IsMarksFile (Err (Fault fault)) read = read ≡ Err fault
-IsMarksFile (Err Memory) read = ⊤
+IsMarksFile (Err error) read = IsErrorOf error read

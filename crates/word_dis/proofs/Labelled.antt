@@ -2,7 +2,7 @@
 use Rattle.std.proofs.Common.{◌≡◌, ◌⊎◌, ◌∙◌, ℕ, ◌+◌, ◌-◌, List, [], ◌∷◌, length, Option, Some, None, Result, Ok, Err, refl, sym, subst, arith}
 use Rattle.std.specs.Prelude.{option_map}
 use Rattle.arguments.specs.declared.refusal.Refusal.{Refusal}
-use Rattle.arguments.specs.declared.refusal.Refusal.TheVariants.{Source, OutOfMemory}
+use Rattle.arguments.specs.declared.refusal.Refusal.TheVariants.{Words, Map, Source, Tape, Session, OutOfMemory, Read, Write, WriteFile}
 use Rattle.model.specs.Names.{Definitions}
 use Rattle.model.specs.Source.{HasFault}
 use Rattle.model.specs.declared.instruction.Profile.{Profile}
@@ -20,7 +20,13 @@ behind profile source fault told count has is =
 pub defined_ends : (profile : Profile) (source : List ℕ) (refusal : Refusal) → EndsNames profile source refusal → EndsDefined profile refusal
 defined_ends profile source (Source fault) ends = behind profile source fault fault 0 ends refl
 defined_ends profile source OutOfMemory ends = tt
-defined_ends profile source refusal ends = absurd ends
+defined_ends profile source Words ends = absurd ends
+defined_ends profile source (Map f) ends = absurd ends
+defined_ends profile source (Tape f) ends = absurd ends
+defined_ends profile source (Session f) ends = absurd ends
+defined_ends profile source (Read why) ends = absurd ends
+defined_ends profile source Write ends = absurd ends
+defined_ends profile source (WriteFile f) ends = absurd ends
 
 -- no labels, and some
 pub none : (profile : Profile) (labels : List ℕ) → length labels ≡ 0 → AreLabels profile labels None

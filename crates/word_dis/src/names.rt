@@ -53,7 +53,7 @@ fn behind_labels(fault: AsmFault, count: usize) -> AsmFault
 }
 
 /// Returns what a source defines that begins with so many lines of labels.
-#[tactic(auto, using(crate::proofs::Labelled::defined_ends))]
+#[tactic(auto, using(crate::proofs::Labelled::behind, crate::proofs::Labelled::defined_ends))]
 fn assembled(
     alloc: Global,
     profile: Profile,

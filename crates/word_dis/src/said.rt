@@ -79,6 +79,7 @@ fn marks_in(
 }
 
 /// What the words say of the image, and what the file of marks of that path says.
+#[tactic(auto, using(crate::proofs::Said::unread))]
 fn marks_of_path<H: Files + AllocGlobal>(
     rt: &H,
     profile: Profile,
@@ -95,6 +96,7 @@ fn marks_of_path<H: Files + AllocGlobal>(
 }
 
 /// Returns the words with what their file of marks says, if there is one.
+#[tactic(auto, using(crate::proofs::Said::marks_end))]
 pub fn with_marks<'a, H: Files + AllocGlobal>(
     rt: &H,
     words: SourceWords<'a>,
