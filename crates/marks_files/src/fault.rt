@@ -1,7 +1,7 @@
 //! Why a file of marks is refused.
 
 ghost use Rattle.std.specs.Prelude.{◌≡◌};
-ghost use Rattle.marks_files.specs.declared.fault.MarksError.TheVariants.{Fault, Memory};
+ghost use Rattle.marks_files.specs.declared.fault.MarksError.TheVariants.{Memory};
 
 use std::alloc::AllocError;
 
@@ -90,8 +90,8 @@ impl From<AllocError> for MarksError {
 }
 
 /// Returns a fault in its place.
-pub fn fault_at(line: usize, column: usize, kind: MarksFaultKind) -> MarksError
-    ensures { result ≡ Fault (record { line = line; column = column; kind = kind }) }
+pub fn fault_at(line: usize, column: usize, kind: MarksFaultKind) -> MarksFault
+    ensures { result ≡ record { line = line; column = column; kind = kind } }
 {
-    MarksError::Fault(MarksFault { line, column, kind })
+    MarksFault { line, column, kind }
 }

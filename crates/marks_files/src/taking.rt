@@ -35,13 +35,25 @@ fn take_range(
         (marks_view marks.old) (range_of fields.now.value.now)) }
 {
     let Some(range) = range(fields.value) else {
-        return Err(fault_at(number, fields.value_column, MarksFaultKind::BadRange));
+        return Err(MarksError::Fault(fault_at(
+            number,
+            fields.value_column,
+            MarksFaultKind::BadRange,
+        )));
     };
     if !is_nothing(fields.rest) {
-        return Err(fault_at(number, fields.rest_column, MarksFaultKind::JunkBehind));
+        return Err(MarksError::Fault(fault_at(
+            number,
+            fields.rest_column,
+            MarksFaultKind::JunkBehind,
+        )));
     }
     if meets_other(kind, marks, range) {
-        return Err(fault_at(number, fields.value_column, MarksFaultKind::Disagrees));
+        return Err(MarksError::Fault(fault_at(
+            number,
+            fields.value_column,
+            MarksFaultKind::Disagrees,
+        )));
     }
     push_range(marks, kind, range)?;
     Ok(())
@@ -53,10 +65,18 @@ fn take_entry(marks: &mut Marks, number: usize, fields: &Fields<'_>) -> Result<(
         (marks_view marks.old) (address_of fields.now.value.now)) }
 {
     let Some(address) = address_of(fields.value) else {
-        return Err(fault_at(number, fields.value_column, MarksFaultKind::BadAddress));
+        return Err(MarksError::Fault(fault_at(
+            number,
+            fields.value_column,
+            MarksFaultKind::BadAddress,
+        )));
     };
     if !is_nothing(fields.rest) {
-        return Err(fault_at(number, fields.rest_column, MarksFaultKind::JunkBehind));
+        return Err(MarksError::Fault(fault_at(
+            number,
+            fields.rest_column,
+            MarksFaultKind::JunkBehind,
+        )));
     }
     push_entry(marks, address)?;
     Ok(())
@@ -94,7 +114,11 @@ fn take_once(
             if is_same_tail(tail, routine.tail) {
                 Ok(())
             } else {
-                Err(fault_at(number, fields.value_column, MarksFaultKind::Disagrees))
+                Err(MarksError::Fault(fault_at(
+                    number,
+                    fields.value_column,
+                    MarksFaultKind::Disagrees,
+                )))
             }
         }
     }
@@ -106,10 +130,18 @@ fn take_routine(marks: &mut Marks, number: usize, fields: &Fields<'_>) -> Result
         (marks_view marks.old) (routine_of fields.now.value.now)) }
 {
     let Some(routine) = routine(fields.value) else {
-        return Err(fault_at(number, fields.value_column, MarksFaultKind::BadRoutine));
+        return Err(MarksError::Fault(fault_at(
+            number,
+            fields.value_column,
+            MarksFaultKind::BadRoutine,
+        )));
     };
     if !is_nothing(fields.rest) {
-        return Err(fault_at(number, fields.rest_column, MarksFaultKind::JunkBehind));
+        return Err(MarksError::Fault(fault_at(
+            number,
+            fields.rest_column,
+            MarksFaultKind::JunkBehind,
+        )));
     }
     take_once(marks, number, fields, routine)
 }
@@ -135,7 +167,11 @@ fn take_name_once(
             if old == address as i32 {
                 Ok(())
             } else {
-                Err(fault_at(number, fields.rest_column, MarksFaultKind::DuplicateName))
+                Err(MarksError::Fault(fault_at(
+                    number,
+                    fields.rest_column,
+                    MarksFaultKind::DuplicateName,
+                )))
             }
         }
     }
@@ -156,11 +192,19 @@ fn take_name(
         (fields_view fields.now) address name.now (marks_view marks.old)) }
 {
     if !is_name(alloc, profile, name, address)? {
-        return Err(fault_at(number, fields.rest_column, MarksFaultKind::BadName));
+        return Err(MarksError::Fault(fault_at(
+            number,
+            fields.rest_column,
+            MarksFaultKind::BadName,
+        )));
     }
     let behind = behind_word(fields.rest);
     if !is_nothing(behind) {
-        return Err(fault_at(number, column_of(line, behind), MarksFaultKind::JunkBehind));
+        return Err(MarksError::Fault(fault_at(
+            number,
+            column_of(line, behind),
+            MarksFaultKind::JunkBehind,
+        )));
     }
     take_name_once(alloc, marks, number, fields, address, name)
 }
@@ -178,7 +222,11 @@ fn take_label(
         (fields_view fields.now) (marks_view marks.old) (address_of fields.now.value.now)) }
 {
     let Some(address) = address_of(fields.value) else {
-        return Err(fault_at(number, fields.value_column, MarksFaultKind::BadAddress));
+        return Err(MarksError::Fault(fault_at(
+            number,
+            fields.value_column,
+            MarksFaultKind::BadAddress,
+        )));
     };
     let name = front_word(fields.rest);
     take_name(alloc, profile, marks, number, line, fields, address, name)
@@ -195,10 +243,18 @@ fn take_remark(
         is_block (marks_view marks.old) (address_of fields.now.value.now)) }
 {
     let Some(address) = address_of(fields.value) else {
-        return Err(fault_at(number, fields.value_column, MarksFaultKind::BadAddress));
+        return Err(MarksError::Fault(fault_at(
+            number,
+            fields.value_column,
+            MarksFaultKind::BadAddress,
+        )));
     };
     if !is_text(fields.rest) {
-        return Err(fault_at(number, fields.rest_column, MarksFaultKind::BadText));
+        return Err(MarksError::Fault(fault_at(
+            number,
+            fields.rest_column,
+            MarksFaultKind::BadText,
+        )));
     }
     push_remark(marks, address, is_block, fields.rest)?;
     Ok(())
@@ -218,7 +274,11 @@ fn take_mark(
         (fields_view fields.now) (marks_view marks.old) word) }
 {
     match word {
-        None => Err(fault_at(number, fields.word_column, MarksFaultKind::UnknownMark)),
+        None => Err(MarksError::Fault(fault_at(
+            number,
+            fields.word_column,
+            MarksFaultKind::UnknownMark,
+        ))),
         Some(MarkWord::Range(kind)) => take_range(marks, number, fields, kind),
         Some(MarkWord::Follow) => take_following(marks, number, fields),
         Some(MarkWord::Routine) => take_routine(marks, number, fields),
