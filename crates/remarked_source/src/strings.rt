@@ -43,7 +43,10 @@ fn text_count(marks: &[Mark], most: u8, address: u32) -> u8
     ensures few { result ≤ most }
 {
     let mut count = 0u8;
-    while count < most && is_text(marks, address as usize + count as usize) {
+    while count < most {
+        if !is_text(marks, address as usize + count as usize) {
+            return count;
+        }
         count += 1;
     }
     count
