@@ -45,13 +45,23 @@ fn push_padded(out: &mut Vec<u8>, text: &[u8]) -> Result<(), AllocError>
     push_blanks(out, from, 40)
 }
 
+/// The byte at an address, if there is one.
+fn cell_at(cells: &[Option<u8>], address: usize) -> Option<u8>
+    ensures { result ≡ cell_at cells.now address }
+{
+    match cells.get(address) {
+        Some(cell) => *cell,
+        None => None,
+    }
+}
+
 /// The byte at an address, or 0 where there is none.
 fn byte_at(cells: &[Option<u8>], address: usize) -> u8
     ensures { result ≡ unwrap_or (cell_at cells.now address) 0 }
 {
-    match cells.get(address) {
-        Some(Some(byte)) => *byte,
-        _ => 0,
+    match cell_at(cells, address) {
+        Some(byte) => byte,
+        None => 0,
     }
 }
 

@@ -27,13 +27,23 @@ fn is_numbers(line: SourceLine<'_>) -> bool
     line.text.starts_with(b".BYTE $") && line.text.len() as u64 == 5 + 4 * line.count as u64
 }
 
+/// Returns whether a mark is that of text.
+pub fn is_text_mark(mark: Mark) -> bool
+    ensures { result ≡ is_kind Mark.Text mark }
+{
+    match mark {
+        Mark::Text => true,
+        Mark::Code | Mark::Data | Mark::Address | Mark::Return => false,
+    }
+}
+
 /// Whether an address is marked as text.
 fn is_text(marks: &[Mark], address: usize) -> bool
     ensures { result ≡ is_kind Mark.Text (mark_at marks.now address) }
 {
     match marks.get(address) {
-        Some(Mark::Text) => true,
-        _ => false,
+        Some(mark) => is_text_mark(*mark),
+        None => false,
     }
 }
 

@@ -6,11 +6,10 @@ ghost use Rattle.model.specs.State.{Map, has_port_byte};
 ghost use Rattle.remarked_source.specs.RemarkedText.{AreJoined, AreJoinedText, IsRemarked};
 ghost use Rattle.remarked_source.specs.RemarkedText.{IsRemarkedText, has_text};
 ghost use Rattle.remarked_source.specs.Views.{beside_view};
-ghost use Rattle.source_forms.specs.Rows.{is_kind};
 
 use crate::beside::Beside;
 use crate::rows::rows;
-use crate::strings::joined;
+use crate::strings::{is_text_mark, joined};
 use assembler::assemble;
 use bus::Image;
 use model::Profile;
@@ -105,21 +104,11 @@ fn with_joined(
     }
 }
 
-/// Whether a mark is that of text.
-fn is_text(mark: Mark) -> bool
-    ensures { result ≡ is_kind Mark.Text mark }
-{
-    match mark {
-        Mark::Text => true,
-        Mark::Code | Mark::Data | Mark::Address | Mark::Return => false,
-    }
-}
-
 /// Whether an address is marked as text.
 fn has_text(marks: &[Mark]) -> bool
     ensures { result ≡ has_text marks.now }
 {
-    marks.iter().any(|mark| is_text(*mark))
+    marks.iter().any(|mark| is_text_mark(*mark))
 }
 
 /// Writes a source of an image with the numbers that end its strings on their lines, as

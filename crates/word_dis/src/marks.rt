@@ -1,5 +1,5 @@
 //! What is marked, and the part of an image that is written.
-ghost use Rattle.std.specs.Prelude.{◌≡◌, ℕ, ◌<◌, IfOk, slice_index_or, vec_len};
+ghost use Rattle.std.specs.Prelude.{◌≡◌, ℕ, ◌<◌, IfOk, length, slice_index_or, vec_len};
 ghost use Rattle.model.specs.Image.{cell_at};
 ghost use Rattle.marks_files.specs.Views.{marks_view};
 ghost use Rattle.source_forms.specs.Rows.{mark_at};
@@ -91,7 +91,7 @@ pub fn said_marks(
     instructions: &[(u16, u16)],
     marks: &[Mark],
 ) -> Result<Vec<Mark>, AllocError>
-    ensures len { IfOk result (λ said. vec_len said ≡ 65536) }
+    ensures len { IfOk result (λ said. length said.items ≡ 65536) }
     ensures each { IfOk result (λ said. (a : ℕ) → a < 65536
         → slice_index_or said.items a Mark.Code ≡ said_mark instructions.now marks.now a) }
 {
