@@ -14,9 +14,10 @@ use Rattle.reached.specs.declared.inline.Tail.TheVariants.{String, Counted, High
 use Rattle.marks_files.specs.declared.marks.RangeKind.{RangeKind}
 use Rattle.marks_files.specs.declared.marks.RangeKind.TheVariants.{Numbers, Letters, Addresses, Returns, Instructions}
 use Rattle.marks_files.specs.declared.marks.Remark.{Remark}
+use Rattle.marks_files.specs.declared.marks.Split.{Split}
 
 -- The ranges of numbers, of letters, of addresses, of addresses less 1 to which RTS goes, and of
--- instructions; whether control is followed, and the addresses where it comes in; the routines whose
+-- instructions; the tables in two halves; whether control is followed, and the addresses where it comes in; the routines whose
 -- calls are followed by data; the names of labels, and the lines of a source that define them; the
 -- comments, and their texts one after another.
 pub record Marks : Type 0 where
@@ -25,6 +26,7 @@ pub record Marks : Type 0 where
   pub addresses : List (ℕ × ℕ)
   pub returns : List (ℕ × ℕ)
   pub instructions : List (ℕ × ℕ)
+  pub splits : List Split
   pub follows : Bool
   pub entries : List ℕ
   pub routines : List Inline
@@ -62,6 +64,28 @@ with_range Letters range m = record m { letters = m.letters ++ range ∷ [] }
 with_range Addresses range m = record m { addresses = m.addresses ++ range ∷ [] }
 with_range Returns range m = record m { returns = m.returns ++ range ∷ [] }
 with_range Instructions range m = record m { instructions = m.instructions ++ range ∷ [] }
+
+-- ---- tables in two halves
+
+-- The addresses of a half of so many bytes.
+abbrev pub half : ℕ → ℕ → ℕ × ℕ
+half begin count = (begin, begin + (count - 1))
+
+-- Both halves end by address 65535.
+abbrev pub is_whole : Split → Bool
+is_whole split = nat_le (split.low + split.count) 65536
+    && nat_le (split.high + split.count) 65536
+
+-- The halves are numbers.
+abbrev pub meets_split : Marks → Split → Bool
+meets_split m split = meets_other Numbers m (half split.low split.count)
+    || meets_other Numbers m (half split.high split.count)
+
+abbrev pub with_split : Split → Marks → Marks
+with_split split m = record m {
+  numbers = m.numbers ++ half split.low split.count ∷ [] ++ half split.high split.count ∷ [];
+  splits = m.splits ++ split ∷ [];
+}
 
 -- ---- control
 

@@ -1,7 +1,7 @@
 -- Numbers and names of the faults of a file of marks. Source: mos65.
 use Rattle.std.specs.Prelude.{ℕ, List, codes}
 use Rattle.marks_files.specs.declared.fault.MarksFaultKind.{MarksFaultKind}
-use Rattle.marks_files.specs.declared.fault.MarksFaultKind.TheVariants.{UnknownMark, BadRange, BadAddress, BadRoutine, BadName, DuplicateName, BadText, JunkBehind, Disagrees}
+use Rattle.marks_files.specs.declared.fault.MarksFaultKind.TheVariants.{UnknownMark, BadRange, BadAddress, BadRoutine, BadName, DuplicateName, BadText, JunkBehind, Disagrees, BadCount}
 
 abbrev pub marks_fault_number : MarksFaultKind → ℕ
 marks_fault_number UnknownMark = 1
@@ -13,6 +13,7 @@ marks_fault_number DuplicateName = 6
 marks_fault_number BadText = 7
 marks_fault_number JunkBehind = 8
 marks_fault_number Disagrees = 9
+marks_fault_number BadCount = 10
 
 abbrev pub marks_fault_name : MarksFaultKind → List ℕ
 marks_fault_name UnknownMark = codes "UnknownMark"
@@ -24,3 +25,4 @@ marks_fault_name DuplicateName = codes "DuplicateName"
 marks_fault_name BadText = codes "BadText"
 marks_fault_name JunkBehind = codes "JunkBehind"
 marks_fault_name Disagrees = codes "Disagrees"
+marks_fault_name BadCount = codes "BadCount"

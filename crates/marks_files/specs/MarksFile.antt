@@ -10,19 +10,20 @@ use Rattle.reached.specs.Reached.{tail_at}
 use Rattle.reached.specs.declared.inline.Inline.{Inline}
 use Rattle.reached.specs.declared.inline.Tail.{Tail}
 use Rattle.marks_files.specs.Fields.{Fields, behind_word, column_of, fields_of, front_word, is_nothing, skip}
-use Rattle.marks_files.specs.Marks.{Marks, is_name, is_same_tail, is_text, meets_other, with_entry, with_following, with_label, with_range, with_remark, with_routine}
+use Rattle.marks_files.specs.Marks.{Marks, is_name, is_same_tail, is_text, is_whole, meets_other, meets_split, with_entry, with_following, with_label, with_range, with_remark, with_routine, with_split}
 use Rattle.marks_files.specs.Views.{marks_view}
-use Rattle.marks_files.specs.Values.{range_of, routine_of}
+use Rattle.marks_files.specs.Values.{number_of, range_of, routine_of}
 use Rattle.marks_files.specs.declared.fault.MarksError.{MarksError}
 use Rattle.marks_files.specs.declared.fault.MarksError.TheVariants.{Fault, Memory}
 use Rattle.marks_files.specs.declared.fault.MarksFault.{MarksFault}
 use Rattle.marks_files.specs.declared.fault.MarksFaultKind.{MarksFaultKind}
-use Rattle.marks_files.specs.declared.fault.MarksFaultKind.TheVariants.{UnknownMark, BadRange, BadAddress, BadRoutine, BadName, DuplicateName, BadText, JunkBehind, Disagrees}
+use Rattle.marks_files.specs.declared.fault.MarksFaultKind.TheVariants.{UnknownMark, BadRange, BadAddress, BadRoutine, BadName, DuplicateName, BadText, JunkBehind, Disagrees, BadCount}
 use Rattle.marks_files.specs.declared.marks.Marks.{Marks as HeldMarks}
 use Rattle.marks_files.specs.declared.marks.RangeKind.{RangeKind}
 use Rattle.marks_files.specs.declared.marks.RangeKind.TheVariants.{Numbers, Letters, Addresses, Returns, Instructions}
+use Rattle.marks_files.specs.declared.marks.Split.{Split as Halves}
 use Rattle.marks_files.specs.declared.word.MarkWord.{MarkWord}
-use Rattle.marks_files.specs.declared.word.MarkWord.TheVariants.{Range, Follow, Routine, Label, Comment}
+use Rattle.marks_files.specs.declared.word.MarkWord.TheVariants.{Range, Split, Follow, Routine, Label, Comment}
 
 -- The marks with those of what was read, or its first fault.
 abbrev pub Read : Type 0
@@ -41,6 +42,8 @@ word_of word = if bytes_eq word (codes "data") then Some (Range Numbers)
     else if bytes_eq word (codes "words") then Some (Range Addresses)
     else if bytes_eq word (codes "rts-words") then Some (Range Returns)
     else if bytes_eq word (codes "code") then Some (Range Instructions)
+    else if bytes_eq word (codes "split") then Some (Split 0)
+    else if bytes_eq word (codes "rts-split") then Some (Split 1)
     else if bytes_eq word (codes "follow") then Some Follow
     else if bytes_eq word (codes "inline") then Some Routine
     else if bytes_eq word (codes "label") then Some Label
@@ -56,6 +59,32 @@ range_read number f kind m (Some range) =
     if not (is_nothing f.rest) then fault_at number f.rest_column JunkBehind
     else if meets_other kind m range then fault_at number f.value_column Disagrees
     else Ok (with_range kind range m)
+
+-- A table in two halves: where the low bytes begin, where the high ones do, and how many words there
+-- are. No address in it was marked as another kind before.
+abbrev pub halves_read : ℕ → List ℕ → Fields → Halves → Marks → Read
+halves_read number line f split m = let counted = behind_word f.rest in
+    if not (is_whole split) then fault_at number (column_of line counted) BadCount
+    else if not (is_nothing (behind_word counted))
+    then fault_at number (column_of line (behind_word counted)) JunkBehind
+    else if meets_split m split then fault_at number f.value_column Disagrees
+    else Ok (with_split split m)
+
+abbrev pub count_read : ℕ → List ℕ → Fields → ℕ → ℕ → ℕ → Marks → Option ℕ → Read
+count_read number line f more low high m None
+    = fault_at number (column_of line (behind_word f.rest)) BadCount
+count_read number line f more low high m (Some count) = halves_read number line f
+    (record { low = low; high = high; count = count; more = more }) m
+
+abbrev pub high_read : ℕ → List ℕ → Fields → ℕ → ℕ → Marks → Option ℕ → Read
+high_read number line f more low m None = fault_at number f.rest_column BadAddress
+high_read number line f more low m (Some high) = count_read number line f more low high m
+    (number_of (front_word (behind_word f.rest)))
+
+abbrev pub split_read : ℕ → List ℕ → Fields → ℕ → Marks → Option ℕ → Read
+split_read number line f more m None = fault_at number f.value_column BadAddress
+split_read number line f more m (Some low) = high_read number line f more low m
+    (address_of (front_word f.rest))
 
 -- The vectors, where no address is said, or an address.
 abbrev pub entry_read : ℕ → Fields → Marks → Option ℕ → Read
@@ -109,6 +138,8 @@ abbrev pub mark_read : Profile → ℕ → List ℕ → Fields → Marks → Opt
 mark_read profile number line f m None = fault_at number f.word_column UnknownMark
 mark_read profile number line f m (Some (Range kind))
     = range_read number f kind m (range_of f.value)
+mark_read profile number line f m (Some (Split more))
+    = split_read number line f more m (address_of f.value)
 mark_read profile number line f m (Some Follow) = follow_read number f m
 mark_read profile number line f m (Some Routine)
     = routine_read number f m (routine_of f.value)

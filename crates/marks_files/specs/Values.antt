@@ -20,10 +20,13 @@ range_of word =
     then addresses_of (address_of (take 4 word)) (address_of (drop 5 word))
     else None
 
--- A count from 1 to 65535.
+-- A number from 1 to 65535.
+abbrev pub number_of : List ℕ → Option ℕ
+number_of word = if nat_le (length word) 5 then from_1_to 65535 (decimal_number word) else None
+
+-- So many bytes.
 abbrev pub count_of : List ℕ → Option Tail
-count_of word = if nat_le (length word) 5
-    then option_map Bytes (from_1_to 65535 (decimal_number word)) else None
+count_of word = option_map Bytes (number_of word)
 
 -- The letter of a string: `z` ends with 0, `n` begins with its length, `h` ends with bit 7.
 abbrev pub letter_of : ℕ → Option Tail

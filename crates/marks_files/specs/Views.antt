@@ -21,6 +21,7 @@ marks_view m = record {
   addresses = m.addresses.items;
   returns = m.returns.items;
   instructions = m.instructions.items;
+  splits = m.splits.items;
   follows = m.follows;
   entries = m.entries.items;
   routines = m.routines.items;

@@ -26,12 +26,14 @@ pub enum MarksFaultKind {
     JunkBehind,
     /// Another mark, or an option, says something else of this address.
     Disagrees,
+    /// The count is none from 1 on, or the tables go past address 65535.
+    BadCount,
 }
 
 impl MarksFaultKind {
     ghost use Rattle.marks_files.specs.MarksFault.{marks_fault_name, marks_fault_number};
 
-    /// Returns the kind's number, 1 to 9. Source: mos65.
+    /// Returns the kind's number, 1 to 10. Source: mos65.
     pub fn number(&self) -> u8
         ensures { result ≡ marks_fault_number self.now }
     {
@@ -60,6 +62,7 @@ impl MarksFaultKind {
             MarksFaultKind::BadText => (7, "BadText"),
             MarksFaultKind::JunkBehind => (8, "JunkBehind"),
             MarksFaultKind::Disagrees => (9, "Disagrees"),
+            MarksFaultKind::BadCount => (10, "BadCount"),
         }
     }
 }

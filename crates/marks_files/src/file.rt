@@ -13,10 +13,11 @@ use std::alloc::Global;
 /// Returns what a file of marks says, after what was said before it.
 ///
 /// A line is empty, or a comment behind `;` or `#`, or a mark: `data`, `text`, `words`,
-/// `rts-words` or `code` with a range, `follow` with an address or none, `inline` with a routine,
-/// `label` with an address and a name, `comment` or `block` with an address and a text. Behind each
-/// but the last two a comment may stand. A range may not meet one of another kind, and a routine
-/// has one kind of data behind its calls.
+/// `rts-words` or `code` with a range, `split` or `rts-split` with two addresses and a count,
+/// `follow` with an address or none, `inline` with a routine, `label` with an address and a name,
+/// `comment` or `block` with an address and a text. Behind each but the last two a comment may
+/// stand. A range may not meet one of another kind, and a routine has one kind of data behind its
+/// calls.
 ///
 /// Errors: `Fault` with the first fault, and its line and column; `Memory` if a request for memory
 /// was refused. Source: mos65.

@@ -18,5 +18,5 @@ mod word;
 
 pub use fault::{MarksError, MarksFault, MarksFaultKind};
 pub use file::marks_of_file;
-pub use marks::{Marks, RangeKind, Remark};
+pub use marks::{Marks, RangeKind, Remark, Split};
 pub use values::{addresses, range, routine};

@@ -1,10 +1,10 @@
 //! What is said of an image.
 
-ghost use Rattle.std.specs.Prelude.{◌≡◌, ◌≤◌, ◌+◌, ◌<◌, ◌^◌, OnOk, length};
+ghost use Rattle.std.specs.Prelude.{◌≡◌, ◌≤◌, ◌+◌, OnOk, length, true};
 ghost use Rattle.std.specs.List.{list_all};
 ghost use Rattle.marks_files.specs.Marks.{is_same_tail, is_text, is_text_byte, meets, meets_one};
-ghost use Rattle.marks_files.specs.Marks.{meets_other, with_entry, with_label, with_range};
-ghost use Rattle.marks_files.specs.Marks.{with_remark, with_routine};
+ghost use Rattle.marks_files.specs.Marks.{half, is_whole, meets_other, meets_split, with_entry, with_label};
+ghost use Rattle.marks_files.specs.Marks.{with_range, with_remark, with_routine, with_split};
 ghost use Rattle.marks_files.specs.Views.{marks_view};
 ghost use Rattle.model.specs.Names.{number_in};
 ghost use Rattle.std.specs.Prelude.{None};
@@ -27,6 +27,16 @@ pub enum RangeKind {
     Returns,
     /// Instructions, whether control reaches them or not.
     Instructions,
+}
+
+/// A table in two halves: where the low bytes of its words begin, where the high ones do, how many
+/// words it has, and how much more the addresses are to which these lead.
+#[derive(Clone, Copy, Debug, PartialEq, Eq)]
+pub struct Split {
+    pub low: u16,
+    pub high: u16,
+    pub count: u16,
+    pub more: u16,
 }
 
 /// A comment: its address, whether it stands before the line, and where its text is among the texts
@@ -52,6 +62,8 @@ pub struct Marks {
     pub returns: Vec<(u16, u16)>,
     /// Those of instructions.
     pub instructions: Vec<(u16, u16)>,
+    /// The tables in two halves.
+    pub splits: Vec<Split>,
     /// Whether control is followed.
     pub follows: bool,
     /// Where it comes in, beside the vectors.
@@ -116,6 +128,41 @@ pub fn push_range(marks: &mut Marks, kind: RangeKind, range: (u16, u16)) -> Resu
         RangeKind::Returns => marks.returns.push(range),
         RangeKind::Instructions => marks.instructions.push(range),
     }
+}
+
+/// Returns whether both halves of a table end by address 65535.
+pub fn is_whole(split: Split) -> bool
+    ensures { result ≡ is_whole split }
+{
+    split.low as u32 + split.count as u32 <= 65536
+        && split.high as u32 + split.count as u32 <= 65536
+}
+
+/// The addresses of a half that begins at an address.
+fn half(begin: u16, count: u16) -> (u16, u16)
+    requires { begin + count ≤ 65536 }
+    ensures { result ≡ half begin count }
+{
+    (begin, begin + count.saturating_sub(1))
+}
+
+/// Returns whether a half of a table has an address in common with a range of another kind.
+pub fn meets_split(marks: &Marks, split: Split) -> bool
+    requires { is_whole split ≡ true }
+    ensures { result ≡ meets_split (marks_view marks.now) split }
+{
+    meets_other(RangeKind::Numbers, marks, half(split.low, split.count))
+        || meets_other(RangeKind::Numbers, marks, half(split.high, split.count))
+}
+
+/// Appends a table in two halves, which are numbers.
+pub fn push_split(marks: &mut Marks, split: Split) -> Result<(), AllocError>
+    requires { is_whole split ≡ true }
+    ensures { OnOk result (marks_view marks.new ≡ with_split split (marks_view marks.old)) }
+{
+    marks.numbers.push(half(split.low, split.count))?;
+    marks.numbers.push(half(split.high, split.count))?;
+    marks.splits.push(split)
 }
 
 /// Appends an address where control comes in.

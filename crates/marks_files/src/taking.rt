@@ -3,10 +3,12 @@
 ghost use Rattle.std.specs.Prelude.{◌≡◌};
 ghost use Rattle.model.specs.Commands.{address_of};
 ghost use Rattle.model.specs.Names.{number_in};
-ghost use Rattle.marks_files.specs.MarksFile.{IsRead, entry_read, follow_read, label_read, line_read};
+ghost use Rattle.marks_files.specs.Fields.{behind_word, front_word};
+ghost use Rattle.marks_files.specs.MarksFile.{IsRead, count_read, entry_read, follow_read};
+ghost use Rattle.marks_files.specs.MarksFile.{halves_read, high_read, label_read, line_read};
 ghost use Rattle.marks_files.specs.MarksFile.{mark_read, name_once, name_read, range_read};
-ghost use Rattle.marks_files.specs.MarksFile.{remark_read, routine_once, routine_read};
-ghost use Rattle.marks_files.specs.Values.{range_of, routine_of};
+ghost use Rattle.marks_files.specs.MarksFile.{remark_read, routine_once, routine_read, split_read};
+ghost use Rattle.marks_files.specs.Values.{number_of, range_of, routine_of};
 ghost use Rattle.marks_files.specs.Views.{fields_view, marks_view};
 ghost use Rattle.reached.specs.Reached.{tail_at};
 
@@ -14,10 +16,10 @@ use crate::fault::{MarksError, MarksFaultKind, fault_at};
 use crate::fields::{Fields, behind_word, column_of, fields_of, front_word, is_nothing, skip};
 use crate::labels::is_name;
 use crate::marks::{
-    Marks, RangeKind, is_same_tail, is_text, meets_other, push_entry, push_name, push_range,
-    push_remark, push_routine,
+    Marks, RangeKind, Split, is_same_tail, is_text, is_whole, meets_other, meets_split, push_entry,
+    push_name, push_range, push_remark, push_routine, push_split,
 };
-use crate::values::{range, routine};
+use crate::values::{number_of, range, routine};
 use crate::word::{MarkWord, word_of};
 use commands::address_of;
 use model::Profile;
@@ -57,6 +59,119 @@ fn take_range(
     }
     push_range(marks, kind, range)?;
     Ok(())
+}
+
+/// Takes a table in two halves.
+fn take_halves(
+    marks: &mut Marks,
+    number: usize,
+    line: &[u8],
+    fields: &Fields<'_>,
+    split: Split,
+) -> Result<(), MarksError>
+    ensures { IsRead result (marks_view marks.new) (halves_read number line.now
+        (fields_view fields.now) split (marks_view marks.old)) }
+{
+    let counted = behind_word(fields.rest);
+    let behind = behind_word(counted);
+    if !is_whole(split) {
+        return Err(MarksError::Fault(fault_at(
+            number,
+            column_of(line, counted),
+            MarksFaultKind::BadCount,
+        )));
+    }
+    if !is_nothing(behind) {
+        return Err(MarksError::Fault(fault_at(
+            number,
+            column_of(line, behind),
+            MarksFaultKind::JunkBehind,
+        )));
+    }
+    if meets_split(marks, split) {
+        return Err(MarksError::Fault(fault_at(
+            number,
+            fields.value_column,
+            MarksFaultKind::Disagrees,
+        )));
+    }
+    push_split(marks, split)?;
+    Ok(())
+}
+
+/// Takes a table in two halves by where these begin.
+fn take_count(
+    marks: &mut Marks,
+    number: usize,
+    line: &[u8],
+    fields: &Fields<'_>,
+    more: u16,
+    low: u16,
+    high: u16,
+) -> Result<(), MarksError>
+    ensures { IsRead result (marks_view marks.new) (count_read number line.now
+        (fields_view fields.now) more low high (marks_view marks.old)
+        (number_of (front_word (behind_word (fields_view fields.now).rest)))) }
+{
+    let counted = behind_word(fields.rest);
+    let Some(count) = number_of(front_word(counted)) else {
+        return Err(MarksError::Fault(fault_at(
+            number,
+            column_of(line, counted),
+            MarksFaultKind::BadCount,
+        )));
+    };
+    let split = Split {
+        low,
+        high,
+        count,
+        more,
+    };
+    take_halves(marks, number, line, fields, split)
+}
+
+/// Takes a table in two halves by where the low bytes begin.
+fn take_high(
+    marks: &mut Marks,
+    number: usize,
+    line: &[u8],
+    fields: &Fields<'_>,
+    more: u16,
+    low: u16,
+) -> Result<(), MarksError>
+    ensures { IsRead result (marks_view marks.new) (high_read number line.now
+        (fields_view fields.now) more low (marks_view marks.old)
+        (address_of (front_word (fields_view fields.now).rest))) }
+{
+    let Some(high) = address_of(front_word(fields.rest)) else {
+        return Err(MarksError::Fault(fault_at(
+            number,
+            fields.rest_column,
+            MarksFaultKind::BadAddress,
+        )));
+    };
+    take_count(marks, number, line, fields, more, low, high)
+}
+
+/// Takes a table in two halves.
+fn take_split(
+    marks: &mut Marks,
+    number: usize,
+    line: &[u8],
+    fields: &Fields<'_>,
+    more: u16,
+) -> Result<(), MarksError>
+    ensures { IsRead result (marks_view marks.new) (split_read number line.now
+        (fields_view fields.now) more (marks_view marks.old) (address_of fields.now.value.now)) }
+{
+    let Some(low) = address_of(fields.value) else {
+        return Err(MarksError::Fault(fault_at(
+            number,
+            fields.value_column,
+            MarksFaultKind::BadAddress,
+        )));
+    };
+    take_high(marks, number, line, fields, more, low)
 }
 
 /// Takes an address where control comes in.
@@ -280,6 +395,7 @@ fn take_mark(
             MarksFaultKind::UnknownMark,
         ))),
         Some(MarkWord::Range(kind)) => take_range(marks, number, fields, kind),
+        Some(MarkWord::Split(more)) => take_split(marks, number, line, fields, more),
         Some(MarkWord::Follow) => take_following(marks, number, fields),
         Some(MarkWord::Routine) => take_routine(marks, number, fields),
         Some(MarkWord::Label) => take_label(alloc, profile, marks, number, line, fields),

@@ -2,8 +2,8 @@
 
 ghost use Rattle.std.specs.Prelude.{◌≡◌, ◌==◌, ◌≤◌, ◌&&◌, get_or, length, nat_le, true};
 ghost use Rattle.model.specs.Commands.{address_of, from_1_to};
-ghost use Rattle.marks_files.specs.Values.{addresses_of, count_of, letter_of, range_of};
-ghost use Rattle.marks_files.specs.Values.{routine_from, routine_of, tail_of};
+ghost use Rattle.marks_files.specs.Values.{addresses_of, count_of, letter_of, number_of};
+ghost use Rattle.marks_files.specs.Values.{range_of, routine_from, routine_of, tail_of};
 
 use commands::{address_of, digits};
 use reached::{Inline, Tail};
@@ -50,14 +50,21 @@ fn count_from_1(number: Option<u32>) -> Option<u16>
     }
 }
 
-/// A count of bytes.
-fn count_of(word: &[u8]) -> Option<Tail>
-    ensures { result ≡ count_of word.now }
+/// Returns the number from 1 to 65,535 that a word writes, or `None` for any other word.
+pub fn number_of(word: &[u8]) -> Option<u16>
+    ensures { result ≡ number_of word.now }
 {
     if word.len() > 5 {
         return None;
     }
-    match count_from_1(digits(word)) {
+    count_from_1(digits(word))
+}
+
+/// A count of bytes.
+fn count_of(word: &[u8]) -> Option<Tail>
+    ensures { result ≡ count_of word.now }
+{
+    match number_of(word) {
         Some(count) => Some(Tail::Bytes(count)),
         None => None,
     }

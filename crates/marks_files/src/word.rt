@@ -11,6 +11,9 @@ use crate::marks::RangeKind;
 pub enum MarkWord {
     /// A range of bytes of one kind.
     Range(RangeKind),
+    /// A table in two halves: the low bytes of addresses, or of addresses less 1 if so much is more,
+    /// and the high bytes.
+    Split(u16),
     /// Where control comes in.
     Follow,
     /// What stands behind the calls of a routine.
@@ -43,6 +46,10 @@ pub fn word_of(word: &[u8]) -> Option<MarkWord>
         Some(MarkWord::Range(RangeKind::Returns))
     } else if is_word(word, b"code") {
         Some(MarkWord::Range(RangeKind::Instructions))
+    } else if is_word(word, b"split") {
+        Some(MarkWord::Split(0))
+    } else if is_word(word, b"rts-split") {
+        Some(MarkWord::Split(1))
     } else if is_word(word, b"follow") {
         Some(MarkWord::Follow)
     } else if is_word(word, b"inline") {

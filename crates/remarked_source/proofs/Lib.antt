@@ -2,3 +2,5 @@ pub mod Notes
 pub mod Columns
 pub mod Lines
 pub mod Strings
+pub mod Finding
+pub mod Splits

@@ -5,6 +5,8 @@ use Rattle.model.specs.State.{Map}
 use Rattle.model.specs.declared.instruction.Profile.{Profile}
 use Rattle.named_source.specs.NamedText.{IsFirstOf}
 use Rattle.remarked_source.specs.Rows.{Beside, rows_from}
+use Rattle.marks_files.specs.declared.marks.Split.{Split}
+use Rattle.remarked_source.specs.Splits.{split_from}
 use Rattle.remarked_source.specs.Strings.{joined_from}
 use Rattle.source_forms.specs.Rows.{is_kind}
 use Rattle.source_forms.specs.declared.mark.Mark.{Mark}
@@ -60,3 +62,26 @@ AreJoinedIf true profile image marks plain text = AreJoined profile image marks 
 abbrev pub AreJoinedText : Profile → List (Option ℕ) → List Mark → List ℕ → List ℕ → Type 0
 AreJoinedText profile image marks plain text
     = AreJoinedIf (has_text marks) profile image marks plain text
+
+-- ---- tables in two halves
+
+-- A text is a source with labels in its tables in two halves, if that is a source of the image, and
+-- the source as it was if it is not.
+pub record AreSplit (profile : Profile) (image : List (Option ℕ)) (splits : List Split)
+    (plain text : List ℕ) : Type 0 where
+  pub bus_map : Map
+  pub same : bus_map.profile ≡ profile
+  pub assembly : AssemblyView
+  pub assembled : IsAssembled bus_map assembly
+  pub source : assembly.source ≡ plain
+  pub chosen : IsFirstOf profile image
+      (split_from image splits (source_lines assembly) None (source_lines assembly)) plain text
+
+abbrev pub AreSplitIf : Bool → Profile → List (Option ℕ) → List Split → List ℕ → List ℕ → Type 0
+AreSplitIf false profile image splits plain text = text ≡ plain
+AreSplitIf true profile image splits plain text = AreSplit profile image splits plain text
+
+-- The same where there is no such table: the source is then as it was.
+abbrev pub AreSplitText : Profile → List (Option ℕ) → List Split → List ℕ → List ℕ → Type 0
+AreSplitText profile image splits plain text
+    = AreSplitIf (nat_lt 0 (length splits)) profile image splits plain text

@@ -28,11 +28,11 @@ fn text_of(texts: &[u8], remark: Remark) -> &[u8]
     &behind[..count.min(behind.len())]
 }
 
-/// Whether an address lies at one or above it, and below another.
-fn lies_in(low: u64, high: u64, address: u16) -> bool
+/// Returns whether an address lies at one or above it, and below another.
+pub fn lies_in(low: u64, high: u64, address: u64) -> bool
     ensures { result ≡ lies_in low high address }
 {
-    low <= address as u64 && (address as u64) < high
+    low <= address && address < high
 }
 
 /// Appends a comment that stands before a line of these addresses.
@@ -46,7 +46,7 @@ fn push_block(
     ensures { OnOk result
         (out.new.items ≡ out.old.items ++ block_of texts.now low high remark) }
 {
-    if remark.is_block && lies_in(low, high, remark.address) {
+    if remark.is_block && lies_in(low, high, remark.address as u64) {
         out.extend_from_slice(b"; ")?;
         out.extend_from_slice(text_of(texts, remark))?;
         out.extend_from_slice(b"\n")?;
@@ -82,7 +82,7 @@ fn note_front(first: bool) -> &'static [u8]
 fn is_note(low: u64, high: u64, remark: Remark) -> bool
     ensures { result ≡ is_note low high remark }
 {
-    !remark.is_block && lies_in(low, high, remark.address)
+    !remark.is_block && lies_in(low, high, remark.address as u64)
 }
 
 /// Appends a comment, if it stands behind a line of these addresses. Whether the next one is the

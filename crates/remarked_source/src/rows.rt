@@ -14,8 +14,8 @@ use assembler::{Assembly, SourceLine};
 use formatting::{address_text, push_blanks, push_byte};
 use std::alloc::{AllocError, Global};
 
-/// Whether a line is a label alone.
-fn is_label(line: &[u8]) -> bool
+/// Returns whether a line is a label alone.
+pub fn is_label(line: &[u8]) -> bool
     ensures { result ≡ is_label line.now }
 {
     match line {
@@ -45,8 +45,8 @@ fn push_padded(out: &mut Vec<u8>, text: &[u8]) -> Result<(), AllocError>
     push_blanks(out, from, 40)
 }
 
-/// The byte at an address, if there is one.
-fn cell_at(cells: &[Option<u8>], address: usize) -> Option<u8>
+/// Returns the byte at an address, if there is one.
+pub fn cell_at(cells: &[Option<u8>], address: usize) -> Option<u8>
     ensures { result ≡ cell_at cells.now address }
 {
     match cells.get(address) {
@@ -55,8 +55,8 @@ fn cell_at(cells: &[Option<u8>], address: usize) -> Option<u8>
     }
 }
 
-/// The byte at an address, or 0 where there is none.
-fn byte_at(cells: &[Option<u8>], address: usize) -> u8
+/// Returns the byte at an address, or 0 where there is none.
+pub fn byte_at(cells: &[Option<u8>], address: usize) -> u8
     ensures { result ≡ unwrap_or (cell_at cells.now address) 0 }
 {
     match cell_at(cells, address) {

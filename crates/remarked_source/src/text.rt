@@ -1,17 +1,20 @@
-//! The source with comments or joined strings, or that without.
+//! The source with comments, joined strings or labels in tables, or that without.
 
 ghost use Rattle.std.specs.Prelude.{◌≡◌, IfOk, false};
 ghost use Rattle.model.specs.Source.{Denotes};
 ghost use Rattle.model.specs.State.{Map, has_port_byte};
-ghost use Rattle.remarked_source.specs.RemarkedText.{AreJoined, AreJoinedText, IsRemarked};
-ghost use Rattle.remarked_source.specs.RemarkedText.{IsRemarkedText, has_text};
+ghost use Rattle.remarked_source.specs.RemarkedText.{AreJoined, AreJoinedText, AreSplit};
+ghost use Rattle.remarked_source.specs.RemarkedText.{AreSplitText, IsRemarked, IsRemarkedText};
+ghost use Rattle.remarked_source.specs.RemarkedText.{has_text};
 ghost use Rattle.remarked_source.specs.Views.{beside_view};
 
 use crate::beside::Beside;
 use crate::rows::rows;
+use crate::splits::{Tables, with_halves};
 use crate::strings::{is_text_mark, joined};
 use assembler::assemble;
 use bus::Image;
+use marks_files::Split;
 use model::Profile;
 use named_source::{is_right, map_for};
 use source_forms::Mark;
@@ -134,6 +137,68 @@ pub fn joined_text(
 {
     if has_text(marks) {
         with_joined(alloc, profile, image, marks, plain)
+    } else {
+        Ok(plain)
+    }
+}
+
+/// The source with labels in its tables in two halves, or as it was.
+fn with_labels(
+    alloc: Global,
+    profile: Profile,
+    image: &Image,
+    splits: &[Split],
+    plain: Vec<u8>,
+) -> Result<Vec<u8>, AllocError>
+    ensures text { IfOk result (λ text. AreSplit profile image.now splits.now plain.items
+        text.items) }
+    ensures denotes { IfOk result (λ text. ((bus_map : Map) → bus_map.profile ≡ profile
+        → has_port_byte bus_map image.now ≡ false → Denotes bus_map plain.items image.now)
+        → (bus_map : Map) → bus_map.profile ≡ profile → has_port_byte bus_map image.now ≡ false
+        → Denotes bus_map text.items image.now) }
+{
+    let Some(map) = map_for(profile) else {
+        return Err(AllocError);
+    };
+    let Ok(assembly) = assemble(alloc, plain.as_slice(), &map) else {
+        return Err(AllocError);
+    };
+    let tables = Tables {
+        cells: image.cells(),
+        splits,
+        assembly: &assembly,
+    };
+    let text = with_halves(alloc, tables)?;
+    if is_right(alloc, profile, text.as_slice(), image)? {
+        Ok(text)
+    } else {
+        Ok(plain)
+    }
+}
+
+/// Writes a source of an image with labels in its tables in two halves, as `.BYTE <L_E050`, each
+/// half on a line of its own, and with the labels that these need. If the source with them is no
+/// source of the image, as where there would be more than 8,192 names, it is written as it was.
+///
+/// If the source denotes the image under each map of the profile at whose port the image has no
+/// byte, so does what is written, whatever the tables are. The only error is that a request for
+/// memory was refused: a source of the image has no fault. Source: mos65.
+pub fn split_text(
+    alloc: Global,
+    profile: Profile,
+    image: &Image,
+    splits: &[Split],
+    plain: Vec<u8>,
+) -> Result<Vec<u8>, AllocError>
+    ensures text { IfOk result (λ text. AreSplitText profile image.now splits.now plain.items
+        text.items) }
+    ensures denotes { IfOk result (λ text. ((bus_map : Map) → bus_map.profile ≡ profile
+        → has_port_byte bus_map image.now ≡ false → Denotes bus_map plain.items image.now)
+        → (bus_map : Map) → bus_map.profile ≡ profile → has_port_byte bus_map image.now ≡ false
+        → Denotes bus_map text.items image.now) }
+{
+    if splits.len() > 0 {
+        with_labels(alloc, profile, image, splits, plain)
     } else {
         Ok(plain)
     }

@@ -19,14 +19,14 @@ use Rattle.clap.specs.Words.{Text}
 use Rattle.word_dis.specs.Word.{AreFileNames, AreGiven, AreLabels, AreNames, names_map}
 use Rattle.word_dis.specs.declared.names.Names.{Names}
 use Rattle.reached.specs.Reached.{AreFollowed}
-use Rattle.remarked_source.specs.RemarkedText.{AreJoinedText, IsRemarkedText}
+use Rattle.remarked_source.specs.RemarkedText.{AreJoinedText, AreSplitText, IsRemarkedText}
 use Rattle.word_dis.specs.Written.{AreFollowedBy, AreMarked, AreMarkedBy, AreReached, IsText, IsWritten, beside_of, is_followed, starts_of}
 
 -- the source of a part with its marks and names, and where it may be
-pub source_is : (asked : SourceAsked) (image : List (Option ℕ)) (names : Option Definitions) (whole part : List (Option ℕ)) (marks : List Mark) (plain strings text : List ℕ) (at_port : Bool) (left_out : ℕ) → ((a : ℕ) → a < 65536 → cell_at whole a ≡ cell_between image asked.first asked.last a)
-    → AreKept whole asked.fill part → left_out ≡ bytes_left_out whole part → AreMarkedBy asked part marks → IsText asked part marks names plain → AreJoinedText asked.profile part marks plain strings → IsRemarkedText asked.profile part (beside_of asked) strings text
+pub source_is : (asked : SourceAsked) (image : List (Option ℕ)) (names : Option Definitions) (whole part : List (Option ℕ)) (marks : List Mark) (plain halves strings text : List ℕ) (at_port : Bool) (left_out : ℕ) → ((a : ℕ) → a < 65536 → cell_at whole a ≡ cell_between image asked.first asked.last a)
+    → AreKept whole asked.fill part → left_out ≡ bytes_left_out whole part → AreMarkedBy asked part marks → IsText asked part marks names plain → AreSplitText asked.profile part asked.said.splits plain halves → AreJoinedText asked.profile part marks halves strings → IsRemarkedText asked.profile part (beside_of asked) strings text
     → ((bus_map : Map) → bus_map.profile ≡ asked.profile → has_port_byte bus_map part ≡ false → Denotes bus_map text part) → at_port ≡ is_at_port part → IsWritten asked image names text at_port left_out
-source_is asked image names whole part marks plain strings text at_port left_out cells kept counted marked says joined remarked means same = record {
+source_is asked image names whole part marks plain halves strings text at_port left_out cells kept counted marked says split joined remarked means same = record {
   source = record {
     whole = whole;
     cells = cells;
@@ -37,6 +37,8 @@ source_is asked image names whole part marks plain strings text at_port left_out
     marked = marked;
     plain = plain;
     says = says;
+    halves = halves;
+    split = split;
     strings = strings;
     joined = joined;
     remarked = remarked;

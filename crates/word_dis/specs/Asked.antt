@@ -54,6 +54,7 @@ said_of ranges following = record {
   addresses = ranges.addresses;
   returns = ranges.returns;
   instructions = [];
+  splits = [];
   follows = is_some following.more;
   entries = listed following.more;
   routines = following.routines;

@@ -32,7 +32,8 @@ said_mark instructions marks address = if lies_in_one instructions address then 
 -- There are labels where they are asked for, and where words or names are.
 abbrev pub has_labels : SourceAsked → Bool
 has_labels asked = asked.labels || is_some asked.symbols
-    || nat_lt 0 (length asked.said.definitions) || nat_lt 0 (length asked.said.addresses)
+    || nat_lt 0 (length asked.said.definitions) || nat_lt 0 (length asked.said.splits)
+    || nat_lt 0 (length asked.said.addresses)
     || nat_lt 0 (length asked.said.returns)
 
 -- A cell between two addresses, and nothing elsewhere.

@@ -9,8 +9,10 @@ use Rattle.source_forms.specs.declared.mark.Mark.{Mark}
 use Rattle.source_forms.specs.Labels.{flagged_source, labelled_source}
 use Rattle.named_source.specs.NamedText.{IsNamedText}
 use Rattle.reached.specs.Reached.{AreFollowed, vectors, word_of}
-use Rattle.remarked_source.specs.RemarkedText.{AreJoinedText, IsRemarkedText}
+use Rattle.remarked_source.specs.RemarkedText.{AreJoinedText, AreSplitText, IsRemarkedText}
 use Rattle.remarked_source.specs.Rows.{Beside}
+use Rattle.remarked_source.specs.Splits.{target_at}
+use Rattle.marks_files.specs.declared.marks.Split.{Split}
 use Rattle.word_dis.specs.Advice.{is_at_port}
 use Rattle.word_dis.specs.Asked.{SourceAsked}
 use Rattle.word_dis.specs.Fill.{AreKept, AreSameFilled, bytes_left_out}
@@ -44,16 +46,32 @@ targets part more [] = []
 targets part more (range ∷ ranges)
     = words_between part more 32768 range.0 range.1 ++ targets part more ranges
 
+abbrev pub target_list : Option ℕ → List ℕ
+target_list None = []
+target_list (Some target) = target ∷ []
+
+-- The addresses to which the first words of a table in two halves lead.
+unfoldable pub half_targets : List (Option ℕ) → Split → ℕ → List ℕ
+half_targets part split zero = []
+half_targets part split (suc n) = half_targets part split n
+    ++ target_list (target_at part split n)
+
+-- Those of all such tables.
+abbrev pub split_targets : List (Option ℕ) → List Split → List ℕ
+split_targets part [] = []
+split_targets part (split ∷ splits)
+    = half_targets part split split.count ++ split_targets part splits
+
 -- The first addresses of ranges.
 abbrev pub firsts : List (ℕ × ℕ) → List ℕ
 firsts ranges = map (λ range. range.0) ranges
 
 -- Control comes in at the vectors, or at the addresses that are said in place of them; at more
--- addresses, where words are marked as addresses, and where instructions are.
+-- addresses, where words are marked as addresses or stand in two halves, and where instructions are.
 abbrev pub starts_of : List (Option ℕ) → SourceAsked → List ℕ
 starts_of part asked = entries part asked.only ++ asked.said.entries
     ++ targets part 0 asked.said.addresses ++ targets part 1 asked.said.returns
-    ++ firsts asked.said.instructions
+    ++ split_targets part asked.said.splits ++ firsts asked.said.instructions
 
 -- Control is followed where it is said where it comes in, or what stands behind calls.
 abbrev pub is_followed : SourceAsked → Bool
@@ -113,8 +131,10 @@ pub record IsSourceOfPart (asked : SourceAsked) (image : List (Option ℕ))
   pub marked : AreMarkedBy asked part marks
   pub plain : List ℕ
   pub says : IsText asked part marks names plain
+  pub halves : List ℕ
+  pub split : AreSplitText asked.profile part asked.said.splits plain halves
   pub strings : List ℕ
-  pub joined : AreJoinedText asked.profile part marks plain strings
+  pub joined : AreJoinedText asked.profile part marks halves strings
   pub remarked : IsRemarkedText asked.profile part (beside_of asked) strings text
   pub denotes : (bus_map : Map) → bus_map.profile ≡ asked.profile
       → has_port_byte bus_map part ≡ false → Denotes bus_map text part

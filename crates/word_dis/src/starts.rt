@@ -3,12 +3,14 @@
 ghost use Rattle.std.specs.Prelude.{◌≡◌, ◌≤◌, ◌++◌, IfOk, OnOk, option_map};
 ghost use Rattle.model.specs.Image.{cell_at};
 ghost use Rattle.word_dis.specs.Views.{source_view};
-ghost use Rattle.word_dis.specs.Written.{entries, firsts, is_followed, starts_of, targets, word_at};
-ghost use Rattle.word_dis.specs.Written.{words_between};
+ghost use Rattle.word_dis.specs.Written.{entries, firsts, half_targets, is_followed, split_targets};
+ghost use Rattle.word_dis.specs.Written.{starts_of, target_list, targets, word_at, words_between};
 
 use crate::asked::SourceWords;
 use bus::Image;
+use marks_files::Split;
 use reached::vectors;
+use remarked_source::target_at;
 use std::alloc::{AllocError, Global};
 
 /// Returns whether control is followed.
@@ -99,6 +101,39 @@ fn push_targets(
     Ok(())
 }
 
+/// Appends an address, if there is one.
+fn push_target(starts: &mut Vec<u16>, target: Option<u16>) -> Result<(), AllocError>
+    ensures { OnOk result (starts.new.items ≡ starts.old.items ++ target_list target) }
+{
+    match target {
+        Some(target) => starts.push(target),
+        None => Ok(()),
+    }
+}
+
+/// Appends the addresses to which the words of a table in two halves lead.
+#[tactic(auto, using(crate::proofs::Starts::no_halves))]
+fn push_halves(starts: &mut Vec<u16>, part: &Image, split: Split) -> Result<(), AllocError>
+    ensures { OnOk result (starts.new.items
+        ≡ starts.old.items ++ half_targets part.now split split.count) }
+{
+    for index in 0..split.count {
+        push_target(starts, target_at(part.cells(), split, index))?;
+    }
+    Ok(())
+}
+
+/// Appends those of all such tables.
+fn push_splits(starts: &mut Vec<u16>, part: &Image, splits: &[Split]) -> Result<(), AllocError>
+    ensures { OnOk result
+        (starts.new.items ≡ starts.old.items ++ split_targets part.now splits.now) }
+{
+    for split in splits {
+        push_halves(starts, part, *split)?;
+    }
+    Ok(())
+}
+
 /// Appends the first addresses of ranges.
 fn push_firsts(starts: &mut Vec<u16>, ranges: &[(u16, u16)]) -> Result<(), AllocError>
     ensures { OnOk result (starts.new.items ≡ starts.old.items ++ firsts ranges.now) }
@@ -110,8 +145,8 @@ fn push_firsts(starts: &mut Vec<u16>, ranges: &[(u16, u16)]) -> Result<(), Alloc
 }
 
 /// Returns where control comes in: at the vectors, or the addresses in place of them; at more
-/// addresses; at the words that are marked as addresses; and at ranges of instructions. The only
-/// error is that a request for memory was refused.
+/// addresses; where words lead that are marked as addresses, or stand in two halves; and at ranges
+/// of instructions. The only error is that a request for memory was refused.
 pub fn starts_of(
     alloc: Global,
     part: &Image,
@@ -125,6 +160,7 @@ pub fn starts_of(
     starts.extend_from_slice(words.said.entries.as_slice())?;
     push_targets(&mut starts, part, 0, words.said.addresses.as_slice())?;
     push_targets(&mut starts, part, 1, words.said.returns.as_slice())?;
+    push_splits(&mut starts, part, words.said.splits.as_slice())?;
     push_firsts(&mut starts, words.said.instructions.as_slice())?;
     Ok(starts)
 }

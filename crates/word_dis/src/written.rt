@@ -24,7 +24,7 @@ use memory_map::DEFAULT_PORT;
 use model::Profile;
 use named_source::{Mark, flagged_text, labelled_text, named_text};
 use reached::followed_marks;
-use remarked_source::{Beside, joined_text, remarked_text};
+use remarked_source::{Beside, joined_text, remarked_text, split_text};
 use std::alloc::{AllocError, Global};
 
 /// Returns what a source with names for addresses defines.
@@ -49,6 +49,7 @@ fn has_labels(words: &SourceWords<'_>) -> bool
     words.labels
         || words.symbols.is_some()
         || words.said.definitions.len() > 0
+        || words.said.splits.len() > 0
         || words.said.addresses.len() > 0
         || words.said.returns.len() > 0
 }
@@ -178,7 +179,9 @@ pub fn written(
     let part = &kept_part.part;
     let marks = marked(alloc, words, part)?;
     let plain = source_of(alloc, words, part, marks.as_slice(), names)?;
-    let strings = joined_text(alloc, words.profile, part, marks.as_slice(), plain)?;
+    let splits = words.said.splits.as_slice();
+    let halves = split_text(alloc, words.profile, part, splits, plain)?;
+    let strings = joined_text(alloc, words.profile, part, marks.as_slice(), halves)?;
     let text = remarked_text(alloc, words.profile, part, beside_of(words), strings)?;
     Ok(SourceText {
         text,
