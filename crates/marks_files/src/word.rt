@@ -11,8 +11,8 @@ use crate::marks::RangeKind;
 pub enum MarkWord {
     /// A range of bytes of one kind.
     Range(RangeKind),
-    /// A table in two halves: the low bytes of addresses, or of addresses less 1 if so much is more,
-    /// and the high bytes.
+    /// A table in two halves: the low bytes of addresses, and the high ones; or of addresses less
+    /// 1, where so much is more.
     Split(u16),
     /// Where control comes in.
     Follow,

@@ -402,8 +402,8 @@ fn push_split_row(
     push_line_text(out, tables, line)
 }
 
-/// Returns the lines of an assembly with labels in the place of numbers of tables. The only error is
-/// that a request for memory was refused.
+/// Returns the lines of an assembly with labels in the place of numbers of tables. The only error
+/// is that a request for memory was refused.
 #[tactic(auto, using(crate::proofs::Splits::lines_end))]
 pub fn with_halves(alloc: Global, tables: Tables<'_>) -> Result<Vec<u8>, AllocError>
     ensures { IfOk result (λ text. text.items ≡ split_from tables.entry.cells.now
