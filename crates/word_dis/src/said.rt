@@ -8,7 +8,7 @@ ghost use Rattle.word_dis.specs.Word.{AreSaid, EndsMarks, with_said};
 ghost use Rattle.word_dis.specs.Told.{AreOfSome, IsMarks};
 
 use crate::asked::SourceWords;
-use arguments::{Refusal, read_source, refuse_file, tell_no_image};
+use arguments::{ReadFault, Refusal, read_source, refuse_file, tell_no_image};
 use formatting::{Text, push_bytes, push_decimal};
 use marks_files::{Marks, MarksError, MarksFault, marks_of_file};
 use model::Profile;
@@ -16,12 +16,15 @@ use std::alloc::Global;
 use std::io::Write;
 use std::rt::Files;
 
+/// The most bytes that a file of marks has. Source: mos65.
+const LONGEST: usize = 1_048_576;
+
 /// Why there are no marks.
 #[derive(Clone, Copy, Debug)]
 pub enum MarksRefusal {
     /// Their file has this fault.
     Fault(MarksFault),
-    /// Their file cannot be read, or memory ran out.
+    /// Their file cannot be read, or has more than 1,048,576 bytes; or memory ran out.
     Refused(Refusal),
 }
 
@@ -79,6 +82,8 @@ fn marks_in(
 }
 
 /// What the words say of the image, and what the file of marks of that path says.
+///
+/// A file of more than 1,048,576 bytes is not read: `Refused` with `Read`.
 #[tactic(auto, using(crate::proofs::Said::unread))]
 fn marks_of_path<H: Files + AllocGlobal>(
     rt: &H,
@@ -92,6 +97,9 @@ fn marks_of_path<H: Files + AllocGlobal>(
         Ok(file) => file,
         Err(refusal) => return Err(MarksRefusal::Refused(refusal)),
     };
+    if file.len() > LONGEST {
+        return Err(MarksRefusal::Refused(Refusal::Read(ReadFault::Other)));
+    }
     marks_in(rt.alloc(), profile, said, file.as_slice())
 }
 
