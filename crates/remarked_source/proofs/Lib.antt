@@ -4,3 +4,4 @@ pub mod Lines
 pub mod Strings
 pub mod Finding
 pub mod Splits
+pub mod Chosen

@@ -1,10 +1,10 @@
 //! The source with comments, joined strings or labels in tables, or that without.
 
-ghost use Rattle.std.specs.Prelude.{◌≡◌, IfOk, false};
+ghost use Rattle.std.specs.Prelude.{◌≡◌, IfOk, false, length, nat_lt};
 ghost use Rattle.model.specs.Source.{Denotes};
 ghost use Rattle.model.specs.State.{Map, has_port_byte};
 ghost use Rattle.remarked_source.specs.RemarkedText.{AreJoined, AreJoinedText, AreSplit};
-ghost use Rattle.remarked_source.specs.RemarkedText.{AreSplitText, IsRemarked, IsRemarkedText};
+ghost use Rattle.remarked_source.specs.RemarkedText.{AreSplitText, IsRemarked, IsRemarkedText, is_beside};
 ghost use Rattle.remarked_source.specs.RemarkedText.{has_text};
 ghost use Rattle.remarked_source.specs.Views.{beside_view};
 
@@ -49,6 +49,13 @@ fn with_comments(
     }
 }
 
+/// Whether something may stand beside the lines.
+fn is_beside(beside: Beside<'_>) -> bool
+    ensures { result ≡ is_beside (beside_view beside.entry) }
+{
+    beside.addresses || beside.remarks.len() > 0
+}
+
 /// Writes a source of an image with comments beside its lines: with `addresses` its address and its
 /// first eight bytes beside each line that has some; and what is said of addresses, before the line
 /// or behind it. If the source with them is no source of the image, as where it is longer than a
@@ -71,7 +78,7 @@ pub fn remarked_text(
         → (bus_map : Map) → bus_map.profile ≡ profile → has_port_byte bus_map image.now ≡ false
         → Denotes bus_map text.items image.now) }
 {
-    if beside.addresses || beside.remarks.len() > 0 {
+    if is_beside(beside) {
         with_comments(alloc, profile, image, beside, plain)
     } else {
         Ok(plain)
@@ -176,6 +183,13 @@ fn with_labels(
     }
 }
 
+/// Whether there are tables in two halves.
+fn are_there(splits: &[Split]) -> bool
+    ensures { result ≡ nat_lt 0 (length splits.now) }
+{
+    splits.len() > 0
+}
+
 /// Writes a source of an image with labels in its tables in two halves, as `.BYTE <L_E050`, each
 /// half on a line of its own, and with the labels that these need. If the source with them is no
 /// source of the image, as where there would be more than 8,192 names, it is written as it was.
@@ -197,7 +211,7 @@ pub fn split_text(
         → (bus_map : Map) → bus_map.profile ≡ profile → has_port_byte bus_map image.now ≡ false
         → Denotes bus_map text.items image.now) }
 {
-    if splits.len() > 0 {
+    if are_there(splits) {
         with_labels(alloc, profile, image, splits, plain)
     } else {
         Ok(plain)
