@@ -5,3 +5,4 @@ pub mod Strings
 pub mod Finding
 pub mod Splits
 pub mod Chosen
+pub mod Cuts

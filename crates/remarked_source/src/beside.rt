@@ -20,6 +20,7 @@ pub struct Beside<'a> {
 }
 
 /// The text of a comment.
+#[tactic(auto, using(crate::proofs::Cuts::text_cut))]
 fn text_of(texts: &[u8], remark: Remark) -> &[u8]
     ensures { result.now ≡ text_of texts.now remark }
 {

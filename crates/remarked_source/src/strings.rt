@@ -77,6 +77,7 @@ fn count_joined(marks: &[Mark], before: SourceLine<'_>, line: SourceLine<'_>) ->
 }
 
 /// The end of a text behind so many bytes.
+#[tactic(auto, using(crate::proofs::Cuts::behind_cut))]
 fn behind(text: &[u8], count: usize) -> &[u8]
     ensures { result.now ≡ drop count text.now }
 {
@@ -84,6 +85,7 @@ fn behind(text: &[u8], count: usize) -> &[u8]
 }
 
 /// So many first bytes of a text.
+#[tactic(auto, using(crate::proofs::Cuts::front_cut))]
 fn front(text: &[u8], count: usize) -> &[u8]
     ensures { result.now ≡ take count text.now }
 {
