@@ -122,12 +122,13 @@ pub fn push_range(marks: &mut Marks, kind: RangeKind, range: (u16, u16)) -> Resu
     ensures { OnOk result (marks_view marks.new ≡ with_range kind range (marks_view marks.old)) }
 {
     match kind {
-        RangeKind::Numbers => marks.numbers.push(range),
-        RangeKind::Letters => marks.letters.push(range),
-        RangeKind::Addresses => marks.addresses.push(range),
-        RangeKind::Returns => marks.returns.push(range),
-        RangeKind::Instructions => marks.instructions.push(range),
+        RangeKind::Numbers => marks.numbers.push(range)?,
+        RangeKind::Letters => marks.letters.push(range)?,
+        RangeKind::Addresses => marks.addresses.push(range)?,
+        RangeKind::Returns => marks.returns.push(range)?,
+        RangeKind::Instructions => marks.instructions.push(range)?,
     }
+    Ok(())
 }
 
 /// Returns whether both halves of a table end by address 65535.
@@ -162,7 +163,8 @@ pub fn push_split(marks: &mut Marks, split: Split) -> Result<(), AllocError>
 {
     marks.numbers.push(half(split.low, split.count))?;
     marks.numbers.push(half(split.high, split.count))?;
-    marks.splits.push(split)
+    marks.splits.push(split)?;
+    Ok(())
 }
 
 /// Appends an address where control comes in.
@@ -192,7 +194,8 @@ pub fn push_routine(marks: &mut Marks, routine: Inline) -> Result<(), AllocError
     ensures { OnOk result
         (marks_view marks.new ≡ with_routine routine (marks_view marks.old)) }
 {
-    marks.routines.push(routine)
+    marks.routines.push(routine)?;
+    Ok(())
 }
 
 /// Appends a label, whose name was not given before.
@@ -252,5 +255,6 @@ pub fn push_remark(
         is_block,
         begin,
         end,
-    })
+    })?;
+    Ok(())
 }

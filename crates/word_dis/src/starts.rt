@@ -54,7 +54,8 @@ fn push_word(starts: &mut Vec<u16>, part: &Image, more: u16, address: u32) -> Re
     match (byte_at(part, address), byte_at(part, address + 1)) {
         (Some(low), Some(high)) => {
             let word = low as u32 + 256 * high as u32 + more as u32;
-            starts.push((word % 65536) as u16)
+            starts.push((word % 65536) as u16)?;
+            Ok(())
         }
         _ => Ok(()),
     }
@@ -106,7 +107,10 @@ fn push_target(starts: &mut Vec<u16>, target: Option<u16>) -> Result<(), AllocEr
     ensures { OnOk result (starts.new.items ≡ starts.old.items ++ target_list target) }
 {
     match target {
-        Some(target) => starts.push(target),
+        Some(target) => {
+            starts.push(target)?;
+            Ok(())
+        }
         None => Ok(()),
     }
 }
