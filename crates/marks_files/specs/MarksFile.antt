@@ -148,12 +148,16 @@ mark_read profile number line f m (Some Label)
 mark_read profile number line f m (Some (Comment is_block))
     = remark_read number f is_block m (address_of f.value)
 
+-- What the fields of a line say, by its word.
+abbrev pub fields_read : Profile → ℕ → List ℕ → Fields → Marks → Read
+fields_read profile number line f m = mark_read profile number line f m (word_of f.word)
+
 -- ---- a file
 
 -- A line says nothing where it is empty or a comment, and otherwise what its word marks.
 unfoldable pub line_read : Profile → ℕ → List ℕ → Marks → Read
 line_read profile number line m = if is_nothing (skip line) then Ok m
-    else mark_read profile number line (fields_of line) m (word_of (fields_of line).word)
+    else fields_read profile number line (fields_of line) m
 
 abbrev pub then_read : Read → (Marks → Read) → Read
 then_read (Ok m) next = next m

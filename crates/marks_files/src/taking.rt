@@ -4,7 +4,7 @@ ghost use Rattle.std.specs.Prelude.{◌≡◌};
 ghost use Rattle.model.specs.Commands.{address_of};
 ghost use Rattle.model.specs.Names.{number_in};
 ghost use Rattle.marks_files.specs.Fields.{behind_word, front_word};
-ghost use Rattle.marks_files.specs.MarksFile.{IsRead, count_read, entry_read, follow_read};
+ghost use Rattle.marks_files.specs.MarksFile.{IsRead, count_read, entry_read, fields_read, follow_read};
 ghost use Rattle.marks_files.specs.MarksFile.{halves_read, high_read, label_read, line_read};
 ghost use Rattle.marks_files.specs.MarksFile.{mark_read, name_once, name_read, range_read};
 ghost use Rattle.marks_files.specs.MarksFile.{remark_read, routine_once, routine_read, split_read};
@@ -403,6 +403,22 @@ fn take_mark(
     }
 }
 
+/// Takes what the fields of a line say.
+fn take_fields(
+    alloc: Global,
+    profile: Profile,
+    marks: &mut Marks,
+    number: usize,
+    line: &[u8],
+    fields: &Fields<'_>,
+) -> Result<(), MarksError>
+    ensures { IsRead result (marks_view marks.new) (fields_read profile number line.now
+        (fields_view fields.now) (marks_view marks.old)) }
+{
+    let word = word_of(fields.word);
+    take_mark(alloc, profile, marks, number, line, fields, word)
+}
+
 /// Takes a line of a file of marks.
 #[tactic(auto, unfolding(crate::specs::MarksFile::line_read))]
 pub fn take_line(
@@ -419,6 +435,5 @@ pub fn take_line(
         return Ok(());
     }
     let fields = fields_of(line);
-    let word = word_of(fields.word);
-    take_mark(alloc, profile, marks, number, line, &fields, word)
+    take_fields(alloc, profile, marks, number, line, &fields)
 }
