@@ -1,0 +1,11 @@
+use Rattle.std.proofs.Common.{◌≡◌, ◌∙◌, sym, arith, rules}
+use Rattle.std.proofs.lemmas.List.{length-set}
+use Rattle.reached.proofs.Letters.{run_end, run_more}
+use Rattle.reached.proofs.letters.flag_run.Goals as goal
+
+pub loop-left-preserved : goal.loop-left-preserved
+loop-left-preserved c = record {
+  set = sym (run_more c.loop-left.letters.items c.loop-left.left c.loop-left.at c.loop-left-test.true) ∙ c.loop-left.invariant.set;
+  size = search rules;
+  near = omega (arith, c.loop-left.invariant.near, c.loop-left-test.true);
+}
