@@ -93,7 +93,11 @@ pub const HELP: [(&str, &str, &str); 36] = [
         "hands text to the console's input",
         "type \"HELLO\"",
     ),
-    ("screen", "shows the console's output", "screen"),
+    (
+        "screen [COLUMNS ROWS]",
+        "shows the console's output; sets the size of --screen",
+        "screen, screen 120 40",
+    ),
     ("irq on|off", "sets the interrupt line", "irq on"),
     ("nmi", "asks for a nonmaskable interrupt", "nmi"),
     ("reset", "resets the processor", "reset"),
