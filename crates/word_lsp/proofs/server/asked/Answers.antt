@@ -11,4 +11,4 @@ returns-clause-state c =
     let old = c.args.server.now in
     let state : Phase → Option Map → State = λ phase chosen. record { phase = phase; chosen = chosen; documents = documents_view old.documents } in
     let set = c.chosen_after-server.ensures ∙ ap (λ (o : Option SettingsView). chosen_after c.args.words.now old.chosen o) c.settings_asked-settings.ensures in
-    ap₂ state c.after.ensures set
+    ap₂ state c.after-server.ensures set
