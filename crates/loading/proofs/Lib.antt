@@ -4,4 +4,4 @@ pub mod Ends
 mod Starts
 pub mod Unloaded
 pub mod Unnamed
-pub mod Warned
+pub mod WarningsTold

@@ -79,7 +79,7 @@ fn tell_count<E: Write>(count: usize, errors: &mut E)
 
 /// Writes how many warnings a source has, if there is one and it has some, or a beginning of that
 /// line if a write fails. Where memory runs out nothing is written.
-#[tactic(auto, using(crate::proofs::Warned::none_told))]
+#[tactic(auto, using(crate::proofs::WarningsTold::none_told))]
 pub fn tell_warnings<E: Write>(
     alloc: Global,
     words: &FileWords<'_>,

@@ -1,6 +1,6 @@
 use Rattle.std.proofs.Common.{arith, ℕ, Option, ◌∙◌, ap₂}
 use Rattle.image_files.specs.Union.{joined_cell}
-use Rattle.image_files.proofs.Union.{all_of, none_yet, one_more}
+use Rattle.image_files.proofs.Unions.{all_of, none_yet, one_more}
 use Rattle.image_files.proofs.union.union_of.Goals as goal
 use Rattle.image_writer.proofs.Parts.{part_size, size_kept}
 use Rattle.model.specs.Image.{cell_at}

@@ -1,7 +1,7 @@
 use Rattle.std.proofs.Common.{◌≡◌, length, ℕ}
 use Rattle.model.specs.Image.{cell_at}
 use Rattle.image_files.specs.Union.{joined_cell}
-use Rattle.image_files.proofs.Union.{so_far}
+use Rattle.image_files.proofs.Unions.{so_far}
 use Rattle.image_files.proofs.union.union_of.Given as goal
 
 -- The addresses so far have what either image has, and the others have nothing.

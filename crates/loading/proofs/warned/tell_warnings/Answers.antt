@@ -1,5 +1,5 @@
 use Rattle.arguments.specs.Asked.{file_view, map_of}
-use Rattle.loading.proofs.Warned.{some_told}
+use Rattle.loading.proofs.WarningsTold.{some_told}
 use Rattle.loading.proofs.warned.tell_warnings.Goals as goal
 
 pub returns-in-Some : goal.returns-in-Some
