@@ -77,14 +77,22 @@ abbrev pub with_field : List Field → Field → List ℕ → Result (List Field
 with_field fields field text = if is_some (field_in fields field.name)
     then Err (fault_at NameTwice text) else Ok (fields ++ field ∷ [])
 
--- The fields of a text behind those that were read, so many at most. Each has a byte at least, so as
--- many as there are bytes are enough.
+-- The fields of a text behind those that were read: the next one, and what stands behind it.
+abbrev pub Step : Type 0
+Step = List Field × List ℕ
+
+unfoldable pub next_field : List Field → List ℕ → Result Step LineFault
+next_field fields text =
+    field_of text >>= λ read.
+    with_field fields read.0 text >>= λ more.
+    Ok (more, read.1)
+
+-- So many at most. Each has a byte at least, so as many as there are bytes are enough.
 unfoldable pub fields_within : ℕ → List Field → List ℕ → Result (List Field) LineFault
 fields_within zero fields text = Err (fault_at NoField text)
 fields_within (suc n) fields text =
-    field_of text >>= λ read.
-    with_field fields read.0 text >>= λ more.
-    if length read.1 == 0 then Ok more else fields_within n more (drop 1 read.1)
+    next_field fields text >>= λ step.
+    if length step.1 == 0 then Ok step.0 else fields_within n step.0 (drop 1 step.1)
 
 abbrev pub fields_of : List ℕ → Result (List Field) LineFault
 fields_of text = fields_within (length text) [] text

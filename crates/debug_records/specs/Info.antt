@@ -1,6 +1,6 @@
 -- What a debug file says: tables of records by their numbers, and which spans each line has.
 -- Sources: those of Fields.antt.
-use Rattle.std.specs.Prelude.{ℕ, ◌+◌, ◌-◌, ◌==◌, nat_le, nat_lt, Bool, true, false, is_some, if◌then◌else◌, List, [], ◌++◌, length, get_or, set, replicate, Option, Some, None, Result, Ok, Err}
+use Rattle.std.specs.Prelude.{ℕ, ◌+◌, ◌-◌, ◌==◌, nat_le, nat_lt, Bool, false, is_some, if◌then◌else◌, List, [], ◌++◌, length, get_or, set, replicate, Option, Some, None, Result, Ok, Err}
 use Rattle.std.specs.List.{count_by}
 use Rattle.debug_records.specs.Faults.{fault_before}
 use Rattle.debug_records.specs.Records.{File, Segment}

@@ -29,13 +29,13 @@ number_of text = if is_hex text then digits_number hex_number (drop 2 text)
 
 -- ---- the number of a field, with how many bytes of the line are left where it begins
 
-abbrev pub placed : ℕ → Option ℕ → Result Placed LineFault
-placed left None = Err (fault_before NoNumber left)
-placed left (Some number) = Ok (record { number = number; left = left })
+abbrev pub placed_if : ℕ → Option ℕ → Result Placed LineFault
+placed_if left None = Err (fault_before NoNumber left)
+placed_if left (Some number) = Ok (record { number = number; left = left })
 
 abbrev pub placed_value : Field → Result Placed LineFault
 placed_value field = if field.is_text then Err (fault_before NoNumber field.left)
-    else placed field.left (number_of field.value)
+    else placed_if field.left (number_of field.value)
 
 abbrev pub number_value : Field → Result ℕ LineFault
 number_value field = placed_value field >>= λ found. Ok found.number
@@ -65,15 +65,20 @@ number_or fields name other = number_if (field_in fields name) other
 abbrev pub plus_in : List ℕ → ℕ
 plus_in text = unwrap_or (position (λ b. b == byte "+") text) (length text)
 
--- The numbers of a text behind those that were read, so many at most: each has a byte at least. So
--- many bytes of the line are left where the text begins.
+-- The number at the front of a text, behind those that were read. So many bytes of the line are left
+-- where the text begins.
+unfoldable pub next_number : List Placed → ℕ → List ℕ → Result (List Placed) LineFault
+next_number found left text =
+    placed_if left (number_of (take (plus_in text) text)) >>= λ number.
+    Ok (found ++ number ∷ [])
+
+-- So many numbers at most. Each has a byte at least, so as many as there are bytes are enough.
 unfoldable pub numbers_within : ℕ → List Placed → ℕ → List ℕ → Result (List Placed) LineFault
 numbers_within zero found left text = Err (fault_before NoNumber left)
 numbers_within (suc n) found left text =
-    let count = plus_in text in
-    placed left (number_of (take count text)) >>= λ number.
-    if count == length text then Ok (found ++ number ∷ [])
-    else numbers_within n (found ++ number ∷ []) (left - (count + 1)) (drop (count + 1) text)
+    next_number found left text >>= λ more.
+    if plus_in text == length text then Ok more
+    else numbers_within n more (left - (plus_in text + 1)) (drop (plus_in text + 1) text)
 
 abbrev pub numbers_value : Field → Result (List Placed) LineFault
 numbers_value field = if field.is_text then Err (fault_before NoNumber field.left)

@@ -1,7 +1,7 @@
 -- What a debug file denotes, or which fault is its first. Its first line is a record `version`. A
 -- reference to a record is looked at when all lines were read, since records come in any order.
 -- Sources: those of Fields.antt; mos65 for the limits and the faults.
-use Rattle.std.specs.Prelude.{ℕ, ◌+◌, ◌^◌, ◌==◌, nat_lt, not, Bool, true, false, is_some, if◌then◌else◌, List, [], ◌∷◌, ◌++◌, codes, length, map, Option, Some, None, Result, Ok, Err}
+use Rattle.std.specs.Prelude.{ℕ, ◌+◌, ◌^◌, ◌==◌, nat_lt, Bool, true, false, is_some, if◌then◌else◌, List, [], ◌∷◌, ◌++◌, codes, length, map, Option, Some, None, Result, Ok, Err}
 use Rattle.std.specs.Str.{bytes_eq}
 use Rattle.model.specs.TextLines.{lines_of}
 use Rattle.debug_records.specs.Faults.{◌>>=◌, column_of, fault_before, fault_in}
@@ -34,8 +34,8 @@ Read = Result Reading LineFault
 
 -- ---- references, by the place of the line that has them
 
-abbrev pub reference : Place → Target → Placed → Reference
-reference place target id = record {
+abbrev pub reference_of : Place → Target → Placed → Reference
+reference_of place target id = record {
   target = target;
   id = id.number;
   line = place.line;
@@ -44,7 +44,7 @@ reference place target id = record {
 
 abbrev pub with_reference : Place → Target → Placed → Reading → Reading
 with_reference place target id r
-    = record r { references = r.references ++ reference place target id ∷ [] }
+    = record r { references = r.references ++ reference_of place target id ∷ [] }
 
 -- ---- records: 4,096 files, and 262,144 of each other word
 
@@ -94,7 +94,7 @@ with_uses place id spans r = if nat_lt most_records (length r.info.uses + length
     then Err (fault_before TooMany id.left)
     else Ok (record r {
       info = record r.info { uses = r.info.uses ++ map (use_of id.number) spans };
-      references = r.references ++ map (reference place target.Span) spans;
+      references = r.references ++ map (reference_of place target.Span) spans;
     })
 
 unfoldable pub with_line : Place → List Field → Reading → Read

@@ -1,6 +1,6 @@
 //! What is wrong with a debug file, and where.
 
-ghost use Rattle.std.specs.Prelude.{◌≡◌};
+ghost use Rattle.std.specs.Prelude.{◌≡◌, ◌<◌, ◌^◌};
 ghost use Rattle.debug_records.specs.Faults.{column_of, fault_in};
 
 use std::alloc::{AllocError, AllocFailed};

@@ -1,12 +1,13 @@
 //! A word, a tab, and fields `NAME=VALUE` with commas between them.
 
-ghost use Rattle.std.specs.Prelude.{◌≡◌, ◌≤◌, ◌<◌, ◌+◌, ◌==◌, ◌∷◌, ◌++◌, [], length, map, option_map, position, take, drop};
+ghost use Rattle.std.specs.Prelude.{◌≡◌, ◌≤◌, ◌<◌, ◌==◌, drop, length, map, option_map};
+ghost use Rattle.std.specs.Prelude.{position};
 ghost use Rattle.std.specs.List.{prefix_len};
 ghost use Rattle.std.specs.Str.{byte, bytes_eq};
 ghost use Rattle.model.specs.Token.{is_word_byte};
 ghost use Rattle.debug_records.specs.Faults.{Gives, fault_at, seen};
 ghost use Rattle.debug_records.specs.Fields.{comma_in, ended, ends, field_in, field_of, field_with};
-ghost use Rattle.debug_records.specs.Fields.{fields_of, is_next, plain_field, said_by, said_with};
+ghost use Rattle.debug_records.specs.Fields.{fields_of, is_next, next_field, plain_field, said_by};
 ghost use Rattle.debug_records.specs.Fields.{text_field, with_field};
 ghost use Rattle.debug_records.specs.Views.{field_view, read_view, said_view};
 
@@ -212,6 +213,17 @@ fn push_field<'a>(
     Ok(())
 }
 
+/// Appends the field at the front of a text, and returns what stands behind it.
+#[tactic(auto, unfolding(crate::specs::Fields::next_field))]
+fn next_field<'a>(fields: &mut Vec<Field<'a>>, text: &'a [u8]) -> Result<&'a [u8], LineError>
+    ensures { Gives (λ rest. (map field_view fields.new.items, rest.now)) result
+        (next_field (map field_view fields.old.items) text.now) }
+{
+    let (field, rest) = field_of(text)?;
+    push_field(fields, field, text)?;
+    Ok(rest)
+}
+
 /// Returns the fields of a text.
 fn fields_of<'a>(alloc: Global, text: &'a [u8]) -> Result<Vec<Field<'a>>, LineError>
     ensures { Gives (λ fields. map field_view fields.items) result (fields_of text.now) }
@@ -219,12 +231,15 @@ fn fields_of<'a>(alloc: Global, text: &'a [u8]) -> Result<Vec<Field<'a>>, LineEr
     let mut fields = Vec::new(alloc);
     let mut rest = text;
     for _ in 0..text.len() {
-        let (field, behind) = field_of(rest)?;
-        push_field(&mut fields, field, rest)?;
-        if behind.is_empty() {
-            return Ok(fields);
+        match next_field(&mut fields, rest) {
+            Ok(behind) => {
+                if behind.is_empty() {
+                    return Ok(fields);
+                }
+                rest = &behind[1..];
+            }
+            Err(why) => return Err(why),
         }
-        rest = &behind[1..];
     }
     Err(LineError::Fault(fault_at(DebugFaultKind::NoField, rest)))
 }

@@ -1,7 +1,6 @@
 //! Tables of records by their numbers.
 
-ghost use Rattle.std.specs.Prelude.{◌≡◌, ◌≤◌, ◌<◌, ◌+◌, is_some};
-ghost use Rattle.std.specs.List.{count_by};
+ghost use Rattle.std.specs.Prelude.{◌≡◌, OnOk};
 ghost use Rattle.debug_records.specs.Faults.{Gives};
 ghost use Rattle.debug_records.specs.Info.{grown, is_ambiguous, is_main_of, no_info, record_at};
 ghost use Rattle.debug_records.specs.Info.{with_new};

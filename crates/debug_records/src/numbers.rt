@@ -1,12 +1,14 @@
 //! The values of fields.
 
-ghost use Rattle.std.specs.Prelude.{◌≡◌, ◌≤◌, ◌<◌, ◌==◌, ◌^◌, length, map, position, Some, None};
+ghost use Rattle.std.specs.Prelude.{◌≡◌, ◌≤◌, ◌+◌, ◌*◌, ◌==◌, [], Some, length, map};
+ghost use Rattle.std.specs.Prelude.{option_map, position};
 ghost use Rattle.std.specs.Str.{byte};
 ghost use Rattle.model.specs.Digits.{decimal_number, hex_number};
 ghost use Rattle.debug_records.specs.Faults.{Gives, seen};
-ghost use Rattle.debug_records.specs.Numbers.{digits_number, number_in, number_of, number_or};
-ghost use Rattle.debug_records.specs.Numbers.{not_large, number_value, numbers_in, numbers_value};
-ghost use Rattle.debug_records.specs.Numbers.{placed, placed_in, placed_value, plus_in, text_in};
+ghost use Rattle.debug_records.specs.Numbers.{next_number, not_large, number_in, number_of};
+ghost use Rattle.debug_records.specs.Numbers.{number_or, number_value, numbers_in, numbers_value};
+ghost use Rattle.debug_records.specs.Numbers.{numbers_within};
+ghost use Rattle.debug_records.specs.Numbers.{placed_if, placed_in, placed_value, plus_in, text_in};
 ghost use Rattle.debug_records.specs.Numbers.{required, text_value};
 ghost use Rattle.debug_records.specs.Views.{field_view};
 
@@ -25,38 +27,52 @@ pub struct Placed {
 /// One more than the largest number.
 const LIMIT: u64 = 4_294_967_296;
 
+/// Returns a number with one decimal digit more, if it is not too large.
+fn with_decimal_digit(number: u32, digit: u8) -> Option<u32>
+    ensures { result ≡ not_large (Some (number * 10 + digit)) }
+{
+    let wide = number as u64 * 10 + digit as u64;
+    if wide < LIMIT {
+        Some(wide as u32)
+    } else {
+        None
+    }
+}
+
+/// Returns a number with one hex digit more, if it is not too large.
+fn with_hex_digit(number: u32, digit: u8) -> Option<u32>
+    ensures { result ≡ not_large (Some (number * 16 + digit)) }
+{
+    let wide = number as u64 * 16 + digit as u64;
+    if wide < LIMIT {
+        Some(wide as u32)
+    } else {
+        None
+    }
+}
+
 /// Returns the number that decimal digits write, if it is not too large.
 fn decimal_number(digits: &[u8]) -> Option<u32>
     ensures { result ≡ not_large (decimal_number digits.now) }
 {
-    let mut number = 0u64;
+    let mut number = 0u32;
     for byte in digits {
-        let Some(digit) = decimal_value(*byte) else {
-            return None;
-        };
-        number = number * 10 + digit as u64;
-        if LIMIT <= number {
-            return None;
-        }
+        let digit = decimal_value(*byte)?;
+        number = with_decimal_digit(number, digit)?;
     }
-    Some(number as u32)
+    Some(number)
 }
 
 /// Returns the number that hex digits write, if it is not too large.
 fn hex_number(digits: &[u8]) -> Option<u32>
     ensures { result ≡ not_large (hex_number digits.now) }
 {
-    let mut number = 0u64;
+    let mut number = 0u32;
     for byte in digits {
-        let Some(digit) = hex_value(*byte) else {
-            return None;
-        };
-        number = number * 16 + digit as u64;
-        if LIMIT <= number {
-            return None;
-        }
+        let digit = hex_value(*byte)?;
+        number = with_hex_digit(number, digit)?;
     }
-    Some(number as u32)
+    Some(number)
 }
 
 /// Returns the number that a text writes.
@@ -78,8 +94,8 @@ fn number_of(text: &[u8]) -> Option<u32>
 }
 
 /// Returns a number where it begins, if there is one.
-fn placed(left: usize, number: Option<u32>) -> Result<Placed, LineFault>
-    ensures { placed left number ≡ result }
+fn placed_if(left: usize, number: Option<u32>) -> Result<Placed, LineFault>
+    ensures { placed_if left number ≡ result }
 {
     match number {
         None => Err(LineFault {
@@ -95,9 +111,9 @@ fn placed_value(field: Field<'_>) -> Result<Placed, LineFault>
     ensures { placed_value (field_view field.entry) ≡ result }
 {
     if field.is_text {
-        return placed(field.left, None);
+        return placed_if(field.left, None);
     }
-    placed(field.left, number_of(field.value))
+    placed_if(field.left, number_of(field.value))
 }
 
 /// Returns a field that a record must have.
@@ -165,29 +181,56 @@ fn plus_in(text: &[u8]) -> usize
     }
 }
 
-/// Returns the numbers of a field with `+` between them.
-fn numbers_value(alloc: Global, field: Field<'_>) -> Result<Vec<Placed>, LineError>
-    ensures { Gives (λ numbers. numbers.items) result (numbers_value (field_view field.entry)) }
+/// Appends the number that ends before the first `+`, of which so many bytes of the line are left.
+#[tactic(auto, unfolding(crate::specs::Numbers::next_number))]
+fn next_number(numbers: &mut Vec<Placed>, left: usize, text: &[u8]) -> Result<(), LineError>
+    ensures { Gives (λ _. numbers.new.items) result
+        (next_number numbers.old.items left text.now) }
+{
+    let count = plus_in(text);
+    let number = placed_if(left, number_of(&text[..count]))?;
+    numbers.push(number)?;
+    Ok(())
+}
+
+/// Returns the numbers of a text with `+` between them.
+fn numbers_within(alloc: Global, first: usize, text: &[u8]) -> Result<Vec<Placed>, LineError>
+    ensures { Gives (λ numbers. numbers.items) result
+        (numbers_within (length text.now) [] first text.now) }
 {
     let mut numbers = Vec::new(alloc);
-    let mut rest = field.value;
-    let mut left = field.left;
-    if !field.is_text {
-        for _ in 0..field.value.len() {
-            let count = plus_in(rest);
-            let (digits, behind) = rest.split_at(count);
-            numbers.push(placed(left, number_of(digits))?)?;
-            if behind.is_empty() {
-                return Ok(numbers);
+    let mut rest = text;
+    let mut left = first;
+    for _ in 0..text.len() {
+        match next_number(&mut numbers, left, rest) {
+            Ok(()) => {
+                let count = plus_in(rest);
+                if count == rest.len() {
+                    return Ok(numbers);
+                }
+                left = left.saturating_sub(count + 1);
+                rest = &rest[count + 1..];
             }
-            left = left.saturating_sub(count + 1);
-            rest = &behind[1..];
+            Err(why) => return Err(why),
         }
     }
     Err(LineError::Fault(LineFault {
         kind: DebugFaultKind::NoNumber,
         left,
     }))
+}
+
+/// Returns the numbers of a field with `+` between them.
+fn numbers_value(alloc: Global, field: Field<'_>) -> Result<Vec<Placed>, LineError>
+    ensures { Gives (λ numbers. numbers.items) result (numbers_value (field_view field.entry)) }
+{
+    if field.is_text {
+        return Err(LineError::Fault(LineFault {
+            kind: DebugFaultKind::NoNumber,
+            left: field.left,
+        }));
+    }
+    numbers_within(alloc, field.left, field.value)
 }
 
 /// Returns the numbers of a field that a record may have.

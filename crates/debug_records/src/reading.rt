@@ -1,11 +1,11 @@
 //! What was read of a debug file so far.
 
-ghost use Rattle.std.specs.Prelude.{◌≡◌, ◌<◌, ◌^◌, ◌++◌, ◌∷◌, [], OnOk, map};
+ghost use Rattle.std.specs.Prelude.{◌≡◌, ◌<◌, ◌^◌, ◌++◌, OnOk, length, map};
 ghost use Rattle.debug_records.specs.Faults.{Gives};
 ghost use Rattle.debug_records.specs.Reading.{nothing_read, use_of, with_file, with_line};
 ghost use Rattle.debug_records.specs.Reading.{with_major, with_module, with_record, with_reference};
 ghost use Rattle.debug_records.specs.Reading.{with_said, with_segment, with_span, with_text};
-ghost use Rattle.debug_records.specs.Reading.{with_uses, with_version, reference};
+ghost use Rattle.debug_records.specs.Reading.{reference_of, with_uses, with_version};
 ghost use Rattle.debug_records.specs.Views.{field_view, reading_view, said_view};
 ghost use Rattle.debug_records.specs.declared.reference.Target.TheVariants as target;
 
@@ -14,7 +14,7 @@ use crate::fields::{Field, Said, said_by};
 use crate::info::{DebugInfo, Use, no_info, put_new};
 use crate::numbers::{Placed, numbers_in, placed_in};
 use crate::record_fields::{file_of, line_of, segment_of, span_of};
-use crate::reference::{Reference, Target, reference};
+use crate::reference::{Reference, Target, reference_of};
 use std::alloc::{AllocError, Global};
 
 /// The most files.
@@ -53,7 +53,7 @@ fn push_reference(
     ensures { OnOk result (reading_view reading.new
         ≡ with_reference place target id (reading_view reading.old)) }
 {
-    reading.references.push(reference(place, target, id))?;
+    reading.references.push(reference_of(place, target, id))?;
     Ok(())
 }
 
@@ -136,10 +136,10 @@ fn push_each_reference(
 ) -> Result<(), AllocError>
     requires { place.length < 2 ^ 32 }
     ensures { OnOk result (references.new.items
-        ≡ references.old.items ++ map (reference place target.Span) spans.now) }
+        ≡ references.old.items ++ map (reference_of place target.Span) spans.now) }
 {
     for span in spans {
-        references.push(reference(place, Target::Span, *span))?;
+        references.push(reference_of(place, Target::Span, *span))?;
     }
     Ok(())
 }

@@ -1,7 +1,7 @@
 //! References from one record to another.
 
 ghost use Rattle.std.specs.Prelude.{◌≡◌, ◌<◌, ◌^◌};
-ghost use Rattle.debug_records.specs.Reading.{first_missing, is_there, reference};
+ghost use Rattle.debug_records.specs.Reading.{first_missing, is_there, reference_of};
 ghost use Rattle.debug_records.specs.Views.{info_view};
 
 use crate::fault::{Place, column_of};
@@ -26,9 +26,9 @@ pub struct Reference {
 }
 
 /// Returns a reference that stands in a line.
-pub fn reference(place: Place, target: Target, id: Placed) -> Reference
+pub fn reference_of(place: Place, target: Target, id: Placed) -> Reference
     requires { place.length < 2 ^ 32 }
-    ensures { result ≡ reference place target id }
+    ensures { result ≡ reference_of place target id }
 {
     Reference {
         target,

@@ -1,7 +1,6 @@
 //! Which bytes came from which line.
 
-ghost use Rattle.std.specs.Prelude.{◌≡◌, ◌++◌, IfOk, OnOk, filter, option_map};
-ghost use Rattle.std.specs.List.{filter_map};
+ghost use Rattle.std.specs.Prelude.{◌≡◌, ◌++◌, IfOk, OnOk, Some};
 ghost use Rattle.std.specs.Option.{option_to_list};
 ghost use Rattle.debug_records.specs.Rows.{covers, is_narrower, is_parameter, is_shown, is_sought};
 ghost use Rattle.debug_records.specs.Rows.{narrower, narrowest_of, row_of, row_with, rows_at};

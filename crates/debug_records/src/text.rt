@@ -6,6 +6,7 @@ ghost use Rattle.debug_records.specs.Faults.{GivesInfo};
 ghost use Rattle.debug_records.specs.Reading.{debug_info, finished, in_line, lines_read};
 ghost use Rattle.debug_records.specs.Reading.{nothing_read, place_of, with_text};
 ghost use Rattle.debug_records.specs.Views.{info_view, reading_view};
+ghost use Rattle.debug_records.specs.declared.fault.DebugError.TheVariants.{Fault};
 
 use crate::fault::{DebugError, DebugFault, DebugFaultKind, LineError, Place, fault_in};
 use crate::info::DebugInfo;
