@@ -43,15 +43,22 @@ abbrev pub seen : {A B E : Type 0} → (A → B) → Result A E → Result B E
 seen view (Ok x) = Ok (view x)
 seen view (Err e) = Err e
 
--- What a step returned, seen by a view, is what the step gives. Nothing is said where memory ran
+-- Why a step returned nothing is why its definition gives nothing. Nothing is said where memory ran
 -- out.
+abbrev pub Refuses : {B : Type 0} → LineError → Result B LineFault → Type 0
+Refuses (error.Fault fault) gives = gives ≡ Err fault
+Refuses error.Memory gives = ⊤
+
+-- What a step returned, seen by a view, is what its definition gives.
 abbrev pub Gives : {A B : Type 0} → (A → B) → Result A LineError → Result B LineFault → Type 0
 Gives view (Ok x) gives = gives ≡ Ok (view x)
-Gives view (Err (error.Fault fault)) gives = gives ≡ Err fault
-Gives view (Err error.Memory) gives = ⊤
+Gives view (Err why) gives = Refuses why gives
 
 -- The same of a whole file.
+abbrev pub RefusesInfo : {B : Type 0} → DebugError → Result B DebugFault → Type 0
+RefusesInfo (debug.Fault fault) gives = gives ≡ Err fault
+RefusesInfo debug.OutOfMemory gives = ⊤
+
 abbrev pub GivesInfo : {A B : Type 0} → (A → B) → Result A DebugError → Result B DebugFault → Type 0
 GivesInfo view (Ok x) gives = gives ≡ Ok (view x)
-GivesInfo view (Err (debug.Fault fault)) gives = gives ≡ Err fault
-GivesInfo view (Err debug.OutOfMemory) gives = ⊤
+GivesInfo view (Err why) gives = RefusesInfo why gives

@@ -232,14 +232,13 @@ fn fields_of<'a>(alloc: Global, text: &'a [u8]) -> Result<Vec<Field<'a>>, LineEr
     let mut rest = text;
     for _ in 0..text.len() {
         match next_field(&mut fields, rest) {
-            Ok(behind) => {
-                if behind.is_empty() {
-                    return Ok(fields);
-                }
-                rest = &behind[1..];
-            }
+            Ok(behind) => rest = behind,
             Err(why) => return Err(why),
         }
+        if rest.is_empty() {
+            return Ok(fields);
+        }
+        rest = &rest[1..];
     }
     Err(LineError::Fault(fault_at(DebugFaultKind::NoField, rest)))
 }

@@ -1,6 +1,6 @@
 //! The values of fields.
 
-ghost use Rattle.std.specs.Prelude.{◌≡◌, ◌≤◌, ◌+◌, ◌*◌, ◌==◌, [], Some, length, map};
+ghost use Rattle.std.specs.Prelude.{◌≡◌, ◌≤◌, ◌+◌, ◌*◌, ◌==◌, [], Some, drop, length, map};
 ghost use Rattle.std.specs.Prelude.{option_map, position};
 ghost use Rattle.std.specs.Str.{byte};
 ghost use Rattle.model.specs.Digits.{decimal_number, hex_number};
@@ -193,6 +193,23 @@ fn next_number(numbers: &mut Vec<Placed>, left: usize, text: &[u8]) -> Result<()
     Ok(())
 }
 
+/// Returns whether a text has no `+`.
+fn is_last(text: &[u8]) -> bool
+    ensures { result ≡ (plus_in text.now == length text.now) }
+{
+    plus_in(text) == text.len()
+}
+
+/// Returns what stands behind the first `+`.
+fn behind_plus(text: &[u8]) -> &[u8]
+    ensures { result.now ≡ drop (plus_in text.now + 1) text.now }
+{
+    match plus_at(text) {
+        Some(at) => &text[at + 1..],
+        None => &text[text.len()..],
+    }
+}
+
 /// Returns the numbers of a text with `+` between them.
 fn numbers_within(alloc: Global, first: usize, text: &[u8]) -> Result<Vec<Placed>, LineError>
     ensures { Gives (λ numbers. numbers.items) result
@@ -203,16 +220,14 @@ fn numbers_within(alloc: Global, first: usize, text: &[u8]) -> Result<Vec<Placed
     let mut left = first;
     for _ in 0..text.len() {
         match next_number(&mut numbers, left, rest) {
-            Ok(()) => {
-                let count = plus_in(rest);
-                if count == rest.len() {
-                    return Ok(numbers);
-                }
-                left = left.saturating_sub(count + 1);
-                rest = &rest[count + 1..];
-            }
+            Ok(()) => {}
             Err(why) => return Err(why),
         }
+        if is_last(rest) {
+            return Ok(numbers);
+        }
+        left = left.saturating_sub(plus_in(rest) + 1);
+        rest = behind_plus(rest);
     }
     Err(LineError::Fault(LineFault {
         kind: DebugFaultKind::NoNumber,

@@ -53,7 +53,10 @@ fn read_lines<'a>(alloc: Global, text: &'a [u8]) -> Result<Reading<'a>, DebugErr
     let mut number = 1u32;
     while !rest.is_empty() {
         let (line, behind) = next_line(rest);
-        push_numbered(alloc, &mut reading, number, line)?;
+        match push_numbered(alloc, &mut reading, number, line) {
+            Ok(()) => {}
+            Err(why) => return Err(why),
+        }
         rest = behind;
         number += 1;
     }

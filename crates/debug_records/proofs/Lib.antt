@@ -1,0 +1,4 @@
+pub mod Digits
+pub mod Passing
+pub mod Tables
+pub mod Ways

@@ -1,0 +1,8 @@
+use Rattle.std.proofs.Common.{◌∙◌, ap, arith, sym}
+use Rattle.model.specs.Digits.{decimal_value}
+use Rattle.debug_records.specs.Numbers.{not_large}
+use Rattle.debug_records.proofs.Digits.{number_done}
+use Rattle.debug_records.proofs.numbers.decimal_number.Goals as goal
+
+pub returns : goal.returns
+returns c = sym (c.loop-byte.invariant.rest ∙ number_done decimal_value 10 c.loop-byte.number c.loop-byte.byte-index c.args.digits.now (omega arith) c.loop-byte.invariant.small)

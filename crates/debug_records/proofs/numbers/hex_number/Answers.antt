@@ -1,0 +1,8 @@
+use Rattle.std.proofs.Common.{◌∙◌, ap, arith, sym}
+use Rattle.model.specs.Digits.{hex_value}
+use Rattle.debug_records.specs.Numbers.{not_large}
+use Rattle.debug_records.proofs.Digits.{number_done}
+use Rattle.debug_records.proofs.numbers.hex_number.Goals as goal
+
+pub returns : goal.returns
+returns c = sym (c.loop-byte.invariant.rest ∙ number_done hex_value 16 c.loop-byte.number c.loop-byte.byte-index c.args.digits.now (omega arith) c.loop-byte.invariant.small)
