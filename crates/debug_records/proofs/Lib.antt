@@ -1,4 +1,5 @@
 pub mod Digits
+pub mod Examples
 pub mod Passing
 pub mod Tables
 pub mod Ways
