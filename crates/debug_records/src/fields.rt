@@ -1,7 +1,7 @@
 //! A word, a tab, and fields `NAME=VALUE` with commas between them.
 
 ghost use Rattle.std.specs.Prelude.{◌≡◌, ◌≤◌, ◌<◌, ◌==◌, drop, length, map, option_map};
-ghost use Rattle.std.specs.Prelude.{position};
+ghost use Rattle.std.specs.Prelude.{position, true};
 ghost use Rattle.std.specs.List.{prefix_len};
 ghost use Rattle.std.specs.Str.{byte, bytes_eq};
 ghost use Rattle.model.specs.Token.{is_word_byte};
@@ -179,7 +179,7 @@ fn field_of(text: &[u8]) -> Read<'_>
 }
 
 /// Returns whether two names are the same.
-fn is_same(one: &[u8], other: &[u8]) -> bool
+pub fn is_same(one: &[u8], other: &[u8]) -> bool
     ensures { result ≡ bytes_eq one.now other.now }
 {
     one == other

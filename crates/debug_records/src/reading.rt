@@ -10,7 +10,7 @@ ghost use Rattle.debug_records.specs.Views.{field_view, reading_view, said_view}
 ghost use Rattle.debug_records.specs.declared.reference.Target.TheVariants as target;
 
 use crate::fault::{DebugFaultKind, LineError, LineFault, Place};
-use crate::fields::{Field, Said, said_by};
+use crate::fields::{Field, Said, is_same, said_by};
 use crate::info::{DebugInfo, Use, no_info, put_new};
 use crate::numbers::{Placed, numbers_in, placed_in};
 use crate::record_fields::{file_of, line_of, segment_of, span_of};
@@ -228,15 +228,15 @@ fn push_record<'a>(
         (with_record place (said_view said.now) (reading_view reading.old)) }
 {
     let fields = said.fields.as_slice();
-    if said.word == b"line" {
+    if is_same(said.word, b"line") {
         push_line(alloc, reading, place, fields)
-    } else if said.word == b"span" {
+    } else if is_same(said.word, b"span") {
         push_span(reading, place, fields)
-    } else if said.word == b"file" {
+    } else if is_same(said.word, b"file") {
         push_file(reading, fields)
-    } else if said.word == b"seg" {
+    } else if is_same(said.word, b"seg") {
         push_segment(reading, fields)
-    } else if said.word == b"mod" {
+    } else if is_same(said.word, b"mod") {
         push_module(reading, place, fields)
     } else {
         Ok(())
@@ -255,7 +255,7 @@ fn push_said<'a>(
     ensures { Gives (λ _. reading_view reading.new) result
         (with_said place (said_view said.now) (reading_view reading.old)) }
 {
-    if said.word == b"version" {
+    if is_same(said.word, b"version") {
         take_version(reading, said.fields.as_slice())
     } else if reading.is_versioned {
         push_record(alloc, reading, place, said)

@@ -1,4 +1,5 @@
 use Rattle.std.proofs.Common.{◌≡◌, ◌==◌, ◌∙◌, ◌-◌, ◌+◌, Err, [], ap, arith, false, length, map, sym, true}
+use Rattle.std.proofs.lemmas.List.{take_rest}
 use Rattle.debug_records.specs.Fields.{fields_within}
 use Rattle.debug_records.specs.Views.{field_view}
 use Rattle.debug_records.proofs.Passing.{passed_on}
@@ -27,7 +28,8 @@ pub loop-preserved : goal.loop-preserved
 loop-preserved c =
     let some : (length c.in-Ok.behind.now == 0) ≡ false = cc in
     record {
-      read = c.loop.invariant.read ∙ field_more (length c.args.text.now - c.loop.counter) (length c.args.text.now - (c.loop.counter + 1)) _ _ _ _ (omega arith) c.in-Ok.ensures some;
+      read = rw (take_rest c.in-Ok.behind.now 1)
+          (c.loop.invariant.read ∙ field_more (length c.args.text.now - c.loop.counter) (length c.args.text.now - (c.loop.counter + 1)) _ _ _ _ (omega arith) c.in-Ok.ensures some);
     }
 
 pub returns : goal.returns
