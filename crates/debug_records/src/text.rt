@@ -77,7 +77,7 @@ fn fault_at_start(kind: DebugFaultKind) -> DebugError
 /// Returns what all lines say, if there was a version, and each reference is one to a record.
 #[tactic(auto, unfolding(crate::specs::Reading::finished))]
 fn finish<'a>(reading: Reading<'a>) -> Result<DebugInfo<'a>, DebugError>
-    ensures { GivesInfo info_view result (finished (reading_view reading)) }
+    ensures { GivesInfo info_view result (finished (reading_view reading.entry)) }
 {
     if !reading.is_versioned {
         return Err(fault_at_start(DebugFaultKind::NoVersion));
