@@ -1,4 +1,4 @@
 pub mod Marked
 pub mod Searching
 pub mod Behind
-pub mod Letters
+pub mod LettersFound

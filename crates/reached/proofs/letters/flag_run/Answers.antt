@@ -1,6 +1,6 @@
 use Rattle.std.proofs.Common.{◌≡◌, ◌∙◌, sym, arith, rules}
 use Rattle.std.proofs.lemmas.List.{length-set}
-use Rattle.reached.proofs.Letters.{run_end, run_more}
+use Rattle.reached.proofs.LettersFound.{run_end, run_more}
 use Rattle.reached.proofs.letters.flag_run.Goals as goal
 
 pub loop-left-preserved : goal.loop-left-preserved

@@ -1,6 +1,6 @@
 use Rattle.std.proofs.Common.{◌≡◌, ◌∙◌, sym, ap, arith}
 use Rattle.reached.specs.Reached.{letters_to, with_string}
-use Rattle.reached.proofs.Letters.{letters_more, letters_none}
+use Rattle.reached.proofs.LettersFound.{letters_more, letters_none}
 use Rattle.reached.proofs.letters.letters_of.Goals as goal
 
 pub loop-address-init : goal.loop-address-init

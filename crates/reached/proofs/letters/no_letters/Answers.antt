@@ -1,5 +1,5 @@
 use Rattle.std.proofs.Common.{◌∙◌, arith}
-use Rattle.reached.proofs.Letters.{letters_are}
+use Rattle.reached.proofs.LettersFound.{letters_are}
 use Rattle.reached.proofs.letters.no_letters.Goals as goal
 
 pub returns-clause-none : goal.returns-clause-none
