@@ -1,8 +1,8 @@
 pub mod Notes
 pub mod Columns
 pub mod Lines
-pub mod Strings
+pub mod StringLines
 pub mod Finding
-pub mod Splits
+pub mod SplitTables
 pub mod Chosen
 pub mod Cuts

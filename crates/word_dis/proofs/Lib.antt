@@ -9,4 +9,4 @@ pub mod Ended
 pub mod Images
 pub mod Labelled
 pub mod Said
-pub mod Starts
+pub mod StartsFound

@@ -1,5 +1,5 @@
 use Rattle.std.proofs.Common.{◌≡◌, arith, rules}
-use Rattle.remarked_source.proofs.Splits.{entry_here, entry_more, no_entry}
+use Rattle.remarked_source.proofs.SplitTables.{entry_here, entry_more, no_entry}
 use Rattle.remarked_source.proofs.splits.has_entry.Goals as goal
 
 pub returns-then-is_some : goal.returns-then-is_some

@@ -1,6 +1,6 @@
 use Rattle.std.proofs.Common.{◌≡◌, ◌-◌, ◌∙◌, sym, ap, arith}
 use Rattle.remarked_source.specs.Splits.{leads_in}
-use Rattle.remarked_source.proofs.Splits.{leads_here, leads_more, leads_none}
+use Rattle.remarked_source.proofs.SplitTables.{leads_here, leads_more, leads_none}
 use Rattle.remarked_source.proofs.splits.leads_by.Goals as goal
 
 pub returns-then-leads_in : goal.returns-then-leads_in

@@ -1,6 +1,6 @@
 use Rattle.std.proofs.Common.{arith}
 use Rattle.assembler.specs.Assembly.{source_lines}
-use Rattle.remarked_source.proofs.Splits.{bytes_more}
+use Rattle.remarked_source.proofs.SplitTables.{bytes_more}
 use Rattle.remarked_source.proofs.splits.push_byte_lines.Goals as goal
 
 pub loop-offset-preserved : goal.loop-offset-preserved

@@ -3,7 +3,7 @@ use Rattle.assembler.specs.Assembly.{source_lines}
 use Rattle.assembler.specs.Lines.{line_view}
 use Rattle.remarked_source.specs.Splits.{split_from}
 use Rattle.remarked_source.proofs.Lines.{there}
-use Rattle.remarked_source.proofs.Splits.{line_more}
+use Rattle.remarked_source.proofs.SplitTables.{line_more}
 use Rattle.remarked_source.proofs.splits.with_halves.Goals.{in-Some+in_ok-push_split_row, in_default}
 use Rattle.remarked_source.proofs.splits.with_halves.Goals as goal
 

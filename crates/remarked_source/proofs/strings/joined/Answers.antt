@@ -3,7 +3,7 @@ use Rattle.assembler.specs.Assembly.{source_lines}
 use Rattle.assembler.specs.Lines.{line_view}
 use Rattle.remarked_source.specs.Strings.{joined_from}
 use Rattle.remarked_source.proofs.Lines.{there}
-use Rattle.remarked_source.proofs.Strings.{line_more}
+use Rattle.remarked_source.proofs.StringLines.{line_more}
 use Rattle.remarked_source.proofs.strings.joined.Goals.{in-Some+in_ok-push_joined, in_default}
 use Rattle.remarked_source.proofs.strings.joined.Goals as goal
 

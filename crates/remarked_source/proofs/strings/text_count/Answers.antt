@@ -1,5 +1,5 @@
 use Rattle.std.proofs.Common.{◌≡◌, sym, arith, rules}
-use Rattle.remarked_source.proofs.Strings.{counted}
+use Rattle.remarked_source.proofs.StringLines.{counted}
 use Rattle.remarked_source.proofs.strings.text_count.Goals as goal
 
 pub returns-then-is_text-clause-exact : goal.returns-then-is_text-clause-exact

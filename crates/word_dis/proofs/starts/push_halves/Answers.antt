@@ -1,7 +1,7 @@
 use Rattle.std.proofs.Common.{◌≡◌, ◌∙◌, ◌++◌, ℕ, List, Option, ap, arith}
 use Rattle.remarked_source.specs.Splits.{target_at}
 use Rattle.word_dis.specs.Written.{half_targets, target_list}
-use Rattle.word_dis.proofs.Starts.{halves_more, no_halves}
+use Rattle.word_dis.proofs.StartsFound.{halves_more, no_halves}
 use Rattle.word_dis.proofs.starts.push_halves.Goals as goal
 
 pub loop-index-init : goal.loop-index-init

@@ -1,5 +1,5 @@
 use Rattle.std.proofs.Common.{◌≡◌, arith}
-use Rattle.word_dis.proofs.Starts.{ended, none, one_more}
+use Rattle.word_dis.proofs.StartsFound.{ended, none, one_more}
 use Rattle.word_dis.proofs.starts.push_words.Goals as goal
 
 pub returns-then-last-at : goal.returns-then-last-at

@@ -1,6 +1,6 @@
 use Rattle.std.proofs.Common.{◌++◌, ◌+◌, ◌*◌, ◌≤◌}
 use Rattle.word_dis.specs.Written.{words_between}
-use Rattle.word_dis.proofs.Starts.{AreFound}
+use Rattle.word_dis.proofs.StartsFound.{AreFound}
 use Rattle.word_dis.proofs.starts.push_words.Given as goal
 
 abbrev pub invariant-loop-left : goal.invariant-loop-left
