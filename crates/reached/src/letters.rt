@@ -75,7 +75,7 @@ fn string_at(
 }
 
 /// Flags so many addresses from one on.
-#[tactic(auto, using(crate::proofs::Letters::run_end))]
+#[tactic(auto, using(crate::proofs::LettersFound::run_end))]
 fn flag_run(letters: &mut Vec<bool>, count: u16, address: u16)
     requires size { length letters.old.items ≡ 65536 }
     requires within { address + count ≤ 65536 }

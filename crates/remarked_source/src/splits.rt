@@ -293,7 +293,7 @@ fn push_byte_line(out: &mut Vec<u8>, tables: Tables<'_>, address: u64) -> Result
 }
 
 /// Appends a line for each byte of a line.
-#[tactic(auto, using(crate::proofs::Splits::bytes_end))]
+#[tactic(auto, using(crate::proofs::SplitTables::bytes_end))]
 fn push_byte_lines(
     out: &mut Vec<u8>,
     tables: Tables<'_>,
@@ -309,7 +309,7 @@ fn push_byte_lines(
 }
 
 /// Whether one of so many addresses from one on is in a table.
-#[tactic(auto, using(crate::proofs::Splits::no_entry))]
+#[tactic(auto, using(crate::proofs::SplitTables::no_entry))]
 fn has_entry(cells: &[Option<u8>], splits: &[Split], count: u32, address: u32) -> bool
     ensures { result ≡ has_entry cells.now splits.now count address }
 {
@@ -404,7 +404,7 @@ fn push_split_row(
 
 /// Returns the lines of an assembly with labels in the place of numbers of tables. The only error
 /// is that a request for memory was refused.
-#[tactic(auto, using(crate::proofs::Splits::lines_end))]
+#[tactic(auto, using(crate::proofs::SplitTables::lines_end))]
 pub fn with_halves(alloc: Global, tables: Tables<'_>) -> Result<Vec<u8>, AllocError>
     ensures { IfOk result (λ text. text.items ≡ split_from tables.entry.cells.now
         tables.entry.splits.now (source_lines tables.entry.assembly.now) None
