@@ -62,7 +62,7 @@ fn push_word(starts: &mut Vec<u16>, part: &Image, more: u16, address: u32) -> Re
 }
 
 /// Appends the words of a range, and so much more.
-#[tactic(auto, using(crate::proofs::Starts::ended, crate::proofs::Starts::none))]
+#[tactic(auto, using(crate::proofs::StartsFound::ended, crate::proofs::StartsFound::none))]
 fn push_words(
     starts: &mut Vec<u16>,
     part: &Image,
@@ -116,7 +116,7 @@ fn push_target(starts: &mut Vec<u16>, target: Option<u16>) -> Result<(), AllocEr
 }
 
 /// Appends the addresses to which the words of a table in two halves lead.
-#[tactic(auto, using(crate::proofs::Starts::no_halves))]
+#[tactic(auto, using(crate::proofs::StartsFound::no_halves))]
 fn push_halves(starts: &mut Vec<u16>, part: &Image, split: Split) -> Result<(), AllocError>
     ensures { OnOk result (starts.new.items
         ≡ starts.old.items ++ half_targets part.now split split.count) }
