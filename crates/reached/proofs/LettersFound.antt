@@ -1,5 +1,5 @@
 -- Strings behind calls, an address at a time.
-use Rattle.std.proofs.Common.{◌≡◌, ◌∙◌, ℕ, zero, suc, ◌+◌, ◌-◌, ◌<◌, List, Bool, true, false, Option, refl, ap, replicate, arith}
+use Rattle.std.proofs.Common.{◌≡◌, ◌∙◌, ℕ, zero, suc, ◌+◌, ◌-◌, ◌<◌, ◌≤◌, List, Bool, true, false, Option, refl, ap, replicate, arith}
 use Rattle.std.specs.Prelude.{slice_set}
 use Rattle.model.specs.declared.instruction.Profile.{Profile}
 use Rattle.source_forms.specs.declared.mark.Mark.{Mark}
@@ -14,6 +14,11 @@ run_more letters (suc n) at some = let one : suc n - 1 ≡ n = omega arith in rw
 pub run_end : (letters : List Bool) (at : ℕ) → with_run letters 0 at ≡ letters
 unfolding with_run
 run_end letters at = refl
+
+pub run_done : (letters all : List Bool) (left at : ℕ) → left ≤ 0 → with_run letters left at ≡ all → letters ≡ all
+unfolding with_run
+run_done letters all zero at none e = e
+run_done letters all (suc n) at none e = absurd (omega (arith, none))
 
 pub letters_are : (n : ℕ) → n ≡ 65536 → replicate {A = Bool} n false ≡ no_letters
 unfolding no_letters

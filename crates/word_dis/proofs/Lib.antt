@@ -8,5 +8,5 @@ pub mod Read
 pub mod Ended
 pub mod Images
 pub mod Labelled
-pub mod Said
+pub mod MarksSaid
 pub mod StartsFound

@@ -89,7 +89,7 @@ fn done<H: Files + AllocGlobal, O: Write, E: Write>(
 }
 
 /// Does what the words ask for, with what their file of marks says, and returns the exit status.
-#[tactic(auto, using(crate::proofs::Said::not_marked, crate::proofs::Said::done_with, crate::proofs::Said::said_with, crate::proofs::Said::no_source))]
+#[tactic(auto, using(crate::proofs::MarksSaid::not_marked, crate::proofs::MarksSaid::done_with, crate::proofs::MarksSaid::said_with, crate::proofs::MarksSaid::no_source))]
 fn done_with_marks<H: Files + AllocGlobal, O: Write, E: Write>(
     rt: &H,
     words: SourceWords<'_>,

@@ -84,7 +84,7 @@ fn marks_in(
 /// What the words say of the image, and what the file of marks of that path says.
 ///
 /// A file of more than 1,048,576 bytes is not read: `Refused` with `Read`.
-#[tactic(auto, using(crate::proofs::Said::unread))]
+#[tactic(auto, using(crate::proofs::MarksSaid::unread))]
 fn marks_of_path<H: Files + AllocGlobal>(
     rt: &H,
     profile: Profile,
@@ -104,7 +104,7 @@ fn marks_of_path<H: Files + AllocGlobal>(
 }
 
 /// Returns the words with what their file of marks says, if there is one.
-#[tactic(auto, using(crate::proofs::Said::marks_end))]
+#[tactic(auto, using(crate::proofs::MarksSaid::marks_end))]
 pub fn with_marks<'a, H: Files + AllocGlobal>(
     rt: &H,
     words: SourceWords<'a>,

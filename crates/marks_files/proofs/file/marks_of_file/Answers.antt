@@ -18,7 +18,7 @@ loop-rest-preserved c = record {
 pub returns-in_err-take_line : goal.returns-in_err-take_line
 returns-in_err-take_line c =
     refused c.args.profile c.loop-rest.number c.loop-rest.rest.now c.next_line.result.0.now c.next_line.result.1.now (marks_view c.loop-rest.marks) _
-    c.in_err-take_line.field-0.0 c.from_residual-in_err-take_line.result c.next_line.ensures.cut c.in_err-take_line.ensures c.loop-rest.invariant.found c.from_residual-in_err-take_line.ensures.1
+    c.in_err-take_line.field-0.0 c.from_residual.result c.next_line.ensures.cut c.in_err-take_line.ensures c.loop-rest.invariant.found c.from_residual.ensures.1
 
 pub returns : goal.returns
 returns c = done c.args.profile c.loop-rest.number c.loop-rest.rest.now (marks_view c.loop-rest.marks) _ (true-eqb _ 0 c.loop-rest-test.ensures) c.loop-rest.invariant.found

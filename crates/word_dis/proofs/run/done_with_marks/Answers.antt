@@ -1,6 +1,6 @@
 use Rattle.std.proofs.Common.{inl, inr}
 use Rattle.word_dis.specs.Views.{source_view}
-use Rattle.word_dis.proofs.Said.{done_with, no_source, not_marked, said_with}
+use Rattle.word_dis.proofs.MarksSaid.{done_with, no_source, not_marked, said_with}
 use Rattle.word_dis.proofs.run.done_with_marks.Goals as goal
 
 pub returns-in-Ok-clause-done : goal.returns-in-Ok-clause-done
