@@ -1,4 +1,5 @@
 use Rattle.std.proofs.Common.{◌≡◌, ◌∙◌, Option, None, Some, ap, refl, sym}
+use Rattle.core.proofs.slice.Searches.{copied_from_item}
 use Rattle.std.specs.Borrow.{Bor}
 use Rattle.std.specs.Option.{option_copied, option_map}
 use Rattle.std.proofs.lemmas.Option.{slice_get-map}
@@ -11,4 +12,8 @@ viewed None = refl
 viewed (Some e) = refl
 
 pub returns : goal.returns
-returns c = viewed c.get.result ∙ ap (option_map term_view) c.get.ensures ∙ sym (slice_get-map term_view c.args.values.now c.args.index)
+returns c =
+    let xs = c.args.values.now in
+    let i = c.args.index in
+    viewed c.get.result ∙ ap (λ o. option_map term_view o) (copied_from_item xs i i c.get.result (λ h. h) (λ h. h) c.get.ensures.lookup)
+    ∙ sym (slice_get-map term_view xs i)

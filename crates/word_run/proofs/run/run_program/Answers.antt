@@ -5,7 +5,7 @@ use Rattle.arguments.proofs.Parsed.{not_both, one_asked}
 use Rattle.arguments_play.specs.Run.{RunAsked, asked, run, run_view}
 use Rattle.word_run.specs.Runs.{IsDone}
 use Rattle.loading.proofs.Unnamed.{unnamed_by_memory}
-use Rattle.loading.proofs.Warned.{untold}
+use Rattle.loading.proofs.WarningsTold.{untold}
 use Rattle.word_run.proofs.run.run_program.Goals as goal
 
 pub returns-in-Ok-clause-done : goal.returns-in-Ok-clause-done

@@ -2,7 +2,7 @@ use Rattle.std.proofs.Common.{◌≡◌, ◌∙◌, refl}
 use Rattle.arguments.specs.Asked.{map_of}
 use Rattle.arguments_play.specs.Run.{run_view}
 use Rattle.loading.proofs.Unnamed.{never_zero}
-use Rattle.loading.proofs.Warned.{only_warned}
+use Rattle.loading.proofs.WarningsTold.{only_warned}
 use Rattle.loading.specs.Place.{names_of}
 use Rattle.word_run.proofs.Ran.{ran_found, ran_unfound, unfound_status}
 use Rattle.word_run.specs.Runs.{streams_of}
