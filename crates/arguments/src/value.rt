@@ -6,7 +6,7 @@ ghost use Rattle.arguments.specs.Values.{number_of, raw_form};
 ghost use Rattle.arguments.specs.Values.{port_asked, port_of, profile_asked, profile_of, range_of};
 ghost use Rattle.arguments.specs.Values.{rom_asked, steps_asked};
 ghost use Rattle.arguments.specs.Asked.{form_by, form_in};
-ghost use Rattle.arguments.specs.WrongValues.{IsOfValue, is_told, wrong_value};
+ghost use Rattle.arguments.specs.WrongValues.{IsOfValue, is_told, wrong_form, wrong_value};
 ghost use Rattle.clap.specs.Words.{first_value, found_of};
 ghost use Rattle.model.specs.Commands.{address_of};
 ghost use Rattle.model.specs.Digits.{decimal_number};
@@ -243,6 +243,28 @@ fn is_told(word: Option<&str>, said: Option<FileForm>) -> bool
     }
 }
 
+/// Returns a sentence that says what is wrong of the form that options say of the file of either
+/// word, if something is.
+#[tactic(auto, unfolding(crate::specs::WrongValues::wrong_form))]
+fn wrong_form(
+    file: Option<&str>,
+    tape: Option<&str>,
+    said: Option<FileForm>,
+) -> Option<&'static str>
+    ensures { option_map (λ s. s.now) result ≡ wrong_form (option_map (λ w. w.now) file.entry)
+        (option_map (λ w. w.now) tape.entry) said }
+{
+    if said.is_none() {
+        Some(FORM_TAKES)
+    } else if is_told(file, said) {
+        Some(NAME_TELLS)
+    } else if is_told(tape, said) {
+        Some(NAME_TELLS)
+    } else {
+        None
+    }
+}
+
 /// Returns a sentence that says which of the values that were found is wrong, or `None` where it is
 /// none of an option that several words have.
 pub fn wrong_value(matches: &ArgMatches<'_>) -> Option<&'static str>
@@ -258,14 +280,12 @@ pub fn wrong_value(matches: &ArgMatches<'_>) -> Option<&'static str>
         Some(HISTORY_TAKES)
     } else if steps_asked(matches.get_str("steps")).is_none() {
         Some(STEPS_TAKES)
-    } else if form_said_by(matches).is_none() {
-        Some(FORM_TAKES)
-    } else if is_told(matches.get_str("FILE"), form_said_by(matches)) {
-        Some(NAME_TELLS)
-    } else if is_told(matches.get_str("TAPE"), form_said_by(matches)) {
-        Some(NAME_TELLS)
     } else {
-        None
+        wrong_form(
+            matches.get_str("FILE"),
+            matches.get_str("TAPE"),
+            form_said_by(matches),
+        )
     }
 }
 
