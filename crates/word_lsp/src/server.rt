@@ -266,7 +266,7 @@ fn answer_on(
     reply(alloc, &map, server.phase, &server.documents, id, request)
 }
 
-/// Returns one answer to a request, and behind it that a setting is wrong with which a client begins;
+/// Returns one answer to a request, and behind it that a setting of a client's start is wrong;
 /// nothing for an answer. The only error is that a request for memory was refused.
 fn replies(
     alloc: Global,
