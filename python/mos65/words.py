@@ -33,7 +33,7 @@ def find_program(program: Optional[str]) -> str:
 def refusal(text: str, status: int) -> Fault:
     """The fault that the program's last line on its error stream tells."""
     line = text.strip().split("\n")[-1]
-    if found := re.fullmatch(r"mos65: (?:.+: )?SOURCE line (\d+) (\w+) (\d+)", line):
+    if found := re.fullmatch(r"mos65: SOURCE line (\d+) (\w+) (\d+)", line):
         return AssemblyFault(found[2], int(found[3]), line=int(found[1]))
     if found := re.fullmatch(r"mos65: (?:.+: )?TAPE byte (\d+) (\w+) (\d+)", line):
         return TapeFault(found[2], int(found[3]), offset=int(found[1]))
@@ -44,6 +44,8 @@ def refusal(text: str, status: int) -> Fault:
     if found := _IMAGE.fullmatch(line):
         place = {"line": int(found[1]), "column": int(found[2])}
         return ImageFault(found[3], int(found[4]), text=found[5].lstrip(": "), **place)
+    if found := re.fullmatch(r"mos65: .+:(\d+): (\w+) (\d+)", line):
+        return AssemblyFault(found[2], int(found[3]), line=int(found[1]))
     return EngineDied("EngineDied", text=f"status {status}: {line}")
 
 

@@ -1,7 +1,8 @@
 -- What the words of a file and its map ask for, by the values that clap's definition of a parse finds
 -- among them. Source: mos65.
-use Rattle.std.specs.Prelude.{ℕ, Bool, false, Option, Some, None, codes}
+use Rattle.std.specs.Prelude.{ℕ, Bool, false, ◌||◌, Option, Some, None, codes, option_map}
 use Rattle.std.specs.Str.{bytes_eq}
+use Rattle.arguments.specs.FileNames.{form_for, name_of}
 use Rattle.arguments.specs.Values.{form_asked, port_asked, profile_asked, rom_asked}
 use Rattle.arguments.specs.declared.file_options.FileForm.{FileForm}
 use Rattle.arguments.specs.declared.file_options.FileWords.{FileWords}
@@ -31,16 +32,25 @@ file_of (Some file) (Some form) (Some port) (Some rom) (Some profile) = Some
     (record { file = file; form = form; port = port; rom = rom; profile = profile })
 file_of file form port rom profile = None
 
--- How the file is read.
+-- `--image`, or `--tape`, its other name.
+abbrev pub says_image : (Text → Option Text) → Bool
+says_image value = is_flag (value (codes "image")) || is_flag (value (codes "tape"))
+
+-- The form that options say.
 abbrev pub form_by : (Text → Option Text) → Option FileForm
-form_by value = form_asked (is_flag (value (codes "tape"))) (value (codes "bin"))
-    (is_flag (value (codes "prg")))
+form_by value = form_asked (says_image value) (value (codes "bin")) (is_flag (value (codes "prg")))
+
+-- How a file is read, by its word and by what options say.
+abbrev pub form_in : Option Text → Option FileForm → Option FileForm
+form_in None said = None
+form_in (Some word) None = None
+form_in (Some word) (Some said) = form_for word said
 
 -- What the values of the names ask for, where each is one that its name can have.
 abbrev pub file_asked : (Text → Option Text) → Option FileAsked
-file_asked value = file_of (value (codes "FILE")) (form_by value)
-    (port_asked (value (codes "port"))) (rom_asked (value (codes "rom")))
-    (profile_asked (value (codes "profile")))
+file_asked value = file_of (option_map name_of (value (codes "FILE")))
+    (form_in (value (codes "FILE")) (form_by value)) (port_asked (value (codes "port")))
+    (rom_asked (value (codes "rom"))) (profile_asked (value (codes "profile")))
 
 -- What was read from the words of a file, as what they ask for.
 abbrev pub file_view : FileWords → FileAsked

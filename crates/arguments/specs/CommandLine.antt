@@ -43,10 +43,10 @@ abbrev pub unnamed : Text → App
 unnamed name = let new = new_app name in record
     new { top = record new.top { no_binary_name = true } }
 
--- `FILE [--tape] [--port HHHH] [--rom LO-HI] [--profile N|C] [--bin HHHH] [--prg]`, after what a
--- command line has.
+-- `FILE [--tape] [--port HHHH] [--rom LO-HI] [--profile N|C] [--bin HHHH] [--prg] [--image]`, after
+-- what a command line has.
 abbrev pub with_file : App → App
-with_file app = with_rule (with_rule (with_rule (with_rule (with_rule (with_rule (with_rule app
-    (file_rule (codes "FILE"))) (flag_rule (codes "tape"))) (option_rule (codes "port")))
+with_file app = with_rule (with_rule (with_rule (with_rule (with_rule (with_rule (with_rule
+    (with_rule app (file_rule (codes "FILE"))) (flag_rule (codes "tape"))) (option_rule (codes "port")))
     (option_rule (codes "rom"))) (option_rule (codes "profile"))) (option_rule (codes "bin")))
-    (flag_rule (codes "prg"))
+    (flag_rule (codes "prg"))) (flag_rule (codes "image"))

@@ -6,18 +6,19 @@ use Rattle.arguments.specs.declared.fault.WordsFault.{WordsFault}
 use Rattle.arguments.specs.declared.fault.WordsFault.TheVariants.{Help, Usage, Value, Wrong}
 use Rattle.arguments.specs.declared.fault.WordsFault.TheVariants as words_fault
 use Rattle.arguments.specs.declared.load_fault.LoadFault.{LoadFault}
-use Rattle.arguments.specs.declared.load_fault.LoadFault.TheVariants.{AtPort, Faults, LooksLikeHex, LooksLikeSRecords, LooksLikeTape, NoImage, Refused}
-use Rattle.arguments.specs.declared.refusal.ReadFault.TheVariants.{NoName, NoSuchFile, PermissionDenied as permission_denied}
+use Rattle.arguments.specs.declared.load_fault.LoadFault.TheVariants.{AtPort, Faults, LooksLikeHex, LooksLikeRaw, LooksLikeSRecords, LooksLikeTape, NoImage, Refused}
+use Rattle.arguments.specs.declared.refusal.ReadFault.TheVariants.{Folder, NoName, NoSuchFile, PermissionDenied as permission_denied}
 use Rattle.arguments.specs.declared.refusal.Refusal.{Refusal}
 use Rattle.arguments.specs.declared.refusal.Refusal.TheVariants.{Words, Map, Source, Tape, Session, OutOfMemory, Read, Write, WriteFile}
 use Rattle.arguments.specs.declared.write_fault.WriteFault.{WriteFault}
 use Rattle.arguments.specs.declared.write_fault.WriteFault.TheVariants.{IsFolder, NoRoom, NoSuchFolder, SameFile}
 use Rattle.arguments.specs.declared.write_fault.WriteFault.TheVariants as write_fault
-use Rattle.arguments.specs.declared.wording.TheConstants.{AT_PORT, IS_FOLDER, IS_FREE, LIKE_HEX, LIKE_S_RECORDS, LIKE_TAPE, NONE_IS_FREE, NO_NAME, NO_ROOM, NO_SUCH_FILE, NO_SUCH_FOLDER, PERMISSION_DENIED, SAME_FILE, SOURCE_LIKE_TAPE, TRY_PORT, USE_TAPE}
+use Rattle.arguments.specs.declared.wording.TheConstants.{AT_PORT, IS_FOLDER, IS_FREE, LIKE_HEX, LIKE_RAW, LIKE_S_RECORDS, LIKE_TAPE, NONE_IS_FREE, NO_NAME, NO_ROOM, NO_SUCH_FILE, NO_SUCH_FOLDER, PERMISSION_DENIED, SAME_FILE, SOURCE_LIKE_TAPE, TRY_PORT, USE_TAPE}
 use Rattle.model.specs.FaultTexts.{bus_fault_text, session_fault_text, source_fault_text, tape_fault_text}
 use Rattle.model.specs.Listing.{address_text}
 use Rattle.model.specs.Text.{hex_address}
 use Rattle.model.specs.Writers.{AppendsFront}
+use Rattle.model.specs.declared.source_fault.AsmFault.{AsmFault}
 
 -- The parts of a line, one after another.
 abbrev pub joined : List (List ℕ) → List ℕ
@@ -63,6 +64,7 @@ write_reason write_fault.Other = []
 unfoldable pub reason_part : Refusal → List ℕ
 reason_part (Read NoSuchFile) = NO_SUCH_FILE.now
 reason_part (Read permission_denied) = PERMISSION_DENIED.now
+reason_part (Read Folder) = IS_FOLDER.now
 reason_part (Read NoName) = NO_NAME.now
 reason_part (WriteFile fault) = write_reason fault
 reason_part refusal = []
@@ -71,22 +73,32 @@ reason_part refusal = []
 abbrev pub line_of : List ℕ → List ℕ → List ℕ
 line_of file rest = codes "mos65: " ++ (shown_name file ++ rest)
 
--- The same with the file's name, for example `mos65: first.a65: SOURCE line 2 Syntax 4`, and with the
--- reason, as `mos65: first.a65: READ no such file`.
+-- The same with the file's name, for example `mos65: first.tape: TAPE byte 2 Truncated 5`, and with
+-- the reason, as `mos65: first.a65: READ no such file`.
 abbrev pub named_line : List ℕ → Refusal → List ℕ
 named_line file refusal = line_of file (codes ": " ++ (place_part refusal ++ (reason_part refusal
     ++ (name_part refusal ++ 10 ∷ []))))
+
+-- The fault of a line has its number behind the file's name, as `mos65: names.a65:2: Syntax 4`.
+abbrev pub source_line : List ℕ → AsmFault → List ℕ
+source_line file fault = line_of file (codes ":" ++ (decimal fault.line ++ (codes ": "
+    ++ (name_part (Source fault) ++ 10 ∷ []))))
 
 -- Words, a map and memory are of no file.
 unfoldable pub file_line : List ℕ → Refusal → List ℕ
 file_line file Words = fault_line Words
 file_line file (Map fault) = fault_line (Map fault)
 file_line file OutOfMemory = fault_line OutOfMemory
+file_line file (Source fault) = source_line file fault
 file_line file refusal = named_line file refusal
 
 -- A file is given as a source, and begins with a record of an image.
 abbrev pub like_line : List ℕ → List ℕ → List ℕ
 like_line like file = line_of file (like ++ USE_TAPE.now)
+
+-- A file is given as a source, and begins as a raw image.
+abbrev pub raw_line : List ℕ → List ℕ
+raw_line file = line_of file LIKE_RAW.now
 
 -- The number of what is wrong, if it has one, and the end of the line.
 unfoldable pub number_part : Option ℕ → List ℕ
@@ -117,6 +129,7 @@ unfoldable pub load_text : LoadFault → List ℕ → List ℕ
 load_text LooksLikeTape file = like_line LIKE_TAPE.now file
 load_text LooksLikeHex file = like_line LIKE_HEX.now file
 load_text LooksLikeSRecords file = like_line LIKE_S_RECORDS.now file
+load_text LooksLikeRaw file = raw_line file
 load_text (NoImage place what number) file = no_image_line file place.items what.now number
 load_text (Faults fault text) file = text.items
 load_text (AtPort first last free) file = port_line file first last free

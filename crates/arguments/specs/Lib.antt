@@ -1,6 +1,7 @@
 pub mod Asked
 pub mod CommandLine
 pub mod FaultLines
+pub mod FileNames
 pub mod Files
 pub mod Outputs
 pub mod Refusals

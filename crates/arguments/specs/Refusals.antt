@@ -3,7 +3,7 @@
 use Rattle.std.specs.declared.io.ErrorKind.{ErrorKind}
 use Rattle.std.specs.declared.io.ErrorKind.TheVariants as error_kind
 use Rattle.arguments.specs.declared.refusal.ReadFault.{ReadFault}
-use Rattle.arguments.specs.declared.refusal.ReadFault.TheVariants.{NoSuchFile, PermissionDenied, Other}
+use Rattle.arguments.specs.declared.refusal.ReadFault.TheVariants.{Folder, NoSuchFile, PermissionDenied, Other}
 use Rattle.arguments.specs.declared.refusal.Refusal.{Refusal}
 use Rattle.arguments.specs.declared.refusal.Refusal.TheVariants.{Source, Tape, Session, OutOfMemory, Read}
 use Rattle.arguments.specs.declared.write_fault.WriteFault.{WriteFault}
@@ -24,6 +24,7 @@ use Rattle.papertape.specs.declared.stream.TapeReadFault.TheVariants as tape_rea
 abbrev pub read_fault_of : ErrorKind → ReadFault
 read_fault_of error_kind.NotFound = NoSuchFile
 read_fault_of error_kind.PermissionDenied = PermissionDenied
+read_fault_of error_kind.IsADirectory = Folder
 read_fault_of _ = Other
 
 -- Why a file is not written, by the kind of error that the system tells.

@@ -58,8 +58,8 @@ abbrev pub raw_form : Option ℕ → Option FileForm
 raw_form None = None
 raw_form (Some address) = Some (Raw address)
 
--- how a file is read: by at most one of `--tape`, `--bin HHHH` and `--prg`, and without them as a
--- source
+-- how options say that a file is read: by at most one of `--image`, `--bin HHHH` and `--prg`, and
+-- without them as a source
 abbrev pub form_asked : Bool → Option (List ℕ) → Bool → Option FileForm
 form_asked false None false = Some Source
 form_asked true None false = Some Records

@@ -2,15 +2,16 @@
 ghost use Rattle.std.specs.Prelude.{◌≡◌, ◌+◌, ◌≤◌, ◌++◌, ◌∷◌, [], codes, decimal, length};
 ghost use Rattle.model.specs.Writers.{AppendsFront};
 ghost use Rattle.arguments.specs.FaultLines.{fault_line, file_line, name_part, named_line};
-ghost use Rattle.arguments.specs.FaultLines.{joined, line_of, place_part, reason_part};
+ghost use Rattle.arguments.specs.FaultLines.{joined, line_of, place_part, reason_part, source_line};
 ghost use Rattle.arguments.specs.Words.{texts};
 
 use crate::output::put;
 use crate::refusal::{ReadFault, Refusal};
 use crate::shown::put_shown;
-use crate::wording::{NO_NAME, NO_SUCH_FILE, PERMISSION_DENIED};
+use crate::wording::{IS_FOLDER, NO_NAME, NO_SUCH_FILE, PERMISSION_DENIED};
 use crate::write_fault::write_reason;
 use formatting::{Text, push_bytes, push_decimal};
+use model::AsmFault;
 use std::io::Write;
 
 /// Returns what is rejected, and where the fault is in it.
@@ -138,6 +139,7 @@ fn reason_text(refusal: Refusal) -> &'static str
     match refusal {
         Refusal::Read(ReadFault::NoSuchFile) => NO_SUCH_FILE,
         Refusal::Read(ReadFault::PermissionDenied) => PERMISSION_DENIED,
+        Refusal::Read(ReadFault::Folder) => IS_FOLDER,
         Refusal::Read(ReadFault::NoName) => NO_NAME,
         Refusal::WriteFile(fault) => write_reason(fault),
         _ => "",
@@ -162,6 +164,33 @@ fn put_named_line<E: Write>(refusal: Refusal, file: &str, errors: &mut E)
     );
 }
 
+/// Returns the number of a line.
+fn number_text(line: u32) -> Text
+    ensures { result.items ≡ decimal line }
+{
+    let mut text = Text::new();
+    push_decimal(&mut text, line as u64);
+    text
+}
+
+/// Writes the name of a file, the number of its line and the fault there, or a beginning of that
+/// line if a write fails.
+fn put_source_line<E: Write>(fault: AsmFault, file: &str, errors: &mut E)
+    ensures { AppendsFront (E.contents errors.old) (E.contents errors.new)
+        (source_line file.now fault) }
+{
+    put_named(
+        file,
+        &[
+            b":",
+            number_text(fault.line).as_slice(),
+            b": ",
+            name_text(Refusal::Source(fault)).as_slice(),
+        ],
+        errors,
+    );
+}
+
 /// Writes the fault line of a refusal, or a beginning of it if a write fails.
 ///
 /// The line has the name of the file, unless the refusal is of none.
@@ -172,8 +201,8 @@ pub fn put_file_line<E: Write>(refusal: Refusal, file: &str, errors: &mut E)
 {
     match refusal {
         Refusal::Words | Refusal::Map(_) | Refusal::OutOfMemory => put_fault_line(refusal, errors),
-        Refusal::Source(_)
-        | Refusal::Tape(_)
+        Refusal::Source(fault) => put_source_line(fault, file, errors),
+        Refusal::Tape(_)
         | Refusal::Session(_)
         | Refusal::Read(_)
         | Refusal::Write

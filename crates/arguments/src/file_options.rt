@@ -7,7 +7,8 @@ ghost use Rattle.clap.specs.Words.{App, Rule, app_of, first_value, found_of, kin
 ghost use Rattle.clap.specs.Words.{with_rule};
 ghost use Rattle.clap.specs.declared.builder.command.Command.TheViews.{out-Command};
 
-use crate::matching::is_given;
+use crate::file_names::{form_for, name_of};
+use crate::matching::{is_given, says_image};
 use crate::options::{file, flag, option, port, profile, rom};
 use crate::value::{form_asked, port_asked, profile_asked, rom_asked};
 use clap::error::ErrorKind;
@@ -71,36 +72,38 @@ pub fn with_file_options<'a>(alloc: Global, command: Command<'a>) -> Result<Comm
         → (out-Command c).has_globals ≡ false) }
     ensures memory { IfErr result (λ e. kind_of e ≡ ErrorKind.OutOfMemory) }
 {
-    let records = "FILE is an image: a tape, Intel HEX or S-records";
-    let raw = "FILE is a raw image, from this address on, four hex digits";
+    let records = "FILE is an image: a tape, Intel HEX, S-records or what its name tells";
+    let raw = "FILE is a raw image, from this address on, four hex digits, as FILE@HHHH";
     let prg = "FILE is a PRG file: its address in two bytes, and bytes from it on";
     let command = with(
         Ok(command),
         file(alloc, "FILE", "The source to assemble and load"),
     );
-    let command = with(command, flag(alloc, "tape", records));
+    let command = with(command, flag(alloc, "tape", "The same as --image"));
     let command = with(command, port(alloc));
     let command = with(command, rom(alloc));
     let command = with(command, profile(alloc));
     let command = with(command, option(alloc, "bin", "HHHH", raw));
-    Ok(with(command, flag(alloc, "prg", prg))?)
+    let command = with(command, flag(alloc, "prg", prg));
+    Ok(with(command, flag(alloc, "image", records))?)
 }
 
 /// Returns the file and the map that the values ask for, or `None` if one is wrong.
 pub fn file_words<'a>(matches: &ArgMatches<'a>) -> Option<FileWords<'a>>
     ensures { option_map file_view result ≡ file_asked (first_value (found_of matches.now)) }
 {
-    let file = matches.get_str("FILE")?;
-    let form = form_asked(
-        is_given(matches, "tape"),
+    let word = matches.get_str("FILE")?;
+    let said = form_asked(
+        says_image(matches),
         matches.get_str("bin"),
         is_given(matches, "prg"),
     )?;
+    let form = form_for(word, said)?;
     let port = port_asked(matches.get_str("port"))?;
     let rom = rom_asked(matches.get_str("rom"))?;
     let profile = profile_asked(matches.get_str("profile"))?;
     Some(FileWords {
-        file,
+        file: name_of(word),
         form,
         port,
         rom,

@@ -2,7 +2,7 @@
 
 ghost use Rattle.std.specs.Prelude.{◌≡◌, ◌++◌, OnOk, Some};
 ghost use Rattle.arguments.specs.FaultLines.{like_line, load_text, no_image_line};
-ghost use Rattle.arguments.specs.FaultLines.{number_part, port_line, port_part};
+ghost use Rattle.arguments.specs.FaultLines.{number_part, port_line, port_part, raw_line};
 ghost use Rattle.arguments.specs.Statuses.{status_of_load};
 ghost use Rattle.arguments.specs.declared.load_fault.LoadFault.TheVariants.{Refused};
 ghost use Rattle.model.specs.Writers.{AppendsFront};
@@ -11,7 +11,8 @@ use crate::fault_line::{put_all, put_named};
 use crate::refusal::Refusal;
 use crate::refused::refuse_file;
 use crate::wording::{
-    AT_PORT, IS_FREE, LIKE_HEX, LIKE_S_RECORDS, LIKE_TAPE, NONE_IS_FREE, TRY_PORT, USE_TAPE,
+    AT_PORT, IS_FREE, LIKE_HEX, LIKE_RAW, LIKE_S_RECORDS, LIKE_TAPE, NONE_IS_FREE, TRY_PORT,
+    USE_TAPE,
 };
 use formatting::{Text, address_text, push_bytes, push_decimal, push_hex_address};
 use model::AsmFault;
@@ -28,6 +29,8 @@ pub enum LoadFault {
     LooksLikeHex,
     /// The file is given as a source, and begins with an S-record.
     LooksLikeSRecords,
+    /// The file is given as a source, has a fault, and begins with bytes that no source has.
+    LooksLikeRaw,
     /// The file is given as an image, and is none in its form: where that shows, if it is in a
     /// line, what is wrong, and the number of that if it has one.
     NoImage {
@@ -65,6 +68,13 @@ fn tell_like<E: Write>(file: &str, like: &str, errors: &mut E)
         (like_line like.now file.now) }
 {
     put_named(file, &[like.as_bytes(), USE_TAPE.as_bytes()], errors);
+}
+
+/// Writes that a file looks like a raw image that is given as a source.
+fn tell_raw<E: Write>(file: &str, errors: &mut E)
+    ensures { AppendsFront (E.contents errors.old) (E.contents errors.new) (raw_line file.now) }
+{
+    put_named(file, &[LIKE_RAW.as_bytes()], errors);
 }
 
 /// Returns the number of what is wrong, if it has one, and the end of the line.
@@ -198,6 +208,10 @@ impl LoadFault {
             }
             LoadFault::LooksLikeSRecords => {
                 tell_like(file, LIKE_S_RECORDS, errors);
+                2
+            }
+            LoadFault::LooksLikeRaw => {
+                tell_raw(file, errors);
                 2
             }
             LoadFault::NoImage {

@@ -1,7 +1,7 @@
 //! Words, matched with a command line.
 
 ghost use Rattle.std.specs.Prelude.{◌≡◌, IsOkUnless, IfErr, IfOk, true};
-ghost use Rattle.arguments.specs.Asked.{is_flag};
+ghost use Rattle.arguments.specs.Asked.{is_flag, says_image};
 ghost use Rattle.arguments.specs.Words.{Fits, IsMisfit, texts, value_in};
 ghost use Rattle.clap.specs.Words.{app_of, first_value, found_of, is_simple, is_simple_and_free};
 ghost use Rattle.clap.specs.Words.{matches_of, rows_of, subcommand_of, subcommand_rows_of};
@@ -17,6 +17,13 @@ pub fn is_given(matches: &ArgMatches<'_>, name: &str) -> bool
         Some(value) => value == "true",
         None => false,
     }
+}
+
+/// Returns whether `--image` is among the words, or `--tape`, its other name.
+pub fn says_image(matches: &ArgMatches<'_>) -> bool
+    ensures { result ≡ says_image (first_value (found_of matches.now)) }
+{
+    is_given(matches, "image") || is_given(matches, "tape")
 }
 
 /// Lets go of what was found.

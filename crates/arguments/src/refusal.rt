@@ -18,6 +18,8 @@ pub enum ReadFault {
     NoSuchFile,
     /// The user may not read the file.
     PermissionDenied,
+    /// The name is that of a folder.
+    Folder,
     /// It is read as a file of names, and no line of it is a name in a form that is known.
     NoName,
     /// Another reason, or none that is known.
@@ -31,6 +33,7 @@ fn read_fault(kind: ErrorKind) -> ReadFault
     match kind {
         ErrorKind::NotFound => ReadFault::NoSuchFile,
         ErrorKind::PermissionDenied => ReadFault::PermissionDenied,
+        ErrorKind::IsADirectory => ReadFault::Folder,
         _ => ReadFault::Other,
     }
 }

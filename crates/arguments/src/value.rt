@@ -5,16 +5,18 @@ ghost use Rattle.arguments.specs.Values.{debug_history_asked, form_asked, histor
 ghost use Rattle.arguments.specs.Values.{number_of, raw_form};
 ghost use Rattle.arguments.specs.Values.{port_asked, port_of, profile_asked, profile_of, range_of};
 ghost use Rattle.arguments.specs.Values.{rom_asked, steps_asked};
-ghost use Rattle.arguments.specs.WrongValues.{IsOfValue, wrong_value};
+ghost use Rattle.arguments.specs.Asked.{form_by, form_in};
+ghost use Rattle.arguments.specs.WrongValues.{IsOfValue, is_told, wrong_form, wrong_value};
 ghost use Rattle.clap.specs.Words.{first_value, found_of};
 ghost use Rattle.model.specs.Commands.{address_of};
 ghost use Rattle.model.specs.Digits.{decimal_number};
 
 use crate::fault::WordsFault;
+use crate::file_names::form_for;
 use crate::file_options::FileForm;
-use crate::matching::is_given;
+use crate::matching::{is_given, says_image};
 use crate::wording::{
-    FORM_TAKES, HISTORY_TAKES, PORT_TAKES, PROFILE_TAKES, ROM_TAKES, STEPS_TAKES,
+    FORM_TAKES, HISTORY_TAKES, NAME_TELLS, PORT_TAKES, PROFILE_TAKES, ROM_TAKES, STEPS_TAKES,
 };
 use clap::ArgMatches;
 use commands::{address_of, digits};
@@ -140,8 +142,9 @@ fn raw_form(address: Option<u16>) -> Option<FileForm>
     }
 }
 
-/// Returns how a file is read, by at most one of `--tape`, `--bin HHHH` and `--prg`: a source
-/// without them. Returns `None` for two of them, or if the word after `--bin` is no address.
+/// Returns how options say that a file is read, by at most one of `--image`, `--bin HHHH` and
+/// `--prg`: as a source without them. Returns `None` for two of them, or if the word after `--bin`
+/// is no address.
 pub fn form_asked(is_tape: bool, raw: Option<&str>, is_prg: bool) -> Option<FileForm>
     ensures { result ≡ form_asked is_tape (option_map (λ w. w.now) raw.entry) is_prg }
 {
@@ -206,6 +209,62 @@ pub fn history_asked(word: Option<&str>) -> Option<u32>
     }
 }
 
+/// Returns the form that options say, or `None` if they say two, or a wrong address.
+pub fn form_said_by(matches: &ArgMatches<'_>) -> Option<FileForm>
+    ensures { result ≡ form_by (first_value (found_of matches.now)) }
+{
+    form_asked(
+        says_image(matches),
+        matches.get_str("bin"),
+        is_given(matches, "prg"),
+    )
+}
+
+/// Returns how a file is read, by its word and by what options say.
+pub fn form_in(word: Option<&str>, said: Option<FileForm>) -> Option<FileForm>
+    ensures { result ≡ form_in (option_map (λ w. w.now) word.entry) said }
+{
+    match word {
+        None => None,
+        Some(word) => match said {
+            None => None,
+            Some(said) => form_for(word, said),
+        },
+    }
+}
+
+/// Returns whether a file's word tells another form than options say.
+fn is_told(word: Option<&str>, said: Option<FileForm>) -> bool
+    ensures { result ≡ is_told (option_map (λ w. w.now) word.entry) said }
+{
+    match word {
+        None => false,
+        Some(word) => form_in(Some(word), said).is_none(),
+    }
+}
+
+/// Returns a sentence that says what is wrong of the form that options say of the file of either
+/// word, if something is.
+#[tactic(auto, unfolding(crate::specs::WrongValues::wrong_form))]
+fn wrong_form(
+    file: Option<&str>,
+    tape: Option<&str>,
+    said: Option<FileForm>,
+) -> Option<&'static str>
+    ensures { option_map (λ s. s.now) result ≡ wrong_form (option_map (λ w. w.now) file.entry)
+        (option_map (λ w. w.now) tape.entry) said }
+{
+    if said.is_none() {
+        Some(FORM_TAKES)
+    } else if is_told(file, said) {
+        Some(NAME_TELLS)
+    } else if is_told(tape, said) {
+        Some(NAME_TELLS)
+    } else {
+        None
+    }
+}
+
 /// Returns a sentence that says which of the values that were found is wrong, or `None` where it is
 /// none of an option that several words have.
 pub fn wrong_value(matches: &ArgMatches<'_>) -> Option<&'static str>
@@ -221,16 +280,12 @@ pub fn wrong_value(matches: &ArgMatches<'_>) -> Option<&'static str>
         Some(HISTORY_TAKES)
     } else if steps_asked(matches.get_str("steps")).is_none() {
         Some(STEPS_TAKES)
-    } else if form_asked(
-        is_given(matches, "tape"),
-        matches.get_str("bin"),
-        is_given(matches, "prg"),
-    )
-    .is_none()
-    {
-        Some(FORM_TAKES)
     } else {
-        None
+        wrong_form(
+            matches.get_str("FILE"),
+            matches.get_str("TAPE"),
+            form_said_by(matches),
+        )
     }
 }
 

@@ -26,10 +26,13 @@ pub const LIKE_HEX: &str = " looks like Intel HEX";
 
 pub const LIKE_S_RECORDS: &str = " looks like S-records";
 
-pub const USE_TAPE: &str = ": use --tape\n";
+pub const LIKE_RAW: &str =
+    " looks like a raw image: use --bin HHHH, the address of its first byte, or FILE@HHHH\n";
+
+pub const USE_TAPE: &str = ": use --image\n";
 
 /// That an image has bytes at the port's addresses, which follow, and which base is free.
-pub const AT_PORT: &str = ": TAPE PortAddress 5 at ";
+pub const AT_PORT: &str = ": IMAGE PortAddress 5 at ";
 
 pub const TRY_PORT: &str = "; --port ";
 
@@ -47,6 +50,9 @@ pub const PROFILE_TAKES: &str = "--profile takes N or C";
 pub const HISTORY_TAKES: &str = "--history takes a number up to 65536";
 
 pub const FORM_TAKES: &str =
-    "--bin takes four hex digits; only one of --tape, --bin and --prg can be said";
+    "--bin takes four hex digits; only one of --image, --bin and --prg can be said";
+
+pub const NAME_TELLS: &str =
+    "the file's name tells its form: leave --bin and --prg out; FILE@HHHH says raw bytes";
 
 pub const STEPS_TAKES: &str = "--steps takes a number of at most eighteen digits";

@@ -9,14 +9,17 @@ use Rattle.arguments.specs.Words.{value_in}
 use Rattle.arguments_play.specs.declared.run.RunWords.{RunWords}
 use Rattle.clap.specs.Words.{App, Text, with_rule}
 
--- `FILE` with its map, `[--until WHERE] [--steps N] [--status A] [--cycles] [--free]`.
+-- `FILE` with its map, `[--symbols FILE] [--until WHERE] [--steps N] [--status A] [--cycles]
+-- [--free]`.
 abbrev pub run : App
-run = with_rule (with_rule (with_rule (with_rule (with_rule (with_file (unnamed (codes "run")))
+run = with_rule (with_rule (with_rule (with_rule (with_rule (with_rule
+    (with_file (unnamed (codes "run"))) (option_rule (codes "symbols")))
     (option_rule (codes "until"))) (option_rule (codes "steps"))) (option_rule (codes "status")))
     (flag_rule (codes "cycles"))) (flag_rule (codes "free"))
 
 pub record RunAsked : Type 0 where
   pub file : FileAsked
+  pub symbols : Option Text
   pub until : Option Text
   pub steps : ℕ
   pub is_status_of_a : Bool
@@ -28,21 +31,23 @@ abbrev pub status_asked : Option Text → Option Bool
 status_asked None = Some false
 status_asked (Some word) = if bytes_eq word (codes "A") then Some true else None
 
-abbrev pub run_of : Option FileAsked → Option Text → Option ℕ → Option Bool → Bool → Bool
-    → Option RunAsked
-run_of (Some file) until (Some steps) (Some is_status_of_a) tells_cycles is_free = Some (record {
-  file = file;
-  until = until;
-  steps = steps;
-  is_status_of_a = is_status_of_a;
-  tells_cycles = tells_cycles;
-  is_free = is_free;
-})
-run_of file until steps is_status_of_a tells_cycles is_free = None
+abbrev pub run_of : Option FileAsked → Option Text → Option Text → Option ℕ → Option Bool → Bool
+    → Bool → Option RunAsked
+run_of (Some file) symbols until (Some steps) (Some is_status_of_a) tells_cycles is_free
+    = Some (record {
+      file = file;
+      symbols = symbols;
+      until = until;
+      steps = steps;
+      is_status_of_a = is_status_of_a;
+      tells_cycles = tells_cycles;
+      is_free = is_free;
+    })
+run_of file symbols until steps is_status_of_a tells_cycles is_free = None
 
 -- What the values of the names ask for, where each is one that its name can have.
 abbrev pub run_asked : (Text → Option Text) → Option RunAsked
-run_asked value = run_of (file_asked value) (value (codes "until"))
+run_asked value = run_of (file_asked value) (value (codes "symbols")) (value (codes "until"))
     (steps_asked (value (codes "steps"))) (status_asked (value (codes "status")))
     (is_flag (value (codes "cycles"))) (is_flag (value (codes "free")))
 
@@ -54,6 +59,7 @@ asked words = run_asked (value_in run words)
 abbrev pub run_view : RunWords → RunAsked
 run_view w = record {
   file = file_view w.file;
+  symbols = option_map (λ s. s.now) w.symbols;
   until = option_map (λ s. s.now) w.until;
   steps = w.steps;
   is_status_of_a = w.is_status_of_a;

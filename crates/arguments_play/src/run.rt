@@ -19,6 +19,8 @@ use std::alloc::Global;
 pub struct RunWords<'a> {
     /// The file to run, and its map.
     pub file: FileWords<'a>,
+    /// The file of names, if one is named.
+    pub symbols: Option<&'a str>,
     /// The place that ends the run, if one is named.
     pub until: Option<&'a str>,
     /// The most steps that are made.
@@ -49,6 +51,7 @@ pub fn run_command<'a>(alloc: Global) -> Result<Command<'a>, Error>
     ensures memory { IfErr result (λ e. kind_of e ≡ ErrorKind.OutOfMemory) }
 {
     let about = "Runs a program: its console is the terminal";
+    let symbols = "A file of names for an image, as asm --symbols writes it [default: none]";
     let until = "Where the run ends: a name, an address, or a sum of both [default: none]";
     let steps = "The most steps to make [default: no limit]";
     let status = "A: the exit status is the value of A [default: 0]";
@@ -56,6 +59,7 @@ pub fn run_command<'a>(alloc: Global) -> Result<Command<'a>, Error>
     let free = "Runs on where nothing was written, and at a BRK without a vector";
     let command = begin(alloc, "run", "mos65 run", about, STATUSES)?;
     let command = with_file_options(alloc, command)?
+        .arg(option(alloc, "symbols", "FILE", symbols))?
         .arg(option(alloc, "until", "WHERE", until))?
         .arg(option(alloc, "steps", "N", steps))?
         .arg(option(alloc, "status", "A", status))?
@@ -83,6 +87,7 @@ fn asked<'a>(matches: &ArgMatches<'a>) -> Option<RunWords<'a>>
     };
     Some(RunWords {
         file,
+        symbols: matches.get_str("symbols"),
         until: matches.get_str("until"),
         steps: steps_asked(matches.get_str("steps"))?,
         is_status_of_a: status_asked(matches.get_str("status"))?,

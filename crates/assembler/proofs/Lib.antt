@@ -3,3 +3,4 @@ pub mod LineTexts
 pub mod Verdicts
 pub mod RowsRead
 pub mod Answering
+pub mod MoreNames

@@ -1,7 +1,7 @@
 -- What an assembly shows, and the error that is not a fault of the source.
-use Rattle.std.specs.Prelude.{◌≡◌, ℕ, Bool, List, length, take, map, Option, Result, Ok, Err}
+use Rattle.std.specs.Prelude.{◌≡◌, ℕ, ℤ, Bool, false, is_some, if◌then◌else◌, List, [], ◌∷◌, ◌++◌, length, take, map, Option, Result, Ok, Err}
 pub use Rattle.line_parts.specs.LineFaults.{AnswersSource, out_of_memory}
-use Rattle.model.specs.Names.{Definitions}
+use Rattle.model.specs.Names.{Definitions, number_in}
 use Rattle.model.specs.Layout.{extents_of}
 use Rattle.model.specs.TextLines.{lines_of}
 use Rattle.model.specs.Listing.{listing_text, address_and_bytes}
@@ -69,3 +69,13 @@ IsImageOrMemory (Err fault) image = fault ≡ out_of_memory
 -- names.
 abbrev pub listing_of : AssemblyView → List ℕ
 listing_of a = listing_text (lines_of a.source) (map (address_and_bytes a.image) a.places) a.names
+
+-- With a name more, which is no label, unless it is there.
+abbrev pub with_other : List ℕ × ℤ → AssemblyView → AssemblyView
+with_other d a = if is_some (number_in a.names d.0) then a
+    else record a { names = a.names ++ d ∷ []; labels = a.labels ++ false ∷ [] }
+
+-- With more names, one after another.
+abbrev pub with_others : Definitions → AssemblyView → AssemblyView
+with_others [] a = a
+with_others (d ∷ ds) a = with_others ds (with_other d a)

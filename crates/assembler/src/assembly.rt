@@ -2,7 +2,8 @@
 
 ghost use Rattle.std.specs.Prelude.{◌≡◌, ◌<◌, ◌≤◌, ◌⊎◌, ℕ, List, Option, Err, IfOk, IfErr, false, length};
 ghost use Rattle.std.specs.Prelude.{[], slice_get, take};
-ghost use Rattle.std.specs.Option.{option_map};
+ghost use Rattle.std.specs.Option.{option_map, option_to_list};
+ghost use Rattle.assembler.specs.Assembly.{with_other, with_others};
 ghost use Rattle.assembler.specs.Assembly.{AnswersSource, AreRead, IsAssembled, IsImageOrMemory};
 ghost use Rattle.assembler.specs.Assembly.{listing_of, out_of_memory, source_lines, verdict_view};
 ghost use Rattle.assembler.specs.Assembly.{verdict};
@@ -27,7 +28,7 @@ use line_parts::{OUT_OF_MEMORY, Span};
 use listing::listing_of;
 use memory_map::{Image, MapSpec};
 use model::{AsmFault, AsmFaultKind};
-use std::alloc::Global;
+use std::alloc::{AllocError, Global};
 use std::marker::Model;
 use symbols::Symbols;
 
@@ -88,6 +89,13 @@ impl Assembly {
         ensures { result.now ≡ self.now.image }
     {
         &self.image
+    }
+
+    /// Returns the source.
+    pub fn source(&self) -> &[u8]
+        ensures { result.now ≡ self.now.source }
+    {
+        &self.source
     }
 
     /// Returns how many names the source defines.
@@ -170,6 +178,63 @@ impl Assembly {
             symbols,
             labels,
         }
+    }
+
+    /// Returns the same with one name more, which is no label, unless the name is there.
+    fn with_name(self, alloc: Global, name: &[u8], number: i32) -> Result<Assembly, AllocError>
+        ensures { IfOk result (λ a. a ≡ with_other (name.now, number) self) }
+    {
+        if self.symbols.value_of(name).is_some() {
+            return Ok(self);
+        }
+        let Assembly {
+            image,
+            source,
+            spans,
+            texts,
+            mut symbols,
+            mut labels,
+        } = self;
+        symbols.define(alloc, name, number)?;
+        labels.push(false)?;
+        Ok(Assembly {
+            image,
+            source,
+            spans,
+            texts,
+            symbols,
+            labels,
+        })
+    }
+
+    /// Returns the same with the name of an index, if there is one.
+    fn with_symbol(
+        self,
+        alloc: Global,
+        names: &Symbols,
+        index: usize,
+    ) -> Result<Assembly, AllocError>
+        ensures { IfOk result
+            (λ a. a ≡ with_others (option_to_list (slice_get names.now index)) self) }
+    {
+        match names.symbol(index) {
+            Some((name, number)) => self.with_name(alloc, name, number),
+            None => Ok(self),
+        }
+    }
+
+    /// Returns the same with more names behind its own, which are no labels: those that it does not
+    /// have. They need not be names of a source.
+    ///
+    /// The only error is that an allocation failed.
+    pub fn with_names(self, alloc: Global, names: &Symbols) -> Result<Assembly, AllocError>
+        ensures { IfOk result (λ a. a ≡ with_others names.now self) }
+    {
+        let mut all = self;
+        for index in 0..names.count() {
+            all = all.with_symbol(alloc, names, index)?;
+        }
+        Ok(all)
     }
 
     /// Returns the listing: each line that was read with its address and bytes, then the names.

@@ -1,6 +1,7 @@
 -- What a launch asks for, in the words of the options of `mon`. Source: mos65.
-use Rattle.std.specs.Prelude.{ℕ, nat_lt, if◌then◌else◌, List, [], Option, Some, None, unwrap_or}
-use Rattle.arguments.specs.Asked.{FileAsked, file_of}
+use Rattle.std.specs.Prelude.{ℕ, nat_lt, if◌then◌else◌, List, [], Option, Some, None, option_map, unwrap_or}
+use Rattle.arguments.specs.Asked.{FileAsked, file_of, form_in}
+use Rattle.arguments.specs.FileNames.{name_of}
 use Rattle.arguments.specs.Values.{form_asked, port_asked, profile_asked, rom_asked}
 use Rattle.dap_messages.specs.Seen.{SeenLaunch}
 
@@ -8,7 +9,8 @@ use Rattle.dap_messages.specs.Seen.{SeenLaunch}
 
 -- A file is named, with at most one form, and each option has a value that it can have.
 abbrev pub file_at : SeenLaunch → Option FileAsked
-file_at launch = file_of launch.program (form_asked launch.tape launch.bin launch.prg)
+file_at launch = file_of (option_map name_of launch.program)
+    (form_in launch.program (form_asked launch.tape launch.bin launch.prg))
     (port_asked launch.port) (rom_asked launch.rom) (profile_asked launch.profile)
 
 -- The path of the file: empty if none is named.

@@ -6,7 +6,7 @@ ghost use Rattle.dap_session.specs.Options.{file_at, history_of, steps_of};
 ghost use Rattle.dap_messages.specs.Seen.{launch_view, text_view};
 
 use crate::fault::{Fault, refused};
-use arguments::{FileWords, form_asked, port_asked, profile_asked, rom_asked};
+use arguments::{FileWords, form_asked, form_for, name_of, port_asked, profile_asked, rom_asked};
 use dap_messages::Launch;
 use std::alloc::Global;
 
@@ -48,11 +48,17 @@ pub fn file_words(alloc: Global, launch: &Launch) -> Result<FileWords<'_>, Fault
     ensures { IfOk result
         (λ words. file_at (launch_view launch.now) ≡ Some (file_view words)) }
 {
-    let Some(file) = text_of(&launch.program) else {
+    let Some(word) = text_of(&launch.program) else {
         return Err(refused(alloc, "launch names no program"));
     };
-    let Some(form) = form_asked(launch.tape, text_of(&launch.bin), launch.prg) else {
+    let Some(said) = form_asked(launch.tape, text_of(&launch.bin), launch.prg) else {
         return Err(refused(alloc, "one of tape, bin and prg is allowed"));
+    };
+    let Some(form) = form_for(word, said) else {
+        return Err(refused(
+            alloc,
+            "the program's name tells its form: leave bin and prg out",
+        ));
     };
     let Some(port) = port_asked(text_of(&launch.port)) else {
         return Err(refused(alloc, "port takes four hex digits, or none"));
@@ -64,7 +70,7 @@ pub fn file_words(alloc: Global, launch: &Launch) -> Result<FileWords<'_>, Fault
         return Err(refused(alloc, "profile takes N or C"));
     };
     Ok(FileWords {
-        file,
+        file: name_of(word),
         form,
         port,
         rom,

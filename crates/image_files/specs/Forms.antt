@@ -1,11 +1,12 @@
--- How a text tells its form. Source: mos65.
-use Rattle.std.specs.Prelude.{ℕ, ◌==◌, ◌||◌, ◌&&◌, nat_le, Bool, if◌then◌else◌, List, [], ◌∷◌, drop, take, Result, Ok, Err}
+-- How a text tells its form, and when bytes are no raw image. Source: mos65.
+use Rattle.std.specs.Prelude.{ℕ, ◌==◌, ◌||◌, ◌&&◌, nat_le, nat_lt, is_some, length, Bool, true, false, if◌then◌else◌, List, [], ◌∷◌, drop, take, Result, Ok, Err}
 use Rattle.std.specs.List.{list_all, prefix_len}
 use Rattle.image_reader.specs.declared.form.Form.{Form}
-use Rattle.image_reader.specs.declared.form.Form.TheVariants.{Tape, Text}
+use Rattle.image_reader.specs.declared.form.Form.TheVariants.{Tape, Text, Raw, Prg}
 use Rattle.image_files.specs.declared.form.OtherText.{OtherText}
 use Rattle.image_files.specs.declared.form.OtherText.TheVariants as other
 use Rattle.image_reader.specs.declared.form.TextForm.TheVariants.{Hex, SRecord}
+use Rattle.model.specs.Digits.{hex_value}
 use Rattle.model.specs.Tape.{is_skipped}
 
 -- A byte of a text: $20..$7E, a tab or a line end.
@@ -41,3 +42,30 @@ first_form bytes (b ∷ rest) =
 -- S-records. Before it may stand what a tape skips.
 unfoldable pub form_of : List ℕ → Result Form OtherText
 form_of bytes = first_form bytes (drop (prefix_len is_skipped bytes) bytes)
+
+-- ---- bytes that are given as raw ones
+
+abbrev pub is_hex : ℕ → Bool
+is_hex b = is_some (hex_value b)
+
+-- Eight hex digits stand behind the first byte that a tape does not skip, as in each record.
+abbrev pub has_digits : List ℕ → Bool
+has_digits rest = if nat_lt (length rest) 9 then false else list_all is_hex (take 8 (drop 1 rest))
+
+unfoldable pub begins_record : List ℕ → Bool
+begins_record bytes = has_digits (drop (prefix_len is_skipped bytes) bytes)
+
+-- What such bytes look like, if they begin as a record of a form.
+abbrev pub record_of : Form → OtherText
+record_of Tape = other.Tape
+record_of (Text Hex) = other.Hex
+record_of (Text SRecord) = other.SRecords
+record_of (Raw address) = other.Bytes
+record_of Prg = other.Bytes
+
+-- A form without records is that of bytes that begin with none. Where they do, both readings fit, and
+-- neither is taken.
+abbrev pub alone : Form → Bool → Result Form OtherText → Result Form OtherText
+alone form true (Ok told) = Err (record_of told)
+alone form true (Err like) = Ok form
+alone form false told = Ok form

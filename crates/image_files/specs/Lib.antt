@@ -6,3 +6,5 @@ pub mod Files
 pub mod FreeBase
 pub mod Looks
 pub mod Options
+pub mod Union
+pub mod Written

@@ -1,11 +1,11 @@
 -- Which texts that are given as sources begin with a record of an image. As a source a tape would be
 -- comments. Source: mos65.
-use Rattle.std.specs.Prelude.{◌≡◌, ⊤, ℕ, Bool, true, false, if◌then◌else◌, List, Option, Some, None, Result, Ok, Err, take}
-use Rattle.std.specs.List.{prefix_len}
+use Rattle.std.specs.Prelude.{◌≡◌, ◌==◌, ◌||◌, nat_le, not, ⊤, ℕ, Bool, true, false, if◌then◌else◌, List, Option, Some, None, Result, Ok, Err, take}
+use Rattle.std.specs.List.{list_all, prefix_len}
 use Rattle.arguments.specs.declared.load_fault.LoadFault.{LoadFault}
 use Rattle.arguments.specs.declared.load_fault.LoadFault.TheVariants.{LooksLikeHex, LooksLikeSRecords, LooksLikeTape, Refused}
 use Rattle.arguments.specs.declared.refusal.Refusal.TheVariants.{OutOfMemory}
-use Rattle.image_files.specs.Forms.{form_of}
+use Rattle.image_files.specs.Forms.{form_of, front_bytes}
 use Rattle.image_reader.specs.Texts.{text_image}
 use Rattle.image_reader.specs.declared.fault.RecordFault.{RecordFault}
 use Rattle.image_reader.specs.declared.fault.RecordFaultKind.{RecordFaultKind}
@@ -16,6 +16,14 @@ use Rattle.image_files.specs.declared.form.OtherText.{OtherText}
 use Rattle.image_reader.specs.declared.form.TextForm.{TextForm}
 use Rattle.image_reader.specs.declared.form.TextForm.TheVariants.{Hex, SRecord}
 use Rattle.papertape.specs.Hint.{BeginsTape, is_inside}
+
+-- No control byte but a tab and line ends stands in a text.
+abbrev pub is_written : ℕ → Bool
+is_written b = nat_le 32 b || (b == 9) || (b == 10) || (b == 13)
+
+-- Bytes that no source begins with: a control byte stands among the first 64.
+abbrev pub looks_raw : List ℕ → Bool
+looks_raw bytes = not (list_all is_written (front_bytes bytes))
 
 -- The first line of a text, without its end.
 unfoldable pub first_line : List ℕ → List ℕ

@@ -10,7 +10,7 @@ use Rattle.image_files.specs.declared.refusal.ImageRefusal.{ImageRefusal}
 use Rattle.image_files.specs.declared.refusal.ImageRefusal.TheVariants as why
 use Rattle.image_files.specs.declared.refusal.NoImage.{NoImage}
 use Rattle.image_files.specs.declared.refusal.NoImage.TheVariants.{Record, PastEnd, NoAddress, Looks, TooLong}
-use Rattle.image_files.specs.declared.wording.TheConstants.{LOOKS_EMPTY, LOOKS_PLAIN, LOOKS_RAW, NO_ADDRESS, PAST_END, TOO_LONG}
+use Rattle.image_files.specs.declared.wording.TheConstants.{IS_HEX, IS_S_RECORDS, IS_TAPE, LOOKS_EMPTY, LOOKS_PLAIN, LOOKS_RAW, NO_ADDRESS, PAST_END, TOO_LONG}
 
 -- Where a fault of a text of records is.
 unfoldable pub place_of : NoImage → List ℕ
@@ -26,6 +26,9 @@ what_of NoAddress = NO_ADDRESS.now
 what_of (Looks other.Nothing) = LOOKS_EMPTY.now
 what_of (Looks other.Bytes) = LOOKS_RAW.now
 what_of (Looks other.Plain) = LOOKS_PLAIN.now
+what_of (Looks other.Tape) = IS_TAPE.now
+what_of (Looks other.Hex) = IS_HEX.now
+what_of (Looks other.SRecords) = IS_S_RECORDS.now
 what_of TooLong = TOO_LONG.now
 
 abbrev pub number_of : NoImage → Option ℕ

@@ -5,22 +5,27 @@ ghost use Rattle.image_files.specs.Bytes.{IsImage, IsNoImage, as_refusal, form_b
 ghost use Rattle.image_files.specs.declared.refusal.ImageRefusal.{ImageRefusal};
 ghost use Rattle.image_files.specs.declared.refusal.ImageRefusal.TheVariants.{Refused};
 
-use crate::form::{OtherText, form_of};
+use crate::form::{OtherText, form_alone, form_of};
 use crate::refusal::{ImageRefusal, NoImage, of_fault};
 use arguments::Refusal;
 use image_reader::{Form, ImageFault, read_image};
 use memory_map::Image;
 use std::alloc::Global;
 
-/// Returns the form of some bytes: the one that is said, or that of their first record.
+/// Returns the form of some bytes: that of their first record where none is said, and otherwise the
+/// one that is said.
 ///
-/// Errors: what the bytes look like, where no form is said and they begin with no record.
+/// Errors: what the bytes look like, where no form is said and they begin with no record, or where
+/// one without records is said and they begin with a record.
 pub fn form_by(said: Option<Form>, bytes: &[u8]) -> Result<Form, OtherText>
     ensures { result ≡ form_by said bytes.now }
 {
     match said {
-        Some(form) => Ok(form),
         None => form_of(bytes),
+        Some(Form::Tape) => Ok(Form::Tape),
+        Some(Form::Text(form)) => Ok(Form::Text(form)),
+        Some(Form::Raw(address)) => form_alone(Form::Raw(address), bytes),
+        Some(Form::Prg) => form_alone(Form::Prg, bytes),
     }
 }
 
@@ -72,7 +77,7 @@ fn no_form(said: Option<Form>, bytes: &[u8], like: OtherText) -> Result<Image, I
 /// # Errors
 ///
 /// - `NoImage`: the first fault of the bytes in their form; or what they look like, where no form
-///   is said and they begin with no record.
+///   is said and they begin with no record, or one without records is said and they begin with one.
 /// - `Refused`: with `Tape` and the first fault of a tape; with `OutOfMemory` if an allocation
 ///   fails.
 pub fn image_of_bytes(

@@ -2,13 +2,15 @@
 
 ghost use Rattle.std.specs.Prelude.{◌≡◌, ◌≤◌, drop, length};
 ghost use Rattle.std.specs.List.{list_all, prefix_len};
-ghost use Rattle.image_files.specs.Forms.{first_form, form_of, front_bytes, is_digit, is_plain};
-ghost use Rattle.image_files.specs.Forms.{other_of, s_form};
+ghost use Rattle.image_files.specs.Forms.{alone, begins_record, first_form, form_of, front_bytes};
+ghost use Rattle.image_files.specs.Forms.{has_digits, is_digit, is_hex, is_plain, other_of};
+ghost use Rattle.image_files.specs.Forms.{record_of, s_form};
 ghost use Rattle.model.specs.Tape.{is_skipped};
 
+use formatting::hex_value;
 use image_reader::{Form, TextForm, is_skipped};
 
-/// What bytes look like that begin with no record.
+/// What bytes look like that begin with no record, or with one where none is looked for.
 #[derive(Clone, Copy, Debug, PartialEq, Eq)]
 pub enum OtherText {
     /// Nothing, or only what a tape skips.
@@ -17,6 +19,12 @@ pub enum OtherText {
     Bytes,
     /// Text, as the source of an assembler.
     Plain,
+    /// A tape, where a form without records is said.
+    Tape,
+    /// Intel HEX, where a form without records is said.
+    Hex,
+    /// S-records, where a form without records is said.
+    SRecords,
 }
 
 /// Counts the bytes that are skipped.
@@ -53,7 +61,7 @@ fn all_are_plain(bytes: &[u8]) -> bool
 }
 
 /// Returns the first 64 bytes, or all if there are fewer.
-fn front_bytes(bytes: &[u8]) -> &[u8]
+pub fn front_bytes(bytes: &[u8]) -> &[u8]
     ensures { result.now ≡ front_bytes bytes.now }
 {
     if bytes.len() <= 64 {
@@ -119,4 +127,75 @@ pub fn form_of(bytes: &[u8]) -> Result<Form, OtherText>
     ensures { result ≡ form_of bytes.now }
 {
     first_form(bytes, &bytes[skipped_len(bytes)..])
+}
+
+/// Returns whether a byte is a hex digit.
+fn is_hex(byte: u8) -> bool
+    ensures { result ≡ is_hex byte }
+{
+    hex_value(byte).is_some()
+}
+
+/// Returns whether all of some bytes are hex digits.
+fn all_are_hex(bytes: &[u8]) -> bool
+    ensures { result ≡ list_all is_hex bytes.now }
+{
+    let mut all = true;
+    for byte in bytes {
+        all &= is_hex(*byte);
+    }
+    all
+}
+
+/// Returns whether eight hex digits stand behind the first byte.
+fn has_digits(rest: &[u8]) -> bool
+    ensures { result ≡ has_digits rest.now }
+{
+    if rest.len() < 9 {
+        return false;
+    }
+    all_are_hex(&rest[1..9])
+}
+
+/// Returns whether eight hex digits stand behind the first byte that a tape does not skip.
+#[tactic(auto, unfolding(crate::specs::Forms::begins_record))]
+fn begins_record(bytes: &[u8]) -> bool
+    ensures { result ≡ begins_record bytes.now }
+{
+    has_digits(&bytes[skipped_len(bytes)..])
+}
+
+/// Returns what bytes look like that begin as a record of a form.
+fn record_of(form: Form) -> OtherText
+    ensures { result ≡ record_of form }
+{
+    match form {
+        Form::Tape => OtherText::Tape,
+        Form::Text(TextForm::Hex) => OtherText::Hex,
+        Form::Text(TextForm::SRecord) => OtherText::SRecords,
+        Form::Raw(_) => OtherText::Bytes,
+        Form::Prg => OtherText::Bytes,
+    }
+}
+
+/// Returns a form without records, by whether some bytes begin a record and which form that has.
+fn alone(form: Form, begins: bool, told: Result<Form, OtherText>) -> Result<Form, OtherText>
+    ensures { result ≡ alone form begins told }
+{
+    if !begins {
+        return Ok(form);
+    }
+    match told {
+        Ok(told) => Err(record_of(told)),
+        Err(_) => Ok(form),
+    }
+}
+
+/// Returns a form without records that is said of bytes.
+///
+/// Errors: what the bytes look like, where they begin with a record.
+pub fn form_alone(form: Form, bytes: &[u8]) -> Result<Form, OtherText>
+    ensures { result ≡ alone form (begins_record bytes.now) (form_of bytes.now) }
+{
+    alone(form, begins_record(bytes), form_of(bytes))
 }

@@ -5,6 +5,7 @@
 //! `ImageRefusal` says why it is no image. `refuse_image` refuses a text that is given as a source,
 //! and begins with a record of an image. `with_image_options` adds the options that say the form.
 //! `form` tells it by the first record. `free_base` finds where a port would meet no bytes of it.
+//! `write_form` writes an image in a form, and `union_of` joins two.
 #![tactic(auto)]
 
 mod bytes;
@@ -15,13 +16,17 @@ mod looks;
 mod options;
 mod ports;
 mod refusal;
+mod union;
 mod wording;
+mod written;
 
 pub use bytes::{form_by, image_of_bytes};
 pub use ends::ends_of;
 pub use file::{image_bytes, image_of_file};
 pub use form::OtherText;
-pub use looks::refuse_image;
-pub use options::{fill_asked, form_said, said_of, with_image_options};
+pub use looks::{looks_raw, refuse_image};
+pub use options::{fill_asked, form_said, forms_said, said_of, with_image_options};
 pub use ports::free_base;
 pub use refusal::{ImageFileRefusal, ImageRefusal, NoImage};
+pub use union::{first_clash, union_of};
+pub use written::write_form;

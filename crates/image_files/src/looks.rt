@@ -1,18 +1,43 @@
 //! Texts that are given as sources, and begin with a record of an image.
 
 ghost use Rattle.std.specs.Prelude.{◌≡◌, ◌≤◌, IfErr, IfOk, None, OnOk, length};
-ghost use Rattle.std.specs.List.{prefix_len};
+ghost use Rattle.std.specs.List.{list_all, prefix_len};
 ghost use Rattle.image_files.specs.Looks.{EndsLooks, IsSource, begun_as, begun_in, first_line};
-ghost use Rattle.image_files.specs.Looks.{goes_on, lacks_end, records_begun};
+ghost use Rattle.image_files.specs.Looks.{goes_on, is_written, lacks_end, looks_raw, records_begun};
 ghost use Rattle.image_files.specs.Forms.{form_of};
 ghost use Rattle.image_reader.specs.Texts.{text_image};
 ghost use Rattle.papertape.specs.Hint.{is_inside};
 
-use crate::form::form_of;
+use crate::form::{form_of, front_bytes};
 use arguments::{LoadFault, Refusal};
 use image_reader::{Form, ImageFault, RecordFaultKind, TextForm, read_image};
 use papertape::looks_like_tape;
 use std::alloc::{AllocError, Global};
+
+/// Returns whether a byte is no control byte, but for a tab and line ends.
+fn is_written(byte: u8) -> bool
+    ensures { result ≡ is_written byte }
+{
+    32 <= byte || byte == 9 || byte == 10 || byte == 13
+}
+
+/// Returns whether none of some bytes is a control byte, but for tabs and line ends.
+fn all_are_written(bytes: &[u8]) -> bool
+    ensures { result ≡ list_all is_written bytes.now }
+{
+    let mut all = true;
+    for byte in bytes {
+        all &= is_written(*byte);
+    }
+    all
+}
+
+/// Returns whether bytes begin as no source does: a control byte stands among the first 64.
+pub fn looks_raw(bytes: &[u8]) -> bool
+    ensures { result ≡ looks_raw bytes.now }
+{
+    !all_are_written(front_bytes(bytes))
+}
 
 /// Counts the bytes before the first line end.
 fn line_len(text: &[u8]) -> usize

@@ -23,7 +23,8 @@ pub enum NoImage {
     PastEnd,
     /// A PRG file has fewer than the two bytes of its address.
     NoAddress,
-    /// No form is said, and they begin with no record.
+    /// No form is said, and they begin with no record; or one without records is said, and they
+    /// begin with one.
     Looks(OtherText),
     /// There are more than 16,777,216.
     TooLong,
@@ -82,6 +83,9 @@ impl NoImage {
             NoImage::Looks(OtherText::Nothing) => wording::LOOKS_EMPTY,
             NoImage::Looks(OtherText::Bytes) => wording::LOOKS_RAW,
             NoImage::Looks(OtherText::Plain) => wording::LOOKS_PLAIN,
+            NoImage::Looks(OtherText::Tape) => wording::IS_TAPE,
+            NoImage::Looks(OtherText::Hex) => wording::IS_HEX,
+            NoImage::Looks(OtherText::SRecords) => wording::IS_S_RECORDS,
             NoImage::TooLong => wording::TOO_LONG,
         }
     }

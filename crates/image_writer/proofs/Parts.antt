@@ -33,15 +33,15 @@ with_size part i (Some b) = length-set part i (Some b)
 pub size_kept : (part new : Cells) (i : ℕ) (cell : Option ℕ) → new ≡ with_cell part i cell → length part ≡ 65536 → length new ≡ 65536
 size_kept part new i cell e size = ap length e ∙ with_size part i cell ∙ size
 
-there : (part : Cells) (i : ℕ) (cell : Option ℕ) → i < length part → cell_at part i ≡ None → cell_at (with_cell part i cell) i ≡ cell
+pub there : (part : Cells) (i : ℕ) (cell : Option ℕ) → i < length part → cell_at part i ≡ None → cell_at (with_cell part i cell) i ≡ cell
 there part i None below none = none
 there part i (Some b) below none = get_or-set_same part i (Some b) None below
 
-elsewhere : (part : Cells) (i k : ℕ) (cell : Option ℕ) → (k ≡ i → ⊥) → cell_at (with_cell part i cell) k ≡ cell_at part k
+pub elsewhere : (part : Cells) (i k : ℕ) (cell : Option ℕ) → (k ≡ i → ⊥) → cell_at (with_cell part i cell) k ≡ cell_at part k
 elsewhere part i k None other = refl
 elsewhere part i k (Some b) other = get_or-set_other part i k (Some b) None other
 
-ltb_next : (k i : ℕ) → (k ≡ i → ⊥) → ltb k (i + 1) ≡ ltb k i
+pub ltb_next : (k i : ℕ) → (k ≡ i → ⊥) → ltb k (i + 1) ≡ ltb k i
 ltb_next k i other = elim (cases_lt k i) [
   | inl below ↦ lt-ltb k (i + 1) (omega (arith, below)) ∙ sym (lt-ltb k i below)
   | inr above ↦ le-ltb k (i + 1) (omega (arith, above, other)) ∙ sym (le-ltb k i above)

@@ -9,7 +9,7 @@ use Rattle.arguments.specs.Shown.{shown_name}
 use Rattle.arguments.specs.declared.file_options.FileForm.{FileForm}
 use Rattle.arguments.specs.declared.file_options.FileForm.TheVariants as form
 use Rattle.arguments.specs.declared.load_fault.LoadFault.{LoadFault}
-use Rattle.arguments.specs.declared.load_fault.LoadFault.TheVariants.{AtPort, Faults, LooksLikeHex, LooksLikeSRecords, LooksLikeTape, NoImage, Refused}
+use Rattle.arguments.specs.declared.load_fault.LoadFault.TheVariants.{AtPort, Faults, LooksLikeHex, LooksLikeRaw, LooksLikeSRecords, LooksLikeTape, NoImage, Refused}
 use Rattle.arguments.specs.declared.refusal.Refusal.{Refusal}
 use Rattle.arguments.specs.declared.refusal.Refusal.TheVariants.{Map as NoMap, OutOfMemory, Read, Session, Source, Tape, Words, Write, WriteFile}
 use Rattle.assembler.specs.Assembly.{AssemblyView, out_of_memory}
@@ -59,6 +59,7 @@ pub in_file : (bus_map : Map) (file : List ℕ) (fault : LoadFault) → EndsSour
 in_file bus_map file LooksLikeTape ends = absurd ends
 in_file bus_map file LooksLikeHex ends = absurd ends
 in_file bus_map file LooksLikeSRecords ends = absurd ends
+in_file bus_map file LooksLikeRaw ends = absurd ends
 in_file bus_map file (NoImage place what number) ends = absurd ends
 in_file bus_map file (AtPort first last free) ends = absurd ends
 in_file bus_map file (Faults fault text) ends = ends
@@ -68,6 +69,7 @@ pub looks_end : (bus_map : Map) (file source : List ℕ) (fault : LoadFault) →
 looks_end bus_map file source LooksLikeTape ends = (source, ends)
 looks_end bus_map file source LooksLikeHex ends = (source, ends)
 looks_end bus_map file source LooksLikeSRecords ends = (source, ends)
+looks_end bus_map file source LooksLikeRaw ends = absurd ends
 looks_end bus_map file source (NoImage place what number) ends = absurd ends
 looks_end bus_map file source (AtPort first last free) ends = absurd ends
 looks_end bus_map file source (Faults fault text) ends = absurd ends
@@ -87,6 +89,7 @@ pub as_ends : (said : Option Form) (bus_map : Map) (fault : LoadFault) → EndsI
 as_ends said bus_map LooksLikeTape ends = ends
 as_ends said bus_map LooksLikeHex ends = ends
 as_ends said bus_map LooksLikeSRecords ends = ends
+as_ends said bus_map LooksLikeRaw ends = ends
 as_ends said bus_map (NoImage place what number) ends = ends
 as_ends said bus_map (Faults fault text) ends = ends
 as_ends said bus_map (Refused refusal) ends = ends

@@ -4,3 +4,4 @@ pub mod Ends
 mod Starts
 pub mod Unloaded
 pub mod Unnamed
+pub mod WarningsTold

@@ -2,3 +2,4 @@ pub mod Loads
 pub mod Named
 pub mod Place
 pub mod Told
+pub mod Warned

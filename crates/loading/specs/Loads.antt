@@ -2,18 +2,18 @@
 -- whether memory is there, nor what is in a file. Source: mos65.
 use Rattle.std.specs.Prelude.{◌≡◌, ◌+◌, ◌⊎◌, ⊤, ℕ, true, false, List, Option, None, Some}
 use Rattle.arguments.specs.Shown.{shown_name}
-use Rattle.assembler.specs.Assembly.{AssemblyView, IsAssembled}
+use Rattle.assembler.specs.Assembly.{AssemblyView, IsAssembled, with_others}
 use Rattle.arguments.specs.Asked.{FileAsked, map_of}
 use Rattle.arguments.specs.declared.file_options.FileForm.{FileForm}
 use Rattle.arguments.specs.declared.file_options.FileForm.TheVariants.{Source}
 use Rattle.arguments.specs.declared.load_fault.LoadFault.{LoadFault}
-use Rattle.arguments.specs.declared.load_fault.LoadFault.TheVariants.{AtPort, Faults, LooksLikeHex, LooksLikeSRecords, LooksLikeTape, NoImage, Refused}
+use Rattle.arguments.specs.declared.load_fault.LoadFault.TheVariants.{AtPort, Faults, LooksLikeHex, LooksLikeRaw, LooksLikeSRecords, LooksLikeTape, NoImage, Refused}
 use Rattle.arguments.specs.declared.refusal.Refusal.{Refusal}
 use Rattle.arguments.specs.declared.refusal.Refusal.TheVariants as refusal
 use Rattle.fault_notes.specs.Blocks.{IsToldText}
 use Rattle.image_files.specs.Files.{EndsImage, IsOfFile}
 use Rattle.image_files.specs.FreeBase.{IsFreeBase}
-use Rattle.image_files.specs.Looks.{EndsLooks}
+use Rattle.image_files.specs.Looks.{EndsLooks, looks_raw}
 use Rattle.image_files.specs.Options.{said_of}
 use Rattle.image_files.specs.Told.{IsUnloaded}
 use Rattle.image_files.specs.declared.refusal.ImageRefusal.{ImageRefusal}
@@ -57,6 +57,13 @@ AreOfFile profile assembly others = (file : List ℕ)
     × (assembly.source ≡ (names_file profile file).source)
     × (others ≡ (names_file profile file).others)
 
+-- The names of an image: those that the source of some file of names gives, and then those of the
+-- file that cannot stand in a source.
+abbrev pub AreImageNames : Map → AssemblyView → Type 0
+AreImageNames bus_map names = (given : AssemblyView) × (others : Definitions)
+    × IsAssembled bus_map given × AreOfFile bus_map.profile given others
+    × (names ≡ with_others others given)
+
 -- Why a file of names is not assembled.
 abbrev pub EndsNames : FileAsked → Refusal → Type 0
 EndsNames asked fault = IsBadMap (map_of asked) fault ⊎ EndsSource (map_of asked) fault
@@ -73,12 +80,13 @@ EndsSourceFile bus_map file (Faults fault text) = TellsFaults bus_map file fault
 EndsSourceFile bus_map file (Refused fault) = EndsReading fault
 EndsSourceFile bus_map file fault = ⊥
 
--- Why a file is not loaded as a source: it may begin with a record of an image.
+-- Why a file is not loaded as a source: it may begin with a record of an image, or as a raw image.
 abbrev pub EndsAsSource : Map → List ℕ → LoadFault → Type 0
 EndsAsSource bus_map file LooksLikeTape = (source : List ℕ) × EndsLooks source LooksLikeTape
 EndsAsSource bus_map file LooksLikeHex = (source : List ℕ) × EndsLooks source LooksLikeHex
 EndsAsSource bus_map file LooksLikeSRecords
     = (source : List ℕ) × EndsLooks source LooksLikeSRecords
+EndsAsSource bus_map file LooksLikeRaw = (bytes : List ℕ) × (looks_raw bytes ≡ true)
 EndsAsSource bus_map file fault = EndsSourceFile bus_map file fault
 
 -- Why a file is no image, as why it is not loaded.

@@ -1,11 +1,11 @@
 -- What is loaded where a file of names may be named, and why nothing is. Source: mos65.
 use Rattle.std.specs.Prelude.{◌≡◌, ℕ, List, [], Option, None, Some}
-use Rattle.assembler.specs.Assembly.{AssemblyView, IsAssembled}
+use Rattle.assembler.specs.Assembly.{AssemblyView}
 use Rattle.arguments.specs.Asked.{FileAsked, map_of}
 use Rattle.arguments.specs.FaultLines.{file_line, load_text}
 use Rattle.arguments.specs.Statuses.{status_of, status_of_load}
 use Rattle.arguments.specs.declared.file_options.FileForm.TheVariants.{Source}
-use Rattle.loading.specs.Loads.{EndsLoad, EndsNames, IsLoaded}
+use Rattle.loading.specs.Loads.{AreImageNames, EndsLoad, EndsNames, IsLoaded}
 use Rattle.loading.specs.Told.{Heard, Tells}
 use Rattle.loading.specs.declared.named.NamedFault.{NamedFault}
 use Rattle.loading.specs.declared.named.NamedFault.TheVariants.{HasSource, OfFile, OfNames}
@@ -17,12 +17,12 @@ named_image image names
     = record names { image = image; source = []; places = []; instructions = [] }
 
 -- Without a file of names, what is loaded is that of the file. With one, the file is an image
--- without a source, and the names are those of some source: the file of names.
+-- without a source, and the names are those of some file of names.
 abbrev pub IsNamed : FileAsked → Option (List ℕ) → List (Option ℕ) → Option AssemblyView → Type 0
 IsNamed asked None image assembly = IsLoaded asked image assembly
 IsNamed asked (Some path) image None = ⊥
 IsNamed asked (Some path) image (Some a) = IsLoaded asked image None
-    × ((names : AssemblyView) × IsAssembled (map_of asked) names × (a ≡ named_image image names))
+    × ((names : AssemblyView) × AreImageNames (map_of asked) names × (a ≡ named_image image names))
 
 -- Why nothing is loaded: the file is not, the file of names is not read, or the file is a source,
 -- which has its own names.

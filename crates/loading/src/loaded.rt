@@ -6,9 +6,10 @@ ghost use Rattle.std.specs.Prelude.{◌⊎◌, true};
 ghost use Rattle.accesses.specs.Writing.{bytes_in};
 ghost use Rattle.arguments.specs.Asked.{file_view, map_of};
 ghost use Rattle.arguments.specs.declared.load_fault.LoadFault.TheVariants.{Refused};
-ghost use Rattle.assembler.specs.Assembly.{IsAssembled, out_of_memory};
+ghost use Rattle.assembler.specs.Assembly.{IsAssembled, out_of_memory, with_others};
 ghost use Rattle.clean_source.specs.Cleaned.{cleaned};
 ghost use Rattle.image_files.specs.Files.{IsOfFile};
+ghost use Rattle.loading.specs.Loads.{AreImageNames};
 ghost use Rattle.loading.specs.Loads.{AreOfFile, EndsAsImage, EndsFile, EndsImageFile, EndsLoad, EndsNames};
 ghost use Rattle.loading.specs.Loads.{EndsSource};
 ghost use Rattle.loading.specs.Loads.{EndsSourceFile, IsBadMap, IsImageOf, IsLoaded};
@@ -28,10 +29,10 @@ use assembler::{Assembly, assemble};
 use clean_source::clean_source;
 use debugger::Session;
 use fault_notes::told_faults;
-use image_files::{ImageRefusal, free_base, image_of_file, refuse_image, said_of};
+use image_files::{ImageRefusal, free_base, image_of_file, looks_raw, refuse_image, said_of};
 use image_reader::Form;
 use memory_map::{Image, MapSpec};
-use model::{AsmFault, Profile};
+use model::{AsmFault, AsmFaultKind, Profile};
 use names_files::{NamesFile, names_of_file};
 use std::alloc::Global;
 use std::rt::Files;
@@ -91,6 +92,26 @@ pub fn faults_of(
     }
 }
 
+/// Returns why the source of a file is refused, by its first fault: `LooksLikeRaw` where its bytes
+/// begin as no source does, and otherwise as `faults_of` says.
+#[tactic(auto, using(crate::proofs::Ends::in_file))]
+fn refused_source(
+    alloc: Global,
+    file: &str,
+    bytes: &[u8],
+    source: &[u8],
+    map: &MapSpec,
+    fault: AsmFault,
+) -> LoadFault
+    requires { (fault ≡ out_of_memory) ⊎ HasFault map.now source.now fault }
+    ensures { EndsFile FileForm.Source map.now file.now result }
+{
+    if fault.kind != AsmFaultKind::OutOfMemory && looks_raw(bytes) {
+        return LoadFault::LooksLikeRaw;
+    }
+    faults_of(alloc, file, source, map, fault)
+}
+
 /// Returns a source as it is read.
 ///
 /// Errors: `OutOfMemory` if an allocation fails.
@@ -106,8 +127,9 @@ fn cleaned_source(alloc: Global, bytes: &[u8]) -> Result<Vec<u8>, Refusal>
 ///
 /// # Errors
 ///
-/// `LooksLikeTape`, `LooksLikeHex` or `LooksLikeSRecords` by that record; `Faults` with all faults
-/// of the source; `OutOfMemory` if an allocation fails.
+/// `LooksLikeTape`, `LooksLikeHex` or `LooksLikeSRecords` by that record; `LooksLikeRaw` for a
+/// source with a fault that begins as a raw image; `Faults` with all faults of any other source;
+/// `OutOfMemory` if an allocation fails.
 #[tactic(auto, using(crate::proofs::Ends::in_file, crate::proofs::Ends::looks_end))]
 pub fn assembled_source(
     alloc: Global,
@@ -124,7 +146,7 @@ pub fn assembled_source(
     refuse_image(alloc, &source)?;
     match assemble(alloc, &source, map) {
         Ok(assembly) => Ok(assembly),
-        Err(fault) => Err(faults_of(alloc, file, &source, map, fault)),
+        Err(fault) => Err(refused_source(alloc, file, bytes, &source, map, fault)),
     }
 }
 
@@ -319,10 +341,10 @@ fn load_form<H: Files + AllocGlobal>(
 /// # Errors
 ///
 /// In this order: `Map` if the port and the ROM do not make a map; `Read` if the file cannot be
-/// read; `LooksLikeTape`, `LooksLikeHex` or `LooksLikeSRecords` if the file is given as a source
-/// and begins with such a record; `Faults` with all faults of a source; `Tape` with the fault of a
-/// tape; `NoImage` with why any other file is no image; `AtPort` if an image has a byte at the
-/// port. `OutOfMemory` if an allocation fails.
+/// read; `LooksLikeTape`, `LooksLikeHex`, `LooksLikeSRecords` or `LooksLikeRaw` if the file is
+/// given as a source and begins as such an image; `Faults` with all faults of a source; `Tape` with
+/// the fault of a tape; `NoImage` with why any other file is no image; `AtPort` if an image has a
+/// byte at the port. `OutOfMemory` if an allocation fails.
 pub fn load<H: Files + AllocGlobal>(rt: &H, words: &FileWords<'_>) -> Result<Loaded, LoadFault>
     ensures started { IfOk result (λ loaded. (image : List (Option ℕ))
         × IsLoaded (file_view words.now) image loaded.assembly
@@ -417,4 +439,36 @@ pub fn load_names<H: Files + AllocGlobal>(
     } = names;
     let assembly = assembled(rt.alloc(), source.as_slice(), &map)?;
     Ok(ImageNames { assembly, others })
+}
+
+/// Returns an assembly with more names.
+///
+/// Errors: `OutOfMemory` if an allocation fails.
+fn with_others(alloc: Global, assembly: Assembly, others: &Symbols) -> Result<Assembly, Refusal>
+    ensures all { IfOk result (λ a. a ≡ with_others others.now assembly) }
+    ensures refused { IfErr result (λ fault. fault ≡ Refusal.OutOfMemory) }
+{
+    assembly
+        .with_names(alloc, others)
+        .map_err(|_| Refusal::OutOfMemory)
+}
+
+/// Returns the names of a file of names as `load_names` reads them, all as names of one assembly:
+/// those of its source, and behind them those that cannot stand in one.
+///
+/// # Errors
+///
+/// Those of `load_names`.
+pub fn load_image_names<H: Files + AllocGlobal>(
+    rt: &H,
+    words: &FileWords<'_>,
+    path: &str,
+) -> Result<Assembly, Refusal>
+    ensures named { IfOk result (AreImageNames (map_of (file_view words.now))) }
+    ensures refused { IfErr result (EndsNames (file_view words.now)) }
+{
+    let names = load_names(rt, words, path)?;
+    let ImageNames { assembly, others } = names;
+    let all = with_others(rt.alloc(), assembly, &others)?;
+    Ok(all)
 }

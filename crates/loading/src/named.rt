@@ -15,7 +15,7 @@ ghost use Rattle.model.specs.State.{input_waits, is_map};
 ghost use Rattle.model.specs.Writers.{AppendsFront};
 ghost use Rattle.model.specs.declared.bus_fault.BusFault.TheVariants.{BadMap};
 
-use crate::loaded::{Loaded, image_on, load, load_names, map_of_words, start_image};
+use crate::loaded::{Loaded, image_on, load, load_image_names, map_of_words, start_image};
 use arguments::{FileForm, FileWords, LoadFault, Refusal, put_all, refuse_file};
 use image_files::said_of;
 use memory_map::Image;
@@ -101,9 +101,9 @@ fn load_with_names<H: Files + AllocGlobal>(
     ensures refused { IfErr result (EndsNamed (file_view words.now) (Some path.now)) }
 {
     let (loaded, image) = load_image(rt, words)?;
-    match load_names(rt, words, path) {
+    match load_image_names(rt, words, path) {
         Ok(names) => {
-            let assembly = Some(names.assembly.with_image(rt.alloc(), image));
+            let assembly = Some(names.with_image(rt.alloc(), image));
             Ok(Loaded { assembly, ..loaded })
         }
         Err(refusal) => Err(NamedFault::OfNames(refusal)),
@@ -116,7 +116,7 @@ fn load_with_names<H: Files + AllocGlobal>(
 /// # Errors
 ///
 /// In this order: `HasSource` if a file of names is named and the file is a source; `OfFile` with
-/// the fault of `load`; `OfNames` with that of `load_names`.
+/// the fault of `load`; `OfNames` with that of `load_image_names`.
 pub fn load_named<H: Files + AllocGlobal>(
     rt: &H,
     words: &FileWords<'_>,

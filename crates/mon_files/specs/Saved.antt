@@ -1,6 +1,11 @@
 -- The bytes that `save` writes. Source: mos65.
-use Rattle.std.specs.Prelude.{◌≡◌, ◌<◌, ℕ, ◌==◌, ◌&&◌, ◌||◌, not, Bool, if◌then◌else◌, List, length, slice_index, slice_set, Option, Some, None}
+use Rattle.std.specs.Prelude.{◌≡◌, ◌<◌, ℕ, ◌==◌, ◌&&◌, ◌||◌, not, Bool, if◌then◌else◌, List, length, slice_index, slice_set, Option, Some, None, unwrap_or}
 use Rattle.accesses.specs.Writing.{is_written}
+use Rattle.arguments.specs.FileNames.{form_of_ending}
+use Rattle.arguments.specs.declared.file_names.FormName.{FormName}
+use Rattle.arguments.specs.declared.file_names.FormName.TheVariants.{Tape}
+use Rattle.image_files.specs.Ends.{AreEnds}
+use Rattle.image_files.specs.Written.{ReadsAs}
 use Rattle.model.specs.Image.{cell_at}
 use Rattle.model.specs.State.{Bus, is_port}
 use Rattle.mon_lines.specs.declared.command.Stretch.{Stretch}
@@ -29,3 +34,18 @@ with_saved bus loaded stretch address image = if is_saved bus loaded stretch add
 abbrev pub IsSaved : Bus → List Bool → Option Stretch → List (Option ℕ) → Type 0
 IsSaved bus loaded stretch image = (length image ≡ 65536)
     × ((address : ℕ) → address < 65536 → cell_at image address ≡ saved_at bus loaded stretch address)
+
+-- ---- the file
+
+-- The form of the file: that of its ending, or a tape where it tells none.
+abbrev pub save_form : List ℕ → FormName
+save_form file = unwrap_or (form_of_ending file) Tape
+
+-- A text is read as an image in a form, from its first byte to its last. Without a byte both are 0.
+abbrev pub IsTextBetween : FormName → Option (ℕ × ℕ) → List (Option ℕ) → List ℕ → Type 0
+IsTextBetween form None image text = ReadsAs form 0 0 image text
+IsTextBetween form (Some ends) image text = ReadsAs form ends.0 ends.1 image text
+
+abbrev pub IsSavedAs : FormName → List (Option ℕ) → List ℕ → Type 0
+IsSavedAs form image text = (ends : Option (ℕ × ℕ)) × AreEnds image ends
+    × IsTextBetween form ends image text

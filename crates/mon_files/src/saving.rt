@@ -1,23 +1,23 @@
-//! The tape that `save` writes.
+//! The image that `save` writes.
 
-ghost use Rattle.std.specs.Prelude.{◌≡◌, ℕ, IfErr, IfOk, List, OnOk, Option};
+ghost use Rattle.std.specs.Prelude.{◌≡◌, ℕ, IfErr, IfOk, List, None, OnOk, Option, Some};
 ghost use Rattle.model.specs.Image.{empty_image};
-ghost use Rattle.model.specs.Tape.{TapeDenotes};
-ghost use Rattle.model.specs.TapeText.{tape_text};
+ghost use Rattle.image_files.specs.Ends.{AreEnds};
 ghost use Rattle.mon_dispatch.specs.Lines.{Says};
-ghost use Rattle.mon_files.specs.Saved.{IsSaved, is_asked, is_saved, with_saved};
+ghost use Rattle.mon_files.specs.Saved.{IsSaved, IsSavedAs, is_asked, is_saved};
+ghost use Rattle.mon_files.specs.Saved.{save_form, with_saved};
 ghost use Rattle.mon_session.specs.Course.{ShowsOnly};
 
 use crate::known::Known;
 use crate::wording::{BYTE_IS_SAVED, BYTES_ARE_SAVED};
 use crate::writing::{Outcome, of_memory, say_failure, say_of, say_own, write_new};
 use accesses::Written;
-use arguments::Refusal;
+use arguments::{FormName, Refusal, form_of_ending};
 use arguments_play::MonWords;
+use image_files::{ends_of, write_form};
 use memory_map::Image;
 use mon_lines::Stretch;
 use mon_session::{MonState, Session};
-use papertape::write_tape;
 use std::alloc::{AllocError, Global};
 use std::rt::Files;
 
@@ -82,24 +82,73 @@ fn saved_image(
     Ok(image)
 }
 
-/// Returns the tape of what is saved, and how many bytes it has.
+/// Returns the form in which a file is saved: that of its ending, or a tape where it tells none.
+fn save_form(file: &[u8]) -> FormName
+    ensures { result ≡ save_form file.now }
+{
+    match form_of_ending(file) {
+        None => FormName::Tape,
+        Some(form) => form,
+    }
+}
+
+/// Returns the text of an image without a byte in a form.
 ///
 /// Errors: `AllocError` if an allocation fails.
-fn saved_tape(
+fn text_of_none(alloc: Global, form: FormName, image: &Image) -> Result<Vec<u8>, AllocError>
+    requires { AreEnds image.now None }
+    ensures { IfOk result (λ text. IsSavedAs form image.now text.items) }
+{
+    write_form(alloc, form, 0, 0, image)
+}
+
+/// Returns the text of an image in a form, from its first byte to its last.
+///
+/// Errors: `AllocError` if an allocation fails.
+fn text_between(
+    alloc: Global,
+    form: FormName,
+    image: &Image,
+    low: u16,
+    high: u16,
+) -> Result<Vec<u8>, AllocError>
+    requires { AreEnds image.now (Some (low, high)) }
+    ensures { IfOk result (λ text. IsSavedAs form image.now text.items) }
+{
+    write_form(alloc, form, low, high, image)
+}
+
+/// Returns the text of an image in a form.
+///
+/// Errors: `AllocError` if an allocation fails.
+fn text_of(alloc: Global, form: FormName, image: &Image) -> Result<Vec<u8>, AllocError>
+    ensures { IfOk result (λ text. IsSavedAs form image.now text.items) }
+{
+    match ends_of(image) {
+        None => text_of_none(alloc, form, image),
+        Some((low, high)) => text_between(alloc, form, image, low, high),
+    }
+}
+
+/// Returns the text of what is saved in a form, and how many bytes that are.
+///
+/// Errors: `AllocError` if an allocation fails.
+fn saved_text(
     alloc: Global,
     session: &Session,
     loaded: &Written,
+    form: FormName,
     stretch: Option<Stretch>,
 ) -> Result<(Vec<u8>, usize), AllocError>
-    // Its text is that of the image that is saved, and denotes that image.
-    ensures tape { IfOk result (λ tape. (image : List (Option ℕ))
+    // It is read again as the image that is saved.
+    ensures saved { IfOk result (λ text. (image : List (Option ℕ))
         × IsSaved session.now.current.bus loaded.now stretch image
-        × (tape.0.items ≡ tape_text image) × TapeDenotes tape.0.items image) }
+        × IsSavedAs form image text.0.items) }
 {
     let image = saved_image(alloc, session, loaded, stretch)?;
-    let tape = write_tape(alloc, &image).map_err(|_| AllocError)?;
+    let text = text_of(alloc, form, &image)?;
     let count = image.cells().iter().filter(|cell| cell.is_some()).count();
-    Ok((tape, count))
+    Ok((text, count))
 }
 
 /// Says what has become of a file, and how many bytes it has if it was written.
@@ -122,14 +171,14 @@ fn say_saved(
     }
 }
 
-/// Writes the tape of a stretch of memory to a file, without a stretch that of each byte that the
-/// session's file has or that is not 0. Says how many bytes it has, or that it is not written: a
-/// file that the session has read is not.
+/// Writes a stretch of memory to a file, without a stretch each byte that the session's file has or
+/// that is not 0: in the form that the file's ending tells, or as a tape. Says how many bytes it
+/// has, or that it is not written: a file that the session has read is not.
 ///
 /// # Errors
 ///
 /// - `OutOfMemory`: an allocation failed.
-pub fn save_tape<H: Files + AllocGlobal>(
+pub fn save_image<H: Files + AllocGlobal>(
     rt: &H,
     mon: &mut MonState,
     words: &MonWords<'_>,
@@ -141,8 +190,9 @@ pub fn save_tape<H: Files + AllocGlobal>(
     ensures said { OnOk result ((said : List ℕ) × Says said mon.old mon.new) }
     ensures refused { IfErr result (λ fault. fault ≡ Refusal.OutOfMemory) }
 {
-    let tape = saved_tape(rt.alloc(), &mon.session, known.written(), stretch);
-    let (tape, count) = of_memory(tape)?;
-    let outcome = write_new(rt, words, file, tape.as_slice())?;
+    let form = save_form(file);
+    let text = saved_text(rt.alloc(), &mon.session, known.written(), form, stretch);
+    let (text, count) = of_memory(text)?;
+    let outcome = write_new(rt, words, file, text.as_slice())?;
     of_memory(say_saved(mon, file, outcome, count))
 }

@@ -10,7 +10,7 @@ use Rattle.mon_line_parts.specs.Reading.{Reads, SeenFlaw, no_bytes, no_source, o
 
 -- A byte of a file's name, which `:` ends.
 abbrev pub is_file_byte : ℕ → Bool
-is_file_byte b = not (is_blank b) && not (b == byte ":")
+is_file_byte b = not (is_blank b || b == byte ":")
 
 -- The name of a file at the front, which may have no byte, and the text behind it.
 abbrev pub file_word : List ℕ → List ℕ

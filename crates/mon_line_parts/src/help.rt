@@ -93,7 +93,11 @@ pub const HELP: [(&str, &str, &str); 36] = [
         "hands text to the console's input",
         "type \"HELLO\"",
     ),
-    ("screen", "shows the console's output", "screen"),
+    (
+        "screen [COLUMNS ROWS]",
+        "shows the console's output; sets the size of --screen",
+        "screen, screen 120 40",
+    ),
     ("irq on|off", "sets the interrupt line", "irq on"),
     ("nmi", "asks for a nonmaskable interrupt", "nmi"),
     ("reset", "resets the processor", "reset"),
@@ -120,7 +124,7 @@ pub const HELP: [(&str, &str, &str); 36] = [
     ),
     (
         "save FILE [FROM TO]",
-        "writes a tape of memory as it is now",
+        "writes memory in the form of the ending, or a tape",
         "save new.tape, save part.tape $0200 $02FF",
     ),
     (

@@ -19,7 +19,7 @@ fn file_bytes(text: &[u8]) -> usize
     ensures inside { result ≤ length text.now }
 {
     text.iter()
-        .take_while(|byte| !matches!(**byte, b' ' | b'\t') && **byte != b':')
+        .take_while(|byte| !matches!(**byte, b' ' | b'\t' | b':'))
         .count()
 }
 

@@ -12,6 +12,8 @@ use Rattle.mon_lines.specs.Parts.{address_at, ends_of, flag_of, is_register_or_f
 use Rattle.mon_line_parts.specs.Topics.{nearest_of, subject_of, topic_of}
 use Rattle.mon_lines.specs.declared.command.Command.{Command}
 use Rattle.mon_lines.specs.declared.command.Command.TheVariants as command
+use Rattle.mon_lines.specs.declared.command.Drawing.{Drawing}
+use Rattle.mon_lines.specs.declared.command.Drawing.TheVariants.{More, Clear, Size}
 use Rattle.opcode_facts.specs.declared.flag.Flag.{Flag}
 use Rattle.mon_lines.specs.declared.command.Register.{Register}
 use Rattle.mon_lines.specs.declared.line.ReadLine.{ReadLine}
@@ -58,6 +60,7 @@ pub data SeenCommand : Type 0 where
   asm : ℕ → List ℕ → SeenCommand
   type_in : List ℕ → SeenCommand
   screen : SeenCommand
+  draw : Drawing → SeenCommand
   irq : Bool → SeenCommand
   nmi : SeenCommand
   reset : SeenCommand
@@ -101,6 +104,7 @@ command_view (command.Put address bytes) = put address bytes.items
 command_view (command.Asm address text) = asm address text.now
 command_view (command.«Type» bytes) = type_in bytes.items
 command_view command.Screen = screen
+command_view (command.Draw drawing) = draw drawing
 command_view (command.Irq level) = irq level
 command_view command.Nmi = nmi
 command_view command.Reset = reset
@@ -187,6 +191,21 @@ instructions_from places pc text =
     and_then (count_of places rest) (λ count rest.
     Ok (dis address (unwrap_or count 10), rest)))
 
+-- Columns and rows, 80 and 24 if there are none.
+abbrev pub sized_from : PlacesView → List ℕ → Reads SeenCommand
+sized_from places text =
+    and_then (count_of places text) (λ columns rest.
+    and_then (count_of places rest) (λ rows rest.
+    Ok (draw (Size (unwrap_or columns 80) (unwrap_or rows 24)), rest)))
+
+-- What is shown of the console, or how the screen is drawn that shows the last answer again.
+abbrev pub screen_from : PlacesView → List ℕ → Reads SeenCommand
+screen_from places text =
+    if is_empty text then Ok (screen, text)
+    else if is_word (codes "more") text then Ok (draw More, after_word text)
+    else if is_word (codes "clear") text then Ok (draw Clear, after_word text)
+    else sized_from places text
+
 abbrev pub until_from : PlacesView → ℕ → List ℕ → Reads SeenCommand
 until_from places pc text =
     and_then (address_at places pc text) (λ address rest. Ok (until address, rest))
@@ -272,7 +291,7 @@ seeing places pc text topic.Dis = instructions_from places pc text
 seeing places pc text topic.Find =
     and_then (bytes_of places text) (λ bytes rest. Ok (find bytes, rest))
 seeing places pc text topic.Stack = Ok (stack, text)
-seeing places pc text topic.Screen = Ok (screen, text)
+seeing places pc text topic.Screen = screen_from places text
 seeing places pc text other = putting places pc text other
 
 -- What follows the first word, by its topic: that of one that moves the session here.

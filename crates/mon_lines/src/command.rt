@@ -81,6 +81,17 @@ pub enum Undoing {
     Over,
 }
 
+/// How a screen is to be drawn that shows the last answer again.
+#[derive(Clone, Copy)]
+pub enum Drawing {
+    /// With the next lines of the answer.
+    More,
+    /// Without the answer.
+    Clear,
+    /// With so many columns and rows.
+    Size { columns: u32, rows: u32 },
+}
+
 /// What a line asks for.
 #[derive(Drop)]
 pub enum Command<'a> {
@@ -138,6 +149,8 @@ pub enum Command<'a> {
     },
     Type(ArrayVec<u8, 256>),
     Screen,
+    /// The screen that is drawn after each line is drawn so.
+    Draw(Drawing),
     Irq(bool),
     Nmi,
     Reset,

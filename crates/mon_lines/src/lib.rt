@@ -8,7 +8,7 @@
 //! `specs/Wholes.antt`.
 #![tactic(auto)]
 
-pub use command::{Command, Compare, Left, Register, Stretch, Test, Undoing, WatchKind};
+pub use command::{Command, Compare, Drawing, Left, Register, Stretch, Test, Undoing, WatchKind};
 pub use line::ReadLine;
 pub use read::read_line;
 pub use slip::Slip;

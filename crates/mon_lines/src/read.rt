@@ -10,13 +10,14 @@ ghost use Rattle.mon_lines.specs.Lines.{by_first_word, bytes_watched_from};
 ghost use Rattle.mon_lines.specs.Lines.{command_view, decimal_address, deleted_from, displayed_from};
 ghost use Rattle.mon_lines.specs.Lines.{going_from, helped_from, helped_on, instructions_from};
 ghost use Rattle.mon_lines.specs.Lines.{is_back, is_long, is_setting, line_of, paged_from};
-ghost use Rattle.mon_lines.specs.Lines.{set_from, shown_from, slip_about, undisplayed_from};
+ghost use Rattle.mon_lines.specs.Lines.{screen_from, set_from, shown_from, sized_from, slip_about};
+ghost use Rattle.mon_lines.specs.Lines.{undisplayed_from};
 ghost use Rattle.mon_lines.specs.Lines.{may_have_hex, is_short_decimal, line_by, put_from, putting};
 ghost use Rattle.mon_lines.specs.Lines.{moving, saved_from, saved_in, seeing, until_from};
 ghost use Rattle.mon_lines.specs.Lines.{watched_from, whole_line};
 ghost use Rattle.mon_line_parts.specs.Topics.{topic_of};
 
-use crate::command::{Command, Register, Undoing};
+use crate::command::{Command, Drawing, Register, Undoing};
 use crate::slip::Slip;
 use crate::stretches::{ends_of, kind_of, shown_of, stretch_of, watched_register};
 use crate::tests::{flag_of, register_of, tests_of, times_of};
@@ -258,6 +259,37 @@ fn instructions<'a>(
     Ok((Command::Dis { address, count }, rest))
 }
 
+/// Reads `[COLUMNS] [ROWS]`.
+fn sized<'a>(places: &Places, text: &'a [u8]) -> Result<(Command<'a>, &'a [u8]), Flaw<'a>>
+    ensures ok { IfOk result (λ p. sized_from places.now text.now
+        ≡ Ok (command_view p.0, p.1.now)) }
+    ensures err { IfErr result (λ why. sized_from places.now text.now ≡ Err (flaw_view why)) }
+{
+    let (columns, rest) = count_of(places, text)?;
+    let (rows, rest) = count_of(places, rest)?;
+    let columns = columns.unwrap_or(80);
+    let rows = rows.unwrap_or(24);
+    Ok((Command::Draw(Drawing::Size { columns, rows }), rest))
+}
+
+/// Reads what follows `screen`: nothing, `more`, `clear`, or columns and rows.
+fn screened<'a>(places: &Places, text: &'a [u8]) -> Result<(Command<'a>, &'a [u8]), Flaw<'a>>
+    ensures ok { IfOk result (λ p. screen_from places.now text.now
+        ≡ Ok (command_view p.0, p.1.now)) }
+    ensures err { IfErr result (λ why. screen_from places.now text.now ≡ Err (flaw_view why)) }
+{
+    if is_empty(text) {
+        return Ok((Command::Screen, text));
+    }
+    if is_word(b"more", text) {
+        return Ok((Command::Draw(Drawing::More), after_word(text)));
+    }
+    if is_word(b"clear", text) {
+        return Ok((Command::Draw(Drawing::Clear), after_word(text)));
+    }
+    sized(places, text)
+}
+
 /// Reads what follows `back`.
 fn undoing_of<'a>(places: &Places, text: &'a [u8]) -> Result<(Undoing, &'a [u8]), Flaw<'a>>
     ensures ok { IfOk result (λ p. undoing_of places.now text.now ≡ Ok (p.0, p.1.now)) }
@@ -476,7 +508,7 @@ fn seeing<'a>(
             Ok((Command::Find(bytes), rest))
         }
         Topic::Stack => Ok((Command::Stack, text)),
-        Topic::Screen => Ok((Command::Screen, text)),
+        Topic::Screen => screened(places, text),
         _ => putting(topic, places, pc, text),
     }
 }

@@ -1,5 +1,6 @@
 -- How many rows a screen has, and how many cells each.
 use Rattle.std.proofs.Common.{◌≡◌, ◌∙◌, ◌≤◌, ℕ, zero, suc, ◌+◌, ◌-◌, ◌/◌, List, [], ◌∷◌, ◌++◌, length, take, refl, ap, ap₂, arith, length-append, length-take}
+use Rattle.std.proofs.Math.Nat.{min-le_left}
 use Rattle.std.proofs.lemmas.List.{length-replicate}
 use Rattle.std.proofs.lemmas.List.Elements.{All-append, All-cons}
 use Rattle.std.specs.List.{All, flat_map}
@@ -7,7 +8,7 @@ use Rattle.formatting.specs.Padding.{blanks, padded}
 use Rattle.model.specs.State.{State}
 use Rattle.source_map.specs.Lines.{PlacesView}
 use Rattle.mon_screen.specs.Cells.{behind_line, beside, block, cell, cells, first_line, row}
-use Rattle.mon_screen.specs.View.{answer_block, answer_rows, console_block, memory_block, middle_block, middle_rows, part_rows, registers_block, view_rows}
+use Rattle.mon_screen.specs.View.{answer_block, answer_rows, console_block, memory_block, middle_block, middle_rows, part_rows, registers_block, stack_columns, view_rows}
 use Rattle.mon_screen.specs.declared.view.View.{View}
 
 -- ---- one row
@@ -79,7 +80,8 @@ module _ (view : View) (state : State) (places : PlacesView) (said : List ℕ) w
 
   middle_are : Are (middle_rows rows) columns (middle_block view.size state places)
   middle_are
-      = are_beside (middle_rows rows) (columns / 2) (columns - columns / 2) columns _ _ (omega arith)
+      = are_beside (middle_rows rows) (columns - stack_columns columns) (stack_columns columns) columns
+      _ _ (omega (arith, min-le_left (columns / 2) 50))
 
   memory_are : Are (part_rows rows + part_rows rows) columns (memory_block view state.bus.memory)
   memory_are = both (part_rows rows) (part_rows rows) columns _ _
@@ -88,7 +90,7 @@ module _ (view : View) (state : State) (places : PlacesView) (said : List ℕ) w
   console_are : Are (1 + part_rows rows) columns (console_block view.size state.bus.out)
   console_are = titled_are (part_rows rows) _ _
 
-  answer_are : Are (1 + answer_rows rows) columns (answer_block view.size said)
+  answer_are : Are (1 + answer_rows rows) columns (answer_block view said)
   answer_are = titled_are (answer_rows rows) _ _
 
   pub are : Are parts columns (view_rows view state places said)

@@ -2,4 +2,5 @@ pub mod Around
 pub mod Cells
 pub mod Limits
 pub mod Marks
+pub mod Stored
 pub mod View

@@ -43,7 +43,7 @@ fn behind_line(text: &[u8]) -> &[u8]
 }
 
 /// Returns what is behind the first `count` lines of a text.
-fn behind_lines(text: &[u8], count: usize) -> &[u8]
+pub fn behind_lines(text: &[u8], count: usize) -> &[u8]
     ensures { result.now ≡ behind_lines count text.now }
 {
     let mut rest = text;
@@ -62,7 +62,7 @@ fn ending(byte: u8) -> usize
 }
 
 /// Counts the lines that have ended in a text.
-fn line_count(text: &[u8]) -> usize
+pub fn line_count(text: &[u8]) -> usize
     ensures { result ≡ line_count text.now }
 {
     let mut count = 0;

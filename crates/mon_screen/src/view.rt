@@ -1,20 +1,21 @@
 //! A screen.
 
-ghost use Rattle.std.specs.Prelude.{◌≡◌, ◌+◌, ◌++◌, OnOk, length};
+ghost use Rattle.std.specs.Prelude.{◌≡◌, ◌≤◌, ◌+◌, ◌++◌, OnOk, length};
 ghost use Rattle.std.specs.List.{All};
-ghost use Rattle.mon_screen.specs.Cells.{written};
-ghost use Rattle.mon_screen.specs.View.{answer_block, answer_rows, console_block};
-ghost use Rattle.mon_screen.specs.View.{cycles_before};
+ghost use Rattle.mon_screen.specs.Cells.{behind_lines, block, written};
+ghost use Rattle.mon_screen.specs.View.{answer_block, answer_rows, answer_title, console_block};
+ghost use Rattle.mon_screen.specs.View.{cycles_before, has_more, more_title, next_skipped, share_text, turned};
 ghost use Rattle.mon_screen.specs.View.{memory_block, middle_block, middle_rows, part_rows};
-ghost use Rattle.mon_screen.specs.View.{marks_row, registers_block, state_row, stretch_block, view_rows, view_text};
+ghost use Rattle.mon_screen.specs.View.{marks_row, registers_block, stack_columns, state_row};
+ghost use Rattle.mon_screen.specs.View.{stretch_block, view_rows, view_text};
 
 use crate::around::push_around;
-use crate::cells::{push_beside, push_block, push_titled};
+use crate::cells::{behind_lines, line_count, push_beside, push_block, push_titled};
 use crate::marks::push_marks;
 use crate::size::Size;
-use crate::wording::{ANSWER, CLEAR, CONSOLE};
+use crate::wording::{ANSWER, CLEAR, CONSOLE, OF, SHOWN, TURN};
 use debugger::Session;
-use formatting::push_text;
+use formatting::{push_count, push_text};
 use model::Regs;
 use mon_lines::Stretch;
 use mon_texts::{push_memory, push_screen, push_stack, push_state};
@@ -32,6 +33,8 @@ pub struct View {
     pub regs: Regs,
     /// The cycles before the last line, if there was one.
     pub cycles: Option<u64>,
+    /// How many lines of the answer stand on the pages before.
+    pub skipped: u32,
 }
 
 /// Returns how many rows the program and the stack have.
@@ -39,6 +42,14 @@ fn middle_rows(size: Size) -> u8
     ensures { result ≡ middle_rows size.rows }
 {
     8 + (size.rows - 24) / 2
+}
+
+/// Returns how wide the stack is: half of a screen, but no more than its rows need.
+fn stack_columns(size: Size) -> u8
+    ensures value { result ≡ stack_columns size.columns }
+    ensures within { result ≤ size.columns }
+{
+    (size.columns / 2).min(50)
 }
 
 /// Returns how many rows each part of memory has, and the console's output.
@@ -126,8 +137,8 @@ fn push_middle(
     push_around(&mut program, session, places, count)?;
     let mut stack = Vec::new(alloc);
     push_stack(&mut stack, session, places)?;
-    let left = size.columns / 2;
-    let right = size.columns - left;
+    let right = stack_columns(size);
+    let left = size.columns - right;
     push_beside(
         text,
         count,
@@ -194,12 +205,91 @@ fn push_console(
     )
 }
 
-/// Appends the rows of what the last line was answered with.
-fn push_answer(text: &mut Vec<u8>, size: Size, said: &[u8]) -> Result<(), AllocError>
-    ensures { OnOk result (text.new.items ≡ text.old.items
-        ++ written (answer_block size said.now)) }
+/// Returns how many lines of the answer stand on the page and on those before.
+fn turned(view: View) -> u64
+    ensures { result ≡ turned view }
 {
-    push_titled(text, answer_rows(size), size.columns, ANSWER, said)
+    view.skipped as u64 + answer_rows(view.size) as u64
+}
+
+/// Returns whether an answer has lines that stand on no page so far.
+pub fn has_more(view: View, said: &[u8]) -> bool
+    ensures { result ≡ has_more view said.now }
+{
+    turned(view) < line_count(said) as u64
+}
+
+/// Returns how many lines of the answer stand before the next page.
+pub fn next_skipped(view: View) -> u32
+    ensures { result ≡ next_skipped view }
+{
+    view.skipped.saturating_add(answer_rows(view.size) as u32)
+}
+
+/// Appends how many lines were shown, and how many there are.
+fn push_share(text: &mut Vec<u8>, shown: u64, count: u64) -> Result<(), AllocError>
+    ensures { OnOk result (text.new.items ≡ text.old.items ++ share_text shown count) }
+{
+    push_count(text, shown)?;
+    push_text(text, OF)?;
+    push_count(text, count)
+}
+
+/// Appends what stands above an answer that has lines on no page so far.
+#[tactic(auto, unfolding(crate::specs::View::more_title))]
+fn push_more_title(text: &mut Vec<u8>, shown: u64, count: u64) -> Result<(), AllocError>
+    ensures { OnOk result (text.new.items ≡ text.old.items ++ more_title shown count) }
+{
+    push_text(text, ANSWER)?;
+    push_text(text, SHOWN)?;
+    push_share(text, shown, count)?;
+    push_text(text, TURN)
+}
+
+/// Appends what stands above an answer.
+fn push_title(text: &mut Vec<u8>, view: View, said: &[u8]) -> Result<(), AllocError>
+    ensures { OnOk result (text.new.items ≡ text.old.items ++ answer_title view said.now) }
+{
+    if has_more(view, said) {
+        push_more_title(text, turned(view), line_count(said) as u64)
+    } else {
+        push_text(text, ANSWER)
+    }
+}
+
+/// Appends the row above an answer.
+fn push_title_row(
+    text: &mut Vec<u8>,
+    alloc: Global,
+    view: View,
+    said: &[u8],
+) -> Result<(), AllocError>
+    ensures { OnOk result (text.new.items ≡ text.old.items
+        ++ written (block 1 view.size.columns (answer_title view said.now))) }
+{
+    let mut title = Vec::new(alloc);
+    push_title(&mut title, view, said)?;
+    push_block(text, 1, view.size.columns, title.as_slice())
+}
+
+/// Appends the rows of a page of what the last line was answered with.
+fn push_page(text: &mut Vec<u8>, view: View, said: &[u8]) -> Result<(), AllocError>
+    ensures { OnOk result (text.new.items ≡ text.old.items
+        ++ written (block (answer_rows view.size.rows) view.size.columns
+        (behind_lines view.skipped said.now))) }
+{
+    let page = behind_lines(said, view.skipped as usize);
+    push_block(text, answer_rows(view.size), view.size.columns, page)
+}
+
+/// Appends the rows of what the last line was answered with.
+fn push_answer(text: &mut Vec<u8>, alloc: Global, view: View, said: &[u8]) -> Result<(), AllocError>
+    ensures { OnOk result (text.new.items ≡ text.old.items
+        ++ written (answer_block view said.now)) }
+{
+    push_title_row(text, alloc, view, said)?;
+    push_page(text, view, said)?;
+    Ok(())
 }
 
 /// Appends a screen of a session: the terminal is cleared, and `said` is what the last line was
@@ -226,6 +316,6 @@ pub fn push_view(
     push_middle(text, alloc, view.size, session, places)?;
     push_both(text, alloc, view, session)?;
     push_console(text, alloc, view.size, session)?;
-    push_answer(text, view.size, said)?;
+    push_answer(text, alloc, view, said)?;
     Ok(())
 }

@@ -20,3 +20,10 @@ pub const SAME: &str = "     ";
 pub const CONSOLE: &str = "-- console";
 
 pub const ANSWER: &str = "-- mon";
+
+// Behind that, if the answer has more lines than were shown so far.
+pub const SHOWN: &str = ": ";
+
+pub const OF: &str = " of ";
+
+pub const TURN: &str = " lines; Return goes on, q leaves";

@@ -46,9 +46,18 @@ abbrev pub asm_route : List Text → Route
 asm_route rest = if asks_for_help rest then to.Whole
     else if asks_for_files rest then to.AsmFiles else to.Program
 
+-- An option is among the words that only a source has. Without `--source` it is refused.
+abbrev pub asks_for_source : List Text → Bool
+asks_for_source rest = has (codes "--source") rest || has (codes "--follow") rest
+    || has (codes "--follow-only") rest || has (codes "--inline") rest
+    || has (codes "--labels") rest || has (codes "--symbols") rest
+    || has (codes "--data") rest || has (codes "--text") rest || has (codes "--words") rest
+    || has (codes "--rts-words") rest || has (codes "--marks") rest
+    || has (codes "--addresses") rest
+
 abbrev pub dis_route : List Text → Route
 dis_route rest = if asks_for_help rest then to.Whole
-    else if has (codes "--source") rest then to.DisSource
+    else if asks_for_source rest then to.DisSource
     else if asks_for_image rest then to.DisImage else to.Program
 
 -- A session, by whether it is strict and whether it is on an image.

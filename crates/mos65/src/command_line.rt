@@ -2,11 +2,10 @@
 
 ghost use Rattle.std.specs.Prelude.{◌≡◌, ◌≤◌};
 
-use arguments::{WordsFault, flag, refused_words};
+use arguments::{WordsFault, flag, option, refused_words};
 use arguments_play::{mon_command, run_command, trace_command};
 use clap::error::ErrorKind;
 use clap::{Command, Error};
-use image_files::with_image_options;
 use std::alloc::Global;
 use std::io::Write;
 use tape_words::{cmp_command, info_command, mend_command};
@@ -46,7 +45,7 @@ const IMAGE: &str = "FILE tells its form by its first record: a tape, Intel HEX 
 /// Returns the command line of `dis` with all its options. The only error is that an allocation
 /// failed.
 fn dis_command<'a>(alloc: Global) -> Result<Command<'a>, Error> {
-    let command = dis_source_command(alloc)?.arg(flag(alloc, "image", IMAGE))?;
+    let command = dis_source_command(alloc)?;
     Ok(command)
 }
 
@@ -55,8 +54,11 @@ fn dis_command<'a>(alloc: Global) -> Result<Command<'a>, Error> {
 fn debug_command<'a>(alloc: Global) -> Result<Command<'a>, Error> {
     let raw = "FILE has bytes alone, from this address on, four hex digits";
     let prg = "FILE is a PRG file: its address in two bytes, and bytes from it on";
-    let command = strict_debug_command(alloc)?.arg(flag(alloc, "image", IMAGE))?;
-    with_image_options(alloc, command, raw, prg)
+    let command = strict_debug_command(alloc)?
+        .arg(flag(alloc, "image", IMAGE))?
+        .arg(option(alloc, "bin", "HHHH", raw))?
+        .arg(flag(alloc, "prg", prg))?;
+    Ok(command)
 }
 
 /// Adds the words that read a source or a tape and write another file.

@@ -2,7 +2,8 @@
 
 ghost use Rattle.std.specs.Prelude.{◌≡◌};
 ghost use Rattle.arguments.specs.Words.{texts};
-ghost use Rattle.mos65.specs.Routes.{added, asks_for_help, asks_for_image, asm_route, debug_route};
+ghost use Rattle.mos65.specs.Routes.{added, asks_for_help, asks_for_image, asks_for_source};
+ghost use Rattle.mos65.specs.Routes.{asm_route, debug_route};
 ghost use Rattle.mos65.specs.Routes.{dis_route, find, has, names_image, route_of, session_route};
 
 use word_asm::asks_for_files;
@@ -35,7 +36,7 @@ pub enum Route {
     Lsp,
     /// `dap`.
     Dap,
-    /// `dis` with `--source`.
+    /// `dis` with `--source`, or an option that goes with it.
     DisSource,
     /// `dis` with an image.
     DisImage,
@@ -135,13 +136,31 @@ fn asm_route(rest: &[&str]) -> Route
     }
 }
 
+/// Whether an option is among the words that only a source has.
+fn asks_for_source(rest: &[&str]) -> bool
+    ensures { result ≡ asks_for_source (texts rest.entry.now) }
+{
+    has("--source", rest)
+        || has("--follow", rest)
+        || has("--follow-only", rest)
+        || has("--inline", rest)
+        || has("--labels", rest)
+        || has("--symbols", rest)
+        || has("--data", rest)
+        || has("--text", rest)
+        || has("--words", rest)
+        || has("--rts-words", rest)
+        || has("--marks", rest)
+        || has("--addresses", rest)
+}
+
 /// Returns the call for the words after `dis`.
 fn dis_route(rest: &[&str]) -> Route
     ensures { result ≡ dis_route (texts rest.entry.now) }
 {
     if asks_for_help(rest) {
         Route::Whole
-    } else if has("--source", rest) {
+    } else if asks_for_source(rest) {
         Route::DisSource
     } else if asks_for_image(rest) {
         Route::DisImage

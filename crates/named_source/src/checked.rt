@@ -11,8 +11,8 @@ use law_sources::bytes_fill_their_size;
 use model::Profile;
 use std::alloc::{AllocError, Global};
 
-/// The map of a profile without a port, where every image has its bytes beside the port.
-fn map_for(profile: Profile) -> Option<MapSpec>
+/// Returns the map of a profile without a port, where every image has its bytes beside the port.
+pub fn map_for(profile: Profile) -> Option<MapSpec>
     ensures profile { IfSome result (λ map. map.profile ≡ profile) }
     ensures port { IfSome result (λ map. map.port ≡ no_port) }
     ensures none { IfNone result ⊥ }

@@ -23,6 +23,7 @@ mod renaming;
 mod text;
 
 pub use assembler::{AsmFault, AsmFaultKind, Line, Profile};
+pub use checked::{is_right, map_for};
 pub use labelled::{flagged_text, labelled_again, labelled_text};
 pub use listed::listed_again;
 pub use source_forms::Mark;

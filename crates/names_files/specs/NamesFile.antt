@@ -1,11 +1,13 @@
 -- What a file of names says as a source. Source: mos65.
-use Rattle.std.specs.Prelude.{ℕ, ◌+◌, ◌==◌, ◌&&◌, ◌||◌, nat_lt, not, Bool, true, false, if◌then◌else◌, ℤ, List, [], ◌∷◌, ◌++◌, codes, decimal, length, Option, Some, None}
+use Rattle.std.specs.Prelude.{ℕ, ◌+◌, ◌==◌, ◌&&◌, ◌||◌, nat_le, nat_lt, not, Bool, true, false, if◌then◌else◌, ℤ, pos, negsuc, List, [], ◌∷◌, ◌++◌, codes, decimal, length, Option, Some, None}
 use Rattle.std.specs.List.{list_all}
 use Rattle.std.specs.Option.{option_or}
 use Rattle.std.specs.Ordering.{int_eq}
 use Rattle.model.specs.Names.{Definitions, number_in}
+use Rattle.model.specs.Text.{hex_address}
 use Rattle.model.specs.TextLines.{lines_of}
 use Rattle.model.specs.declared.instruction.Profile.{Profile}
+use Rattle.names_files.specs.ImageNames.{is_image_name}
 use Rattle.names_files.specs.Labels.{Label, begins, definition_text}
 use Rattle.names_files.specs.Meanings.{Meaning, other, stands, named, kept, left_out, unknown, label_in, label_meaning, unlabelled}
 use Rattle.names_files.specs.declared.form.Form.{Form}
@@ -76,27 +78,50 @@ with_name text name number taken = record taken {
   is_known = true;
 }
 
--- A name that was given before is not given again; it is left out if it had another number.
-abbrev pub with_given : Option ℤ → List ℕ → List ℕ → ℤ → Taken → Taken
-with_given None text name number taken = with_name text name number taken
-with_given (Some old) text name number taken
-    = if int_eq old number then with_empty taken else with_left_out name taken
-
--- A name that cannot stand in the source is left out of it, and stands beside it with its number. It
--- is not given again.
+-- A name that cannot stand in the source is left out of it, and stands beside it with its number.
 abbrev pub with_other : List ℕ → ℤ → Taken → Taken
 with_other name number taken = record (with_left_out name taken) {
   others = taken.others ++ (name, number) ∷ [];
 }
 
-abbrev pub with_kept : Option ℤ → List ℕ → ℤ → Taken → Taken
-with_kept None name number taken = with_other name number taken
-with_kept (Some old) name number taken
-    = if int_eq old number then with_empty taken else with_left_out name taken
-
 -- The number that a name was given before.
 abbrev pub given_before : Taken → List ℕ → Option ℤ
 given_before taken name = option_or (number_in taken.names name) (number_in taken.others name)
+
+-- It is not given again; it is left out if it had another number.
+abbrev pub with_once : Option ℤ → List ℕ → ℤ → Taken → Taken
+with_once None name number taken = with_other name number taken
+with_once (Some old) name number taken
+    = if int_eq old number then with_empty taken else with_left_out name taken
+
+-- A name with an address behind it, as `loop:E150`.
+abbrev pub addressed_name : List ℕ → ℕ → List ℕ
+addressed_name name address = name ++ codes ":" ++ hex_address address
+
+-- A name that was given before with another number is given as this text, if an image may have it.
+unfoldable pub with_text : List ℕ → List ℕ → ℕ → Taken → Taken
+with_text name text address taken = if is_image_name text
+    then with_once (given_before taken text) text (pos address) taken
+    else with_left_out name taken
+
+-- The text has its address behind it.
+abbrev pub with_addressed : List ℕ → ℕ → Taken → Taken
+with_addressed name address taken = with_text name (addressed_name name address) address taken
+
+abbrev pub with_again : List ℕ → ℤ → Taken → Taken
+with_again name (pos n) taken = if nat_le n 65535 then with_addressed name n taken
+    else with_left_out name taken
+with_again name (negsuc n) taken = with_left_out name taken
+
+abbrev pub with_given : Option ℤ → List ℕ → List ℕ → ℤ → Taken → Taken
+with_given None text name number taken = with_name text name number taken
+with_given (Some old) text name number taken
+    = if int_eq old number then with_empty taken else with_again name number taken
+
+abbrev pub with_kept : Option ℤ → List ℕ → ℤ → Taken → Taken
+with_kept None name number taken = with_other name number taken
+with_kept (Some old) name number taken
+    = if int_eq old number then with_empty taken else with_again name number taken
 
 abbrev pub with_meaning : List ℕ → Meaning → Taken → Taken
 with_meaning text other taken = with_empty taken

@@ -4,6 +4,8 @@ ghost use Rattle.std.specs.Prelude.{◌≡◌, ◌≤◌, ◌<◌, ◌+◌, ◌^
 ghost use Rattle.std.specs.List.{list_all};
 ghost use Rattle.model.specs.Names.{number_in};
 ghost use Rattle.model.specs.TextLines.{lines_of};
+ghost use Rattle.names_files.specs.ImageNames.{is_image_name};
+ghost use Rattle.names_files.specs.NamesFile.{addressed_name, with_addressed, with_again, with_once, with_text};
 ghost use Rattle.names_files.specs.NamesFile.{given_before, is_shown_byte, is_told, is_unknown, left_text};
 ghost use Rattle.names_files.specs.NamesFile.{more_lines, names_file, nothing_taken, shown_part, source_names, table_names};
 ghost use Rattle.names_files.specs.NamesFile.{one_line_more, with_empty, with_given, with_left_out};
@@ -12,11 +14,12 @@ ghost use Rattle.names_files.specs.NamesFile.{with_statement, with_told, with_un
 ghost use Rattle.names_files.specs.Views.{meaning_view, names_view, taken_view};
 
 use crate::form::{Form, form_of};
+use crate::image_name::is_image_name;
 use crate::kept::label_meaning;
 use crate::label::definition_text;
 use crate::meaning::Meaning;
 use crate::unlabelled::{label_in, unlabelled};
-use formatting::push_count;
+use formatting::{push_address, push_count};
 use line_parts::next_line;
 use model::Profile;
 use std::alloc::{AllocError, Global};
@@ -163,33 +166,6 @@ fn push_name(
     Ok(())
 }
 
-/// Appends a line that gives a name, unless the name was given before.
-fn push_given(
-    alloc: Global,
-    lines: &mut Lines,
-    text: &[u8],
-    name: &[u8],
-    number: i32,
-) -> Result<(), AllocError>
-    requires most { lines.old.left_out < 2 ^ 63 }
-    requires told { lines.old.told < 2 ^ 63 }
-    ensures text { OnOk result (taken_view lines.new ≡ with_given
-        (number_in lines.old.names name.now) text.now name.now number (taken_view lines.old)) }
-    ensures most { OnOk result (lines.new.left_out ≤ lines.old.left_out + 1) }
-    ensures told { OnOk result (lines.new.told ≤ lines.old.told + 1) }
-{
-    match lines.names.value_of(name) {
-        None => push_name(alloc, lines, text, name, number),
-        Some(old) => {
-            if old == number {
-                push_empty(lines)
-            } else {
-                push_left_out(lines, name)
-            }
-        }
-    }
-}
-
 /// Appends an empty line for a name that cannot stand in the source, and keeps the name.
 fn push_other(alloc: Global, lines: &mut Lines, name: &[u8], number: i32) -> Result<(), AllocError>
     requires most { lines.old.left_out < 2 ^ 63 }
@@ -216,6 +192,123 @@ fn given_before(lines: &Lines, name: &[u8]) -> Option<i32>
     }
 }
 
+/// Keeps a name that cannot stand in the source, unless the name was given before. It is left out
+/// if it had another number.
+fn push_once(alloc: Global, lines: &mut Lines, name: &[u8], number: i32) -> Result<(), AllocError>
+    requires most { lines.old.left_out < 2 ^ 63 }
+    requires told { lines.old.told < 2 ^ 63 }
+    ensures text { OnOk result (taken_view lines.new ≡ with_once
+        (given_before (taken_view lines.old) name.now) name.now number (taken_view lines.old)) }
+    ensures most { OnOk result (lines.new.left_out ≤ lines.old.left_out + 1) }
+    ensures told { OnOk result (lines.new.told ≤ lines.old.told + 1) }
+{
+    match given_before(lines, name) {
+        None => push_other(alloc, lines, name, number),
+        Some(given) => {
+            if given == number {
+                push_empty(lines)
+            } else {
+                push_left_out(lines, name)
+            }
+        }
+    }
+}
+
+/// Returns a name with an address behind it, as `loop:E150`.
+fn addressed_name(alloc: Global, name: &[u8], address: u16) -> Result<Vec<u8>, AllocError>
+    ensures { IfOk result (λ text. text.items ≡ addressed_name name.now address) }
+{
+    let mut text = Vec::new(alloc);
+    text.extend_from_slice(name)?;
+    text.push(b':')?;
+    push_address(&mut text, address)?;
+    Ok(text)
+}
+
+/// Keeps a name that was given before for another address as this text, if an image may have it.
+#[tactic(auto, unfolding(crate::specs::NamesFile::with_text))]
+fn push_text(
+    alloc: Global,
+    lines: &mut Lines,
+    name: &[u8],
+    text: &[u8],
+    address: u16,
+) -> Result<(), AllocError>
+    requires most { lines.old.left_out < 2 ^ 63 }
+    requires told { lines.old.told < 2 ^ 63 }
+    ensures text { OnOk result
+        (taken_view lines.new ≡ with_text name.now text.now address (taken_view lines.old)) }
+    ensures most { OnOk result (lines.new.left_out ≤ lines.old.left_out + 1) }
+    ensures told { OnOk result (lines.new.told ≤ lines.old.told + 1) }
+{
+    if is_image_name(text) {
+        push_once(alloc, lines, text, address as i32)
+    } else {
+        push_left_out(lines, name)
+    }
+}
+
+/// Keeps a name that was given before for another address, with this one behind it.
+fn push_addressed(
+    alloc: Global,
+    lines: &mut Lines,
+    name: &[u8],
+    address: u16,
+) -> Result<(), AllocError>
+    requires most { lines.old.left_out < 2 ^ 63 }
+    requires told { lines.old.told < 2 ^ 63 }
+    ensures text { OnOk result
+        (taken_view lines.new ≡ with_addressed name.now address (taken_view lines.old)) }
+    ensures most { OnOk result (lines.new.left_out ≤ lines.old.left_out + 1) }
+    ensures told { OnOk result (lines.new.told ≤ lines.old.told + 1) }
+{
+    let text = addressed_name(alloc, name, address)?;
+    push_text(alloc, lines, name, text.as_slice(), address)
+}
+
+/// Keeps a name that was given before with another number, if this one is an address.
+fn push_again(alloc: Global, lines: &mut Lines, name: &[u8], number: i32) -> Result<(), AllocError>
+    requires most { lines.old.left_out < 2 ^ 63 }
+    requires told { lines.old.told < 2 ^ 63 }
+    ensures text { OnOk result
+        (taken_view lines.new ≡ with_again name.now number (taken_view lines.old)) }
+    ensures most { OnOk result (lines.new.left_out ≤ lines.old.left_out + 1) }
+    ensures told { OnOk result (lines.new.told ≤ lines.old.told + 1) }
+{
+    if number >= 0 && number <= 65535 {
+        push_addressed(alloc, lines, name, number as u16)
+    } else {
+        push_left_out(lines, name)
+    }
+}
+
+/// Appends a line that gives a name, unless the name was given before.
+fn push_given(
+    alloc: Global,
+    lines: &mut Lines,
+    text: &[u8],
+    name: &[u8],
+    number: i32,
+) -> Result<(), AllocError>
+    requires most { lines.old.left_out < 2 ^ 63 }
+    requires told { lines.old.told < 2 ^ 63 }
+    ensures text { OnOk result (taken_view lines.new ≡ with_given
+        (number_in lines.old.names name.now) text.now name.now number (taken_view lines.old)) }
+    ensures most { OnOk result (lines.new.left_out ≤ lines.old.left_out + 1) }
+    ensures told { OnOk result (lines.new.told ≤ lines.old.told + 1) }
+{
+    match lines.names.value_of(name) {
+        None => push_name(alloc, lines, text, name, number),
+        Some(old) => {
+            if old == number {
+                push_empty(lines)
+            } else {
+                push_again(alloc, lines, name, number)
+            }
+        }
+    }
+}
+
 /// Keeps a name that cannot stand in the source, unless the name was given before.
 fn push_kept(alloc: Global, lines: &mut Lines, name: &[u8], number: i32) -> Result<(), AllocError>
     requires most { lines.old.left_out < 2 ^ 63 }
@@ -231,7 +324,7 @@ fn push_kept(alloc: Global, lines: &mut Lines, name: &[u8], number: i32) -> Resu
             if given == number {
                 push_empty(lines)
             } else {
-                push_left_out(lines, name)
+                push_again(alloc, lines, name, number)
             }
         }
     }
@@ -401,8 +494,9 @@ fn source_names(alloc: Global, file: &[u8]) -> Result<NamesFile, AllocError>
 /// name, and so does a line that defines one. Left out are names that cannot stand in a source,
 /// that have no number, or that were given before with another number, and lines in no form that
 /// is known. Names with a number that cannot stand in a source, and that an image may have, are
-/// given beside it. A file with a line of a source that defines nothing is one, and gives its names
-/// as it stands. The only error is that an allocation failed.
+/// given beside it; so is a name that had another number, with its address behind it. A file with
+/// a line of a source that defines nothing is one, and gives its names as it stands. The only error
+/// is that an allocation failed.
 ///
 /// Source: mos65.
 #[tactic(auto, unfolding(crate::specs::NamesFile::names_file))]

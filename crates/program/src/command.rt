@@ -99,9 +99,9 @@ const STATUSES: &str = "Other words, served by the whole program:
   page SOURCE OUT      writes a run as a page for a browser, with its way back
   mon SOURCE           a monitor for people: names, breaks, steps and the way back
   test FILE.t65        tests routines by rows: a call, and what it has to leave
-  info TAPE            tells what a tape holds
-  cmp TAPE TAPE        tells where two tapes differ
-  mend TAPE OUT        writes a tape whose line ends and end record are right
+  info TAPE            tells what a tape or another image holds
+  cmp TAPE OTHER       tells where two images differ
+  mend TAPE OUT        mends a tape, Intel HEX or S-records
   convert IN OUT       writes an image in another form
   lsp                  tells an editor faults, meanings and names while typing
   dap                  steps through a program in an editor

@@ -1,6 +1,6 @@
 -- What control can reach in an image by branches, jumps and calls. Source: MCS6500 manual, chapters
 -- 4 and 8; mos65 for where the search ends, and for what stands behind calls.
-use Rattle.std.specs.Prelude.{◌≡◌, ℕ, zero, suc, ◌+◌, ◌-◌, ◌*◌, ◌%◌, ◌<◌, ◌⊎◌, ◌==◌, Bool, true, false, not, ◌||◌, ◌&&◌, nat_lt, nat_le, if◌then◌else◌, List, [], ◌∷◌, ◌++◌, length, Option, Some, None, slice_index, slice_index_or}
+use Rattle.std.specs.Prelude.{◌≡◌, ℕ, zero, suc, ◌+◌, ◌-◌, ◌*◌, ◌%◌, ◌<◌, ◌⊎◌, ◌==◌, Bool, true, false, not, ◌||◌, ◌&&◌, nat_lt, nat_le, if◌then◌else◌, List, [], ◌∷◌, ◌++◌, length, Option, Some, None, option_map, replicate, slice_index, slice_index_or, slice_set}
 use Rattle.model.specs.declared.instruction.Profile.{Profile}
 use Rattle.model.specs.declared.instruction.Mnemonic.{Mnemonic}
 use Rattle.model.specs.declared.instruction.Mnemonic.TheVariants.{Jmp, Jsr, Bra, Brk, Rti, Rts}
@@ -17,7 +17,7 @@ use Rattle.source_forms.specs.Undocumented.{undocumented_at}
 use Rattle.source_forms.specs.Rows.{by_cell, mark_at, stretch}
 use Rattle.reached.specs.declared.inline.Inline.{Inline}
 use Rattle.reached.specs.declared.inline.Tail.{Tail}
-use Rattle.reached.specs.declared.inline.Tail.TheVariants.{String, Bytes}
+use Rattle.reached.specs.declared.inline.Tail.TheVariants.{String, Counted, HighBit, Bytes}
 use Rattle.reached.specs.declared.ways.Ways.{Ways}
 
 -- ---- where control goes from an instruction
@@ -64,9 +64,23 @@ behind_zero image zero address = None
 behind_zero image (suc n) address = by_cell (cell_at image address) None
     (λ b. if b == 0 then Some ((address + 1) % 65536) else behind_zero image n (address + 1))
 
--- The address behind what stands at an address: a string that ends in 0, or so many bytes.
+-- The address behind the first byte with bit 7, in the same way.
+unfoldable pub behind_high : List (Option ℕ) → ℕ → ℕ → Option ℕ
+behind_high image zero address = None
+behind_high image (suc n) address = by_cell (cell_at image address) None
+    (λ b. if nat_le 128 b then Some ((address + 1) % 65536) else behind_high image n (address + 1))
+
+-- The address behind a string at an address, where its length stands.
+abbrev pub behind_counted : ℕ → Option ℕ → Option ℕ
+behind_counted address None = None
+behind_counted address (Some count) = Some ((address + 1 + count) % 65536)
+
+-- The address behind what stands at an address: a string that ends in 0, one that begins with its
+-- length, one whose last byte has bit 7, or so many bytes.
 abbrev pub behind : List (Option ℕ) → Tail → ℕ → Option ℕ
 behind image String address = behind_zero image 65536 address
+behind image Counted address = behind_counted address (cell_at image address)
+behind image HighBit address = behind_high image 65536 address
 behind image (Bytes n) address = Some ((address + n) % 65536)
 
 -- What follows the calls of an address, if something does: by the first of some routines that is
@@ -166,6 +180,61 @@ vectors image = word_of (cell_at image 65530) (cell_at image 65531)
     ++ (word_of (cell_at image 65532) (cell_at image 65533)
     ++ word_of (cell_at image 65534) (cell_at image 65535))
 
+-- ---- strings behind calls
+
+-- Where a string begins that stands behind a call, and where control goes on behind it: some bytes
+-- are no string.
+abbrev pub string_of : ℕ → Option Tail → Option ℕ → Option (ℕ × ℕ)
+string_of begin None next = None
+string_of begin (Some (Bytes n)) next = None
+string_of begin (Some String) next = option_map (λ end. (begin, end)) next
+string_of begin (Some Counted) next = option_map (λ end. (begin, end)) next
+string_of begin (Some HighBit) next = option_map (λ end. (begin, end)) next
+
+abbrev pub string_behind : List (Option ℕ) → ℕ → Option Tail → Option (ℕ × ℕ)
+string_behind image begin tail = string_of begin tail (goes_on image tail begin)
+
+abbrev pub string_by : List (Option ℕ) → List Inline → ℕ → List ℕ → Option Row
+    → Option (ℕ × ℕ)
+string_by image routines address bytes None = None
+string_by image routines address bytes (Some row) = if fits address row.len (length bytes)
+    then string_behind image ((address + row.len) % 65536)
+    (called_tail row.mnemonic routines (slice_index bytes 1 + 256 * slice_index bytes 2)) else None
+
+-- The string behind the instruction at an address, if that is a call with one.
+unfoldable pub string_at : Profile → List (Option ℕ) → List Mark → List Inline → ℕ
+    → Option (ℕ × ℕ)
+string_at profile image marks routines address =
+    let bytes = stretch image marks Code 3 address in
+    string_by image routines address bytes (row_at profile (slice_index bytes 0))
+
+-- Flags of addresses, with so many more from one on.
+unfoldable pub with_run : List Bool → ℕ → ℕ → List Bool
+with_run letters zero address = letters
+with_run letters (suc n) address = with_run (slice_set letters address true) n (address + 1)
+
+abbrev pub with_string : List Bool → Option (ℕ × ℕ) → List Bool
+with_string letters None = letters
+with_string letters (Some string) = with_run letters (string.1 - string.0) string.0
+
+-- No address is flagged. The word hides its size, so that no proof computes it.
+unfoldable pub no_letters : List Bool
+no_letters = replicate 65536 false
+
+-- The string behind an address that is reached.
+abbrev pub reached_string : Profile → List (Option ℕ) → List Mark → List Inline → List Bool → ℕ
+    → Option (ℕ × ℕ)
+reached_string profile image marks routines reached address = if is_reached reached address
+    then string_at profile image marks routines address else None
+
+-- Flags of the addresses in strings behind calls that are reached below an address.
+unfoldable pub letters_to : Profile → List (Option ℕ) → List Mark → List Inline → List Bool → ℕ
+    → List Bool
+letters_to profile image marks routines reached zero = no_letters
+letters_to profile image marks routines reached (suc n)
+    = with_string (letters_to profile image marks routines reached n)
+    (reached_string profile image marks routines reached n)
+
 -- ---- marks
 
 abbrev pub odd_len : ℕ → List ℕ → Option Undocumented → ℕ
@@ -196,14 +265,16 @@ is_followed profile image marks reached address =
     covers profile image marks reached 0 address || covers profile image marks reached 1 address
     || covers profile image marks reached 2 address
 
--- What was marked as code stays so where control comes, and is data elsewhere.
-abbrev pub followed_mark : Mark → Bool → Mark
-followed_mark Code true = Code
-followed_mark Code false = Data
-followed_mark Data followed = Data
-followed_mark Text followed = Text
-followed_mark Address followed = Address
-followed_mark Return followed = Return
+-- What was marked as code stays so where control comes, is text in a string behind a call, and data
+-- elsewhere.
+abbrev pub followed_mark : Mark → Bool → Bool → Mark
+followed_mark Code true letter = Code
+followed_mark Code false true = Text
+followed_mark Code false false = Data
+followed_mark Data followed letter = Data
+followed_mark Text followed letter = Text
+followed_mark Address followed letter = Address
+followed_mark Return followed letter = Return
 
 -- The marks of all addresses after control was followed from the starts.
 pub record AreFollowed (profile : Profile) (image : List (Option ℕ)) (marks : List Mark)
@@ -213,3 +284,4 @@ pub record AreFollowed (profile : Profile) (image : List (Option ℕ)) (marks : 
   pub size : length followed ≡ 65536
   pub each : (a : ℕ) → a < 65536 → mark_at followed a
       ≡ followed_mark (mark_at marks a) (is_followed profile image marks reached a)
+      (is_reached (letters_to profile image marks routines reached 65536) a)

@@ -4,6 +4,7 @@ ghost use Rattle.std.specs.Prelude.{◌≡◌, length, IfOk};
 ghost use Rattle.reached.specs.Reached.{AreFollowed, covers, followed_mark, is_followed};
 
 use crate::inline::Inline;
+use crate::letters::letters_of;
 use crate::search::{is_reached, reached};
 use crate::ways::instruction_len;
 use bus::Image;
@@ -48,11 +49,19 @@ fn is_followed(
 }
 
 /// What an address is marked as after control was followed.
-fn followed_mark(mark: Mark, followed: bool) -> Mark
-    ensures { result ≡ followed_mark mark followed }
+fn followed_mark(mark: Mark, followed: bool, letter: bool) -> Mark
+    ensures { result ≡ followed_mark mark followed letter }
 {
     match mark {
-        Mark::Code => { if followed { Mark::Code } else { Mark::Data } }
+        Mark::Code => {
+            if followed {
+                Mark::Code
+            } else if letter {
+                Mark::Text
+            } else {
+                Mark::Data
+            }
+        }
         Mark::Data => Mark::Data,
         Mark::Text => Mark::Text,
         Mark::Address => Mark::Address,
@@ -62,8 +71,8 @@ fn followed_mark(mark: Mark, followed: bool) -> Mark
 
 /// Returns marks by which what was marked as code is so only where control comes from the starts:
 /// the bytes of each instruction that is reached. The rest of it is data, and so is what follows
-/// the calls of routines that have data behind them. The only error is that a request for memory
-/// was refused. Source: mos65.
+/// the calls of routines that have data behind them, but strings there are text. The only error is
+/// that a request for memory was refused. Source: mos65.
 pub fn followed_marks(
     alloc: Global,
     profile: Profile,
@@ -77,10 +86,12 @@ pub fn followed_marks(
 {
     let flags = reached(alloc, profile, image, marks, routines, starts)?;
     let cells = image.cells();
+    let letters = letters_of(alloc, profile, cells, marks, routines, flags.as_slice())?;
     let mut followed = Vec::with_capacity(alloc, 65536)?;
     for address in 0..65536u32 {
         let is_code = is_followed(profile, cells, marks, flags.as_slice(), address as u16);
-        followed.push(followed_mark(mark_at(marks, address as usize), is_code))?;
+        let is_letter = is_reached(letters.as_slice(), address as usize);
+        followed.push(followed_mark(mark_at(marks, address as usize), is_code, is_letter))?;
     }
     Ok(followed)
 }

@@ -60,8 +60,8 @@ fn target_by(mnemonic: Mnemonic, mode: Mode, address: u16, second: u8, third: u8
     }
 }
 
-/// What follows the calls of an address, where it is called and something does.
-fn called_tail(mnemonic: Mnemonic, routines: &[Inline], address: u16) -> Option<Tail>
+/// Returns what follows the calls of an address, where it is called and something does.
+pub fn called_tail(mnemonic: Mnemonic, routines: &[Inline], address: u16) -> Option<Tail>
     ensures { result ≡ called_tail mnemonic routines.now address }
 {
     match mnemonic {
@@ -70,8 +70,8 @@ fn called_tail(mnemonic: Mnemonic, routines: &[Inline], address: u16) -> Option<
     }
 }
 
-/// Where control goes on behind an instruction that ends before an address.
-fn goes_on(cells: &[Option<u8>], tail: Option<Tail>, address: u16) -> Option<u16>
+/// Returns where control goes on behind an instruction that ends before an address.
+pub fn goes_on(cells: &[Option<u8>], tail: Option<Tail>, address: u16) -> Option<u16>
     requires { length cells.now ≡ 65536 }
     ensures { result ≡ goes_on cells.now tail address }
 {
@@ -81,8 +81,8 @@ fn goes_on(cells: &[Option<u8>], tail: Option<Tail>, address: u16) -> Option<u16
     }
 }
 
-/// The address after an instruction.
-fn after(address: u16, len: u8) -> u16
+/// Returns the address after an instruction.
+pub fn after(address: u16, len: u8) -> u16
     ensures { result ≡ (address + len) % 65536 }
 {
     ((address as u32 + len as u32) % 65536) as u16
@@ -121,8 +121,8 @@ fn no_way() -> Ways
     }
 }
 
-/// The byte at an index, or 0 after the last.
-fn byte_or_0(bytes: &[u8], place: usize) -> u8
+/// Returns the byte at an index, or 0 after the last.
+pub fn byte_or_0(bytes: &[u8], place: usize) -> u8
     ensures { result ≡ slice_index bytes.now place }
 {
     match bytes.get(place) {
@@ -131,15 +131,15 @@ fn byte_or_0(bytes: &[u8], place: usize) -> u8
     }
 }
 
-/// Whether so many bytes are there, and none of them past the last address.
-fn fits(address: u16, len: u8, count: usize) -> bool
+/// Returns whether so many bytes are there, and none of them past the last address.
+pub fn fits(address: u16, len: u8, count: usize) -> bool
     ensures { result ≡ fits address len count }
 {
     (len as usize <= count) & (address as u32 + len as u32 <= 65536)
 }
 
-/// The bytes that are code from an address on, at most three.
-fn code_bytes(cells: &[Option<u8>], marks: &[Mark], address: u16) -> Bytes
+/// Returns the bytes that are code from an address on, at most three.
+pub fn code_bytes(cells: &[Option<u8>], marks: &[Mark], address: u16) -> Bytes
     requires { length cells.now ≡ 65536 }
     ensures { result.items ≡ stretch cells.now marks.now Mark.Code 3 address }
 {

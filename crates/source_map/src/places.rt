@@ -185,6 +185,13 @@ impl Places {
         !self.rows.is_empty()
     }
 
+    /// Returns the lines of the source that have bytes, in their order.
+    pub fn rows(&self) -> &[Row]
+        ensures { result.now ≡ self.now.lines }
+    {
+        self.rows.as_slice()
+    }
+
     /// Returns the row of the first line of the source whose first byte stands at an address.
     pub fn row_at(&self, address: u16) -> Option<Row>
         ensures { result ≡ row_at self.now.lines address }

@@ -3,9 +3,9 @@ use Rattle.std.specs.Prelude.{◌≡◌, false, [], Option, None, Some}
 use Rattle.arguments.specs.Asked.{FileAsked, map_of}
 use Rattle.arguments.specs.Values.{base_of}
 use Rattle.arguments.specs.declared.file_options.FileForm.TheVariants.{Source}
-use Rattle.assembler.specs.Assembly.{AssemblyView, IsAssembled}
+use Rattle.assembler.specs.Assembly.{AssemblyView}
 use Rattle.clap.specs.Words.{Text}
-use Rattle.loading.specs.Loads.{EndsFile, EndsSource}
+use Rattle.loading.specs.Loads.{AreImageNames, EndsFile, EndsSource}
 use Rattle.loading.specs.Named.{IsNamed}
 use Rattle.loading.specs.declared.named.NamedFault.{NamedFault}
 use Rattle.loading.specs.declared.named.NamedFault.TheVariants.{HasSource, OfFile, OfNames}
@@ -55,4 +55,4 @@ EndsProgram asked None HasSource = ⊥
 -- Which names an image is given.
 abbrev pub AreNames : Map → Option Text → AssemblyView → Type 0
 AreNames bus_map None names = names.names ≡ []
-AreNames bus_map (Some path) names = IsAssembled bus_map names
+AreNames bus_map (Some path) names = AreImageNames bus_map names

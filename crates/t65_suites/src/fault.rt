@@ -81,6 +81,7 @@ fn is_out_of_file(fault: &LoadFault) -> bool
         LoadFault::LooksLikeTape
         | LoadFault::LooksLikeHex
         | LoadFault::LooksLikeSRecords
+        | LoadFault::LooksLikeRaw
         | LoadFault::NoImage { .. }
         | LoadFault::Faults { .. }
         | LoadFault::AtPort { .. } => false,

@@ -92,9 +92,10 @@ fn file_title(alloc: Global, fault: &LoadFault) -> Result<String, AllocError>
         LoadFault::Refused(refusal) => refusal_words(alloc, *refusal),
         LoadFault::NoImage { .. } => shown_text(alloc, NO_IMAGE.as_bytes()),
         LoadFault::AtPort { .. } => shown_text(alloc, AT_PORT.as_bytes()),
-        LoadFault::LooksLikeTape | LoadFault::LooksLikeHex | LoadFault::LooksLikeSRecords => {
-            shown_text(alloc, NO_SOURCE.as_bytes())
-        }
+        LoadFault::LooksLikeTape
+        | LoadFault::LooksLikeHex
+        | LoadFault::LooksLikeSRecords
+        | LoadFault::LooksLikeRaw => shown_text(alloc, NO_SOURCE.as_bytes()),
     }
 }
 
@@ -179,6 +180,9 @@ fn tell_file<E: Write>(path: &str, fault: &LoadFault, text: &mut E) {
         LoadFault::LooksLikeTape => tell_like(path, "a tape", text),
         LoadFault::LooksLikeHex => tell_like(path, "Intel HEX", text),
         LoadFault::LooksLikeSRecords => tell_like(path, "S-records", text),
+        LoadFault::LooksLikeRaw => {
+            let _ = LoadFault::LooksLikeRaw.tell(path, text);
+        }
         LoadFault::NoImage {
             place,
             what,

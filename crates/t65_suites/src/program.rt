@@ -13,7 +13,7 @@ ghost use Rattle.t65_suites.specs.Programs.{AreNames, EndsProgram, IsProgram};
 use arguments::{FileForm, FileWords, LoadFault, Refusal, read_source};
 use assembler::{Assembly, assemble};
 use image_files::{free_base, image_of_file, said_of};
-use loading::{NamedFault, assembled_source, load_names};
+use loading::{NamedFault, assembled_source, load_image_names};
 use memory_map::{Image, MapSpec};
 use std::alloc::Global;
 use std::rt::Files;
@@ -95,8 +95,8 @@ fn no_names(alloc: Global, map: &MapSpec) -> Result<Assembly, LoadFault>
 
 /// Returns the names that an image is given: those of a file, if one is named, or none.
 ///
-/// Errors: `OfNames` with the fault of `load_names`; `OfFile` with `OutOfMemory` if an allocation
-/// fails.
+/// Errors: `OfNames` with the fault of `load_image_names`; `OfFile` with `OutOfMemory` if an
+/// allocation fails.
 #[tactic(auto, using(crate::proofs::Programs::names_refused))]
 fn names_for<H: Files + AllocGlobal>(
     rt: &H,
@@ -115,8 +115,8 @@ fn names_for<H: Files + AllocGlobal>(
             Ok(names) => Ok(names),
             Err(fault) => Err(NamedFault::OfFile(fault)),
         },
-        Some(path) => match load_names(rt, words, path) {
-            Ok(names) => Ok(names.assembly),
+        Some(path) => match load_image_names(rt, words, path) {
+            Ok(names) => Ok(names),
             Err(refusal) => Err(NamedFault::OfNames(refusal)),
         },
     }

@@ -8,4 +8,4 @@ pub const NO_SOURCE: &str = "no source";
 
 pub const NO_IMAGE: &str = "no image";
 
-pub const AT_PORT: &str = "TAPE PortAddress 5";
+pub const AT_PORT: &str = "IMAGE PortAddress 5";

@@ -1,6 +1,6 @@
--- The command lines of `info TAPE [--port HHHH] [--profile N|C] [--bin HHHH] [--prg]`, of `cmp TAPE
--- OTHER [--align] [--profile N|C] [--bin HHHH] [--prg]` and of `mend TAPE OUT`, as clap's definitions describe
--- one. How words are matched with it is clap's to say. Source: mos65.
+-- The command lines of `info TAPE [--port HHHH] [--profile N|C] [--bin HHHH] [--prg] [--image]`, of
+-- `cmp TAPE OTHER [--align] [--profile N|C] [--bin HHHH] [--prg] [--image]` and of `mend TAPE OUT`, as
+-- clap's definitions describe one. How words are matched with it is clap's to say. Source: mos65.
 use Rattle.std.specs.Prelude.{codes}
 use Rattle.clap.specs.Words.{App, with_rule}
 use Rattle.arguments.specs.CommandLine.{file_rule, flag_rule, option_rule, unnamed}

@@ -27,7 +27,7 @@ pub fn info_command<'a>(alloc: Global) -> Result<Command<'a>, Error>
     ensures memory { IfErr result (λ e. kind_of e ≡ ErrorKind.OutOfMemory) }
 {
     let about = "Tells what is on a tape or in another image, or what is wrong with it";
-    let tape = "The tape to read, Intel HEX or S-records";
+    let tape = "The image to read: a tape, Intel HEX, S-records, FILE@HHHH or FILE.prg";
     let command = begin(alloc, "info", "mos65 info", about, STATUSES)?
         .arg(file(alloc, "TAPE", tape))?
         .arg(port(alloc))?
@@ -46,7 +46,11 @@ fn cmp_part<'a>(alloc: Global) -> Result<Command<'a>, Error>
         "Exit status: 0 the same, 1 they differ, 2 words or an image wrong, 3 memory, 4 reading or writing";
     let align = "Finds what was put in and taken out, where the rest has moved";
     let command = begin(alloc, "cmp", "mos65 cmp", about, statuses)?
-        .arg(file(alloc, "TAPE", "The first tape, Intel HEX or S-records"))?
+        .arg(file(
+            alloc,
+            "TAPE",
+            "The first image: a tape, Intel HEX, S-records, FILE@HHHH",
+        ))?
         .arg(file(alloc, "OTHER", "The image to compare it with"))?
         .arg(flag(alloc, "align", align))?;
     Ok(command)
@@ -68,9 +72,9 @@ pub fn mend_command<'a>(alloc: Global) -> Result<Command<'a>, Error>
     ensures local { IfOk result (λ c. (out-Command c).has_globals ≡ false) }
     ensures memory { IfErr result (λ e. kind_of e ≡ ErrorKind.OutOfMemory) }
 {
-    let about = "Writes a tape with a right end record; data records stay as they are";
+    let about = "Mends a tape, Intel HEX or S-records; makes a tape of what a KIM-1 showed";
     let command = begin(alloc, "mend", "mos65 mend", about, STATUSES)?
-        .arg(file(alloc, "TAPE", "The tape to read"))?
-        .arg(file(alloc, "OUT", "The tape to write"))?;
+        .arg(file(alloc, "TAPE", "The file to mend"))?
+        .arg(file(alloc, "OUT", "The file to write"))?;
     Ok(command)
 }

@@ -20,6 +20,6 @@ pub use files::read_text;
 pub use instruction::{instruction_len, push_count, push_instruction};
 pub use meanings::push_there;
 pub use records::{EndRecord, are_digits, end_record};
-pub use tape_faults::fault_text;
+pub use tape_faults::{fault_text, line_of};
 pub use wording::{BYTE, BYTES, COUNT_TWICE, RECORD, RECORDS};
 pub use words::{CmpWords, InfoWords, MendWords, read_cmp_words, read_info_words, read_mend_words};

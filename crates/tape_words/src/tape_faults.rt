@@ -34,7 +34,7 @@ fn ends_first(text: &[u8]) -> u64
 
 /// Returns the number of the line in which a byte stands, from 1 on: a line ends with LF, or with a
 /// CR that no LF follows.
-fn line_of(text: &[u8], offset: u64) -> u64
+pub fn line_of(text: &[u8], offset: u64) -> u64
     ensures { result ≡ line_of text.now offset }
 {
     let mut line = 1u64;

@@ -8,15 +8,15 @@ ghost use Rattle.tape_words.specs.Asked.{info_view, mend_asked, mend_by, mend_vi
 ghost use Rattle.tape_words.specs.CommandLines.{cmp, info, mend};
 
 use crate::command::{cmp_command, info_command, mend_command};
-use arguments::{WordsFault, is_given, matched, port_asked, profile_asked, value_fault};
+use arguments::{WordsFault, is_given, matched, name_of, port_asked, profile_asked, value_fault};
 use clap::ArgMatches;
-use image_files::form_said;
+use image_files::{form_said, forms_said};
 use image_reader::Form;
 use memory_map::Port;
 use model::Profile;
 use std::alloc::Global;
 
-/// What the words of `info TAPE [--port HHHH] [--profile N|C] [--bin HHHH] [--prg]` ask for.
+/// What the words of `info TAPE` and its options ask for.
 #[derive(Clone, Copy)]
 pub struct InfoWords<'a> {
     /// The file to read.
@@ -29,15 +29,17 @@ pub struct InfoWords<'a> {
     pub profile: Profile,
 }
 
-/// What the words of `cmp TAPE OTHER [--align] [--profile N|C] [--bin HHHH] [--prg]` ask for.
+/// What the words of `cmp TAPE OTHER` and its options ask for.
 #[derive(Clone, Copy)]
 pub struct CmpWords<'a> {
     /// The first file to read.
     pub tape: &'a str,
     /// The file to compare it with.
     pub other: &'a str,
-    /// The form of both, if one is said.
+    /// The form of the first, if one is said.
     pub form: Option<Form>,
+    /// The form of the other, if one is said.
+    pub other_form: Option<Form>,
     /// Whether the rows are those of an alignment.
     pub align: bool,
     /// The processor whose instructions are shown.
@@ -57,9 +59,10 @@ pub struct MendWords<'a> {
 fn info_words<'a>(matches: &ArgMatches<'a>) -> Option<InfoWords<'a>>
     ensures { option_map info_view result ≡ info_by (first_value (found_of matches.now)) }
 {
+    let word = matches.get_str("TAPE")?;
     Some(InfoWords {
-        tape: matches.get_str("TAPE")?,
-        form: form_said(matches)?,
+        tape: name_of(word),
+        form: form_said(Some(word), matches)?,
         port: port_asked(matches.get_str("port"))?,
         profile: profile_asked(matches.get_str("profile"))?,
     })
@@ -69,10 +72,14 @@ fn info_words<'a>(matches: &ArgMatches<'a>) -> Option<InfoWords<'a>>
 fn cmp_words<'a>(matches: &ArgMatches<'a>) -> Option<CmpWords<'a>>
     ensures { option_map cmp_view result ≡ cmp_by (first_value (found_of matches.now)) }
 {
+    let word = matches.get_str("TAPE")?;
+    let other = matches.get_str("OTHER")?;
+    let forms = forms_said(Some(word), Some(other), matches)?;
     Some(CmpWords {
-        tape: matches.get_str("TAPE")?,
-        other: matches.get_str("OTHER")?,
-        form: form_said(matches)?,
+        tape: name_of(word),
+        other: name_of(other),
+        form: forms.0,
+        other_form: forms.1,
         align: is_given(matches, "align"),
         profile: profile_asked(matches.get_str("profile"))?,
     })

@@ -4,10 +4,10 @@ use Rattle.model.specs.TextLines.{lines_of}
 use Rattle.source_notes.specs.Blocks.{AreBlocks, BlockKind, total_of}
 use Rattle.source_notes.specs.Lines.{names_of}
 use Rattle.warning_notes.specs.Notes.{IsNote}
-use Rattle.warning_notes.specs.declared.wording.TheConstants.{AFTER_END, FALLS_OFF, LETTER_CASE, LONG_FORM, NO_BYTES, NO_VECTOR, ONE_WARNING, PLAIN_NUMBER, POINTER_WRAP, REGISTER_NAME, SQUARE_BRACKETS, UNUSED_NAME, WARNING, WARNINGS}
+use Rattle.warning_notes.specs.declared.wording.TheConstants.{AFTER_END, FALLS_OFF, HANDLER_RETURNS, LETTER_CASE, LONG_FORM, NO_BYTES, NO_VECTOR, ONE_WARNING, PLAIN_NUMBER, POINTER_WRAP, REGISTER_NAME, SQUARE_BRACKETS, UNUSED_NAME, VECTOR_TO_DATA, WARNING, WARNINGS}
 use Rattle.warnings.specs.declared.kinds.Warning.{Warning}
 use Rattle.warnings.specs.declared.kinds.WarningKind.{WarningKind}
-use Rattle.warnings.specs.declared.kinds.WarningKind.TheVariants.{PlainNumber, UnusedName, LongForm, LetterCase, NoBytes, AfterEnd, NoVector, FallsOff, PointerWrap, RegisterName, SquareBrackets}
+use Rattle.warnings.specs.declared.kinds.WarningKind.TheVariants.{PlainNumber, UnusedName, LongForm, LetterCase, NoBytes, AfterEnd, NoVector, FallsOff, PointerWrap, RegisterName, SquareBrackets, VectorToData, HandlerReturns}
 
 abbrev pub kind_name : WarningKind → List ℕ
 kind_name PlainNumber = PLAIN_NUMBER.now
@@ -21,6 +21,8 @@ kind_name FallsOff = FALLS_OFF.now
 kind_name PointerWrap = POINTER_WRAP.now
 kind_name RegisterName = REGISTER_NAME.now
 kind_name SquareBrackets = SQUARE_BRACKETS.now
+kind_name (VectorToData vector line) = VECTOR_TO_DATA.now
+kind_name (HandlerReturns vector) = HANDLER_RETURNS.now
 
 -- The title of a block, `warning: KIND: `.
 abbrev pub title_of : WarningKind → List ℕ

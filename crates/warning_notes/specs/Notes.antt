@@ -9,9 +9,11 @@ use Rattle.model.specs.Token.{is_blank, is_word_byte, tokens_of}
 use Rattle.source_notes.specs.Lines.{without_blanks}
 use Rattle.source_notes.specs.Operands.{after_label, is_symbol, operand_of, operand_place}
 use Rattle.source_notes.specs.declared.note.Note.{Note}
-use Rattle.warning_notes.specs.declared.wording.TheConstants.{ANOTHER_NAME, CLOSED, CLOSED_WITH_X, CLOSED_WITH_Y, DIFFERS_IN_CASE, HAS_NO_BYTES, HAS_NO_VECTOR, IS_AN_ADDRESS, IS_A_REGISTER, IS_NEVER_USED, IS_NOT_READ, ONLY_GROUPS, ON_LINE, OPENED, RUNS_ON, TAKES_THE_PAGE, TAKES_TWO_BYTES}
+use Rattle.warning_notes.specs.declared.wording.TheConstants.{ANOTHER_NAME, CLOSED, CLOSED_WITH_X, CLOSED_WITH_Y, DIFFERS_IN_CASE, HAS_NO_BYTES, HAS_NO_VECTOR, IRQ_VECTOR, IS_AN_ADDRESS, IS_A_REGISTER, IS_NEVER_USED, IS_NOT_READ, LEADS_TO_DATA, LEADS_TO_RTS, NMI_VECTOR, ONLY_GROUPS, ON_LINE, OPENED, RESET_VECTOR, RUNS_ON, TAKES_THE_PAGE, TAKES_TWO_BYTES}
+use Rattle.warnings.specs.declared.kinds.Vector.{Vector}
+use Rattle.warnings.specs.declared.kinds.Vector.TheVariants.{Nmi, Reset, Irq}
 use Rattle.warnings.specs.declared.kinds.WarningKind.{WarningKind}
-use Rattle.warnings.specs.declared.kinds.WarningKind.TheVariants.{PlainNumber, UnusedName, LongForm, LetterCase, NoBytes, AfterEnd, NoVector, FallsOff, PointerWrap, RegisterName, SquareBrackets}
+use Rattle.warnings.specs.declared.kinds.WarningKind.TheVariants.{PlainNumber, UnusedName, LongForm, LetterCase, NoBytes, AfterEnd, NoVector, FallsOff, PointerWrap, RegisterName, SquareBrackets, VectorToData, HandlerReturns}
 
 -- How many letters, digits and `_` stand after the blanks with which a line begins.
 abbrev pub word_length : List ℕ → ℕ
@@ -113,6 +115,21 @@ abbrev pub case_words : List (List ℕ × ℕ) → ℕ → List ℕ → List ℕ
 case_words names number word = word ++ DIFFERS_IN_CASE.now
     ++ like_words (find (is_like number word) names)
 
+-- ---- vectors
+
+abbrev pub vector_name : Vector → List ℕ
+vector_name Nmi = NMI_VECTOR.now
+vector_name Reset = RESET_VECTOR.now
+vector_name Irq = IRQ_VECTOR.now
+
+-- A vector, and the line of data to which it leads.
+abbrev pub data_words : Vector → ℕ → List ℕ
+data_words vector line = vector_name vector ++ LEADS_TO_DATA.now ++ decimal line
+
+-- A vector whose handler ends in RTS.
+abbrev pub handler_words : Vector → List ℕ
+handler_words vector = vector_name vector ++ LEADS_TO_RTS.now
+
 -- ---- a warning
 
 -- A note of a warning of this line, among names with their lines' numbers.
@@ -135,3 +152,7 @@ IsNote names RegisterName number line note
     = Says (word_place line) (first_word line ++ IS_A_REGISTER.now) note
 IsNote names SquareBrackets number line note = (tokens : List Token) × AreTokens line tokens
     × Says (operand_place line tokens) (bracket_words tokens) note
+IsNote names (VectorToData vector target) number line note
+    = Says (word_place line) (data_words vector target) note
+IsNote names (HandlerReturns vector) number line note
+    = Says (word_place line) (handler_words vector) note

@@ -8,8 +8,9 @@ ghost use Rattle.source_notes.specs.Lines.{name_view, names_of, texts_of};
 
 use crate::note::note_of;
 use crate::wording::{
-    AFTER_END, FALLS_OFF, LETTER_CASE, LONG_FORM, NO_BYTES, NO_VECTOR, ONE_WARNING, PLAIN_NUMBER,
-    POINTER_WRAP, REGISTER_NAME, SQUARE_BRACKETS, UNUSED_NAME, WARNING, WARNINGS,
+    AFTER_END, FALLS_OFF, HANDLER_RETURNS, LETTER_CASE, LONG_FORM, NO_BYTES, NO_VECTOR,
+    ONE_WARNING, PLAIN_NUMBER, POINTER_WRAP, REGISTER_NAME, SQUARE_BRACKETS, UNUSED_NAME,
+    VECTOR_TO_DATA, WARNING, WARNINGS,
 };
 use formatting::push_text;
 use source_notes::{
@@ -35,6 +36,8 @@ pub fn kind_name(kind: WarningKind) -> &'static str
         WarningKind::PointerWrap => POINTER_WRAP,
         WarningKind::RegisterName => REGISTER_NAME,
         WarningKind::SquareBrackets => SQUARE_BRACKETS,
+        WarningKind::VectorToData(_, _) => VECTOR_TO_DATA,
+        WarningKind::HandlerReturns(_) => HANDLER_RETURNS,
     }
 }
 

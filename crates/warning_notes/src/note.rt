@@ -5,15 +5,17 @@ ghost use Rattle.std.specs.List.{find};
 ghost use Rattle.std.specs.Option.{option_map};
 ghost use Rattle.std.specs.Str.{str_eq_ignore_ascii_case};
 ghost use Rattle.source_notes.specs.Lines.{name_view};
-ghost use Rattle.warning_notes.specs.Notes.{AreTokens, IsNote, case_words, first_word, is_like};
+ghost use Rattle.warning_notes.specs.Notes.{AreTokens, IsNote, Says, case_words, data_words};
+ghost use Rattle.warning_notes.specs.Notes.{first_word, handler_words, is_like, vector_name};
 ghost use Rattle.warning_notes.specs.Notes.{address_in, bracket_words, closing_of, first_text, inner_text};
 ghost use Rattle.warning_notes.specs.Notes.{is_closing, joined, last_of, last_text, like_words};
 ghost use Rattle.warning_notes.specs.Notes.{plain_words, pointer_text, word_place};
 
 use crate::wording::{
     ANOTHER_NAME, CLOSED, CLOSED_WITH_X, CLOSED_WITH_Y, DIFFERS_IN_CASE, HAS_NO_BYTES,
-    HAS_NO_VECTOR, IS_A_REGISTER, IS_AN_ADDRESS, IS_NEVER_USED, IS_NOT_READ, ON_LINE, ONLY_GROUPS,
-    OPENED, RUNS_ON, TAKES_THE_PAGE, TAKES_TWO_BYTES,
+    HAS_NO_VECTOR, IRQ_VECTOR, IS_A_REGISTER, IS_AN_ADDRESS, IS_NEVER_USED, IS_NOT_READ,
+    LEADS_TO_DATA, LEADS_TO_RTS, NMI_VECTOR, ON_LINE, ONLY_GROUPS, OPENED, RESET_VECTOR, RUNS_ON,
+    TAKES_THE_PAGE, TAKES_TWO_BYTES,
 };
 use formatting::{push_count, push_text};
 use lexer::tokens;
@@ -24,7 +26,7 @@ use source_notes::{
     phrase, word_run,
 };
 use std::alloc::{AllocError, Global};
-use warnings::WarningKind;
+use warnings::{Vector, WarningKind};
 
 /// Returns a note about the word with which a line begins.
 fn about_word(line: &[u8], words: Vec<u8>) -> Note
@@ -283,6 +285,52 @@ fn case_words(
     Ok(words)
 }
 
+/// Returns a note about a line that says this.
+fn line_note(alloc: Global, line: &[u8], said: &'static str) -> Result<Note, AllocError>
+    ensures { IfOk result (Says (word_place line.now) said.now) }
+{
+    let words = phrase(alloc, said)?;
+    Ok(about_word(line, words))
+}
+
+/// Returns what a vector is called.
+fn vector_name(vector: Vector) -> &'static str
+    ensures { result.now ≡ vector_name vector }
+{
+    match vector {
+        Vector::Nmi => NMI_VECTOR,
+        Vector::Reset => RESET_VECTOR,
+        Vector::Irq => IRQ_VECTOR,
+    }
+}
+
+/// Returns words about a vector that leads to data on a line.
+fn data_words(alloc: Global, vector: Vector, target: u32) -> Result<Vec<u8>, AllocError>
+    ensures { IfOk result (λ words. words.items ≡ data_words vector target) }
+{
+    let mut words = phrase(alloc, vector_name(vector))?;
+    push_text(&mut words, LEADS_TO_DATA)?;
+    push_count(&mut words, target as u64)?;
+    Ok(words)
+}
+
+/// Returns a note about a vector that leads to data on a line.
+fn data_note(alloc: Global, line: &[u8], vector: Vector, target: u32) -> Result<Note, AllocError>
+    ensures { IfOk result (Says (word_place line.now) (data_words vector target)) }
+{
+    let words = data_words(alloc, vector, target)?;
+    Ok(about_word(line, words))
+}
+
+/// Returns a note about a vector whose handler ends in RTS.
+fn handler_note(alloc: Global, line: &[u8], vector: Vector) -> Result<Note, AllocError>
+    ensures { IfOk result (Says (word_place line.now) (handler_words vector)) }
+{
+    let mut words = phrase(alloc, vector_name(vector))?;
+    push_text(&mut words, LEADS_TO_RTS)?;
+    Ok(about_word(line, words))
+}
+
 /// Returns what is said of a warning of a line, and which bytes of the line are meant, by the
 /// line's number and the names that lines begin with. Source: mos65.
 ///
@@ -307,27 +355,17 @@ pub fn note_of(
             let words = case_words(alloc, names, number, first_word(line))?;
             Ok(about_word(line, words))
         }
-        WarningKind::NoBytes => {
-            let words = phrase(alloc, HAS_NO_BYTES)?;
-            Ok(about_word(line, words))
-        }
-        WarningKind::AfterEnd => {
-            let words = phrase(alloc, IS_NOT_READ)?;
-            Ok(about_word(line, words))
-        }
-        WarningKind::NoVector => {
-            let words = phrase(alloc, HAS_NO_VECTOR)?;
-            Ok(about_word(line, words))
-        }
-        WarningKind::FallsOff => {
-            let words = phrase(alloc, RUNS_ON)?;
-            Ok(about_word(line, words))
-        }
+        WarningKind::NoBytes => line_note(alloc, line, HAS_NO_BYTES),
+        WarningKind::AfterEnd => line_note(alloc, line, IS_NOT_READ),
+        WarningKind::NoVector => line_note(alloc, line, HAS_NO_VECTOR),
+        WarningKind::FallsOff => line_note(alloc, line, RUNS_ON),
         WarningKind::PointerWrap => wrap_note(alloc, names, number, line),
         WarningKind::SquareBrackets => bracket_note(alloc, names, number, line),
         WarningKind::RegisterName => {
             let words = describe(alloc, first_word(line), IS_A_REGISTER)?;
             Ok(about_word(line, words))
         }
+        WarningKind::VectorToData(vector, target) => data_note(alloc, line, vector, target),
+        WarningKind::HandlerReturns(vector) => handler_note(alloc, line, vector),
     }
 }

@@ -36,6 +36,12 @@ pub const REGISTER_NAME: &str = "RegisterName";
 /// The name of the kind `SquareBrackets`.
 pub const SQUARE_BRACKETS: &str = "SquareBrackets";
 
+/// The name of the kind `VectorToData`.
+pub const VECTOR_TO_DATA: &str = "VectorToData";
+
+/// The name of the kind `HandlerReturns`.
+pub const HANDLER_RETURNS: &str = "HandlerReturns";
+
 /// Stands between a number that is an address and the same number.
 pub const IS_AN_ADDRESS: &str = " is an address, and nothing writes there; the number is #";
 
@@ -87,6 +93,21 @@ pub const CLOSED_WITH_X: &str = ",X)";
 
 /// Closes a pointer with the index Y.
 pub const CLOSED_WITH_Y: &str = "),Y";
+
+/// What the vector at $FFFA is called.
+pub const NMI_VECTOR: &str = "the NMI vector";
+
+/// What the vector at $FFFC is called.
+pub const RESET_VECTOR: &str = "the reset vector";
+
+/// What the vector at $FFFE is called.
+pub const IRQ_VECTOR: &str = "the IRQ vector";
+
+/// Follows a vector that leads to data, before the number of its line.
+pub const LEADS_TO_DATA: &str = " leads to data, on line ";
+
+/// Follows a vector whose handler ends in RTS.
+pub const LEADS_TO_RTS: &str = " leads to a handler that ends in RTS; an interrupt ends in RTI";
 
 /// What follows the count of one warning.
 pub const ONE_WARNING: &str = " warning\n";

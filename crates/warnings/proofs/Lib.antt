@@ -3,3 +3,4 @@ pub mod Placing
 pub mod Using
 pub mod Reaching
 pub mod Bracketing
+pub mod Leading

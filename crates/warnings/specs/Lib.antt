@@ -4,4 +4,5 @@ pub mod Views
 pub mod Uses
 pub mod Reaches
 pub mod Flow
+pub mod Vectors
 pub mod Brackets

@@ -22,9 +22,12 @@ use Rattle.warnings.specs.Uses.{used_by}
 use Rattle.warnings.specs.Reaches.{is_plain, reaches}
 use Rattle.warnings.specs.declared.written_numbers.Reach.{Reach}
 use Rattle.warnings.specs.Placed.{Placed, meaning_of, placed_lines}
+use Rattle.warnings.specs.Vectors.{comes_to_return, data_in, is_handled, target_of}
+use Rattle.warnings.specs.declared.kinds.Vector.{Vector}
+use Rattle.warnings.specs.declared.kinds.Vector.TheVariants.{Nmi, Reset, Irq}
 use Rattle.warnings.specs.declared.kinds.Warning.{Warning}
 use Rattle.warnings.specs.declared.kinds.WarningKind.{WarningKind}
-use Rattle.warnings.specs.declared.kinds.WarningKind.TheVariants.{PlainNumber, UnusedName, LongForm, LetterCase, NoBytes, AfterEnd, NoVector, FallsOff, PointerWrap, RegisterName, SquareBrackets}
+use Rattle.warnings.specs.declared.kinds.WarningKind.TheVariants.{PlainNumber, UnusedName, LongForm, LetterCase, NoBytes, AfterEnd, NoVector, FallsOff, PointerWrap, RegisterName, SquareBrackets, VectorToData, HandlerReturns}
 
 -- ---- one line
 
@@ -102,20 +105,22 @@ is_long profile numbers p = p.size == 3 && is_short_line profile numbers p.addre
 
 -- ---- all lines
 
--- What is known of the lines: the profile, the numbers of all names, the names that are used, and
--- what is written of the zero page.
+-- What is known of the lines: the profile, the numbers of all names, the names that are used, what
+-- is written of the zero page, and the lines themselves.
 pub record Known : Type 0 where
   pub profile : Profile
   pub numbers : Numbers
   pub used : Definitions
   pub reaches : List Reach
+  pub lines : List Placed
 
-abbrev pub known : Profile → Definitions → Definitions → List Reach → Known
-known profile names used reached = record {
+abbrev pub known : Profile → Definitions → Definitions → List Reach → List Placed → Known
+known profile names used reached lines = record {
   profile = profile;
   numbers = number_in names;
   used = used;
   reaches = reached;
+  lines = lines;
 }
 
 abbrev pub warned : ℕ → WarningKind → Warning
@@ -138,11 +143,36 @@ warnings_more profile numbers number falls p
     ++ (one_if (wraps profile numbers p) number PointerWrap
     ++ (one_if p.bracketed number SquareBrackets ++ one_if falls number FallsOff))
 
+-- A vector leads to data on a line.
+abbrev pub data_warnings : ℕ → Vector → Option ℕ → List Warning
+data_warnings number vector None = []
+data_warnings number vector (Some line) = warned number (VectorToData vector line) ∷ []
+
+-- The warnings of a vector by where it leads.
+abbrev pub led_warnings : List Placed → ℕ → Vector → ℕ → List Warning
+led_warnings lines number vector target = data_warnings number vector (data_in target lines)
+    ++ one_if (is_handled vector && comes_to_return target lines) number (HandlerReturns vector)
+
+abbrev pub target_warnings : List Placed → ℕ → Vector → Option ℕ → List Warning
+target_warnings lines number vector None = []
+target_warnings lines number vector (Some target) = led_warnings lines number vector target
+
+-- The warnings of a vector whose value is on a line.
+abbrev pub vector_warnings : Numbers → List Placed → ℕ → Placed → Vector → List Warning
+vector_warnings numbers lines number p vector
+    = target_warnings lines number vector (target_of numbers vector p)
+
+-- The warnings of the vectors that a line has.
+unfoldable pub vectors_warnings : Numbers → List Placed → ℕ → Placed → List Warning
+vectors_warnings numbers lines number p = vector_warnings numbers lines number p Nmi
+    ++ (vector_warnings numbers lines number p Reset ++ vector_warnings numbers lines number p Irq)
+
 -- The warnings of a line whose name has the letters of an earlier one or not, before these lines.
 abbrev pub warnings_with : Known → ℕ → Bool → Placed → List Placed → List Warning
 warnings_with k number alike p ps = if is_silenced p.text then []
     else warnings_alone k number p ++ (one_if alike number LetterCase
-    ++ warnings_more k.profile k.numbers number (falls_off p ps) p)
+    ++ (warnings_more k.profile k.numbers number (falls_off p ps) p
+    ++ vectors_warnings k.numbers k.lines number p))
 
 -- The warnings of lines, counted from a number on, after lines with these names.
 abbrev pub lines_warnings : Known → ℕ → Definitions → List Placed → List Warning
@@ -195,8 +225,8 @@ cut_off profile number (text ∷ texts) = if says_bytes (meaning_of profile text
 abbrev pub warnings_in : Profile → Definitions → List Placed → List (List ℕ) → List Warning
 warnings_in profile names lines behind = one_if (is_empty names lines) 1 NoBytes
     ++ (one_if (has_no_vector lines) 1 NoVector
-    ++ (lines_warnings (known profile names (used_by lines []) (reaches (number_in names) lines)) 1
-    [] lines
+    ++ (lines_warnings
+    (known profile names (used_by lines []) (reaches (number_in names) lines) lines) 1 [] lines
     ++ cut_off profile (length lines + 1) behind))
 
 abbrev pub warnings_found : Profile → List (List ℕ) → List all.Found → Definitions → List Warning

@@ -16,6 +16,7 @@ use crate::kinds::{Warning, WarningKind};
 use crate::one_line::{is_long, is_silenced, is_unused, name_in, names_register, note_capitals};
 use crate::placed_line::PlacedLine;
 use crate::placement::meaning_of;
+use crate::vectors::push_vectors;
 use crate::written_numbers::Reach;
 use crate::zero_page_writes::is_plain;
 use line_parts::{Line, Statement, Token, next_line};
@@ -49,7 +50,7 @@ fn push_alone(
     line: &PlacedLine<'_>,
 ) -> Result<(), AllocError>
     ensures { OnOk result (warnings.new.items ≡ warnings.old.items
-        ++ warnings_alone (known profile names.now used.now reaches.now) number
+        ++ warnings_alone (known profile names.now used.now reaches.now []) number
         (placed_view line.now)) }
 {
     let plain = is_plain(profile, line, reaches) && !line.bracketed;
@@ -86,21 +87,23 @@ fn push_more(
 }
 
 /// Appends the warnings of a line whose name has the letters of an earlier one or not, before these
-/// lines.
+/// lines, among all lines.
 fn push_line(
     warnings: &mut Vec<Warning>,
     profile: Profile,
     names: &Symbols,
     used: &Symbols,
     reaches: &[Reach],
+    lines: &[PlacedLine<'_>],
     number: u32,
     alike: bool,
     line: &PlacedLine<'_>,
     behind: &[PlacedLine<'_>],
 ) -> Result<(), AllocError>
+    requires { length lines.now ≤ 1048576 }
     ensures { OnOk result (warnings.new.items ≡ warnings.old.items
-        ++ warnings_with (known profile names.now used.now reaches.now) number alike
-        (placed_view line.now) (placed_views behind.now)) }
+        ++ warnings_with (known profile names.now used.now reaches.now (placed_views lines.now))
+        number alike (placed_view line.now) (placed_views behind.now)) }
 {
     if is_silenced(line.text) {
         return Ok(());
@@ -114,7 +117,8 @@ fn push_line(
         number,
         falls_off(line, behind),
         line,
-    )
+    )?;
+    push_vectors(warnings, names, lines, number, line)
 }
 
 /// Appends the warnings of lines, after lines with these names in capitals, and notes theirs.
@@ -130,8 +134,8 @@ fn push_each_line(
 ) -> Result<(), AllocError>
     requires { length lines.now ≤ 1048576 }
     ensures { OnOk result (warnings.new.items ≡ warnings.old.items
-        ++ lines_warnings (known profile names.now used.now reaches.now) 1 capitals.old
-        (placed_views lines.now)) }
+        ++ lines_warnings (known profile names.now used.now reaches.now (placed_views lines.now)) 1
+        capitals.old (placed_views lines.now)) }
 {
     let mut number = 0u32;
     for one in lines {
@@ -139,7 +143,7 @@ fn push_each_line(
         let alike = note_capitals(alloc, capitals, name_in(&one.line))?;
         let behind = &lines[number as usize..];
         push_line(
-            warnings, profile, names, used, reaches, number, alike, one, behind,
+            warnings, profile, names, used, reaches, lines, number, alike, one, behind,
         )?;
     }
     Ok(())
@@ -159,8 +163,8 @@ pub fn push_lines(
 ) -> Result<(), AllocError>
     requires { length lines.now ≤ 1048576 }
     ensures { OnOk result (warnings.new.items ≡ warnings.old.items
-        ++ lines_warnings (known profile names.now used.now reaches.now) 1 []
-        (placed_views lines.now)) }
+        ++ lines_warnings (known profile names.now used.now reaches.now (placed_views lines.now)) 1
+        [] (placed_views lines.now)) }
 {
     let mut capitals = Symbols::new(alloc);
     push_each_line(

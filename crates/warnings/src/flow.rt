@@ -68,8 +68,8 @@ fn is_entry_statement(statement: &Statement<'_>) -> bool
     }
 }
 
-/// Whether control may come to a line.
-fn is_entry_line(line: &Option<Line<'_>>) -> bool
+/// Returns whether control may come to a line.
+pub fn is_entry_line(line: &Option<Line<'_>>) -> bool
     ensures { result ≡ is_entry_line (map_option line_view line.now) }
 {
     match line {
@@ -190,8 +190,8 @@ fn is_vector(line: &PlacedLine<'_>) -> bool
     line.count > 0 && (line.address <= 65533 && line.address + line.count > 65532)
 }
 
-/// Whether one of some lines is an instruction.
-fn has_instruction(lines: &[PlacedLine<'_>]) -> bool
+/// Returns whether one of some lines is an instruction.
+pub fn has_instruction(lines: &[PlacedLine<'_>]) -> bool
     ensures { result ≡ list_any is_instruction (placed_views lines.now) }
 {
     for one in lines {

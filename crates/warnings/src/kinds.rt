@@ -1,5 +1,16 @@
 //! A warning.
 
+/// A vector: two bytes with the address at which an interrupt or a reset begins.
+#[derive(Clone, Copy, Debug, PartialEq, Eq)]
+pub enum Vector {
+    /// At $FFFA.
+    Nmi,
+    /// At $FFFC.
+    Reset,
+    /// At $FFFE.
+    Irq,
+}
+
 /// What may be meant otherwise.
 #[derive(Clone, Copy, Debug, PartialEq, Eq)]
 pub enum WarningKind {
@@ -25,6 +36,10 @@ pub enum WarningKind {
     RegisterName,
     /// The whole address of an operand stands in square brackets, where a pointer could.
     SquareBrackets,
+    /// A vector leads to data, on this line.
+    VectorToData(Vector, u32),
+    /// A vector leads to a handler that ends in RTS.
+    HandlerReturns(Vector),
 }
 
 /// A warning, with the number of its line, counted from 1.

@@ -5,8 +5,8 @@
 //! `all_lines` every line and the text after `.END`, `whole_source` a source. `used_names` finds
 //! the names that expressions use, `written_numbers` what a source writes of the zero page, and
 //! `zero_page_writes` the operands that are a plain number which nothing writes. `flow` finds where
-//! control falls off instructions, pointers at the end of a page, and the reset vector; `brackets`
-//! operands in square brackets.
+//! control falls off instructions, pointers at the end of a page, and the reset vector; `vectors`
+//! what vectors lead to; `brackets` operands in square brackets.
 #![tactic(auto)]
 
 mod all_lines;
@@ -17,9 +17,10 @@ mod one_line;
 mod placed_line;
 mod placement;
 mod used_names;
+mod vectors;
 mod whole_source;
 mod written_numbers;
 mod zero_page_writes;
 
-pub use kinds::{Warning, WarningKind};
+pub use kinds::{Vector, Warning, WarningKind};
 pub use whole_source::source_warnings;

@@ -16,7 +16,7 @@ use arguments::{
 };
 use bus::MapSpec;
 use clean_source::clean_source;
-use image_files::refuse_image;
+use image_files::{looks_raw, refuse_image};
 use std::alloc::Global;
 use std::io::Write;
 use std::rt::Files;
@@ -80,6 +80,24 @@ fn found_in(
     }
 }
 
+/// Returns what is to be written of a source, unless it has a fault and its file begins as no
+/// source does.
+fn unless_raw(
+    words: &CheckWords<'_>,
+    file: &str,
+    bytes: &[u8],
+    found: CheckedText,
+) -> Result<CheckedText, LoadFault>
+    requires { IsFound (check_view words.now) file.now found }
+    ensures found { IfOk result (IsFound (check_view words.now) file.now) }
+    ensures refused { IfErr result EndsFile }
+{
+    if found.is_faulty && looks_raw(bytes) {
+        return Err(LoadFault::LooksLikeRaw);
+    }
+    Ok(found)
+}
+
 /// Returns what is to be written of a file, or why nothing is.
 fn checked<H: Files + AllocGlobal>(
     rt: &H,
@@ -93,7 +111,8 @@ fn checked<H: Files + AllocGlobal>(
 {
     let bytes = read_source(rt, file)?;
     let source = cleaned_source(rt.alloc(), &bytes)?;
-    found_in(rt.alloc(), words, map, file, &source)
+    let found = found_in(rt.alloc(), words, map, file, &source)?;
+    unless_raw(words, file, &bytes, found)
 }
 
 /// Returns the status of what was found of a file: 1 if the text counts, and 0 if not.

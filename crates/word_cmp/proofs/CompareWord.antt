@@ -18,7 +18,7 @@ use Rattle.arguments.specs.declared.file_refusal.FileRefusal.{FileRefusal}
 
 pub about_of : (asked : CmpAsked) (one other : SideView) (r : Result Answer FileRefusal)
     → one ≡ side_of asked.tape one.image asked.profile → other ≡ side_of asked.other other.image asked.profile
-    → IsOfFile asked.form one.image → IsOfFile asked.form other.image → IfOk r (IsAnswerOf asked.align one other)
+    → IsOfFile asked.form one.image → IsOfFile asked.other_form other.image → IfOk r (IsAnswerOf asked.align one other)
     → IfOk r (λ a. IsSaid asked a.is_right (string_bytes a.text))
 about_of asked one other (Ok a) e f one_is other_is about =
     let first : IsSaidOf asked.align (side_of asked.tape one.image asked.profile) other a.is_right (string_bytes a.text) =

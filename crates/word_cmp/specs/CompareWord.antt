@@ -1,9 +1,9 @@
 -- What `cmp` has done. Source: mos65. No clause can say what two files have.
-use Rattle.std.specs.Prelude.{◌≡◌, ◌≢◌, ℕ, ◌==◌, if◌then◌else◌, Bool, true, false, List, [], ◌++◌, Option, Some, string_bytes}
+use Rattle.std.specs.Prelude.{◌≡◌, ◌≢◌, ◌⊎◌, ℕ, ◌==◌, if◌then◌else◌, Bool, true, false, List, [], ◌++◌, Option, Some, string_bytes}
 use Rattle.arguments.specs.Streams.{Tells, TellsFront}
 use Rattle.arguments.specs.Words.{Fits}
 use Rattle.clap.specs.Words.{Text}
-use Rattle.image_files.specs.Files.{IsOfFile}
+use Rattle.image_files.specs.Files.{HasNoImage, IsOfFile}
 use Rattle.word_cmp.specs.AlignedRows.{rows_text}
 use Rattle.word_cmp.specs.Alignment.{IsAlignment}
 use Rattle.word_cmp.specs.Differences.{differences}
@@ -44,9 +44,13 @@ pub record IsSaid (asked : CmpAsked) (is_same : Bool) (said : List ℕ) : Type 0
   pub one : List (Option ℕ)
   pub other : List (Option ℕ)
   pub one_is : IsOfFile asked.form one
-  pub other_is : IsOfFile asked.form other
+  pub other_is : IsOfFile asked.other_form other
   pub about : IsSaidOf asked.align (side_of asked.tape one asked.profile)
       (side_of asked.other other asked.profile) is_same said
+
+-- Some file is no image in the form of the one side or of the other.
+abbrev pub HasNoSide : CmpAsked → Type 0
+HasNoSide asked = HasNoImage asked.form ⊎ HasNoImage asked.other_form
 
 -- The words fit, each value is one that its name can have, and a fact holds of what they ask for.
 abbrev pub Asks : List Text → (CmpAsked → Type 0) → Type 0

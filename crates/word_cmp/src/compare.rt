@@ -6,7 +6,8 @@ ghost use Rattle.arguments.specs.Words.{AsksForHelp, Fits, Misfits, texts};
 ghost use Rattle.word_cmp.specs.DifferenceRows.{side_of};
 ghost use Rattle.word_cmp.specs.Sides.{side_view};
 ghost use Rattle.image_files.specs.Files.{EndsImage, HasNoImage, IsOfFile};
-ghost use Rattle.word_cmp.specs.CompareWord.{Asks, IsAlignedText, IsAnswerOf, IsSaid, IsTextOf};
+ghost use Rattle.word_cmp.specs.CompareWord.{Asks, HasNoSide, IsAlignedText, IsAnswerOf, IsSaid};
+ghost use Rattle.word_cmp.specs.CompareWord.{IsTextOf};
 ghost use Rattle.word_cmp.specs.CompareWord.{cmp_status};
 ghost use Rattle.word_cmp.specs.Differences.{differences as differences_of};
 ghost use Rattle.word_cmp.specs.CompareWord.{TellsAsked, TellsAskedFront};
@@ -23,6 +24,7 @@ use crate::sides::Side;
 use arguments::{FileRefusal, Refusal, refused_words};
 use image_files::{ImageFileRefusal, ImageRefusal, image_of_file};
 use image_reader::Form;
+use model::Profile;
 use std::alloc::{AllocError, Global};
 use std::io::Write;
 use std::rt::Files;
@@ -33,17 +35,18 @@ use tape_words::{Answer, CmpWords, answered, read_cmp_words};
 /// Errors: those of `image_of_file`, with the name of the file.
 fn side_of<'a, H: Files + AllocGlobal>(
     rt: &H,
-    words: &CmpWords<'a>,
+    profile: Profile,
     file: &'a str,
+    form: Option<Form>,
 ) -> Result<Side<'a>, ImageFileRefusal<'a>>
-    ensures image { IfOk result (λ side. IsOfFile words.now.form side.image) }
+    ensures image { IfOk result (λ side. IsOfFile form side.image) }
     ensures side { IfOk result
-        (λ side. side_view side ≡ side_of file.now side.image words.now.profile) }
-    ensures refused { IfErr result (λ why. EndsImage words.now.form why.why) }
+        (λ side. side_view side ≡ side_of file.now side.image profile) }
+    ensures refused { IfErr result (λ why. EndsImage form why.why) }
 {
-    match image_of_file(rt, file, words.form) {
+    match image_of_file(rt, file, form) {
         Ok(image) => {
-            Side::new(rt.alloc(), file, image, words.profile).map_err(|_| ImageFileRefusal {
+            Side::new(rt.alloc(), file, image, profile).map_err(|_| ImageFileRefusal {
                 file,
                 why: ImageRefusal::Refused(Refusal::OutOfMemory),
             })
@@ -159,6 +162,26 @@ fn not_compared<E: Write>(form: Option<Form>, why: ImageFileRefusal<'_>, errors:
     cmp_status(why.tell(errors))
 }
 
+/// Says why the first file is not compared, and returns the exit status.
+fn one_refused<E: Write>(words: &CmpWords<'_>, why: ImageFileRefusal<'_>, errors: &mut E) -> u8
+    requires { EndsImage words.now.form why.why }
+    ensures least { 2 ≤ result }
+    ensures most { result ≤ 4 }
+    ensures fault { result ≡ 2 → HasNoSide (cmp_view words.now) }
+{
+    not_compared(words.form, why, errors)
+}
+
+/// Says why the other file is not compared, and returns the exit status.
+fn other_refused<E: Write>(words: &CmpWords<'_>, why: ImageFileRefusal<'_>, errors: &mut E) -> u8
+    requires { EndsImage words.now.other_form why.why }
+    ensures least { 2 ≤ result }
+    ensures most { result ≤ 4 }
+    ensures fault { result ≡ 2 → HasNoSide (cmp_view words.now) }
+{
+    not_compared(words.other_form, why, errors)
+}
+
 /// Compares the files of the words, and returns the exit status.
 fn done<H: Files + AllocGlobal, O: Write, E: Write>(
     rt: &H,
@@ -173,18 +196,18 @@ fn done<H: Files + AllocGlobal, O: Write, E: Write>(
         (O.contents output.old) (O.contents output.new) }
     ensures wrong { result ≡ 1 → Tells (IsSaid (cmp_view words.now)) false
         (O.contents output.old) (O.contents output.new) }
-    ensures fault { result ≡ 2 → HasNoImage words.now.form }
+    ensures fault { result ≡ 2 → HasNoSide (cmp_view words.now) }
     ensures begun { result ≡ 4
         → TellsFront (IsSaid (cmp_view words.now)) (O.contents output.old) (O.contents output.new)
         ⊎ (output.new ≡ output.old) }
 {
-    let one = match side_of(rt, words, words.tape) {
+    let one = match side_of(rt, words.profile, words.tape, words.form) {
         Ok(side) => side,
-        Err(why) => return not_compared(words.form, why, errors),
+        Err(why) => return one_refused(words, why, errors),
     };
-    let other = match side_of(rt, words, words.other) {
+    let other = match side_of(rt, words.profile, words.other, words.other_form) {
         Ok(side) => side,
-        Err(why) => return not_compared(words.form, why, errors),
+        Err(why) => return other_refused(words, why, errors),
     };
     answered(compared(rt.alloc(), words, &one, &other), output, errors)
 }
@@ -216,7 +239,7 @@ pub fn tape_cmp<H: Files + AllocGlobal, O: Write, E: Write>(
     ensures refused { result ≡ 2 → Misfits cmp (texts words.entry.now)
         ⊎ ((Fits cmp (texts words.entry.now)
         × (cmp_asked (texts words.entry.now) ≡ None))
-        ⊎ Asks (texts words.entry.now) (λ asked. HasNoImage asked.form)) }
+        ⊎ Asks (texts words.entry.now) HasNoSide) }
     // 4 means that a beginning of the rows was written, or nothing; or help is asked for.
     ensures begun { result ≡ 4 → AsksForHelp cmp (texts words.entry.now)
         ⊎ (TellsAskedFront (texts words.entry.now)

@@ -1,5 +1,6 @@
 mod Read
 pub mod Refused
+pub mod Summed
 pub mod Whole
 mod ListingRead
 pub mod Listed

@@ -1,6 +1,7 @@
 -- What the words of `debug` with an image ask for, by the values that clap's definition of a parse
 -- finds among them. Source: mos65.
-use Rattle.std.specs.Prelude.{ℕ, Option, Some, None, codes}
+use Rattle.std.specs.Prelude.{ℕ, Option, Some, None, codes, option_map}
+use Rattle.arguments.specs.FileNames.{name_of}
 use Rattle.arguments.specs.Values.{debug_history_asked, port_asked, profile_asked, rom_asked}
 use Rattle.clap.specs.Words.{Text}
 use Rattle.word_convert.specs.declared.debugging.asked.DebugImageWords.{DebugImageWords}
@@ -32,7 +33,8 @@ debug_of file form history port rom profile = None
 
 -- What the values of the names ask for, where each is one that its name can have.
 abbrev pub debug_by : (Text → Option Text) → Option DebugImageAsked
-debug_by value = debug_of (value (codes "FILE")) (form_said value)
+debug_by value = debug_of (option_map name_of (value (codes "FILE")))
+    (form_said (value (codes "FILE")) value)
     (debug_history_asked (value (codes "history"))) (port_asked (value (codes "port")))
     (rom_asked (value (codes "rom"))) (profile_asked (value (codes "profile")))
 

@@ -2,16 +2,16 @@
 -- LO-HI] [--profile N|C]`, as clap's definitions describe one. How words are matched with it is
 -- clap's to say. Source: mos65.
 use Rattle.std.specs.Prelude.{List, Option, codes}
-use Rattle.arguments.specs.CommandLine.{file_rule, flag_rule, option_rule, unnamed}
+use Rattle.arguments.specs.CommandLine.{file_rule, option_rule, unnamed}
 use Rattle.arguments.specs.Words.{value_in}
 use Rattle.clap.specs.Words.{App, Text, with_rule}
 use Rattle.word_convert.specs.DebugAsked.{DebugImageAsked, debug_by}
 use Rattle.image_files.specs.Options.{with_image}
 
--- the file, the flag and the history
+-- the file and the history
 abbrev pub debug_part : App
-debug_part = with_rule (with_rule (with_rule (unnamed (codes "debug")) (file_rule (codes "FILE")))
-    (flag_rule (codes "image"))) (option_rule (codes "history"))
+debug_part = with_rule (with_rule (unnamed (codes "debug")) (file_rule (codes "FILE")))
+    (option_rule (codes "history"))
 
 -- a command line with the options of the machine
 abbrev pub with_map : App → App

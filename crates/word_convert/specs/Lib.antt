@@ -2,6 +2,7 @@ pub mod CommandLine
 pub mod Asked
 pub mod Converted
 pub mod Statuses
+pub mod Sums
 pub mod ListingAsked
 pub mod ListingCommandLine
 pub mod Listing

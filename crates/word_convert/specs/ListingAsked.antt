@@ -1,6 +1,7 @@
 -- What the words of `dis` with an image ask for, by the values that clap's definition of a parse
 -- finds among them. Source: mos65.
-use Rattle.std.specs.Prelude.{ℕ, Option, Some, None, codes, if◌then◌else◌, nat_le, option_and_then}
+use Rattle.std.specs.Prelude.{ℕ, Option, Some, None, codes, if◌then◌else◌, nat_le, option_and_then, option_map}
+use Rattle.arguments.specs.FileNames.{name_of}
 use Rattle.arguments.specs.Values.{profile_asked}
 use Rattle.clap.specs.Words.{Text}
 use Rattle.word_convert.specs.declared.dis_rows.words.DisImageWords.{DisImageWords}
@@ -31,7 +32,8 @@ dis_of file form first last profile = None
 
 -- What the values of the names ask for, where each is one that its name can have.
 abbrev pub dis_by : (Text → Option Text) → Option DisImageAsked
-dis_by value = dis_of (value (codes "FILE")) (form_said value)
+dis_by value = dis_of (option_map name_of (value (codes "FILE")))
+    (form_said (value (codes "FILE")) value)
     (option_and_then address_of (value (codes "LO")))
     (option_and_then address_of (value (codes "HI"))) (profile_asked (value (codes "profile")))
 

@@ -2,19 +2,22 @@
 
 ghost use Rattle.std.specs.Prelude.{◌≡◌, ◌≤◌, IfErr, IfOk, None, Some};
 ghost use Rattle.word_convert.specs.Asked.{convert_view};
-ghost use Rattle.word_convert.specs.Converted.{IsConverted, IsNotWritten, IsPartWritten, IsRange};
-ghost use Rattle.word_convert.specs.Converted.{IsRangeOf, IsRefused, IsWritten, ReadsAs, fill_for};
+ghost use Rattle.image_files.specs.Bytes.{IsImage};
+ghost use Rattle.image_files.specs.Union.{IsFirstClash};
+ghost use Rattle.image_writer.specs.Window.{IsPart};
+ghost use Rattle.word_convert.specs.Converted.{IsConverted, IsConvertedWith, IsNotWritten};
+ghost use Rattle.word_convert.specs.Converted.{IsPartNotWritten, IsPartWritten, IsRange};
+ghost use Rattle.word_convert.specs.Converted.{IsRangeOf, IsRefused, IsRefusedWith, IsWritten};
+ghost use Rattle.word_convert.specs.Converted.{fill_for};
 
 use crate::fault::ConvertFault;
-use crate::names::FormName;
+use crate::sums::with_sum;
 use crate::words::ConvertWords;
-use arguments::Refusal;
-use image_files::{ImageRefusal, ends_of, image_of_bytes};
-use image_reader::TextForm;
-use image_writer::{part_of, write_prg, write_raw, write_text};
+use arguments::{FormName, Refusal};
+use image_files::{ImageRefusal, ends_of, first_clash, image_of_bytes, union_of, write_form};
+use image_writer::part_of;
 use memory_map::Image;
-use papertape::write_tape;
-use std::alloc::{AllocError, Global};
+use std::alloc::Global;
 
 /// Returns the first and the last address to write: those that are said, or those of the first and
 /// of the last byte, if there is one.
@@ -43,26 +46,28 @@ fn fill_for(to: FormName, fill: Option<u8>) -> Option<u8>
     }
 }
 
-/// Writes a part of an image in a form.
-fn written(
+/// Writes a part of an image, with the byte that makes its sum 0 if that is asked for.
+fn summed_written(
     alloc: Global,
-    to: FormName,
+    words: &ConvertWords<'_>,
+    image: &Image,
     low: u16,
     high: u16,
-    part: &Image,
-) -> Result<Vec<u8>, AllocError>
-    requires { low ≤ high }
-    ensures { IfOk result (λ out. ReadsAs to low high part.now out.items) }
+    part: Image,
+) -> Result<Vec<u8>, ConvertFault>
+    requires order { low ≤ high }
+    requires part { IsPart low high (fill_for words.now.to words.now.fill) image.now part }
+    ensures found { IfOk result
+        (λ out. IsPartWritten (convert_view words.now) image.now low high out.items) }
+    ensures fault { IfErr result
+        (IsPartNotWritten (convert_view words.now) image.now low high) }
 {
-    match to {
-        FormName::Hex => write_text(alloc, TextForm::Hex, part),
-        FormName::SRecord => write_text(alloc, TextForm::SRecord, part),
-        FormName::Tape => match write_tape(alloc, part) {
-            Ok(text) => Ok(text),
-            Err(_) => Err(AllocError),
+    match with_sum(part, words.sum) {
+        None => Err(ConvertFault::NoSumByte),
+        Some(summed) => match write_form(alloc, words.to, low, high, &summed) {
+            Ok(out) => Ok(out),
+            Err(_) => Err(ConvertFault::Refused(ImageRefusal::Refused(Refusal::OutOfMemory))),
         },
-        FormName::Bin => write_raw(alloc, part, low, high, 0xff),
-        FormName::Prg => write_prg(alloc, part, low, high, 0xff),
     }
 }
 
@@ -73,14 +78,18 @@ fn part_written(
     image: &Image,
     low: u16,
     high: u16,
-) -> Result<Vec<u8>, AllocError>
+) -> Result<Vec<u8>, ConvertFault>
     requires { low ≤ high }
-    ensures { IfOk result
+    ensures found { IfOk result
         (λ out. IsPartWritten (convert_view words.now) image.now low high out.items) }
+    ensures fault { IfErr result
+        (IsPartNotWritten (convert_view words.now) image.now low high) }
 {
     let fill = fill_for(words.to, words.fill);
-    let part = part_of(alloc, image, low, high, fill)?;
-    written(alloc, words.to, low, high, &part)
+    match part_of(alloc, image, low, high, fill) {
+        Ok(part) => summed_written(alloc, words, image, low, high, part),
+        Err(_) => Err(ConvertFault::Refused(ImageRefusal::Refused(Refusal::OutOfMemory))),
+    }
 }
 
 /// Writes the part of an image between the addresses that are asked for.
@@ -98,7 +107,7 @@ fn range_written(
 {
     match part_written(alloc, words, image, low, high) {
         Ok(out) => Ok(out),
-        Err(_) => Err(ConvertFault::Refused(ImageRefusal::Refused(Refusal::OutOfMemory))),
+        Err(why) => Err(why),
     }
 }
 
@@ -121,13 +130,14 @@ fn image_written(
 ///
 /// Errors: `Refused` with why the bytes are no image in the form that is said or told, or with
 /// `OutOfMemory` if an allocation fails; `NoByte` if the image has no byte and no addresses are
-/// said.
+/// said; `NoSumByte` if no byte is written at the address where one has to make the sum 0.
 pub fn converted(
     alloc: Global,
     words: &ConvertWords<'_>,
     bytes: &[u8],
 ) -> Result<Vec<u8>, ConvertFault>
-    // What is written, read again, is the part of the image that is asked for.
+    // What is written, read again, is the part of the image that is asked for, with the byte that
+    // makes its sum 0 if that is asked for too.
     ensures found { IfOk result
         (λ out. IsConverted (convert_view words.now) bytes.now out.items) }
     // Each error says why the bytes denote no image, or that memory ran out.
@@ -135,6 +145,67 @@ pub fn converted(
 {
     match image_of_bytes(alloc, words.from, bytes) {
         Ok(image) => image_written(alloc, words, &image),
+        Err(why) => Err(ConvertFault::Refused(why)),
+    }
+}
+
+/// Writes what either of two images has.
+fn union_written(
+    alloc: Global,
+    words: &ConvertWords<'_>,
+    bytes: &[u8],
+    one: &Image,
+    other: &Image,
+) -> Result<Vec<u8>, ConvertFault>
+    requires denotes { IsImage words.now.from bytes.now one.now }
+    requires agrees { IsFirstClash one.now other.now None }
+    ensures found { IfOk result
+        (λ out. IsConvertedWith (convert_view words.now) bytes.now other.now out.items) }
+    ensures fault { IfErr result (IsRefusedWith (convert_view words.now) bytes.now other.now) }
+{
+    match union_of(alloc, one, other) {
+        Ok(both) => image_written(alloc, words, &both),
+        Err(_) => Err(ConvertFault::Refused(ImageRefusal::Refused(Refusal::OutOfMemory))),
+    }
+}
+
+/// Writes what either of two images has, unless they have two bytes for an address.
+fn joined_written(
+    alloc: Global,
+    words: &ConvertWords<'_>,
+    bytes: &[u8],
+    one: &Image,
+    other: &Image,
+) -> Result<Vec<u8>, ConvertFault>
+    requires { IsImage words.now.from bytes.now one.now }
+    ensures found { IfOk result
+        (λ out. IsConvertedWith (convert_view words.now) bytes.now other.now out.items) }
+    ensures fault { IfErr result (IsRefusedWith (convert_view words.now) bytes.now other.now) }
+{
+    match first_clash(one, other) {
+        None => union_written(alloc, words, bytes, one, other),
+        Some(address) => Err(ConvertFault::Clash(address)),
+    }
+}
+
+/// Returns the bytes of OUT for those of IN and the image of another file.
+///
+/// Errors: those of `converted`, and `Clash` with the lowest address for which both have a byte,
+/// and these differ.
+pub fn converted_with(
+    alloc: Global,
+    words: &ConvertWords<'_>,
+    bytes: &[u8],
+    other: &Image,
+) -> Result<Vec<u8>, ConvertFault>
+    // What is written, read again, is the part that is asked for of what both images have.
+    ensures found { IfOk result
+        (λ out. IsConvertedWith (convert_view words.now) bytes.now other.now out.items) }
+    // Each error says why the images are not joined, or that memory ran out.
+    ensures fault { IfErr result (IsRefusedWith (convert_view words.now) bytes.now other.now) }
+{
+    match image_of_bytes(alloc, words.from, bytes) {
+        Ok(one) => joined_written(alloc, words, bytes, &one, other),
         Err(why) => Err(ConvertFault::Refused(why)),
     }
 }

@@ -9,4 +9,8 @@ pub enum ConvertFault {
     Refused(ImageRefusal),
     /// The image has no byte, and no addresses are said.
     NoByte,
+    /// At the address of the byte that would make the sum 0 no byte is written.
+    NoSumByte,
+    /// The images of two files have two bytes for this address.
+    Clash(u16),
 }

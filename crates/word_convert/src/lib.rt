@@ -1,9 +1,10 @@
 //! The words of an image: `convert`, and `dis` and `debug` with an image in any form.
 //!
 //! `converted` has the theorem of `convert IN OUT`: what is written, read again, is the part of the
-//! image that the bytes of IN denote. `convert` is the word: it reads its words and IN, and writes
-//! OUT. `dis_image` lists an image as instructions (`dis_rows`), and `debug_image` serves a session
-//! on one (`debugging`). How a file is read is of `image_files`.
+//! image that the bytes of IN denote, with the byte that makes its sum 0 if that is asked for.
+//! `convert` is the word: it reads its words and IN, and writes OUT. `dis_image` lists an image as
+//! instructions (`dis_rows`), and `debug_image` serves a session on one (`debugging`). How a file
+//! is read is of `image_files`.
 #![tactic(auto)]
 
 mod command;
@@ -13,6 +14,7 @@ mod dis_rows;
 mod fault;
 mod names;
 mod run;
+mod sums;
 mod wording;
 mod words;
 
@@ -21,6 +23,5 @@ pub use converting::converted;
 pub use debugging::{debug_image, debug_image_command};
 pub use dis_rows::{dis_image, dis_image_command};
 pub use fault::ConvertFault;
-pub use names::FormName;
 pub use run::convert;
 pub use words::{ConvertWords, read_convert_words};

@@ -39,4 +39,4 @@ not_written asked why status (inr at_names) is = elim (by_names asked.profile at
 
 -- there are no names
 pub names_end : (asked : SourceAsked) (refused : FileRefusal) (why : ImageFileRefusal) → why.file.now ≡ refused.file.now → why.why ≡ Refused refused.refusal → EndsNamed asked refused → EndsSource asked why
-names_end asked refused why file is ends = inr (ends.0 ∙ ap Some (sym file), (refused.refusal, is, ends.1))
+names_end asked refused why file is ends = inr (file ∙ ends.0, (refused.refusal, is, ends.1))

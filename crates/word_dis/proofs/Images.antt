@@ -12,7 +12,7 @@ use Rattle.word_dis.specs.Fill.{bytes_left_out}
 use Rattle.word_dis.specs.Word.{AreGiven, IsDone, IsSaid, IsSourceWith}
 use Rattle.word_dis.specs.Written.{IsWritten}
 
-pub with_image : (asked : SourceAsked) (image : List (Option ℕ)) (names : Option Definitions) (left_out text : List ℕ) (at_port : Bool) (bytes : ℕ) → IsOfFile asked.form image → AreGiven asked.symbols asked.profile names left_out
+pub with_image : (asked : SourceAsked) (image : List (Option ℕ)) (names : Option Definitions) (left_out text : List ℕ) (at_port : Bool) (bytes : ℕ) → IsOfFile asked.form image → AreGiven asked.symbols asked.profile asked.said.definitions names left_out
     → IsWritten asked image names text at_port bytes → IsSourceWith asked text at_port left_out bytes
 with_image asked image names left_out text at_port bytes read given written = record {
   source = record { image = image; read = read; names = names; left_out = left_out; given = given; written = written.source };

@@ -7,3 +7,6 @@ pub mod NamesRefused
 pub mod Read
 pub mod Ended
 pub mod Images
+pub mod Labelled
+pub mod MarksSaid
+pub mod StartsFound

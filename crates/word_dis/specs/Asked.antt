@@ -1,17 +1,17 @@
 -- What the words of `dis` with `--source` ask for, by the values that clap's definition of a parse
 -- finds among them. Source: mos65.
-use Rattle.std.specs.Prelude.{ℕ, Bool, List, [], ◌∷◌, Option, Some, None, codes, length, take, drop, get_or, nat_le, ◌==◌, ◌&&◌, if◌then◌else◌, option_map}
+use Rattle.std.specs.Prelude.{ℕ, Bool, true, List, [], ◌∷◌, Option, Some, None, codes, is_some, option_map}
 use Rattle.arguments.specs.Asked.{is_flag}
+use Rattle.arguments.specs.FileNames.{name_of}
 use Rattle.arguments.specs.Values.{profile_asked}
 use Rattle.clap.specs.Words.{Text}
 use Rattle.image_files.specs.Options.{fill_asked, form_said}
 use Rattle.image_reader.specs.declared.form.Form.{Form}
-use Rattle.model.specs.Commands.{address_of, from_1_to}
-use Rattle.model.specs.Digits.{decimal_number}
+use Rattle.marks_files.specs.Marks.{Marks}
+use Rattle.marks_files.specs.Values.{addresses_of, range_of, routine_of}
+use Rattle.model.specs.Commands.{address_of}
 use Rattle.model.specs.declared.instruction.Profile.{Profile}
 use Rattle.reached.specs.declared.inline.Inline.{Inline}
-use Rattle.reached.specs.declared.inline.Tail.{Tail}
-use Rattle.reached.specs.declared.inline.Tail.TheVariants.{String, Bytes}
 
 -- The ranges of numbers, of letters, of addresses, and of addresses less 1 to which RTS goes.
 pub record Ranges : Type 0 where
@@ -27,29 +27,43 @@ pub record Following : Type 0 where
   pub more : Option (List ℕ)
   pub routines : List Inline
 
+-- What the words say of the image stands beside what is asked for, as a file of marks adds to it.
 pub record SourceAsked : Type 0 where
   pub tape : Text
   pub form : Option Form
   pub first : ℕ
   pub last : ℕ
-  pub ranges : Ranges
-  pub following : Following
+  pub said : Marks
+  pub only : Option (List ℕ)
   pub labels : Bool
+  pub addresses : Bool
   pub symbols : Option Text
+  pub marks : Option Text
   pub profile : Profile
   pub fill : Option ℕ
 
--- Two addresses, the first at most the last.
-abbrev pub addresses_of : Option ℕ → Option ℕ → Option (ℕ × ℕ)
-addresses_of (Some first) (Some last) = if nat_le first last then Some (first, last) else None
-addresses_of first last = None
+-- The addresses of a list that may be missing.
+abbrev pub listed : Option (List ℕ) → List ℕ
+listed None = []
+listed (Some starts) = starts
 
--- LO-HI.
-abbrev pub range_of : List ℕ → Option (ℕ × ℕ)
-range_of word =
-    if length word == 9 && get_or word 4 0 == 45
-    then addresses_of (address_of (take 4 word)) (address_of (drop 5 word))
-    else None
+-- What the ranges and the addresses of the words say.
+abbrev pub said_of : Ranges → Following → Marks
+said_of ranges following = record {
+  numbers = ranges.numbers;
+  letters = ranges.letters;
+  addresses = ranges.addresses;
+  returns = ranges.returns;
+  instructions = [];
+  splits = [];
+  follows = is_some following.more;
+  entries = listed following.more;
+  routines = following.routines;
+  names = [];
+  definitions = [];
+  remarks = [];
+  texts = [];
+}
 
 -- What each of some words is, where each is one that it can be.
 abbrev pub before_all : {A : Type 0} → Option A → Option (List A) → Option (List A)
@@ -69,24 +83,6 @@ ranges_asked (Some words) = all_of range_of words
 abbrev pub addresses_asked : Option (List (List ℕ)) → Option (Option (List ℕ))
 addresses_asked None = Some None
 addresses_asked (Some words) = option_map Some (all_of address_of words)
-
--- `z`, or a count from 1 to 65535.
-abbrev pub tail_of : List ℕ → Option Tail
-tail_of word =
-    if (length word == 1) && (get_or word 0 0 == 122) then Some String
-    else if nat_le (length word) 5 then option_map Bytes (from_1_to 65535 (decimal_number word))
-    else None
-
-abbrev pub routine_from : Option ℕ → Option Tail → Option Inline
-routine_from (Some address) (Some tail) = Some (record { address = address; tail = tail })
-routine_from address tail = None
-
--- ADDRESS=z or ADDRESS=N.
-abbrev pub routine_of : List ℕ → Option Inline
-routine_of word =
-    if nat_le 6 (length word) && (get_or word 4 0 == 61)
-    then routine_from (address_of (take 4 word)) (tail_of (drop 5 word))
-    else None
 
 -- The routines that an option asks for: none where it is not there.
 abbrev pub routines_asked : Option (List (List ℕ)) → Option (List Inline)
@@ -127,30 +123,33 @@ abbrev pub following_asked : (Text → Option (List Text)) → Option Following
 following_asked values = following_of_values (addresses_asked (values (codes "follow-only")))
     (addresses_asked (values (codes "follow"))) (routines_asked (values (codes "inline")))
 
-abbrev pub source_of_values : Option Text → Option (Option Form) → Option (ℕ × ℕ) → Option Ranges
-    → Option Following → Bool → Option Text → Option Profile → Option (Option ℕ)
-    → Option SourceAsked
-source_of_values (Some tape) (Some form) (Some bounds) (Some ranges) (Some following) labels symbols
-    (Some profile) (Some fill) =
+-- A source is written where that is asked for: the other options go with it.
+abbrev pub source_of_values : Bool → Option Text → Option (Option Form) → Option (ℕ × ℕ)
+    → Option Ranges → Option Following → Option Profile → Option (Option ℕ)
+    → (Text → Option Text) → Option SourceAsked
+source_of_values true (Some tape) (Some form) (Some bounds) (Some ranges) (Some following)
+    (Some profile) (Some fill) value =
     Some (record {
       tape = tape;
       form = form;
       first = bounds.0;
       last = bounds.1;
-      ranges = ranges;
-      following = following;
-      labels = labels;
-      symbols = symbols;
+      said = said_of ranges following;
+      only = following.only;
+      labels = is_flag (value (codes "labels"));
+      addresses = is_flag (value (codes "addresses"));
+      symbols = value (codes "symbols");
+      marks = value (codes "marks");
       profile = profile;
       fill = fill;
     })
-source_of_values tape form bounds ranges following labels symbols profile fill = None
+source_of_values is_source tape form bounds ranges following profile fill value = None
 
 -- What the first values and all values of the names ask for, where each is one that its name can
 -- have.
 abbrev pub source_asked : (Text → Option Text) → (Text → Option (List Text)) → Option SourceAsked
-source_asked value values = source_of_values (value (codes "TAPE")) (form_said value)
+source_asked value values = source_of_values (is_flag (value (codes "source")))
+    (option_map name_of (value (codes "TAPE"))) (form_said (value (codes "TAPE")) value)
     (bounds_asked (value (codes "LO")) (value (codes "HI")))
     (all_ranges_asked values) (following_asked values)
-    (is_flag (value (codes "labels"))) (value (codes "symbols"))
-    (profile_asked (value (codes "profile"))) (fill_asked (value (codes "fill")))
+    (profile_asked (value (codes "profile"))) (fill_asked (value (codes "fill"))) value

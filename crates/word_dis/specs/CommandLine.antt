@@ -1,7 +1,8 @@
 -- The command line of `dis TAPE [LO HI] --source [--labels] [--data LO-HI ..] [--text LO-HI ..]
 -- [--words LO-HI ..] [--rts-words LO-HI ..] [--follow [ADDRESS ..]] [--follow-only ADDRESS ..]
--- [--inline ADDRESS=z|N ..] [--symbols FILE] [--fill HH] [--profile N|C] [--bin HHHH] [--prg]`,
--- as clap's definitions describe one. How words are matched with it is clap's to say. Source: mos65.
+-- [--inline ADDRESS=z|n|h|N ..] [--marks FILE] [--addresses] [--symbols FILE] [--fill HH]
+-- [--profile N|C] [--bin HHHH] [--prg] [--image] [--tape]`, as clap's definitions describe one. How
+-- words are matched with it is clap's to say. Source: mos65.
 use Rattle.std.specs.Prelude.{◌≡◌, List, Option, Some, codes}
 use Rattle.arguments.specs.CommandLine.{file_rule, flag_rule, list_rule, option_rule, unnamed}
 use Rattle.arguments.specs.Words.{Fits, value_in, values_in}
@@ -30,9 +31,15 @@ abbrev pub with_following : App → App
 with_following app = with_rule (with_rule (with_rule app (list_rule 0 (codes "follow")))
     (list_rule 1 (codes "follow-only"))) (list_rule 1 (codes "inline"))
 
+-- a command line with what else is said of the image, and what stands beside the lines
+abbrev pub with_marks : App → App
+with_marks app = with_rule (with_rule app (option_rule (codes "marks")))
+    (flag_rule (codes "addresses"))
+
 abbrev pub dis : App
-dis = with_image (with_rule (with_rule (with_rule (with_following (with_ranges dis_part))
-    (option_rule (codes "symbols"))) (option_rule (codes "fill"))) (option_rule (codes "profile")))
+dis = with_image (with_rule (with_rule (with_rule (with_marks (with_following
+    (with_ranges dis_part))) (option_rule (codes "symbols"))) (option_rule (codes "fill")))
+    (option_rule (codes "profile")))
 
 -- What words ask for, where the values that clap finds are right.
 abbrev pub words_asked : List Text → Option SourceAsked

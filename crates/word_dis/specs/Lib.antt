@@ -5,4 +5,5 @@ pub mod Fill
 pub mod Views
 pub mod Advice
 pub mod Written
+pub mod Told
 pub mod Word

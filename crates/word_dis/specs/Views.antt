@@ -1,5 +1,6 @@
 -- What was read from the words, as what they ask for.
 use Rattle.std.specs.Prelude.{option_map}
+use Rattle.marks_files.specs.Views.{marks_view}
 use Rattle.word_dis.specs.Asked.{Following, Ranges, SourceAsked}
 use Rattle.word_dis.specs.declared.asked.SourceWords.{SourceWords}
 use Rattle.word_dis.specs.declared.following.FollowWords.{FollowWords}
@@ -26,10 +27,12 @@ source_view w = record {
   form = w.form;
   first = w.first;
   last = w.last;
-  ranges = ranges_view w.ranges;
-  following = following_view w.following;
+  said = marks_view w.said;
+  only = option_map (λ starts. starts.items) w.only;
   labels = w.labels;
+  addresses = w.addresses;
   symbols = option_map (λ s. s.now) w.symbols;
+  marks = option_map (λ s. s.now) w.marks;
   profile = w.profile;
   fill = w.fill;
 }

@@ -2,19 +2,22 @@
 ghost use Rattle.std.specs.Prelude.{◌≡◌, IfErr, IfOk, None, Some, option_map};
 ghost use Rattle.arguments.specs.Words.{Fits, IsRefusalOf, all_values, texts};
 ghost use Rattle.clap.specs.Words.{first_value, found_of};
-ghost use Rattle.word_dis.specs.Asked.{bounds_asked, source_asked};
+ghost use Rattle.marks_files.specs.Views.{marks_view};
+ghost use Rattle.word_dis.specs.Asked.{bounds_asked, listed, said_of, source_asked};
 ghost use Rattle.word_dis.specs.CommandLine.{dis, words_asked};
-ghost use Rattle.word_dis.specs.Views.{source_view};
+ghost use Rattle.word_dis.specs.Views.{following_view, ranges_view, source_view};
 
 use crate::command::dis_source_command;
 use crate::following::{FollowWords, following_asked};
-use crate::ranges::{RangeWords, addresses, all_ranges_asked};
-use arguments::{WordsFault, is_given, matched, profile_asked, wrong_value};
+use crate::ranges::{RangeWords, all_ranges_asked};
+use arguments::{WordsFault, is_given, matched, name_of, profile_asked, wrong_value};
 use clap::ArgMatches;
 use image_files::{fill_asked, form_said};
 use image_reader::Form;
+use marks_files::{Marks, addresses};
 use model::Profile;
 use std::alloc::{AllocError, Global};
+use symbols::Symbols;
 
 /// What the words of `dis TAPE [LO HI] --source` and its options ask for.
 #[derive(Drop)]
@@ -27,14 +30,18 @@ pub struct SourceWords<'a> {
     pub first: u16,
     /// The last address to write.
     pub last: u16,
-    /// The ranges of what is no code.
-    pub ranges: RangeWords,
-    /// Where control comes in.
-    pub following: FollowWords,
+    /// What is said of the image.
+    pub said: Marks,
+    /// Where control comes in in place of the vectors, if that is said.
+    pub only: Option<Vec<u16>>,
     /// Whether the source has labels.
     pub labels: bool,
+    /// Whether each line has its address and its bytes beside it.
+    pub addresses: bool,
     /// The file with names for addresses, if there is one.
     pub symbols: Option<&'a str>,
+    /// The file of marks, if there is one.
+    pub marks: Option<&'a str>,
     /// The processor whose instructions are written.
     pub profile: Profile,
     /// The byte whose runs are left out, if one is said.
@@ -59,6 +66,50 @@ fn bounds_asked(low: Option<&str>, high: Option<&str>) -> Option<(u16, u16)>
     }
 }
 
+/// The addresses of a list that may be missing.
+fn listed(alloc: Global, more: Option<Vec<u16>>) -> Vec<u16>
+    ensures { result.items ≡ listed (option_map (λ v. v.items) more) }
+{
+    match more {
+        Some(addresses) => addresses,
+        None => Vec::new(alloc),
+    }
+}
+
+/// What the ranges and the addresses of the words say, and the addresses in place of the vectors.
+fn said_of(alloc: Global, ranges: RangeWords, following: FollowWords) -> (Marks, Option<Vec<u16>>)
+    ensures said { marks_view result.0 ≡ said_of (ranges_view ranges) (following_view following) }
+    ensures only { option_map (λ v. v.items) result.1 ≡ (following_view following).only }
+{
+    let RangeWords {
+        numbers,
+        letters,
+        addresses,
+        returns,
+    } = ranges;
+    let FollowWords {
+        only,
+        more,
+        routines,
+    } = following;
+    let said = Marks {
+        numbers,
+        letters,
+        addresses,
+        returns,
+        instructions: Vec::new(alloc),
+        splits: Vec::new(alloc),
+        follows: more.is_some(),
+        entries: listed(alloc, more),
+        routines,
+        names: Symbols::new(alloc),
+        definitions: Vec::new(alloc),
+        remarks: Vec::new(alloc),
+        texts: Vec::new(alloc),
+    };
+    (said, only)
+}
+
 /// What the values that were found ask for, or `None` where one is wrong.
 fn source_words<'a>(
     alloc: Global,
@@ -67,10 +118,13 @@ fn source_words<'a>(
     ensures { IfOk result (λ r. option_map source_view r
         ≡ source_asked (first_value (found_of matches.now)) (all_values (found_of matches.now))) }
 {
-    let Some(tape) = matches.get_str("TAPE") else {
+    if !is_given(matches, "source") {
+        return Ok(None);
+    }
+    let Some(word) = matches.get_str("TAPE") else {
         return Ok(None);
     };
-    let Some(form) = form_said(matches) else {
+    let Some(form) = form_said(Some(word), matches) else {
         return Ok(None);
     };
     let Some(bounds) = bounds_asked(matches.get_str("LO"), matches.get_str("HI")) else {
@@ -88,15 +142,18 @@ fn source_words<'a>(
     let Some(fill) = fill_asked(matches.get_str("fill")) else {
         return Ok(None);
     };
+    let (said, only) = said_of(alloc, ranges, following);
     Ok(Some(SourceWords {
-        tape,
+        tape: name_of(word),
         form,
         first: bounds.0,
         last: bounds.1,
-        ranges,
-        following,
+        said,
+        only,
         labels: is_given(matches, "labels"),
+        addresses: is_given(matches, "addresses"),
         symbols: matches.get_str("symbols"),
+        marks: matches.get_str("marks"),
         profile,
         fill,
     }))
@@ -104,7 +161,9 @@ fn source_words<'a>(
 
 /// Returns a sentence that says which of the values that were found is wrong.
 fn wrong_word(matches: &ArgMatches<'_>) -> &'static str {
-    if bounds_asked(matches.get_str("LO"), matches.get_str("HI")).is_none() {
+    if !is_given(matches, "source") {
+        "this option goes with --source, which writes a source for asm"
+    } else if bounds_asked(matches.get_str("LO"), matches.get_str("HI")).is_none() {
         "LO and HI take four hex digits each, the lower first"
     } else if fill_asked(matches.get_str("fill")).is_none() {
         "--fill takes two hex digits"
@@ -121,7 +180,7 @@ fn wrong_word(matches: &ArgMatches<'_>) -> &'static str {
 /// - `Help` if they ask for help, and `Usage` if they do not fit the command line, with `clap`'s
 ///   text.
 /// - `Wrong`: they fit, and a value is wrong: an address, a range, a routine or a fill byte that is
-///   none, LO without HI, or a first address above the last.
+///   none, LO without HI, or a first address above the last; or `--source` is not among them.
 /// - `OutOfMemory`: an allocation failed.
 pub fn read_source_words<'a>(
     alloc: Global,

@@ -3,7 +3,8 @@
 ghost use Rattle.std.specs.Prelude.{◌≡◌, IfErr, IfOk, false};
 ghost use Rattle.clap.specs.Words.{app_of, kind_of, rule_of};
 ghost use Rattle.clap.specs.declared.builder.command.Command.TheViews.{out-Command};
-ghost use Rattle.word_dis.specs.CommandLine.{bound_rule, dis, dis_part, with_following, with_ranges};
+ghost use Rattle.word_dis.specs.CommandLine.{bound_rule, dis, dis_part, with_following, with_marks};
+ghost use Rattle.word_dis.specs.CommandLine.{with_ranges};
 
 use arguments::{begin, file, flag, list, option, profile};
 use clap::error::ErrorKind;
@@ -26,7 +27,8 @@ fn bound<'a>(alloc: Global, name: &'a str, help: &'a str) -> Arg<'a>
 const EXAMPLE: &str = "Examples:
   mos65 dis hello.tape 0200 020F
   mos65 dis hello.tape --source --text 0210-021C > hello.a65
-  mos65 dis rom.tape --source --follow --words F013-F01A --inline F053=z > rom.a65";
+  mos65 dis rom.tape --source --follow --words F013-F01A --inline F053=z > rom.a65
+  mos65 dis rom.tape --source --marks rom.marks --addresses > rom.a65";
 
 /// The tape, the part of it, and the flags.
 fn part_command<'a>(alloc: Global) -> Result<Command<'a>, Error>
@@ -76,11 +78,27 @@ fn with_following<'a>(alloc: Global, command: Command<'a>) -> Result<Command<'a>
 {
     let follow = "Code is what control reaches from the vectors and from here; the rest is data";
     let only = "The same from here alone, and not from the vectors";
-    let inline = "A routine whose calls are followed by a string that ends in 0, or by N bytes";
+    let inline = "A routine whose calls are followed by data: a string that ends in 0 (z), one \
+        that begins with its length (n), one that ends with bit 7 (h), or N bytes";
     let command = command
         .arg(list(alloc, "follow", "ADDRESS", 0, follow))?
         .arg(list(alloc, "follow-only", "ADDRESS", 1, only))?
-        .arg(list(alloc, "inline", "ADDRESS=z|N", 1, inline))?;
+        .arg(list(alloc, "inline", "ADDRESS=KIND", 1, inline))?;
+    Ok(command)
+}
+
+/// What else is said of the image, and what stands beside the lines, added.
+fn with_marks<'a>(alloc: Global, command: Command<'a>) -> Result<Command<'a>, Error>
+    ensures shape { IfOk result (λ c. app_of c ≡ with_marks (app_of command.entry)) }
+    ensures local { IfOk result (λ c. (out-Command command.entry).has_globals ≡ false
+        → (out-Command c).has_globals ≡ false) }
+    ensures memory { IfErr result (λ e. kind_of e ≡ ErrorKind.OutOfMemory) }
+{
+    let marks = "A file of marks: ranges, routines, labels and comments, one a line";
+    let addresses = "Comments with the address and the bytes of each line";
+    let command = command
+        .arg(option(alloc, "marks", "FILE", marks))?
+        .arg(flag(alloc, "addresses", addresses))?;
     Ok(command)
 }
 
@@ -92,10 +110,11 @@ pub fn dis_source_command<'a>(alloc: Global) -> Result<Command<'a>, Error>
 {
     let symbols = "Labels, and names for addresses: lines NAME = $HHHH, as asm --symbols writes";
     let fill = "Leaves out runs of 16 or more of this byte, two hex digits; with --source";
-    let raw = "TAPE has bytes alone, from this address on, four hex digits; with --source";
+    let raw = "TAPE has bytes alone, from this address on, as TAPE@HHHH; with --source";
     let prg = "TAPE is a PRG file; with --source";
     let command = with_ranges(alloc, part_command(alloc)?)?;
-    let command = with_following(alloc, command)?
+    let command = with_following(alloc, command)?;
+    let command = with_marks(alloc, command)?
         .arg(option(alloc, "symbols", "FILE", symbols))?
         .arg(option(alloc, "fill", "HH", fill))?
         .arg(profile(alloc))?;

@@ -1,17 +1,17 @@
 //! Where control comes in.
 
-ghost use Rattle.std.specs.Prelude.{◌≡◌, ◌==◌, ◌≤◌, ◌&&◌, IfOk, get_or, length, map, nat_le};
-ghost use Rattle.std.specs.Prelude.{option_map, true};
+ghost use Rattle.std.specs.Prelude.{◌≡◌, IfOk, map, option_map};
 ghost use Rattle.arguments.specs.Words.{all_values};
 ghost use Rattle.clap.specs.Words.{found_of};
-ghost use Rattle.word_dis.specs.Asked.{addresses_asked, all_of, following_asked};
-ghost use Rattle.word_dis.specs.Asked.{routine_from, routine_of, routines_asked, tail_of};
+ghost use Rattle.marks_files.specs.Values.{routine_of};
+ghost use Rattle.word_dis.specs.Asked.{addresses_asked, all_of, following_asked, routines_asked};
 ghost use Rattle.word_dis.specs.Views.{following_view};
-ghost use Rattle.model.specs.Commands.{address_of, from_1_to};
+ghost use Rattle.model.specs.Commands.{address_of};
 
 use clap::ArgMatches;
-use commands::{address_of, digits};
-use reached::{Inline, Tail};
+use commands::address_of;
+use marks_files::routine;
+use reached::Inline;
 use std::alloc::{AllocError, Global};
 
 /// Where control comes in, and what stands behind calls.
@@ -54,67 +54,6 @@ fn addresses_asked(
             None => Ok(None),
             Some(addresses) => Ok(Some(Some(addresses))),
         },
-    }
-}
-
-/// A number from 1 to 65,535.
-fn count_from_1(number: Option<u32>) -> Option<u16>
-    ensures { result ≡ from_1_to 65535 number }
-{
-    match number {
-        Some(count) => {
-            if 1 <= count && count <= 65535 {
-                Some(count as u16)
-            } else {
-                None
-            }
-        }
-        None => None,
-    }
-}
-
-/// `z`, or a count.
-fn tail_of(word: &[u8]) -> Option<Tail>
-    ensures { result ≡ tail_of word.now }
-{
-    if word.len() == 1 && word[0] == b'z' {
-        return Some(Tail::String);
-    }
-    if word.len() > 5 {
-        return None;
-    }
-    match count_from_1(digits(word)) {
-        Some(count) => Some(Tail::Bytes(count)),
-        None => None,
-    }
-}
-
-/// A routine by its address and its tail.
-fn routine_from(address: Option<u16>, tail: Option<Tail>) -> Option<Inline>
-    ensures { result ≡ routine_from address tail }
-{
-    match (address, tail) {
-        (Some(address), Some(tail)) => Some(Inline { address, tail }),
-        _ => None,
-    }
-}
-
-/// Whether a word has four bytes before a `=`, and some behind it.
-fn has_mark(word: &[u8]) -> bool
-    ensures exact { result ≡ (nat_le 6 (length word.now) && (get_or word.now 4 0 == 61)) }
-    ensures long { result ≡ true → 6 ≤ length word.now }
-{
-    6 <= word.len() && word[4] == b'='
-}
-
-/// The routine of `ADDRESS=z` or `ADDRESS=N`, or `None` for any other word.
-fn routine(word: &[u8]) -> Option<Inline>
-    ensures { result ≡ routine_of word.now }
-{
-    if has_mark(word) {
-        routine_from(address_of(&word[..4]), tail_of(&word[5..]))
-    } else {
-        None
     }
 }
 

@@ -1,12 +1,13 @@
 //! What is marked, and the part of an image that is written.
-ghost use Rattle.std.specs.Prelude.{◌≡◌, ℕ, ◌<◌, IfOk, slice_index_or, vec_len};
+ghost use Rattle.std.specs.Prelude.{◌≡◌, ℕ, ◌<◌, IfOk, length, slice_index_or, vec_len};
 ghost use Rattle.model.specs.Image.{cell_at};
-ghost use Rattle.word_dis.specs.Marks.{cell_between, lies_in, lies_in_one, mark_of};
+ghost use Rattle.marks_files.specs.Views.{marks_view};
+ghost use Rattle.source_forms.specs.Rows.{mark_at};
+ghost use Rattle.word_dis.specs.Marks.{cell_between, lies_in, lies_in_one, mark_of, said_mark};
 ghost use Rattle.word_dis.specs.Marks.{with_cell};
-ghost use Rattle.word_dis.specs.Views.{ranges_view};
 
-use crate::ranges::RangeWords;
 use bus::Image;
+use marks_files::Marks;
 use named_source::Mark;
 use std::alloc::{AllocError, Global};
 
@@ -30,16 +31,16 @@ fn lies_in_one(ranges: &[(u16, u16)], address: u16) -> bool
 }
 
 /// What an address is marked as.
-fn mark_of(labels: bool, ranges: &RangeWords, address: u16) -> Mark
-    ensures { result ≡ mark_of labels (ranges_view ranges.now) address }
+fn mark_of(labels: bool, said: &Marks, address: u16) -> Mark
+    ensures { result ≡ mark_of labels (marks_view said.now) address }
 {
-    if lies_in_one(ranges.letters.as_slice(), address) {
+    if lies_in_one(said.letters.as_slice(), address) {
         Mark::Text
-    } else if lies_in_one(ranges.numbers.as_slice(), address) {
+    } else if lies_in_one(said.numbers.as_slice(), address) {
         Mark::Data
-    } else if lies_in_one(ranges.returns.as_slice(), address) {
+    } else if lies_in_one(said.returns.as_slice(), address) {
         Mark::Return
-    } else if lies_in_one(ranges.addresses.as_slice(), address) {
+    } else if lies_in_one(said.addresses.as_slice(), address) {
         Mark::Address
     } else if labels & (0xfffa <= address) {
         Mark::Data
@@ -50,16 +51,55 @@ fn mark_of(labels: bool, ranges: &RangeWords, address: u16) -> Mark
 
 /// Returns the marks of all addresses: with labels the vectors are data. The only error is that a
 /// request for memory was refused.
-pub fn marks_of(alloc: Global, labels: bool, ranges: &RangeWords) -> Result<Vec<Mark>, AllocError>
+pub fn marks_of(alloc: Global, labels: bool, said: &Marks) -> Result<Vec<Mark>, AllocError>
     ensures len { IfOk result (λ marks. vec_len marks ≡ 65536) }
     ensures each { IfOk result (λ marks. (a : ℕ) → a < 65536
-        → slice_index_or marks.items a Mark.Code ≡ mark_of labels (ranges_view ranges.now) a) }
+        → slice_index_or marks.items a Mark.Code ≡ mark_of labels (marks_view said.now) a) }
 {
     let mut marks = Vec::new(alloc);
     for address in 0..65536u32 {
-        marks.push(mark_of(labels, ranges, address as u16))?;
+        marks.push(mark_of(labels, said, address as u16))?;
     }
     Ok(marks)
+}
+
+/// The mark of an address: code where none is given.
+fn mark_at(marks: &[Mark], address: u16) -> Mark
+    ensures { result ≡ mark_at marks.now address }
+{
+    match marks.get(address as usize) {
+        Some(mark) => *mark,
+        None => Mark::Code,
+    }
+}
+
+/// What an address is marked as where ranges of instructions are said.
+fn said_mark(instructions: &[(u16, u16)], marks: &[Mark], address: u16) -> Mark
+    ensures { result ≡ said_mark instructions.now marks.now address }
+{
+    if lies_in_one(instructions, address) {
+        Mark::Code
+    } else {
+        mark_at(marks, address)
+    }
+}
+
+/// Returns marks with ranges of instructions as code. The only error is that a request for memory
+/// was refused.
+pub fn said_marks(
+    alloc: Global,
+    instructions: &[(u16, u16)],
+    marks: &[Mark],
+) -> Result<Vec<Mark>, AllocError>
+    ensures len { IfOk result (λ said. length said.items ≡ 65536) }
+    ensures each { IfOk result (λ said. (a : ℕ) → a < 65536
+        → slice_index_or said.items a Mark.Code ≡ said_mark instructions.now marks.now a) }
+{
+    let mut said = Vec::new(alloc);
+    for address in 0..65536u32 {
+        said.push(said_mark(instructions, marks, address as u16))?;
+    }
+    Ok(said)
 }
 
 /// An image's byte at an address that lies between two others, if there is one.

@@ -3,13 +3,12 @@
 ghost use Rattle.std.specs.Prelude.{◌≡◌, IfOk, map, option_map};
 ghost use Rattle.arguments.specs.Words.{all_values};
 ghost use Rattle.clap.specs.Words.{found_of};
-ghost use Rattle.word_dis.specs.Asked.{addresses_of, all_of, all_ranges_asked, range_of};
-ghost use Rattle.word_dis.specs.Asked.{ranges_asked};
+ghost use Rattle.marks_files.specs.Values.{range_of};
+ghost use Rattle.word_dis.specs.Asked.{all_of, all_ranges_asked, ranges_asked};
 ghost use Rattle.word_dis.specs.Views.{ranges_view};
-ghost use Rattle.model.specs.Commands.{address_of};
 
 use clap::ArgMatches;
-use commands::address_of;
+use marks_files::range;
 use std::alloc::{AllocError, Global};
 
 /// Ranges of what is no code, each with its first and its last address.
@@ -23,32 +22,6 @@ pub struct RangeWords {
     pub addresses: Vec<(u16, u16)>,
     /// The ranges of words, each the address before one to which RTS goes.
     pub returns: Vec<(u16, u16)>,
-}
-
-/// Returns two addresses, the first at most the last, or `None` where a word writes none.
-pub fn addresses(low: &[u8], high: &[u8]) -> Option<(u16, u16)>
-    ensures { result ≡ addresses_of (address_of low.now) (address_of high.now) }
-{
-    match (address_of(low), address_of(high)) {
-        (Some(first), Some(last)) => {
-            if first <= last {
-                Some((first, last))
-            } else {
-                None
-            }
-        }
-        _ => None,
-    }
-}
-
-/// The addresses of `LO-HI`, or `None` for any other word.
-fn range(word: &[u8]) -> Option<(u16, u16)>
-    ensures { result ≡ range_of word.now }
-{
-    if word.len() != 9 || word[4] != b'-' {
-        return None;
-    }
-    addresses(&word[..4], &word[5..])
 }
 
 /// The ranges that words write, or `None` where one is wrong.

@@ -1,117 +1,22 @@
 //! The source of a tape, written.
-ghost use Rattle.std.specs.Prelude.{◌≡◌, ◌≢◌, ◌≤◌, ◌⊎◌, IfErr, IfOk, None, Some, option_map};
+ghost use Rattle.std.specs.Prelude.{◌≡◌, ◌≢◌, ◌≤◌, ◌⊎◌, IfErr, IfOk, None};
 ghost use Rattle.arguments.specs.Streams.{TellsFront};
 ghost use Rattle.arguments.specs.Words.{AsksForHelp, Fits, Misfits, texts};
 ghost use Rattle.word_dis.specs.CommandLine.{Asks, dis, words_asked};
 ghost use Rattle.word_dis.specs.Views.{source_view};
-ghost use Rattle.assembler.specs.Assembly.{AssemblyView};
-ghost use Rattle.word_dis.specs.Word.{AreFileNames, AreGiven, AreNames, EndsDefined, EndsNamed};
-ghost use Rattle.word_dis.specs.Word.{EndsSource};
-ghost use Rattle.names_files.specs.NamesFile.{names_file};
-ghost use Rattle.names_files.specs.Views.{names_view};
-ghost use Rattle.word_dis.specs.Word.{HasNamesFault, IsDone, IsSaid, IsSourceWith};
+ghost use Rattle.word_dis.specs.Word.{EndsSource, HasNamesFault, HasNoSource, IsDone, IsDoneWith};
+ghost use Rattle.word_dis.specs.Word.{IsSaid, IsSaidWith, IsSourceWith};
 ghost use Rattle.image_files.specs.Files.{HasNoImage};
 
 use crate::advice::{LeftOut, put_remarks};
 use crate::asked::{SourceWords, read_source_words};
-use crate::written::{SourceText, defined, written};
-use arguments::{FileRefusal, ReadFault, Refusal, read_source, refuse, refused_words, write_text};
-use assembler::Assembly;
+use crate::names::names_of;
+use crate::said::with_marks;
+use crate::written::{SourceText, written};
+use arguments::{Refusal, refuse, refused_words, write_text};
 use image_files::{ImageFileRefusal, ImageRefusal, image_of_file};
-use model::Profile;
-use names_files::{NamesFile, names_of_file};
-use std::alloc::Global;
 use std::io::Write;
 use std::rt::Files;
-
-/// The names for addresses, if there are some, and what is said of lines of their file that were
-/// left out.
-#[derive(Drop)]
-struct Names {
-    assembly: Option<Assembly>,
-    left_out: Vec<u8>,
-}
-
-/// Returns what a file of names says.
-///
-/// Errors: `OutOfMemory` if an allocation fails.
-fn file_of_names(alloc: Global, profile: Profile, file: &[u8]) -> Result<NamesFile, Refusal>
-    ensures names { IfOk result (λ names. names_view names ≡ names_file profile file.now) }
-    ensures refused { IfErr result (λ fault. fault ≡ Refusal.OutOfMemory) }
-{
-    names_of_file(alloc, profile, file).map_err(|_| Refusal::OutOfMemory)
-}
-
-/// Returns what the source of a file of names defines.
-fn assembled(alloc: Global, profile: Profile, source: &[u8]) -> Result<Assembly, Refusal>
-    ensures given { IfOk result (λ a. AreNames profile source.now a.names) }
-    ensures refused { IfErr result (EndsDefined profile) }
-{
-    defined(alloc, profile, source)
-}
-
-/// Returns the names of a file of names, whose source is made.
-///
-/// Errors: `Read` with `NoName` if no line of the file is a name in a form that is known.
-fn names_in(alloc: Global, profile: Profile, file: NamesFile) -> Result<Names, Refusal>
-    ensures given { IfOk result (λ names. (a : AssemblyView) × (names.assembly ≡ Some a)
-        × AreNames profile file.source.items a.names) }
-    ensures left_out { IfOk result (λ names. names.left_out.items ≡ file.left_out.items) }
-    ensures refused { IfErr result (EndsDefined profile) }
-{
-    let NamesFile {
-        source,
-        others: _,
-        left_out,
-        is_unknown,
-    } = file;
-    if is_unknown {
-        return Err(Refusal::Read(ReadFault::NoName));
-    }
-    let assembly = assembled(alloc, profile, source.as_slice())?;
-    Ok(Names {
-        assembly: Some(assembly),
-        left_out,
-    })
-}
-
-/// Returns the names of a file.
-fn names_of_path<H: Files + AllocGlobal>(
-    rt: &H,
-    profile: Profile,
-    path: &str,
-) -> Result<Names, Refusal>
-    ensures given { IfOk result (λ names. (a : AssemblyView) × (names.assembly ≡ Some a)
-        × AreFileNames profile a.names names.left_out.items) }
-    ensures refused { IfErr result (EndsDefined profile) }
-{
-    let file = read_source(rt, path)?;
-    let names = file_of_names(rt.alloc(), profile, file.as_slice())?;
-    names_in(rt.alloc(), profile, names)
-}
-
-/// Returns the names for addresses, if a file of them is asked for.
-#[tactic(auto, using(crate::proofs::Parts::given_path))]
-fn names_of<'a, H: Files + AllocGlobal>(
-    rt: &H,
-    words: &SourceWords<'a>,
-) -> Result<Names, FileRefusal<'a>>
-    ensures given { IfOk result (λ names. AreGiven (source_view words.now).symbols
-        words.now.profile (option_map (λ a. a.names) names.assembly)
-        names.left_out.items) }
-    ensures refused { IfErr result (EndsNamed (source_view words.now)) }
-{
-    let Some(file) = words.symbols else {
-        return Ok(Names {
-            assembly: None,
-            left_out: Vec::new(rt.alloc()),
-        });
-    };
-    match names_of_path(rt, words.profile, file) {
-        Ok(names) => Ok(names),
-        Err(refusal) => Err(FileRefusal { file, refusal }),
-    }
-}
 
 /// A source, and what is said of lines of the file of names that were left out.
 #[derive(Drop)]
@@ -183,16 +88,40 @@ fn done<H: Files + AllocGlobal, O: Write, E: Write>(
     }
 }
 
+/// Does what the words ask for, with what their file of marks says, and returns the exit status.
+#[tactic(auto, using(crate::proofs::MarksSaid::not_marked, crate::proofs::MarksSaid::done_with, crate::proofs::MarksSaid::said_with, crate::proofs::MarksSaid::no_source))]
+fn done_with_marks<H: Files + AllocGlobal, O: Write, E: Write>(
+    rt: &H,
+    words: SourceWords<'_>,
+    output: &mut O,
+    errors: &mut E,
+) -> u8
+    ensures status { result ≤ 4 }
+    ensures untouched { 1 ≤ result → result ≤ 3 → output.new ≡ output.old }
+    ensures done { result ≡ 0 → IsDoneWith (source_view words.entry) (O.contents output.old)
+        (O.contents output.new) (E.contents errors.old) (E.contents errors.new) }
+    ensures wrong { result ≡ 1 → HasNoSource (source_view words.entry) }
+    ensures never { result ≢ 2 }
+    ensures begun { result ≡ 4 → TellsFront (IsSaidWith (source_view words.entry))
+        (O.contents output.old) (O.contents output.new) ⊎ (output.new ≡ output.old) }
+{
+    let path = words.marks.unwrap_or(words.tape);
+    match with_marks(rt, words) {
+        Ok(words) => done(rt, &words, output, errors),
+        Err(why) => why.tell(path, errors),
+    }
+}
+
 /// Does what the words after `dis` ask for if `--source` is among them, and returns the exit
 /// status.
 ///
-/// It is 0 if the source was written, 1 if the file is no image or the source of names has a fault,
-/// 2 if the words are wrong, 3 if memory ran out, 4 if reading or writing failed. For each but 0 a
-/// line on `errors` says why, with the name of the file that has the fault or cannot be read. For 0
-/// a line there says how many names of the file of names were left out, and some of these, if any
-/// were, one says how many bytes were left out as fill, if some were, and one says which options
-/// `asm` needs for the source, if it needs some. The status is the same if they cannot be written.
-/// The text is whole, and each file closed, before any of it is written.
+/// It is 0 if the source was written, 1 if the file is no image or the source of names or the file
+/// of marks has a fault, 2 if the words are wrong, 3 if memory ran out, 4 if reading or writing
+/// failed. For each but 0 a line on `errors` says why, with the name of the file that has the fault
+/// or cannot be read. For 0 a line there says how many names of the file of names were left out,
+/// and some of these, if any were, one says how many bytes were left out as fill, if some were, and
+/// one says which options `asm` needs for the source, if it needs some. The status is the same if
+/// they cannot be written. The text is whole, and each file closed, before any of it is written.
 pub fn dis_source<H: Files + AllocGlobal, O: Write, E: Write>(
     rt: &H,
     words: &[&str],
@@ -206,23 +135,22 @@ pub fn dis_source<H: Files + AllocGlobal, O: Write, E: Write>(
     // 0 means that a source was written of what the image of some file has between the addresses of
     // the words, and on the error stream what `asm` has to be told; or that help is asked for.
     ensures done { result ≡ 0 → AsksForHelp dis (texts words.entry.now)
-        ⊎ Asks (texts words.entry.now) (λ asked. IsDone asked (O.contents output.old)
+        ⊎ Asks (texts words.entry.now) (λ asked. IsDoneWith asked (O.contents output.old)
         (O.contents output.new) (E.contents errors.old) (E.contents errors.new)) }
     // 1 means that some file is no image, or that some source of names has a fault for the words'
-    // processor.
-    ensures wrong { result ≡ 1 → Asks (texts words.entry.now)
-        (λ asked. HasNoImage asked.form ⊎ HasNamesFault asked.profile) }
+    // processor, or some file of marks.
+    ensures wrong { result ≡ 1 → Asks (texts words.entry.now) HasNoSource }
     // 2 means that the words do not fit, or that a value is wrong.
     ensures refused { result ≡ 2 → Misfits dis (texts words.entry.now)
         ⊎ (Fits dis (texts words.entry.now)
         × (words_asked (texts words.entry.now) ≡ None)) }
     // 4 means that a beginning of such a source was written, or nothing; or help is asked for.
     ensures begun { result ≡ 4 → AsksForHelp dis (texts words.entry.now)
-        ⊎ Asks (texts words.entry.now) (λ asked. TellsFront (IsSaid asked)
+        ⊎ Asks (texts words.entry.now) (λ asked. TellsFront (IsSaidWith asked)
         (O.contents output.old) (O.contents output.new) ⊎ (output.new ≡ output.old)) }
 {
     match read_source_words(rt.alloc(), words) {
-        Ok(words) => done(rt, &words, output, errors),
+        Ok(words) => done_with_marks(rt, words, output, errors),
         Err(fault) => refused_words(fault, output, errors),
     }
 }

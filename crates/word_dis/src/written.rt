@@ -1,12 +1,13 @@
 //! The source that the words ask for.
 
-ghost use Rattle.std.specs.Prelude.{◌≡◌, ◌++◌, IfErr, IfOk, OnOk, false, option_map};
+ghost use Rattle.std.specs.Prelude.{◌≡◌, IfErr, IfOk, false, option_map};
+ghost use Rattle.marks_files.specs.Views.{marks_view};
+ghost use Rattle.remarked_source.specs.Views.{beside_view};
 ghost use Rattle.word_dis.specs.Views.{source_view};
 ghost use Rattle.word_dis.specs.Word.{AreNames, EndsNames, names_map};
 ghost use Rattle.word_dis.specs.Marks.{has_labels};
-ghost use Rattle.word_dis.specs.Views.{following_view};
-ghost use Rattle.word_dis.specs.Written.{AreMarked, AreMarkedBy, IsText, IsWritten, entries};
-ghost use Rattle.word_dis.specs.Written.{is_followed, listed, starts_of};
+ghost use Rattle.word_dis.specs.Written.{AreMarked, AreMarkedBy, AreReached, IsText, IsWritten};
+ghost use Rattle.word_dis.specs.Written.{beside_of, starts_of};
 ghost use Rattle.reached.specs.Reached.{AreFollowed};
 ghost use Rattle.model.specs.Source.{Denotes};
 ghost use Rattle.model.specs.State.{Map, has_port_byte};
@@ -14,15 +15,16 @@ ghost use Rattle.model.specs.State.{Map, has_port_byte};
 use crate::advice::is_at_port;
 use crate::asked::SourceWords;
 use crate::fill::kept;
-use crate::following::FollowWords;
-use crate::marks::{between, marks_of};
+use crate::marks::{between, marks_of, said_marks};
+use crate::starts::{is_followed, starts_of};
 use arguments::{Refusal, map_of};
 use assembler::{Assembly, assemble};
 use bus::{Image, Port};
 use memory_map::DEFAULT_PORT;
 use model::Profile;
 use named_source::{Mark, flagged_text, labelled_text, named_text};
-use reached::{followed_marks, vectors};
+use reached::followed_marks;
+use remarked_source::{Beside, joined_text, remarked_text, split_text};
 use std::alloc::{AllocError, Global};
 
 /// Returns what a source with names for addresses defines.
@@ -40,65 +42,23 @@ pub fn defined(alloc: Global, profile: Profile, source: &[u8]) -> Result<Assembl
     Ok(names)
 }
 
-/// Whether control is followed.
-fn is_followed(following: &FollowWords) -> bool
-    ensures { result ≡ is_followed (following_view following.now) }
-{
-    following.only.is_some() || following.more.is_some() || following.routines.len() > 0
-}
-
-/// Appends addresses, if there are some.
-fn push_listed(starts: &mut Vec<u16>, more: &Option<Vec<u16>>) -> Result<(), AllocError>
-    ensures { OnOk result (starts.new.items
-        ≡ starts.old.items ++ listed (option_map (λ v. v.items) more.now)) }
-{
-    if let Some(more) = more {
-        starts.extend_from_slice(more.as_slice())?;
-    }
-    Ok(())
-}
-
-/// Appends the vectors, or the addresses in place of them.
-fn push_entries(
-    starts: &mut Vec<u16>,
-    part: &Image,
-    only: &Option<Vec<u16>>,
-) -> Result<(), AllocError>
-    ensures { OnOk result (starts.new.items
-        ≡ starts.old.items ++ entries part.now (option_map (λ v. v.items) only.now)) }
-{
-    match only {
-        None => starts.extend_from_slice(vectors(part).as_slice()),
-        Some(only) => starts.extend_from_slice(only.as_slice()),
-    }
-}
-
-/// Where control comes in.
-fn starts_of(alloc: Global, part: &Image, following: &FollowWords) -> Result<Vec<u16>, AllocError>
-    ensures { IfOk result (λ starts. starts.items
-        ≡ starts_of part.now (following_view following.now)) }
-{
-    let mut starts = Vec::new(alloc);
-    push_entries(&mut starts, part, &following.only)?;
-    push_listed(&mut starts, &following.more)?;
-    Ok(starts)
-}
-
 /// Whether there are labels.
 fn has_labels(words: &SourceWords<'_>) -> bool
     ensures { result ≡ has_labels (source_view words.now) }
 {
     words.labels
         || words.symbols.is_some()
-        || words.ranges.addresses.len() > 0
-        || words.ranges.returns.len() > 0
+        || words.said.definitions.len() > 0
+        || words.said.splits.len() > 0
+        || words.said.addresses.len() > 0
+        || words.said.returns.len() > 0
 }
 
 /// The marks of the ranges.
 fn plain_marks(alloc: Global, words: &SourceWords<'_>) -> Result<Vec<Mark>, AllocError>
     ensures { IfOk result (λ marks. AreMarked (source_view words.now) marks.items) }
 {
-    marks_of(alloc, has_labels(words), &words.ranges)
+    marks_of(alloc, has_labels(words), &words.said)
 }
 
 /// The marks after control was followed.
@@ -109,11 +69,11 @@ fn followed(
     plain: &[Mark],
 ) -> Result<Vec<Mark>, AllocError>
     ensures { IfOk result (λ marks. AreFollowed words.now.profile part.now plain.now
-        (following_view words.now.following).routines
-        (starts_of part.now (following_view words.now.following)) marks.items) }
+        (marks_view words.now.said).routines
+        (starts_of part.now (source_view words.now)) marks.items) }
 {
-    let starts = starts_of(alloc, part, &words.following)?;
-    let routines = words.following.routines.as_slice();
+    let starts = starts_of(alloc, part, words)?;
+    let routines = words.said.routines.as_slice();
     followed_marks(
         alloc,
         words.profile,
@@ -124,17 +84,33 @@ fn followed(
     )
 }
 
-/// The marks that the words ask for.
+/// The marks of the ranges, after control was followed if that is asked for.
 #[tactic(auto, using(crate::proofs::Parts::unfollowed, crate::proofs::Parts::followed))]
-fn marked(alloc: Global, words: &SourceWords<'_>, part: &Image) -> Result<Vec<Mark>, AllocError>
-    ensures { IfOk result (λ marks. AreMarkedBy (source_view words.now) part.now marks.items) }
+fn reached_marks(
+    alloc: Global,
+    words: &SourceWords<'_>,
+    part: &Image,
+) -> Result<Vec<Mark>, AllocError>
+    ensures { IfOk result (λ marks. AreReached (source_view words.now) part.now marks.items) }
 {
     let plain = plain_marks(alloc, words)?;
-    if is_followed(&words.following) {
+    if is_followed(words) {
         followed(alloc, words, part, plain.as_slice())
     } else {
         Ok(plain)
     }
+}
+
+/// The marks that the words ask for.
+fn marked(alloc: Global, words: &SourceWords<'_>, part: &Image) -> Result<Vec<Mark>, AllocError>
+    ensures { IfOk result (λ marks. AreMarkedBy (source_view words.now) part.now marks.items) }
+{
+    let reached = reached_marks(alloc, words, part)?;
+    said_marks(
+        alloc,
+        words.said.instructions.as_slice(),
+        reached.as_slice(),
+    )
 }
 
 /// The source of an image with the marks and the names that are given.
@@ -162,6 +138,17 @@ fn source_of(
     }
 }
 
+/// What stands beside the lines.
+fn beside_of<'a>(words: &'a SourceWords<'_>) -> Beside<'a>
+    ensures { beside_view result ≡ beside_of (source_view words.now) }
+{
+    Beside {
+        addresses: words.addresses,
+        remarks: words.said.remarks.as_slice(),
+        texts: words.said.texts.as_slice(),
+    }
+}
+
 /// What is written, and what `asm` has to be told of it.
 #[derive(Drop)]
 pub struct SourceText {
@@ -174,10 +161,10 @@ pub struct SourceText {
 }
 
 /// Returns the source of what an image has between the addresses of the words, as the words ask for
-/// it: whatever they mark and name, it denotes exactly this, without the runs of the fill byte of
-/// the words. These are left out first, so control is followed to where they begin. With it comes
-/// whether this has bytes at the port, and how many bytes are left out. The only error is that a
-/// request for memory was refused.
+/// it: whatever they mark, name and comment, it denotes exactly this, without the runs of the fill
+/// byte of the words. These are left out first, so control is followed to where they begin. With it
+/// comes whether this has bytes at the port, and how many bytes are left out. The only error is
+/// that a request for memory was refused.
 pub fn written(
     alloc: Global,
     words: &SourceWords<'_>,
@@ -191,7 +178,11 @@ pub fn written(
     let kept_part = kept(alloc, whole, words.fill)?;
     let part = &kept_part.part;
     let marks = marked(alloc, words, part)?;
-    let text = source_of(alloc, words, part, marks.as_slice(), names)?;
+    let plain = source_of(alloc, words, part, marks.as_slice(), names)?;
+    let splits = words.said.splits.as_slice();
+    let halves = split_text(alloc, words.profile, part, splits, plain)?;
+    let strings = joined_text(alloc, words.profile, part, marks.as_slice(), halves)?;
+    let text = remarked_text(alloc, words.profile, part, beside_of(words), strings)?;
     Ok(SourceText {
         text,
         at_port: is_at_port(part),

@@ -11,7 +11,7 @@ use Rattle.image_files.specs.declared.form.OtherText.{OtherText}
 use Rattle.model.specs.Tape.{TapeDenotes}
 use Rattle.word_info.specs.Facts.{data_records}
 use Rattle.word_info.specs.Overlaps.{overlaps_of}
-use Rattle.word_info.specs.Told.{AreOverlaps, AreRows, IsEndText, IsRightImage, is_count_twice, is_tape, records_in}
+use Rattle.word_info.specs.Told.{AreOverlaps, AreRows, IsEndText, IsRightImage, is_tape, records_in}
 use Rattle.word_info.specs.declared.ranges.Range.{Range}
 use Rattle.tape_words.specs.Asked.{InfoAsked}
 
@@ -58,10 +58,10 @@ no_records (Ok Prg) bytes is = refl
 no_records (Err like) bytes is = refl
 
 -- what is said of an image
-pub right_image : (asked : InfoAsked) (bytes : List ℕ) (image : List (Option ℕ)) (port : ℕ) (records : Option ℕ) (overlaps : List Range) (twice : Bool) (front end said : List ℕ) → port ≡ asked.port → IsImage asked.form bytes image
-    → records ≡ records_in (form_by asked.form bytes) bytes → AreOverlaps (form_by asked.form bytes) bytes overlaps → AreRows asked.profile image port records overlaps front → twice ≡ is_count_twice (form_by asked.form bytes) bytes → IsEndText twice bytes end
+pub right_image : (asked : InfoAsked) (bytes : List ℕ) (image : List (Option ℕ)) (port : ℕ) (records : Option ℕ) (overlaps : List Range) (front end said : List ℕ) → port ≡ asked.port → IsImage asked.form bytes image
+    → records ≡ records_in (form_by asked.form bytes) bytes → AreOverlaps (form_by asked.form bytes) bytes overlaps → AreRows asked.profile image port records overlaps front → IsEndText (form_by asked.form bytes) bytes end
     → said ≡ front ++ end → IsRightImage asked said
-right_image asked bytes image port records overlaps twice front end said at is counts over rows same ends told = record {
+right_image asked bytes image port records overlaps front end said at is counts over rows ends told = record {
   bytes = bytes;
   image = image;
   denotes = is;
@@ -70,7 +70,7 @@ right_image asked bytes image port records overlaps twice front end said at is c
   front = front;
   rows = subst (λ (n : Option ℕ). AreRows asked.profile image asked.port n overlaps front) counts (subst (λ (k : ℕ). AreRows asked.profile image k records overlaps front) at rows);
   end = end;
-  ends = subst (λ (b : Bool). IsEndText b bytes end) same ends;
+  ends = ends;
   told = told;
 }
 

@@ -1,4 +1,5 @@
 pub mod Appended
+pub mod Behinds
 pub mod RangesByAddress
 pub mod Semicolons
 pub mod Noted

@@ -1,3 +1,4 @@
+pub mod Behind
 pub mod Crc
 pub mod Facts
 pub mod Overlaps

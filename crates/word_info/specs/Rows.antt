@@ -22,7 +22,7 @@ use Rattle.word_info.specs.declared.fact_list.Facts.{Facts}
 use Rattle.word_info.specs.declared.gaps.Gap.{Gap}
 use Rattle.word_info.specs.declared.ranges.Range.{Range}
 use Rattle.tape_words.specs.declared.wording.TheConstants.{BYTE, BYTES, RECORD, RECORDS}
-use Rattle.word_info.specs.declared.wording.TheConstants.{TAPE_ROW, IMAGE_ROW, IN, AND, RANGE, RANGES, RANGE_ROW, CRC_32, SUM_16, SUM_8, REGION_ROW, EACH, LINE_ROW, IS_0, IS_1, NO_EFFECT, TWICE, CLASH, NO_BASE, FREE, OVERLAP_ROW, AGAIN, GAP_ROW, NOTHING, NMI_ROW, RESET_ROW, IRQ_ROW, PAGE_0_ROW, PAGE_1_ROW, PORT_ROW}
+use Rattle.word_info.specs.declared.wording.TheConstants.{BEHIND_ROW, NOT_READ, TAPE_ROW, IMAGE_ROW, IN, AND, RANGE, RANGES, RANGE_ROW, CRC_32, SUM_16, SUM_8, REGION_ROW, EACH, LINE_ROW, IS_0, IS_1, NO_EFFECT, TWICE, CLASH, NO_BASE, FREE, OVERLAP_ROW, AGAIN, GAP_ROW, NOTHING, NMI_ROW, RESET_ROW, IRQ_ROW, PAGE_0_ROW, PAGE_1_ROW, PORT_ROW}
 
 -- ---- words of the rows
 
@@ -134,6 +134,14 @@ known_gap_row gap = stretch_text GAP_ROW.now (gap.after + 1) (gap.before - 1)
 abbrev pub gap_row : Option Gap → List ℕ
 gap_row None = []
 gap_row (Some gap) = known_gap_row gap
+
+-- The row of records behind an end record:
+-- `behind  3 records behind the end record, not read`.
+unfoldable pub some_behind_row : ℕ → List ℕ
+some_behind_row count = BEHIND_ROW.now ++ counted count RECORD.now RECORDS.now ++ NOT_READ.now
+
+abbrev pub behind_row : ℕ → List ℕ
+behind_row count = if count == 0 then [] else some_behind_row count
 
 -- ---- vectors
 

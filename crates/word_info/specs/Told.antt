@@ -7,6 +7,7 @@ use Rattle.image_files.specs.Bytes.{IsImage, IsNoImage, form_by}
 use Rattle.image_files.specs.FreeBase.{IsFreeBase}
 use Rattle.image_files.specs.declared.refusal.ImageRefusal.TheVariants as why
 use Rattle.image_files.specs.declared.refusal.NoImage.{NoImage}
+use Rattle.image_files.specs.declared.refusal.NoImage.TheVariants.{Looks}
 use Rattle.image_reader.specs.EndRecords.{as_read, has_count_twice}
 use Rattle.image_reader.specs.Texts.{text_image}
 use Rattle.image_reader.specs.declared.fault.RecordFault.{RecordFault}
@@ -18,18 +19,21 @@ use Rattle.model.specs.State.{memory_of}
 use Rattle.model.specs.Tape.{FirstFault, TapeDenotes}
 use Rattle.model.specs.declared.instruction.Profile.{Profile}
 use Rattle.model.specs.declared.tape.TapeFault.{TapeFault}
+use Rattle.word_mend.specs.Captures.{IsCapture, captured_tape}
 use Rattle.word_mend.specs.Mending.{IsMendedText, mended_text}
 use Rattle.word_mend.specs.RecordMending.{AreMendedLines, mended_lines, wrong_sums}
 use Rattle.word_mend.specs.RecordReports.{sum_text}
+use Rattle.arguments.specs.Shown.{shown_name}
 use Rattle.tape_words.specs.Asked.{InfoAsked}
 use Rattle.tape_words.specs.Meanings.{fault_line}
 use Rattle.tape_words.specs.declared.wording.TheConstants.{COUNT_TWICE}
 use Rattle.word_info.specs.Facts.{bytes_among, checksums_of, data_records, largest_gap, ranges_of, vector_at}
 use Rattle.word_info.specs.Overlaps.{AreTextOverlaps, overlaps_of}
-use Rattle.word_info.specs.Rows.{no_image_text, rows_of}
+use Rattle.word_info.specs.Behind.{records_behind}
+use Rattle.word_info.specs.Rows.{behind_row, no_image_text, rows_of}
 use Rattle.word_info.specs.declared.fact_list.Facts.{Facts}
 use Rattle.word_info.specs.declared.ranges.Range.{Range}
-use Rattle.word_info.specs.declared.wording.TheConstants.{AND_SHOULD_BE, MEND_MENDS_IT, MENDED_FOR_DEBUG, THE_CHECKSUM_IS}
+use Rattle.word_info.specs.declared.wording.TheConstants.{AND_SHOULD_BE, CAPTURE, MEND_MENDS_IT, MENDED_FOR_DEBUG, THE_CHECKSUM_IS}
 
 -- The facts of an image, with those of a map's port.
 pub record AreFacts (image : List (Option ℕ)) (port : ℕ) (f : Facts) : Type 0 where
@@ -80,21 +84,32 @@ IsMendable text = (out : List ℕ) × (image : List (Option ℕ)) × (fault : Op
 abbrev pub IsBeyondMending : List ℕ → Type 0
 IsBeyondMending text = (fault : TapeFault) × FirstFault (mended_text text) fault.kind fault.offset
 
--- Whether `mend` mends a text: words that say so, or nothing.
+-- `mend` makes a tape of a text, which is a capture.
+abbrev pub IsMendableCapture : List ℕ → Type 0
+IsMendableCapture text = (image : List (Option ℕ)) × IsCapture text image
+    × TapeDenotes (captured_tape text) image
+
+-- The tape that would be made of a capture has a fault.
+abbrev pub IsBeyondCapture : List ℕ → Type 0
+IsBeyondCapture text = (fault : TapeFault) × FirstFault (captured_tape text) fault.kind fault.offset
+
+-- Whether `mend` mends a text, as a tape or as a capture: words that say so, or nothing.
 abbrev pub IsHint : List ℕ → List ℕ → List ℕ → Type 0
-IsHint words text hint = ((hint ≡ words) × IsMendable text)
-    ⊎ ((hint ≡ []) × IsBeyondMending text)
+IsHint words text hint = ((hint ≡ words) × (IsMendable text ⊎ IsMendableCapture text))
+    ⊎ ((hint ≡ []) × IsBeyondMending text × IsBeyondCapture text)
 
--- Whether some bytes are a tape whose end record has the number of records in place of its sum.
-abbrev pub is_count_twice : Result Form OtherText → List ℕ → Bool
-is_count_twice (Ok Tape) bytes = has_count_twice bytes
-is_count_twice told bytes = false
-
--- What is said last of an image: of such a tape that, and whether `mend` mends it.
-abbrev pub IsEndText : Bool → List ℕ → List ℕ → Type 0
-IsEndText false bytes end = end ≡ []
-IsEndText true bytes end = (hint : List ℕ) × IsHint MENDED_FOR_DEBUG.now bytes hint
+-- What is said last of a tape, by whether its end record has the number of records in place of its
+-- sum: that it has, and whether `mend` mends it.
+abbrev pub IsTapeEnd : Bool → List ℕ → List ℕ → Type 0
+IsTapeEnd false bytes end = end ≡ []
+IsTapeEnd true bytes end = (hint : List ℕ) × IsHint MENDED_FOR_DEBUG.now bytes hint
     × (end ≡ COUNT_TWICE.now ++ (codes "\n" ++ hint))
+
+-- What is said last of an image: of Intel HEX and S-records how many records are not read.
+abbrev pub IsEndText : Result Form OtherText → List ℕ → List ℕ → Type 0
+IsEndText (Ok Tape) bytes end = IsTapeEnd (has_count_twice bytes) bytes end
+IsEndText (Ok (Text form)) bytes end = end ≡ behind_row (records_behind form bytes)
+IsEndText told bytes end = end ≡ []
 
 -- What is said of an image that some bytes denote.
 pub record IsRightImage (asked : InfoAsked) (said : List ℕ) : Type 0 where
@@ -107,7 +122,7 @@ pub record IsRightImage (asked : InfoAsked) (said : List ℕ) : Type 0 where
   pub rows : AreRows asked.profile image asked.port
       (records_in (form_by asked.form bytes) bytes) overlaps front
   pub end : List ℕ
-  pub ends : IsEndText (is_count_twice (form_by asked.form bytes) bytes) bytes end
+  pub ends : IsEndText (form_by asked.form bytes) bytes end
   pub told : said ≡ front ++ end
 
 -- The line that says a tape's fault, and whether `mend` mends the tape.
@@ -145,11 +160,30 @@ IsSumsText (Ok (Text form)) bytes sums = (hint : List ℕ) × IsRecordsHint form
     ++ hint)
 IsSumsText told bytes sums = sums ≡ []
 
+-- No form is said of bytes, and they tell none.
+abbrev pub tells_none : Option Form → NoImage → Bool
+tells_none None (Looks like) = true
+tells_none form no_image = false
+
+-- What is said of such bytes, if `mend` makes a tape of them.
+pub record IsOfCapture (asked : InfoAsked) (said : List ℕ) : Type 0 where
+  pub bytes : List ℕ
+  pub no_image : NoImage
+  pub is : IsNoImage asked.form bytes (why.NoImage no_image)
+  pub none : tells_none asked.form no_image ≡ true
+  pub capture : IsMendableCapture bytes
+  pub told : said ≡ shown_name asked.tape ++ CAPTURE.now
+
+-- Such bytes are no capture.
+abbrev pub IsNoCapture : Option Form → NoImage → List ℕ → Type 0
+IsNoCapture form no_image bytes = (tells_none form no_image ≡ false) ⊎ IsBeyondCapture bytes
+
 -- What is said of bytes that denote no image in another form, or that tell none.
 pub record IsOther (asked : InfoAsked) (said : List ℕ) : Type 0 where
   pub bytes : List ℕ
   pub no_image : NoImage
   pub is : IsNoImage asked.form bytes (why.NoImage no_image)
+  pub plain : IsNoCapture asked.form no_image bytes
   pub behind : List ℕ
   pub sums : IsSumsText (form_by asked.form bytes) bytes behind
   pub told : said ≡ no_image_text asked.tape no_image ++ behind

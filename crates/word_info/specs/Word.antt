@@ -7,16 +7,17 @@ use Rattle.arguments.specs.declared.refusal.Refusal.TheVariants.{Map, Tape, OutO
 use Rattle.clap.specs.Words.{Text}
 use Rattle.model.specs.State.{is_map}
 use Rattle.model.specs.declared.bus_fault.BusFault.TheVariants.{BadMap}
-use Rattle.word_info.specs.Told.{IsOther, IsRightImage, IsWrongTape}
+use Rattle.word_info.specs.Told.{IsOfCapture, IsOther, IsRightImage, IsWrongTape}
 use Rattle.tape_words.specs.Asked.{InfoAsked, info_asked}
 use Rattle.tape_words.specs.CommandLines.{info}
 use Rattle.tape_words.specs.Files.{too_long_file}
 use Rattle.tape_words.specs.declared.answer.Answer.{Answer}
 
--- A text can be said of some image, or of some file that is none: a tape with a fault, or another.
+-- A text can be said of some image, or of some file that is none: a tape with a fault, a capture,
+-- or another.
 abbrev pub IsSaid : InfoAsked → Bool → List ℕ → Type 0
 IsSaid asked true said = IsRightImage asked said
-IsSaid asked false said = IsWrongTape asked said ⊎ IsOther asked said
+IsSaid asked false said = IsWrongTape asked said ⊎ (IsOfCapture asked said ⊎ IsOther asked said)
 
 abbrev pub IsAbout : InfoAsked → Answer → Type 0
 IsAbout asked answer = IsSaid asked answer.is_right (string_bytes answer.text)

@@ -7,7 +7,8 @@ ghost use Rattle.word_info.specs.Rows.{known_gap_row, part_row, part_rows, port_
 ghost use Rattle.word_info.specs.Rows.{range_rows, records_text, rows_of, stretch_text, sum_text};
 ghost use Rattle.word_info.specs.Rows.{image_name, no_image_text, tape_row, target_text, vector_rows};
 ghost use Rattle.word_info.specs.Rows.{address_line_row, data_line_row, line_row, line_rows};
-ghost use Rattle.word_info.specs.Rows.{region_row, region_rows, value_text};
+ghost use Rattle.word_info.specs.Rows.{behind_row, region_row, region_rows, some_behind_row};
+ghost use Rattle.word_info.specs.Rows.{value_text};
 
 use crate::checksum::Sums;
 use crate::fact_list::Facts;
@@ -256,6 +257,31 @@ fn push_gap(words: &mut String, gap: Option<Gap>) -> Result<(), AllocError>
         None => Ok(()),
         Some(gap) => push_known_gap(words, gap),
     }
+}
+
+/// Appends the row of records behind an end record.
+#[tactic(auto, unfolding(crate::specs::Rows::some_behind_row))]
+fn push_some_behind(words: &mut String, count: u64) -> Result<(), AllocError>
+    ensures { OnOk result
+        (string_bytes words.new ≡ string_bytes words.old ++ some_behind_row count) }
+{
+    words.push_str(wording::BEHIND_ROW)?;
+    push_count(words, count, RECORD, RECORDS)?;
+    words.push_str(wording::NOT_READ)
+}
+
+/// Returns the row of records behind an end record, if there are any.
+///
+/// Errors: `AllocError` if an allocation fails.
+pub fn behind_text(alloc: Global, count: u64) -> Result<String, AllocError>
+    ensures { IfOk result (λ words. string_bytes words ≡ behind_row count) }
+{
+    let mut words = String::new(alloc);
+    if count == 0 {
+        return Ok(words);
+    }
+    push_some_behind(&mut words, count)?;
+    Ok(words)
 }
 
 /// Appends where a vector points to, with the instruction there.

@@ -2,11 +2,13 @@
 //!
 //! `facts_of` has the facts of an image, each by its definition in `specs/Facts.antt`.
 //! `data_records` has the number of a tape's records. `overlaps_of` and `text_overlaps_of` have the
-//! addresses for which more than one record has a byte (`specs/Overlaps.antt`). `law` states that
+//! addresses for which more than one record has a byte (`specs/Overlaps.antt`). `records_behind`
+//! has the number of records that are not read (`specs/Behind.antt`). `law` states that
 //! right tapes are read as they stand. `tape_info` is the word `info`: it writes these as text, or
 //! what is wrong with the tape.
 #![tactic(auto)]
 
+mod behind;
 mod checksum;
 mod fact_list;
 mod fact_text;
@@ -17,6 +19,7 @@ mod ranges;
 mod run;
 mod wording;
 
+pub use behind::records_behind;
 pub use checksum::crc_32;
 pub use fact_list::{Facts, data_records, facts_of};
 pub use gaps::Gap;

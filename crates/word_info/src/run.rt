@@ -6,21 +6,25 @@ ghost use Rattle.arguments.specs.Words.{AsksForHelp, Fits, Misfits, texts};
 ghost use Rattle.model.specs.State.{is_map};
 ghost use Rattle.image_files.specs.Bytes.{IsImage, IsNoImage, form_by};
 ghost use Rattle.image_files.specs.declared.refusal.ImageRefusal.TheVariants as why_not;
-ghost use Rattle.image_reader.specs.EndRecords.{as_read};
+ghost use Rattle.image_reader.specs.EndRecords.{as_read, has_count_twice};
 ghost use Rattle.image_reader.specs.declared.form.Form.TheVariants.{Text};
 ghost use Rattle.model.specs.Tape.{FirstFault, TapeDenotes};
-ghost use Rattle.word_info.specs.Told.{AreOverlaps, AreRows, IsEndText, IsFaultText, IsHint};
-ghost use Rattle.word_info.specs.Told.{IsRecordsHint, IsSumsText, is_count_twice, is_tape, records_in};
+ghost use Rattle.word_info.specs.Told.{AreOverlaps, AreRows, IsBeyondMending, IsEndText, IsFaultText};
+ghost use Rattle.word_info.specs.Told.{IsHint, IsMendableCapture, IsNoCapture, IsRecordsHint};
+ghost use Rattle.word_info.specs.Told.{IsSumsText, IsTapeEnd, is_tape, records_in, tells_none};
+ghost use Rattle.word_info.specs.Behind.{records_behind};
+ghost use Rattle.word_info.specs.Rows.{behind_row};
 ghost use Rattle.word_info.specs.Word.{Asks, EndsInfo, IsAbout, IsSaid};
 ghost use Rattle.tape_words.specs.Asked.{info_asked, info_view};
 ghost use Rattle.tape_words.specs.CommandLines.{info};
 
+use crate::behind::records_behind;
 use crate::fact_list::{data_records, facts_of};
-use crate::fact_text::{OfTape, image_text, no_image_text};
+use crate::fact_text::{OfTape, behind_text, image_text, no_image_text};
 use crate::overlaps::{overlaps_of, text_overlaps_of};
 use crate::ranges::Range;
 use crate::wording;
-use arguments::{FileRefusal, Refusal, refused_words};
+use arguments::{FileRefusal, Refusal, refused_words, shown_name};
 use image_files::{ImageRefusal, NoImage, OtherText, form_by, image_of_bytes};
 use image_reader::{Form, ImageFault, TextForm, has_count_twice, with_end_sum};
 use memory_map::{Image, MapSpec};
@@ -32,7 +36,7 @@ use std::rt::Files;
 use tape_words::{
     Answer, COUNT_TWICE, InfoWords, answered, fault_text, read_info_words, read_text,
 };
-use word_mend::{mend_records, mend_text, push_sums, wrong_sums};
+use word_mend::{mend_capture, mend_records, mend_text, push_sums, wrong_sums};
 
 /// Returns what is in an image, and in the records if it is a tape.
 fn image_rows(
@@ -50,6 +54,20 @@ fn image_rows(
     Ok(said)
 }
 
+/// Returns what is to be said of `mend` of a text that it does not mend as a tape.
+fn capture_hint(alloc: Global, words: &'static str, text: &[u8]) -> Result<&'static str, AllocError>
+    requires { IsBeyondMending text.now }
+    ensures { IfOk result (λ hint. IsHint words.now text.now hint.now) }
+{
+    match mend_capture(alloc, text) {
+        Ok(_) => Ok(words),
+        Err(fault) => match fault.kind {
+            TapeFaultKind::OutOfMemory => Err(AllocError),
+            _ => Ok(""),
+        },
+    }
+}
+
 /// Returns what is to be said of `mend`: the words if it mends a text, or nothing.
 fn mend_hint(alloc: Global, words: &'static str, text: &[u8]) -> Result<&'static str, AllocError>
     ensures { IfOk result (λ hint. IsHint words.now text.now hint.now) }
@@ -58,7 +76,7 @@ fn mend_hint(alloc: Global, words: &'static str, text: &[u8]) -> Result<&'static
         Ok(_) => Ok(words),
         Err(fault) => match fault.kind {
             TapeFaultKind::OutOfMemory => Err(AllocError),
-            _ => Ok(""),
+            _ => capture_hint(alloc, words, text),
         },
     }
 }
@@ -94,26 +112,10 @@ fn is_tape(form: Result<Form, OtherText>) -> bool
     }
 }
 
-/// Returns whether bytes that tell a form are a tape whose end record has the number of records in
-/// place of its sum.
-fn is_count_twice(told: Result<Form, OtherText>, bytes: &[u8]) -> bool
-    ensures { result ≡ is_count_twice told bytes.now }
-{
-    match told {
-        Ok(form) => match form {
-            Form::Tape => has_count_twice(bytes),
-            Form::Text(_) => false,
-            Form::Raw(_) => false,
-            Form::Prg => false,
-        },
-        Err(_) => false,
-    }
-}
-
 /// Returns that the end record of a tape has the number of records in place of its sum, and whether
 /// `mend` mends it.
 fn count_twice_text(alloc: Global, text: &[u8]) -> Result<String, AllocError>
-    ensures { IfOk result (λ said. IsEndText true text.now (string_bytes said)) }
+    ensures { IfOk result (λ said. IsTapeEnd true text.now (string_bytes said)) }
 {
     let hint = mend_hint(alloc, wording::MENDED_FOR_DEBUG, text)?;
     let mut said = String::new(alloc);
@@ -123,14 +125,51 @@ fn count_twice_text(alloc: Global, text: &[u8]) -> Result<String, AllocError>
     Ok(said)
 }
 
-/// Returns what is said last of an image, by whether it is such a tape.
-fn end_text(alloc: Global, is_twice: bool, bytes: &[u8]) -> Result<String, AllocError>
-    ensures { IfOk result (λ said. IsEndText is_twice bytes.now (string_bytes said)) }
+/// Returns what is said last of a tape, by whether its end record is such a one.
+fn twice_text(alloc: Global, is_twice: bool, bytes: &[u8]) -> Result<String, AllocError>
+    ensures { IfOk result (λ said. IsTapeEnd is_twice bytes.now (string_bytes said)) }
 {
     if is_twice {
         count_twice_text(alloc, bytes)
     } else {
         Ok(String::new(alloc))
+    }
+}
+
+/// Returns what is said last of a tape.
+fn tape_end(alloc: Global, bytes: &[u8]) -> Result<String, AllocError>
+    ensures { IfOk result
+        (λ said. IsTapeEnd (has_count_twice bytes.now) bytes.now (string_bytes said)) }
+{
+    let is_twice = has_count_twice(bytes);
+    twice_text(alloc, is_twice, bytes)
+}
+
+/// Returns what is said last of Intel HEX or of S-records.
+fn records_end(alloc: Global, form: TextForm, bytes: &[u8]) -> Result<String, AllocError>
+    ensures { IfOk result
+        (λ said. string_bytes said ≡ behind_row (records_behind form bytes.now)) }
+{
+    let said = behind_text(alloc, records_behind(form, bytes) as u64)?;
+    Ok(said)
+}
+
+/// Returns what is said last of an image, by its form.
+fn end_text(
+    alloc: Global,
+    told: Result<Form, OtherText>,
+    bytes: &[u8],
+) -> Result<String, AllocError>
+    ensures { IfOk result (λ said. IsEndText told bytes.now (string_bytes said)) }
+{
+    match told {
+        Ok(form) => match form {
+            Form::Tape => tape_end(alloc, bytes),
+            Form::Text(form) => records_end(alloc, form, bytes),
+            Form::Raw(_) => Ok(String::new(alloc)),
+            Form::Prg => Ok(String::new(alloc)),
+        },
+        Err(_) => Ok(String::new(alloc)),
     }
 }
 
@@ -152,8 +191,7 @@ fn right_answer(
     ensures { IfOk result (IsAbout (info_view words.now)) }
 {
     let mut text = image_rows(alloc, words, map, image, tape)?;
-    let is_twice = is_count_twice(form_by(words.form, bytes), bytes);
-    let end = end_text(alloc, is_twice, bytes)?;
+    let end = end_text(alloc, form_by(words.form, bytes), bytes)?;
     text.push_str(end.as_str())?;
     Ok(Answer {
         text,
@@ -293,15 +331,16 @@ fn sums_text(
     }
 }
 
-/// Returns what is to be said of bytes that are no image. The only error is that an allocation
-/// failed.
+/// Returns what is to be said of bytes that are no image, and no capture if they tell no form. The
+/// only error is that an allocation failed.
 fn other_answer(
     alloc: Global,
     words: &InfoWords<'_>,
     bytes: &[u8],
     why: NoImage,
 ) -> Result<Answer, AllocError>
-    requires { IsNoImage words.now.form bytes.now (why_not.NoImage why) }
+    requires other { IsNoImage words.now.form bytes.now (why_not.NoImage why) }
+    requires plain { IsNoCapture words.now.form why bytes.now }
     ensures { IfOk result (IsAbout (info_view words.now)) }
 {
     let mut text = no_image_text(alloc, words.tape, why)?;
@@ -311,6 +350,81 @@ fn other_answer(
         text,
         is_right: false,
     })
+}
+
+/// Returns what is to be said of a capture. The only error is that an allocation failed.
+fn capture_answer(
+    alloc: Global,
+    words: &InfoWords<'_>,
+    bytes: &[u8],
+    why: NoImage,
+) -> Result<Answer, AllocError>
+    requires other { IsNoImage words.now.form bytes.now (why_not.NoImage why) }
+    requires none { tells_none words.now.form why ≡ true }
+    requires capture { IsMendableCapture bytes.now }
+    ensures { IfOk result (IsAbout (info_view words.now)) }
+{
+    let mut text = shown_name(alloc, words.tape)?;
+    text.push_str(wording::CAPTURE)?;
+    Ok(Answer {
+        text,
+        is_right: false,
+    })
+}
+
+/// Returns what is to be said of bytes that tell no form. The only error is that an allocation
+/// failed.
+fn looks_answer(
+    alloc: Global,
+    words: &InfoWords<'_>,
+    bytes: &[u8],
+    why: NoImage,
+) -> Result<Answer, AllocError>
+    requires other { IsNoImage words.now.form bytes.now (why_not.NoImage why) }
+    requires none { tells_none words.now.form why ≡ true }
+    ensures { IfOk result (IsAbout (info_view words.now)) }
+{
+    match mend_capture(alloc, bytes) {
+        Ok(_) => capture_answer(alloc, words, bytes, why),
+        Err(fault) => match fault.kind {
+            TapeFaultKind::OutOfMemory => Err(AllocError),
+            _ => other_answer(alloc, words, bytes, why),
+        },
+    }
+}
+
+/// Returns whether no form is said of bytes, and they tell none, by why they are no image.
+fn tells_none(form: Option<Form>, why: NoImage) -> bool
+    ensures { result ≡ tells_none form why }
+{
+    match form {
+        Some(_) => false,
+        None => match why {
+            NoImage::Looks(_) => true,
+            NoImage::Record(_) => false,
+            NoImage::PastEnd => false,
+            NoImage::NoAddress => false,
+            NoImage::TooLong => false,
+        },
+    }
+}
+
+/// Returns what is to be said of bytes that are no image. The only error is that an allocation
+/// failed.
+fn no_image_answer(
+    alloc: Global,
+    words: &InfoWords<'_>,
+    bytes: &[u8],
+    why: NoImage,
+) -> Result<Answer, AllocError>
+    requires { IsNoImage words.now.form bytes.now (why_not.NoImage why) }
+    ensures { IfOk result (IsAbout (info_view words.now)) }
+{
+    if tells_none(words.form, why) {
+        looks_answer(alloc, words, bytes, why)
+    } else {
+        other_answer(alloc, words, bytes, why)
+    }
 }
 
 /// Returns where the records of an image in another form than a tape overlap, if it has records.
@@ -371,7 +485,7 @@ fn image_answer(
 {
     match image_of_bytes(alloc, words.form, bytes) {
         Ok(image) => other_rows(alloc, words, map, bytes, &image),
-        Err(ImageRefusal::NoImage(why)) => other_answer(alloc, words, bytes, why),
+        Err(ImageRefusal::NoImage(why)) => no_image_answer(alloc, words, bytes, why),
         Err(ImageRefusal::Refused(_)) => Err(AllocError),
     }
 }

@@ -38,6 +38,10 @@ pub const OVERLAP_ROW: &str = "overlap ";
 
 pub const AGAIN: &str = " written more than once\n";
 
+pub const BEHIND_ROW: &str = "behind  ";
+
+pub const NOT_READ: &str = " behind the end record, not read\n";
+
 pub const GAP_ROW: &str = "gap     ";
 
 pub const NOTHING: &str = "nothing";
@@ -67,3 +71,5 @@ pub const MENDED_FOR_DEBUG: &str = "`mend` mends it for `dis TAPE` and `debug --
 pub const THE_CHECKSUM_IS: &str = ": the checksum is ";
 
 pub const AND_SHOULD_BE: &str = ", and should be ";
+
+pub const CAPTURE: &str = ": a capture of a KIM-1's terminal (`mend` makes a tape of it)\n";

@@ -1,5 +1,7 @@
 pub mod Appended
+pub mod CaptureEnds
 pub mod Found
+pub mod KeptDigits
 pub mod Read
 pub mod RecordLines
 pub mod RecordSums

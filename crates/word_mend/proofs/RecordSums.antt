@@ -230,6 +230,13 @@ s_short mark = elim (eqb_tells mark 83) [
   | inr e ↦ rw e.0 refl
 ]
 
+pub hex_short : (mark : ℕ) → None ≡ wrong_sum Hex (mark ∷ [])
+unfolding wrong_sum hex_line record_bytes record_digits
+hex_short mark = elim (eqb_tells mark 58) [
+  | inl e ↦ rw e.0 refl
+  | inr e ↦ rw e.0 refl
+]
+
 -- ---- the same by places in the line
 
 taken : (line : List ℕ) (n : ℕ) → n ≡ length line → take n line ≡ line

@@ -1,5 +1,5 @@
 -- What is left of a tape without line ends, $00 and $13.
-use Rattle.std.proofs.Common.{◌≡◌, ℕ, zero, suc, ◌+◌, ◌-◌, ◌*◌, ◌/◌, ◌%◌, ◌<◌, ◌==◌, ◌&&◌, leb, cond, Bool, true, false, List, [], ◌∷◌, ◌++◌, length, take, drop, slice_index, Option, ◌⊎◌, inl, inr, refl, sym, ap, ◌∙◌, arith, eq-eqb}
+use Rattle.std.proofs.Common.{◌≡◌, ℕ, zero, suc, ◌+◌, ◌-◌, ◌*◌, ◌/◌, ◌%◌, ◌<◌, ◌==◌, ◌&&◌, leb, cond, Bool, true, false, List, [], ◌∷◌, ◌++◌, length, take, drop, slice_index, Option, ◌⊎◌, inl, inr, refl, sym, ap, subst, ◌∙◌, arith, append_assoc, eq-eqb}
 use Rattle.std.specs.List.{filter, list_all, AllByRecursion}
 use Rattle.std.proofs.lemmas.Bool.{and_parts, and_from, cases_Bool, eqb-true, leb-true}
 use Rattle.std.proofs.lemmas.List.{append-nil, length-append, take_at}
@@ -8,8 +8,11 @@ use Rattle.hex.specs.Hex.{encode_with, encode_upper, upper_digits}
 use Rattle.hex.proofs.HexLemmas.{IsDigits-upper_digits, length-encode_with}
 use Rattle.model.specs.Digits.{is_hex_byte, digit_value}
 use Rattle.model.specs.Image.{empty_image, with_bytes}
-use Rattle.model.specs.Tape.{claim_of, Part, gap, record_of, IsPiece, IsEnd, front_of, with_records, is_skipped, TapeDenotes}
+use Rattle.model.specs.Tape.{claim_of, Part, gap, record_of, IsPiece, IsEnd, count_of, front_of, with_records, is_skipped, TapeDenotes}
 use Rattle.model.specs.TapeText.{word, with_sum, end_line}
+use Rattle.word_mend.specs.Captures.{IsCapture, captured_tape, from_record, up_to_end}
+use Rattle.word_mend.specs.Reported.{is_end, last_record}
+use Rattle.word_mend.proofs.CaptureEnds.{cut, of_choice}
 use Rattle.word_mend.specs.Mending.{is_kept, kept, is_end_record, before_end, is_at_end, with_line_ends, records_in, mended_of, mended_text, HasRecords}
 
 -- ---- which bytes are kept
@@ -83,6 +86,11 @@ same_union cells [] = refl
 same_union cells (gap b ∷ ps) = same_union cells ps
 same_union cells (record_of ds ∷ ps) = same_union (with_bytes cells (claim_of ds).address (claim_of ds).bytes) ps
 
+same_count : (ps : List Part) → count_of (data_pieces ps) ≡ count_of ps
+same_count [] = refl
+same_count (gap b ∷ ps) = same_count ps
+same_count (record_of ds ∷ ps) = ap (λ (n : ℕ). 1 + n) (same_count ps)
+
 -- ---- the end record
 
 -- only `0` has the value 0
@@ -127,6 +135,7 @@ record Left (out : List ℕ) (cells : List (Option ℕ)) : Type 0 where
   spelled : filter is_kept out ≡ front_of pieces ++ (59 ∷ digits)
   each : AllByRecursion IsPiece pieces
   end : EndDigits digits
+  counted : IsEnd (count_of pieces) digits
   union : cells ≡ with_records empty_image pieces
 
 left : (out : List ℕ) (cells : List (Option ℕ)) → TapeDenotes out cells → Left out cells
@@ -143,6 +152,7 @@ left out cells d =
           ∙ ap (λ (t : List ℕ). front_of (data_pieces d.pieces) ++ t) digits_kept;
       each = each_data d.pieces d.each;
       end = end_digits _ d.digits d.end;
+      counted = subst (λ (n : ℕ). IsEnd n d.digits) (sym (same_count d.pieces)) d.end;
       union = d.union ∙ sym (same_union empty_image d.pieces);
     }
 
@@ -252,3 +262,33 @@ of_kept text (b ∷ bytes) out cells is all e d =
 pub mended_records : (text out : List ℕ) (cells : List (Option ℕ)) → out ≡ mended_text text → TapeDenotes out cells → HasRecords text cells
 unfolding mended_text kept
 mended_records text out cells e d = of_kept text (kept text) out cells refl (all_filter is_kept text) e d
+
+-- ---- the tape of a capture
+
+kept_up_to_end : (k : List ℕ) → list_all is_kept k ≡ true → list_all is_kept (up_to_end k) ≡ true
+unfolding up_to_end
+kept_up_to_end k all =
+    let n = length k - (length (last_record k) - 11) in
+    of_choice (λ (xs : List ℕ). list_all is_kept xs ≡ true) (is_end (last_record k)) (take n k) k (all_take is_kept n k all) all
+
+of_capture : (text k : List ℕ) (cells : List (Option ℕ)) → kept (from_record text) ≡ k → list_all is_kept k ≡ true → TapeDenotes (with_line_ends (up_to_end k)) cells → IsCapture text cells
+of_capture text k cells is all d =
+    let c = up_to_end k in
+    let l = left (with_line_ends c) cells d in
+    let rest = cut k in
+    let same : c ≡ front_of l.pieces ++ (59 ∷ l.digits) = sym (kept_lines c ∙ filter_all is_kept c (kept_up_to_end k all)) ∙ l.spelled in
+    record {
+      pieces = l.pieces;
+      digits = l.digits;
+      behind = rest.0;
+      spelled = is ∙ (rest.1 ∙ (ap (λ (t : List ℕ). t ++ rest.0) same ∙ append_assoc (front_of l.pieces) (59 ∷ l.digits) rest.0));
+      each = l.each;
+      end = l.counted;
+      other = rest.2;
+      union = l.union;
+    }
+
+-- a tape that is made of a text shows that the text is a capture
+pub is_capture : (text : List ℕ) (cells : List (Option ℕ)) → TapeDenotes (captured_tape text) cells → IsCapture text cells
+unfolding captured_tape kept
+is_capture text cells d = of_capture text (kept (from_record text)) cells refl (all_filter is_kept (from_record text)) d

@@ -1,3 +1,4 @@
+pub mod Captures
 pub mod Mending
 pub mod RecordMending
 pub mod RecordParts

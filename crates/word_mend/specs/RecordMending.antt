@@ -70,6 +70,11 @@ abbrev pub with_checksum : List ℕ → Option Checksums → List ℕ
 with_checksum line None = line
 with_checksum line (Some sums) = take (length line - 2) line ++ encode_upper (sums.right ∷ [])
 
+-- A mended line has as many bytes as the line, and all but the last two of them.
+pub record KeepsDigits (line mended : List ℕ) : Type 0 where
+  pub sizes : length mended ≡ length line
+  pub digits : take (length line - 2) mended ≡ take (length line - 2) line
+
 -- ---- a text
 
 -- A line with its right checksum, then CR LF.

@@ -11,6 +11,7 @@ use Rattle.image_reader.specs.declared.form.TextForm.{TextForm}
 use Rattle.model.specs.Tape.{FirstFault, TapeDenotes}
 use Rattle.model.specs.declared.tape.TapeFault.{TapeFault}
 use Rattle.model.specs.declared.tape.TapeFaultKind.{TapeFaultKind}
+use Rattle.word_mend.specs.Captures.{IsCapture, capture_text, captured_tape, moved_capture}
 use Rattle.word_mend.specs.Mending.{HasRecords, IsMendedText, mended_text}
 use Rattle.word_mend.specs.RecordMending.{AreMendedLines, mended_lines, text_form}
 use Rattle.word_mend.specs.RecordReports.{IsRecordsReport, record_line}
@@ -49,6 +50,27 @@ pub record IsNotMended (asked : MendAsked) (said : List ℕ) : Type 0 where
   pub first : FirstFault (mended_text text) kind offset
   pub told : said ≡ fault_line asked.tape text (moved text kind offset)
 
+-- What is said of a capture of which a tape is made.
+pub record IsOfCapture (said : List ℕ) : Type 0 where
+  pub text : List ℕ
+  pub form : text_form text ≡ None
+  pub out : List ℕ
+  pub image : List (Option ℕ)
+  pub made : out ≡ captured_tape text
+  pub denotes : TapeDenotes out image
+  pub capture : IsCapture text image
+  pub report : said ≡ capture_text text
+
+-- What is said of a text that seems to be a capture, and is none: the first fault of the tape that
+-- would be made of it, where it stands in the text.
+pub record IsNoCapture (asked : MendAsked) (said : List ℕ) : Type 0 where
+  pub text : List ℕ
+  pub form : text_form text ≡ None
+  pub kind : TapeFaultKind
+  pub offset : ℕ
+  pub first : FirstFault (captured_tape text) kind offset
+  pub told : said ≡ fault_line asked.tape text (moved_capture text kind offset)
+
 -- What is said of Intel HEX or of S-records that are mended.
 pub record AreMended (said : List ℕ) : Type 0 where
   pub text : List ℕ
@@ -71,11 +93,12 @@ pub record AreNotMended (asked : MendAsked) (said : List ℕ) : Type 0 where
   pub told : said ≡ record_line asked.tape fault
 
 abbrev pub IsSaidOfMended : List ℕ → Type 0
-IsSaidOfMended said = IsMended said ⊎ AreMended said
+IsSaidOfMended said = IsMended said ⊎ (IsOfCapture said ⊎ AreMended said)
 
 abbrev pub IsSaid : MendAsked → Bool → List ℕ → Type 0
 IsSaid asked true said = IsSaidOfMended said
-IsSaid asked false said = IsNotMended asked said ⊎ AreNotMended asked said
+IsSaid asked false said = IsNotMended asked said
+    ⊎ (IsNoCapture asked said ⊎ AreNotMended asked said)
 
 abbrev pub IsAbout : MendAsked → Answer → Type 0
 IsAbout asked answer = IsSaid asked answer.is_right (string_bytes answer.text)

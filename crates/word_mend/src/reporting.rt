@@ -35,7 +35,7 @@ fn within_records(text: &[u8]) -> usize
 }
 
 /// Returns the last record of some kept bytes, from its `;` on; all of them if there is no `;`.
-fn last_record(bytes: &[u8]) -> &[u8]
+pub fn last_record(bytes: &[u8]) -> &[u8]
     ensures { result.now ≡ last_record bytes.now }
 {
     let mut last = 0usize;
@@ -48,7 +48,7 @@ fn last_record(bytes: &[u8]) -> &[u8]
 }
 
 /// Returns whether a record begins with `;00`.
-fn is_end(bytes: &[u8]) -> bool
+pub fn is_end(bytes: &[u8]) -> bool
     ensures { result ≡ is_end bytes.now }
 {
     bytes.len() >= 3 && bytes[0] == b';' && bytes[1] == b'0' && bytes[2] == b'0'

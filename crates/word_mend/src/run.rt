@@ -1,6 +1,6 @@
 //! What the word `mend` does.
 
-ghost use Rattle.std.specs.Prelude.{◌≡◌, ◌≤◌, ◌⊎◌, Err, IfErr, IfOk, IfSome, None, Ok, Some, false, string_bytes, true};
+ghost use Rattle.std.specs.Prelude.{◌≡◌, ◌≤◌, ◌⊎◌, Err, IfErr, IfOk, IfSome, None, Ok, Some, false, length, string_bytes, true};
 ghost use Rattle.arguments.specs.Files.{EndsWriting};
 ghost use Rattle.arguments.specs.Streams.{Tells, TellsFront};
 ghost use Rattle.arguments.specs.Words.{AsksForHelp, Fits, Misfits, texts};
@@ -9,6 +9,7 @@ ghost use Rattle.image_reader.specs.Texts.{text_image};
 ghost use Rattle.image_reader.specs.declared.fault.ImageFault.TheVariants as image_fault;
 ghost use Rattle.model.specs.Tape.{FirstFault, TapeDenotes};
 ghost use Rattle.model.specs.TapeFault.{out_of_memory};
+ghost use Rattle.word_mend.specs.Captures.{IsCapture, captured_tape, moved_capture};
 ghost use Rattle.word_mend.specs.Mending.{HasRecords, IsMendedText, mended_text};
 ghost use Rattle.word_mend.specs.RecordMending.{AreMendedLines, lacked_end, mended_lines};
 ghost use Rattle.word_mend.specs.RecordMending.{text_form};
@@ -17,6 +18,7 @@ ghost use Rattle.word_mend.specs.Word.{Asks, EndsMend, IsAbout, IsSaid, IsSaidOf
 ghost use Rattle.tape_words.specs.Asked.{mend_asked, mend_view};
 ghost use Rattle.tape_words.specs.CommandLines.{mend};
 
+use crate::captures::{CapturedTape, at_record, capture_report, looks_like_capture, mend_capture};
 use crate::mending::{Mended, mend_text};
 use crate::parts::is_kept;
 use crate::record_reports::{record_line, records_report};
@@ -42,7 +44,8 @@ fn ends_before(is_first: bool, byte: u8) -> u64
 /// Returns the place in a text of the byte that has a place in its mended text, or that comes next:
 /// there line ends, $00 and $13 are left out, and CR LF comes before each `;` but the first.
 fn place_in(text: &[u8], made: u64) -> u64
-    ensures { result ≡ place_in text.now made }
+    ensures value { result ≡ place_in text.now made }
+    ensures inside { result ≤ length text.now }
 {
     let mut left = made;
     let mut is_first = true;
@@ -62,7 +65,8 @@ fn place_in(text: &[u8], made: u64) -> u64
 /// Returns a fault of a mended text as one of the text that it was made of: where that ends, a
 /// record is cut short.
 fn moved(text: &[u8], made: TapeFault) -> TapeFault
-    ensures { result ≡ moved text.now made.kind made.offset }
+    ensures value { result ≡ moved text.now made.kind made.offset }
+    ensures inside { result.offset ≤ length text.now }
 {
     let offset = place_in(text, made.offset);
     let kind = if offset == text.len() as u64 {
@@ -71,6 +75,19 @@ fn moved(text: &[u8], made: TapeFault) -> TapeFault
         made.kind
     };
     TapeFault { offset, kind }
+}
+
+/// Returns a fault of the tape that is made of a capture as one of the capture.
+fn moved_capture(text: &[u8], made: TapeFault) -> TapeFault
+    ensures { result ≡ moved_capture text.now made.kind made.offset }
+{
+    let parts = at_record(text);
+    let fault = moved(parts.1, made);
+    let offset = parts.0.len() as u64 + fault.offset;
+    TapeFault {
+        offset,
+        kind: fault.kind,
+    }
 }
 
 /// Returns the answer for a tape of which more is wrong. The only error is that an allocation
@@ -92,21 +109,63 @@ fn still_wrong(
     })
 }
 
-/// Returns the answer for a tape that is not mended. The only error is that an allocation failed.
-fn not_mended(
+/// Returns the answer for a capture of which more is wrong. The only error is that an allocation
+/// failed.
+fn still_no_tape(
     alloc: Global,
     words: &MendWords<'_>,
     text: &[u8],
     fault: TapeFault,
 ) -> Result<Answer, AllocError>
     requires form { text_form text.now ≡ None }
-    requires first { (fault ≡ out_of_memory)
-        ⊎ FirstFault (mended_text text.now) fault.kind fault.offset }
+    requires first { FirstFault (captured_tape text.now) fault.kind fault.offset }
     ensures { IfOk result (IsAbout (mend_view words.now)) }
 {
-    match fault.kind {
+    let text = fault_text(alloc, words.tape, text, moved_capture(text, fault))?;
+    Ok(Answer {
+        text,
+        is_right: false,
+    })
+}
+
+/// Returns the answer for a text that is neither mended as a tape nor as a capture, by the fault of
+/// each. The only error is that an allocation failed.
+fn neither_mended(
+    alloc: Global,
+    words: &MendWords<'_>,
+    text: &[u8],
+    of_tape: TapeFault,
+    of_capture: TapeFault,
+) -> Result<Answer, AllocError>
+    requires form { text_form text.now ≡ None }
+    requires tape { FirstFault (mended_text text.now) of_tape.kind of_tape.offset }
+    requires capture { FirstFault (captured_tape text.now) of_capture.kind of_capture.offset }
+    ensures { IfOk result (IsAbout (mend_view words.now)) }
+{
+    if looks_like_capture(alloc, text)? {
+        still_no_tape(alloc, words, text, of_capture)
+    } else {
+        still_wrong(alloc, words, text, of_tape)
+    }
+}
+
+/// Returns the answer for a text that is not mended. The only error is that an allocation failed.
+fn not_mended(
+    alloc: Global,
+    words: &MendWords<'_>,
+    text: &[u8],
+    of_tape: TapeFault,
+    of_capture: TapeFault,
+) -> Result<Answer, AllocError>
+    requires form { text_form text.now ≡ None }
+    requires tape { FirstFault (mended_text text.now) of_tape.kind of_tape.offset }
+    requires capture { (of_capture ≡ out_of_memory)
+        ⊎ FirstFault (captured_tape text.now) of_capture.kind of_capture.offset }
+    ensures { IfOk result (IsAbout (mend_view words.now)) }
+{
+    match of_capture.kind {
         TapeFaultKind::OutOfMemory => Err(AllocError),
-        _ => still_wrong(alloc, words, text, fault),
+        _ => neither_mended(alloc, words, text, of_tape, of_capture),
     }
 }
 
@@ -218,6 +277,66 @@ fn records_said(
     records_report(alloc, form, text, mended)
 }
 
+/// Returns what is said of a capture of which a tape is made.
+fn capture_said(alloc: Global, text: &[u8], captured: &CapturedTape) -> Result<String, AllocError>
+    requires form { text_form text.now ≡ None }
+    requires text { captured.now.text.items ≡ captured_tape text.now }
+    requires denotes { TapeDenotes captured.now.text.items captured.now.image }
+    requires capture { IsCapture text.now captured.now.image }
+    ensures { IfOk result (λ said. IsSaidOfMended (string_bytes said)) }
+{
+    capture_report(alloc, text)
+}
+
+/// Makes a tape of a text that is not mended as one, if it is a capture: what is said of it. OUT is
+/// written only then.
+fn mended_capture<'a, H: Files + AllocGlobal>(
+    rt: &H,
+    words: &MendWords<'a>,
+    text: &[u8],
+    fault: TapeFault,
+) -> Result<Answer, FileRefusal<'a>>
+    requires form { text_form text.now ≡ None }
+    requires first { FirstFault (mended_text text.now) fault.kind fault.offset }
+    ensures about { IfOk result (IsAbout (mend_view words.now)) }
+    ensures refused { IfErr result (λ why. EndsWriting why.refusal) }
+{
+    match mend_capture(rt.alloc(), text) {
+        Ok(captured) => {
+            let said = capture_said(rt.alloc(), text, &captured);
+            put_out(rt, words, said, &captured.text)
+        }
+        Err(found) => {
+            not_mended(rt.alloc(), words, text, fault, found).map_err(|_| FileRefusal {
+                file: words.tape,
+                refusal: Refusal::OutOfMemory,
+            })
+        }
+    }
+}
+
+/// Mends a text that is not mended as a tape, by the fault for which it is not: what is said of it.
+fn mended_otherwise<'a, H: Files + AllocGlobal>(
+    rt: &H,
+    words: &MendWords<'a>,
+    text: &[u8],
+    fault: TapeFault,
+) -> Result<Answer, FileRefusal<'a>>
+    requires form { text_form text.now ≡ None }
+    requires first { (fault ≡ out_of_memory)
+        ⊎ FirstFault (mended_text text.now) fault.kind fault.offset }
+    ensures about { IfOk result (IsAbout (mend_view words.now)) }
+    ensures refused { IfErr result (λ why. EndsWriting why.refusal) }
+{
+    match fault.kind {
+        TapeFaultKind::OutOfMemory => Err(FileRefusal {
+            file: words.tape,
+            refusal: Refusal::OutOfMemory,
+        }),
+        _ => mended_capture(rt, words, text, fault),
+    }
+}
+
 /// Mends the text of a tape: what is said of it. OUT is written only if the tape is mended.
 fn mended_tape<'a, H: Files + AllocGlobal>(
     rt: &H,
@@ -233,12 +352,7 @@ fn mended_tape<'a, H: Files + AllocGlobal>(
             let said = tape_said(rt.alloc(), text, &mended);
             put_out(rt, words, said, &mended.text)
         }
-        Err(fault) => {
-            not_mended(rt.alloc(), words, text, fault).map_err(|_| FileRefusal {
-                file: words.tape,
-                refusal: Refusal::OutOfMemory,
-            })
-        }
+        Err(fault) => mended_otherwise(rt, words, text, fault),
     }
 }
 
@@ -284,7 +398,7 @@ fn text_form(text: &[u8]) -> Option<TextForm>
 }
 
 /// Mends a text in the form that its first record tells: what is said of it. A text that tells none
-/// is mended as a tape.
+/// is mended as a tape or as a capture.
 fn mended<'a, H: Files + AllocGlobal>(
     rt: &H,
     words: &MendWords<'a>,

@@ -17,3 +17,9 @@ pub const LINE: &str = "line ";
 pub const THE_CHECKSUM_WAS: &str = ": the checksum was ";
 
 pub const AND_IS_NOW: &str = ", and is now ";
+
+pub const LEFT_OUT: &str = "left out: ";
+
+pub const BEFORE_RECORD: &str = " of text before the first record, in line ";
+
+pub const BEHIND_END_RECORD: &str = " of text behind the end record, in line ";

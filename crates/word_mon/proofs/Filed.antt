@@ -3,11 +3,12 @@ use Rattle.std.proofs.Common.{◌≡◌, ◌∙◌, ℕ, Bool, List, [], ◌∷�
 use Rattle.word_mon.specs.Attended.{Obeys, ObeysRead}
 use Rattle.word_mon.specs.Files.{IsReloaded, Reloads, Repeats, ServesAgain}
 use Rattle.word_mon.specs.Notes.{SeenNote, notes_after, placed_in}
+use Rattle.word_mon.specs.Screens.{said_again}
 use Rattle.word_mon.specs.declared.terminal.Terminal.{Terminal}
 use Rattle.mon_dispatch.specs.Lines.{Follows, Says, Serves}
 use Rattle.mon_dispatch.specs.LineTexts.{behind_text, line_text, slip_line}
 use Rattle.mon_dispatch.specs.declared.lines.Outcome.{Outcome}
-use Rattle.mon_lines.specs.Lines.{SeenCommand, SeenLine, SeenSlip, line_of, page, reload, save}
+use Rattle.mon_lines.specs.Lines.{SeenCommand, SeenLine, SeenSlip, draw, line_of, page, reload, save}
 use Rattle.mon_session.specs.EventTexts.{shown_text}
 use Rattle.mon_session.specs.declared.mon_state.MonState.{MonState}
 
@@ -68,6 +69,7 @@ command_says : (command : SeenCommand) (a b : Terminal) → Obeys command a b
 command_says (save file stretch) a b p = (p.1, p.2)
 command_says (page file) a b p = p.shown.1
 command_says reload a b p = reloads_say a b p
+command_says (draw drawing) a b p = (said_again drawing a.answered.items, p.1)
 command_says command a b p = none_said a b p
 
 obeys_say : (asked : Result SeenCommand SeenSlip) (a b : Terminal) → ObeysRead asked a b
@@ -95,6 +97,7 @@ command_keeps_view : (command : SeenCommand) (a b : Terminal) → Obeys command 
 command_keeps_view (save file stretch) a b p = p.0.1
 command_keeps_view (page file) a b p = p.view
 command_keeps_view reload a b p = reloads_view a b p
+command_keeps_view (draw drawing) a b p = p.0.1
 command_keeps_view command a b p = ap (λ (s : Terminal). s.view) p
 
 pub obeys_view : (asked : Result SeenCommand SeenSlip) (a b : Terminal) → ObeysRead asked a b

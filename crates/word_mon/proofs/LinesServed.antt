@@ -8,7 +8,8 @@ use Rattle.word_mon.specs.Attended.{IsAttended, IsAttendedInPart, IsAttendedSoFa
 use Rattle.mon_line_parts.specs.Reading.{after_word, long, skip, word_of}
 use Rattle.mon_lines.specs.Lines.{SeenLine, decimal_address, decimal_behind, line_from, line_of}
 use Rattle.word_mon.proofs.Filed.{obeys_view}
-use Rattle.word_mon.specs.Screens.{Rests, answer_text, drawn, view_after, without_screen}
+use Rattle.word_mon.specs.Screens.{Rests, answer_text, drawn, meant, without_screen}
+use Rattle.word_mon.specs.Views.{IsViewAfter, has_pages_of, meant_by}
 use Rattle.word_mon.specs.declared.terminal.Terminal.{Terminal}
 use Rattle.mon_screen.specs.View.{view_text}
 use Rattle.mon_screen.specs.declared.view.View.{View}
@@ -24,10 +25,10 @@ shows_same a = (refl, refl, refl, refl, refl)
 
 pub rests_then : (a b c : Terminal) → Rests a b → Rests b c → Rests a c
 rests_then a b c p q =
-    (shows_then a.mon b.mon c.mon p.0 q.0, q.1 ∙ p.1, q.2 ∙ p.2, q.3 ∙ p.3, q.4 ∙ p.4)
+    (shows_then a.mon b.mon c.mon p.0 q.0, q.1 ∙ p.1, q.2 ∙ p.2, q.3 ∙ p.3, q.4 ∙ p.4, q.5 ∙ p.5)
 
 pub rests_same : (a : Terminal) → Rests a a
-rests_same a = (shows_same a.mon, refl, refl, refl, refl)
+rests_same a = (shows_same a.mon, refl, refl, refl, refl, refl)
 
 -- a screen is the same where only the text has changed
 drawn_by : (view : Option View) (a b : MonState) (text : List ℕ) → ShowsOnly a b
@@ -62,8 +63,9 @@ plain_view : (line : List ℕ) (is_over : Bool) (a b : Terminal) (said : List �
     → ServesLine line is_over a b said → b.view ≡ None
 unfolding ServesLine
 plain_view line is_over a b said none p =
-    let asked = (read_at a.mon line).asked in
-    p.6.1 ∙ obeys_view asked p.0 p.3 p.4 ∙ p.2.view ∙ ap (view_after asked a.mon) none
+    let asked = (read_at a.mon (meant a line)).asked in
+    p.8.1 ∙ p.7.view ∙ obeys_view asked p.0 p.3 p.4
+    ∙ subst (λ (view : Option View). IsViewAfter asked a.mon view p.0.view) none p.2.view
 
 pub plain_line : (line : List ℕ) (is_over : Bool) (a b : Terminal) (said text : List ℕ) → a.view ≡ None
     → ServesLine line is_over a b said → answer_text is_over [] b text ≡ text
@@ -75,7 +77,7 @@ pub line_then : (line : List ℕ) (is_over : Bool) (a b c : Terminal) (said : Li
     → ServesLine line is_over a b said → Rests b c → ServesLine line is_over a c said
 unfolding ServesLine
 line_then line is_over a b c said p q =
-    (p.0, p.1, p.2, p.3, p.4, p.5, rests_then p.3 b c p.6 q)
+    (p.0, p.1, p.2, p.3, p.4, p.5, p.6, p.7, rests_then p.6 b c p.8 q)
 
 pub lines_then : (prompt : List ℕ) (lines : List (List ℕ)) (is_over : Bool) (a b c : Terminal)
     (w : List ℕ) → ServesLines prompt lines is_over a b w → Rests b c
@@ -225,12 +227,31 @@ read_long mon line h =
     let by : Bool → SeenLine = λ t. record { asked = cond t (Err (None, long)) read; decimal = cond t None decimal } in
     ap by (lt-ltb 255 (length line) h)
 
+-- a long line is meant as it is
+meant_long : (has_pages : Bool) (line : List ℕ) → 255 < length line → meant_by has_pages line ≡ line
+meant_long true [] h = absurd (omega (arith, h))
+meant_long true (b ∷ []) h = absurd (omega (arith, h))
+meant_long true (b ∷ c ∷ line) h = refl
+meant_long false line h = refl
+
+read_meant : (a : Terminal) (line : List ℕ) → 255 < length line
+    → read_at a.mon (meant a line) ≡ too_long
+read_meant a line h =
+    ap (read_at a.mon) (meant_long (has_pages_of a.view a.answered.items) line h)
+    ∙ read_long a.mon line h
+
 -- it is not noted
 noted_long : (kept line : List ℕ) (a b : Terminal) → IsNoted too_long.asked kept a b
     → IsNoted too_long.asked line a b
 unfolding too_long
 noted_long kept line a b n =
-    record { view = n.view; notes = n.notes; loaded = n.loaded; words = n.words }
+    record {
+      view = n.view;
+      notes = n.notes;
+      loaded = n.loaded;
+      words = n.words;
+      answered = n.answered;
+    }
 
 -- what is kept is all of the line, or too long as the line is
 pub line_kept : (begun : List ℕ) (is_over : Bool) (a b : Terminal) (said : List ℕ)
@@ -244,8 +265,8 @@ line_kept begun is_over a b said p = elim (cases_lt 257 (length begun)) [
       let kept_long : 255 < length (strip_last 13 (take 257 begun))
       = omega (arith, length-take 257 begun, length-strip 13 (take 257 begun)) in
       let line_long : 255 < length (strip_last 13 begun) = omega (arith, length-strip 13 begun) in
-      let p = subst (λ (read : SeenLine). ServesRead read kept is_over a b said) (read_long a.mon kept kept_long) p in
-      subst (λ (read : SeenLine). ServesRead read line is_over a b said) (sym (read_long a.mon line line_long))
-      (p.0, p.1, noted_long kept line a p.0 p.2, p.3, p.4, p.5, p.6)
+      let p = subst (λ (read : SeenLine). ServesRead read kept is_over a b said) (read_meant a kept kept_long) p in
+      subst (λ (read : SeenLine). ServesRead read line is_over a b said) (sym (read_meant a line line_long))
+      (p.0, p.1, noted_long kept line a p.0 p.2, p.3, p.4, p.5, p.6, p.7, p.8)
   | inr less ↦ subst (λ l. ServesLine (strip_last 13 l) is_over a b said) (take_all 257 begun less) p
 ]

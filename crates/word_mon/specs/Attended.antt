@@ -8,10 +8,11 @@ use Rattle.model.specs.Writers.{AppendsFront}
 use Rattle.word_mon.specs.declared.wording.TheConstants.{PROMPT}
 use Rattle.mon_dispatch.specs.Lines.{Says, Serves, read_at}
 use Rattle.mon_files.specs.Pages.{ShowsPage}
-use Rattle.mon_lines.specs.Lines.{SeenCommand, SeenLine, SeenSlip, page, reload, save}
+use Rattle.mon_lines.specs.Lines.{SeenCommand, SeenLine, SeenSlip, draw, page, reload, save}
 use Rattle.word_mon.specs.Files.{Reloads}
 use Rattle.word_mon.specs.Notes.{notes_after, placed_in}
-use Rattle.word_mon.specs.Screens.{Rests, answer_text, view_after, without_screen}
+use Rattle.word_mon.specs.Screens.{IsKept, Rests, answer_text, meant, said_again, without_screen}
+use Rattle.word_mon.specs.Views.{IsViewAfter}
 use Rattle.word_mon.specs.declared.terminal.Terminal.{Terminal}
 
 -- ---- the lines of an input
@@ -32,11 +33,12 @@ input_lines input = lines_from line_at_end [] input
 -- and the line is noted if it has placed something.
 pub record IsNoted (asked : Result SeenCommand SeenSlip) (line : List ℕ) (old new : Terminal) : Type 0
   where
-    pub view : new.view ≡ view_after asked old.mon old.view
+    pub view : IsViewAfter asked old.mon old.view new.view
     pub notes : new.notes.items ≡ notes_after new.mon (placed_in asked)
         old.mon.session.current.regs.pc line old.notes.items
     pub loaded : new.loaded ≡ old.loaded
     pub words : new.words ≡ old.words
+    pub answered : new.answered ≡ old.answered
 
 -- The session is shown on a page: it goes back and comes again.
 pub record IsShown (old new : Terminal) : Type 0 where
@@ -46,13 +48,16 @@ pub record IsShown (old new : Terminal) : Type 0 where
   pub loaded : new.loaded ≡ old.loaded
   pub words : new.words ≡ old.words
 
--- What a line does that asks for something of a file. A line that saves says something and changes
--- nothing else. Which bytes a file gets, no clause can say: those of the tape of the image that is
--- saved, or of the page of the session, as `mon_files` defines them. Any other line does nothing.
+-- What a line does that asks for something of a file, or for a screen. A line that saves says
+-- something and changes nothing else. Which bytes a file gets, no clause can say: those of the image
+-- that is saved, or of the page of the session, as `mon_files` defines them. A line that has the
+-- screen drawn again says what it showed of an answer. Any other line does nothing.
 abbrev pub Obeys : SeenCommand → Terminal → Terminal → Type 0
 Obeys (save file stretch) old new
     = Rests old new × (said : List ℕ) × Says said old.mon new.mon
 Obeys (page file) old new = IsShown old new
+Obeys (draw drawing) old new
+    = Rests old new × Says (said_again drawing old.answered.items) old.mon new.mon
 Obeys reload old new = Reloads old new
 Obeys command old new = new ≡ old
 
@@ -60,18 +65,19 @@ abbrev pub ObeysRead : Result SeenCommand SeenSlip → Terminal → Terminal →
 ObeysRead (Ok command) old new = Obeys command old new
 ObeysRead (Err slip) old new = new ≡ old
 
--- A line does what it asks for and is noted, then what it asks for of a file is done, and so much is
--- said. Then only the text changes, which is written.
+-- A line does what it asks for and is noted, then what it asks for of a file or of the screen is
+-- done, and so much is said, which is kept for a screen. Then only the text changes, which is
+-- written.
 abbrev pub ServesRead : SeenLine → List ℕ → Bool → Terminal → Terminal → List ℕ → Type 0
 ServesRead read line is_over old new said = (served : Terminal)
     × Serves read is_over old.mon served.mon × IsNoted read.asked line old served
     × (obeyed : Terminal) × ObeysRead read.asked served obeyed
-    × Says said old.mon obeyed.mon × Rests obeyed new
+    × Says said old.mon obeyed.mon × (kept : Terminal) × IsKept obeyed kept × Rests kept new
 
--- A line is read once.
+-- A line is read once, as the one that is meant.
 unfoldable pub ServesLine : List ℕ → Bool → Terminal → Terminal → List ℕ → Type 0
 ServesLine line is_over old new said
-    = ServesRead (read_at old.mon line) line is_over old new said
+    = ServesRead (read_at old.mon (meant old line)) line is_over old new said
 
 -- ---- lines one after another
 

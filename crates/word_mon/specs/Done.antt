@@ -15,10 +15,9 @@ use Rattle.word_mon.specs.Attended.{AttendsInPart, IsAttended, IsAttendedSoFar}
 use Rattle.word_mon.specs.Greeting.{greeting_of}
 use Rattle.word_mon.specs.Screens.{drawn}
 use Rattle.word_mon.specs.Starts.{StartsMon}
+use Rattle.word_mon.specs.Views.{IsSizeFor}
 use Rattle.word_mon.specs.declared.terminal.Terminal.{Terminal}
-use Rattle.mon_lines.specs.declared.command.Stretch.{Stretch}
-use Rattle.mon_screen.specs.Limits.{limited}
-use Rattle.mon_screen.specs.declared.size.Size.{Size}
+use Rattle.mon_screen.specs.Stored.{first_stretch}
 use Rattle.mon_screen.specs.declared.view.View.{View}
 use Rattle.mon_session.specs.EventTexts.{shown_text}
 use Rattle.mon_session.specs.declared.mon_state.MonState.{MonState}
@@ -43,22 +42,13 @@ EndsAnswer OutOfMemory = ⊤
 EndsAnswer Write = ⊤
 EndsAnswer fault = ⊥
 
--- The size of a screen: the one that is asked for, otherwise any that a screen can have.
-abbrev pub IsSizeFor : Option (ℕ × ℕ) → Size → Type 0
-IsSizeFor None size = ⊤
-IsSizeFor (Some asked) size
-    = (size.columns ≡ limited 80 250 asked.0) × (size.rows ≡ limited 24 100 asked.1)
-
--- The memory that a screen shows until a line asks for another: that from $0200 on.
-abbrev pub first_stretch : Stretch
-first_stretch = record { first = 512; last = 767 }
-
 -- A screen is drawn only if the words ask for one, and at first nothing has changed.
 abbrev pub StartsView : MonAsked → MonState → Option View → Type 0
 StartsView asked mon None = ⊤
 StartsView asked mon (Some view) = (asked.has_screen ≡ true) × IsSizeFor asked.size view.size
-    × (view.stretch ≡ first_stretch) × (view.regs ≡ mon.session.current.regs)
-    × (view.cycles ≡ None)
+    × (view.stretch ≡ first_stretch mon.session.current.bus.map mon.places.lines)
+    × (view.regs ≡ mon.session.current.regs)
+    × (view.cycles ≡ None) × (view.skipped ≡ 0)
 
 -- What is written first: the greeting and the state, or a screen with both.
 abbrev pub opening : Bool → Terminal → List ℕ
@@ -98,13 +88,13 @@ EndsAt prompts first given left held now heard status = (outcome : Result ⊤ Re
 
 -- What was done for words: no session began, and the streams were left alone, `Alone`; or one began
 -- at its terminal, with some input given, and ended so, with some input left. Prompts are written if
--- the words ask for them, or if the input is a terminal; screens only if the words ask for them.
+-- the words ask for them, or if the input is typed; screens only if the words ask for them.
 abbrev pub IsDone : MonAsked → Option (List ℕ) → Option (List ℕ) → Option (List ℕ)
     → Option (List ℕ) → Heard → ℕ → Type 0 → Type 0
 IsDone asked given left old new heard status Alone = IsUnloaded asked.file heard status Alone
     ⊎ (IsUnnamed asked.symbols asked.file heard status Alone
     ⊎ ((terminal : Terminal) × StartsMon asked terminal.mon terminal.loaded
-    × (terminal.notes.items ≡ [])
+    × (terminal.notes.items ≡ []) × (terminal.answered.items ≡ [])
     × (mon_view terminal.words.now ≡ asked) × StartsView asked terminal.mon terminal.view
     × (prompts : Bool) × (asked.prompts ≡ true → prompts ≡ true)
     × EndsAt prompts terminal given left old new heard status))

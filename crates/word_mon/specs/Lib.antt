@@ -6,3 +6,4 @@ pub mod Notes
 pub mod Pieces
 pub mod Screens
 pub mod Starts
+pub mod Views

@@ -1,21 +1,15 @@
 //! Whether a screen is drawn, and of which size.
 
 ghost use Rattle.arguments_play.specs.Mon.{mon_view};
-ghost use Rattle.word_mon.specs.Done.{IsSizeFor, StartsView};
+ghost use Rattle.word_mon.specs.Done.{StartsView};
+ghost use Rattle.word_mon.specs.Views.{IsSizeFor};
 
 use arguments_play::MonWords;
 use commands::digits;
-use mon_lines::Stretch;
-use mon_screen::{Size, View};
+use mon_screen::{Size, View, first_stretch};
 use mon_session::MonState;
 use std::io::IsTerminal;
 use std::rt::Env;
-
-/// The memory that a screen shows until a line asks for another.
-const FIRST_STRETCH: Stretch = Stretch {
-    first: 0x0200,
-    last: 0x02ff,
-};
 
 /// Returns the number of at most seven digits that a variable of the environment has, if any.
 fn number_of<H: Env>(rt: &H, name: &str) -> Option<u32> {
@@ -41,7 +35,14 @@ fn size_for<H: Env>(rt: &H, asked: Option<(u8, u8)>) -> Size
     }
 }
 
-/// Returns what a screen shows first, if one is asked for and the input is a terminal.
+/// Returns whether the input is typed: it is a terminal, or the environment says that another
+/// program hands on what is typed at one.
+pub fn is_typed<H: Env, R: IsTerminal>(rt: &H, input: &R) -> bool {
+    let mut value = [0u8; 1];
+    input.is_terminal() || rt.var("MOS65_TYPED", &mut value).is_ok()
+}
+
+/// Returns what a screen shows first, if one is asked for and the input is typed.
 pub fn first_view<H: Env, R: IsTerminal>(
     rt: &H,
     words: &MonWords<'_>,
@@ -50,12 +51,13 @@ pub fn first_view<H: Env, R: IsTerminal>(
 ) -> Option<View>
     ensures { StartsView (mon_view words.now) mon.now result }
 {
-    if words.has_screen && input.is_terminal() {
+    if words.has_screen && is_typed(rt, input) {
         Some(View {
             size: size_for(rt, words.size),
-            stretch: FIRST_STRETCH,
+            stretch: first_stretch(&mon.session, &mon.places),
             regs: mon.session.regs(),
             cycles: None,
+            skipped: 0,
         })
     } else {
         None

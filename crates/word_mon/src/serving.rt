@@ -18,7 +18,7 @@ ghost use Rattle.word_mon.specs.Screens.{Rests};
 
 use crate::greeting::greet;
 use crate::lines::attend;
-use crate::screens::first_view;
+use crate::screens::{first_view, is_typed};
 use crate::starting::{Started, start};
 use crate::terminal::{Terminal, draw, of_memory};
 use arguments::{Refusal, refuse, refuse_file, refused_words};
@@ -90,11 +90,11 @@ fn served<H: Files + AllocGlobal, R: Read, O: Write, E: Write>(
     }
 }
 
-/// Returns whether prompts are written: if they are asked for, or if the input is a terminal.
-fn wants_prompts<R: IsTerminal>(is_asked: bool, input: &R) -> bool
+/// Returns whether prompts are written: if they are asked for, or if the input is typed.
+fn wants_prompts<H: Env, R: IsTerminal>(rt: &H, is_asked: bool, input: &R) -> bool
     ensures { is_asked ≡ true → result ≡ true }
 {
-    is_asked || input.is_terminal()
+    is_asked || is_typed(rt, input)
 }
 
 /// Serves a session on what was loaded, and returns the exit status.
@@ -118,16 +118,18 @@ fn mon_loaded<'a, H: Env + Files + AllocGlobal, R: Read + IsTerminal, O: Write, 
         }) result ((input.new ≡ input.old) × (output.new ≡ output.old)) }
     ensures quiet { result ≡ 0 → errors.new ≡ errors.old }
 {
-    let prompts = wants_prompts(words.prompts, input);
+    let prompts = wants_prompts(rt, words.prompts, input);
     match start(rt, words, loaded) {
         Ok(started) => {
             let Started { mon, loaded } = started;
             let view = first_view(rt, words, input, &mon);
+            let answered = Vec::new(rt.alloc());
             let notes = Vec::new(rt.alloc());
             let mut terminal = Terminal {
                 words,
                 mon,
                 view,
+                answered,
                 notes,
                 loaded,
             };

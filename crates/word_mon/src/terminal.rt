@@ -7,19 +7,21 @@ ghost use Rattle.model.specs.Writers.{AppendsFront};
 ghost use Rattle.word_mon.specs.Attended.{IsNoted, IsShown, Obeys, ObeysRead, ServesLine};
 ghost use Rattle.word_mon.specs.Attended.{prompt_of};
 ghost use Rattle.word_mon.specs.Done.{EndsAnswer};
-ghost use Rattle.word_mon.specs.Screens.{Rests, answer_text, drawn, stretch_by, stretch_in};
-ghost use Rattle.word_mon.specs.Screens.{view_after};
+ghost use Rattle.word_mon.specs.Screens.{Rests, answer_text, answered_after, drawn, meant};
+ghost use Rattle.word_mon.specs.Screens.{said_again};
+ghost use Rattle.word_mon.specs.Views.{IsViewAfter};
 ghost use Rattle.mon_dispatch.specs.Lines.{Says, Serves};
 ghost use Rattle.mon_lines.specs.Lines.{asked_view, command_view, line_view};
 
 use crate::notes::{Note, note_line, placed_in};
 use crate::reloading::reload;
+use crate::views::{has_pages, meant, view_after};
 use crate::wording::PROMPT;
 use arguments::{Refusal, write_text};
 use arguments_play::MonWords;
 use mon_dispatch::serve;
-use mon_files::{Known, save_tape, show_page};
-use mon_lines::{Command, ReadLine, Slip, Stretch};
+use mon_files::{Known, save_image, show_page};
+use mon_lines::{Command, Drawing, ReadLine, Slip, Stretch};
 use mon_screen::{View, push_view};
 use mon_session::MonState;
 use std::alloc::{AllocError, Global};
@@ -33,6 +35,8 @@ pub struct Terminal<'a> {
     pub mon: MonState,
     /// What a screen shows of the session, if one is drawn.
     pub view: Option<View>,
+    /// The answer that the screen shows, if one is drawn.
+    pub answered: Vec<u8>,
     /// The lines that have placed what stands.
     pub notes: Vec<Note>,
     /// The addresses at which the session's file has a byte, and what a page shows besides.
@@ -125,43 +129,6 @@ pub fn answer(
     say_if(terminal, prompts, PROMPT)
 }
 
-/// Returns the memory that a line asks for that can be read, otherwise what was shown before it.
-fn stretch_in(command: &Command<'_>, shown: Stretch) -> Stretch
-    ensures { result ≡ stretch_in (command_view command.now) shown }
-{
-    match command {
-        Command::Mem(stretch) => *stretch,
-        _ => shown,
-    }
-}
-
-/// Returns the memory that a line asks for, otherwise what was shown before it.
-fn stretch_by(asked: &Result<Command<'_>, Slip<'_>>, shown: Stretch) -> Stretch
-    ensures { result ≡ stretch_by (asked_view asked.now) shown }
-{
-    match asked {
-        Ok(command) => stretch_in(command, shown),
-        Err(_) => shown,
-    }
-}
-
-/// Returns what a screen shows after a line that was served.
-fn view_after(
-    asked: &Result<Command<'_>, Slip<'_>>,
-    mon: &MonState,
-    view: Option<View>,
-) -> Option<View>
-    ensures { result ≡ view_after (asked_view asked.now) mon.now view }
-{
-    let view = view?;
-    Some(View {
-        size: view.size,
-        stretch: stretch_by(asked, view.stretch),
-        regs: mon.session.regs(),
-        cycles: Some(mon.session.cycles()),
-    })
-}
-
 /// Does what a line asks for, notes it if it has placed something, and returns whether the
 /// session is to end.
 fn serve_noted(
@@ -183,7 +150,7 @@ fn serve_noted(
     Ok(is_over)
 }
 
-/// Writes the tape of memory to a file, of a stretch if one is given, and says what became of it.
+/// Writes the image of memory to a file, of a stretch if one is given, and says what became of it.
 fn save<H: Files + AllocGlobal>(
     rt: &H,
     terminal: &mut Terminal<'_>,
@@ -194,7 +161,7 @@ fn save<H: Files + AllocGlobal>(
     ensures said { OnOk result ((said : List ℕ) × Says said terminal.old.mon terminal.new.mon) }
     ensures refused { IfErr result EndsAnswer }
 {
-    save_tape(
+    save_image(
         rt,
         &mut terminal.mon,
         terminal.words,
@@ -217,7 +184,37 @@ fn show<H: Files + AllocGlobal>(
     show_page(rt, &mut terminal.mon, &program, file)
 }
 
-/// Does what a line asks for that reads or writes a file. Any other line does nothing here.
+/// Says what the screen showed of an answer.
+fn say_answer(terminal: &mut Terminal<'_>) -> Result<(), Refusal>
+    ensures rests { Rests terminal.old terminal.new }
+    ensures said { OnOk result
+        (Says terminal.old.answered.items terminal.old.mon terminal.new.mon) }
+    ensures refused { IfErr result EndsAnswer }
+{
+    of_memory(
+        terminal
+            .mon
+            .text
+            .extend_from_slice(terminal.answered.as_slice()),
+    )
+}
+
+/// Says what the screen showed of an answer, if it is to show that again.
+fn show_again(terminal: &mut Terminal<'_>, drawing: Drawing) -> Result<(), Refusal>
+    ensures rests { Rests terminal.old terminal.new }
+    ensures said { OnOk result (Says (said_again drawing terminal.old.answered.items)
+        terminal.old.mon terminal.new.mon) }
+    ensures refused { IfErr result EndsAnswer }
+{
+    match drawing {
+        Drawing::More => say_answer(terminal),
+        Drawing::Clear => Ok(()),
+        Drawing::Size { .. } => say_answer(terminal),
+    }
+}
+
+/// Does what a line asks for that reads or writes a file, or has the screen drawn again. Any other
+/// line does nothing here.
 fn obey<H: Files + AllocGlobal>(
     rt: &H,
     terminal: &mut Terminal<'_>,
@@ -230,11 +227,12 @@ fn obey<H: Files + AllocGlobal>(
         Command::Save { file, stretch } => save(rt, terminal, *file, *stretch),
         Command::Page(file) => show(rt, terminal, *file),
         Command::Reload => reload(rt, terminal),
+        Command::Draw(drawing) => show_again(terminal, *drawing),
         _ => Ok(()),
     }
 }
 
-/// Does what a line asks for that reads or writes a file, if the line can be read.
+/// Does what a line asks for with a file or the screen, if the line can be read.
 fn obey_read<H: Files + AllocGlobal>(
     rt: &H,
     terminal: &mut Terminal<'_>,
@@ -249,6 +247,38 @@ fn obey_read<H: Files + AllocGlobal>(
     }
 }
 
+/// Puts bytes in place of others.
+fn refill(bytes: &mut Vec<u8>, others: &[u8]) -> Result<(), AllocError>
+    ensures { OnOk result (bytes.new.items ≡ others.now) }
+{
+    bytes.clear();
+    bytes.extend_from_slice(others)
+}
+
+/// Keeps what was said as the answer that the screen shows, if one is drawn.
+fn keep_answer(terminal: &mut Terminal<'_>) -> Result<(), Refusal>
+    ensures answered { OnOk result (terminal.new.answered.items ≡ answered_after
+        terminal.old.view terminal.old.mon.text.items terminal.old.answered.items) }
+    ensures mon { terminal.new.mon ≡ terminal.old.mon }
+    ensures view { terminal.new.view ≡ terminal.old.view }
+    ensures notes { terminal.new.notes ≡ terminal.old.notes }
+    ensures loaded { terminal.new.loaded ≡ terminal.old.loaded }
+    ensures words { terminal.new.words ≡ terminal.old.words }
+    ensures refused { IfErr result EndsAnswer }
+{
+    match terminal.view {
+        Some(_) => of_memory(refill(&mut terminal.answered, terminal.mon.text.as_slice())),
+        None => Ok(()),
+    }
+}
+
+/// Returns the line that a typed one stands for at a terminal.
+fn meant_at<'l>(terminal: &Terminal<'_>, line: &'l [u8]) -> &'l [u8]
+    ensures { result.now ≡ meant terminal.now line.now }
+{
+    meant(has_pages(terminal.view, terminal.answered.as_slice()), line)
+}
+
 /// Reads a line, does what it asks for, also with files, and returns whether the session is to end.
 pub fn serve_line<H: Files + AllocGlobal>(
     rt: &H,
@@ -260,9 +290,11 @@ pub fn serve_line<H: Files + AllocGlobal>(
         × Says said terminal.old.mon terminal.new.mon) }
     ensures refused { IfErr result EndsAnswer }
 {
+    let typed = meant_at(terminal, line);
     let pc = terminal.mon.session.regs().pc;
-    let read = ReadLine::new(line, &terminal.mon.places, pc);
+    let read = ReadLine::new(typed, &terminal.mon.places, pc);
     let is_over = of_memory(serve_noted(rt.alloc(), terminal, &read, line))?;
     obey_read(rt, terminal, &read.asked)?;
+    keep_answer(terminal)?;
     Ok(is_over)
 }

@@ -8,11 +8,11 @@ use Rattle.arguments.specs.FaultLines.{file_line}
 use Rattle.arguments.specs.Statuses.{status_of}
 use Rattle.arguments.specs.declared.refusal.Refusal.{Refusal}
 use Rattle.arguments.specs.declared.refusal.Refusal.TheVariants.{Map, OutOfMemory, Read, Session, Source, Tape, Words, Write, WriteFile}
-use Rattle.assembler.specs.Assembly.{AssemblyView, IsAssembled}
+use Rattle.assembler.specs.Assembly.{AssemblyView}
 use Rattle.console.specs.Playing.{Outcome, begun, played}
 use Rattle.console.specs.Written.{RanAs}
 use Rattle.console.specs.declared.ending.Played.{Played}
-use Rattle.loading.specs.Loads.{IsLoaded}
+use Rattle.loading.specs.Loads.{AreImageNames, IsLoaded}
 use Rattle.loading.specs.Place.{names_of, place_of}
 use Rattle.loading.specs.Told.{Heard, IsUnloaded, Tells}
 use Rattle.model.specs.Event.{start}
@@ -100,7 +100,7 @@ ShownIfFound a assembly (Err refused) s heard status
 abbrev pub AreNamed : Option (List ℕ) → FileAsked → Option AssemblyView → Type 0
 AreNamed None file names = names ≡ None
 AreNamed (Some path) file None = ⊥
-AreNamed (Some path) file (Some names) = IsAssembled (map_of file) names
+AreNamed (Some path) file (Some names) = AreImageNames (map_of file) names
 
 -- The place of a word by a file of names, where it names none by the source.
 abbrev pub if_unplaced : Option ℕ → Option ℕ → Option ℕ

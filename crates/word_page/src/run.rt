@@ -20,7 +20,7 @@ use accesses::Written;
 use arguments::{FileRefusal, NewFile, Refusal, create, read_most, refused_words};
 use assembler::Assembly;
 use console::Played;
-use loading::{Loaded, load, load_names, place_of};
+use loading::{Loaded, load, load_image_names, place_of};
 use page_writer::{
     Note, Opening, Program, SendFault, Texts, facts_of, push_opening, source_of, viewer, write_page,
 };
@@ -50,8 +50,8 @@ fn names_asked<'a, H: Files + AllocGlobal>(
 {
     match words.symbols {
         None => Ok(None),
-        Some(file) => match load_names(rt, &words.file, file) {
-            Ok(names) => Ok(Some(names.assembly)),
+        Some(file) => match load_image_names(rt, &words.file, file) {
+            Ok(names) => Ok(Some(names)),
             Err(refusal) => Err(FileRefusal { file, refusal }),
         },
     }

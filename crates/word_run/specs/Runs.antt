@@ -9,9 +9,10 @@ use Rattle.console.specs.declared.ending.Ending.{Ending}
 use Rattle.console.specs.declared.ending.PlayFault.{PlayFault}
 use Rattle.assembler.specs.Assembly.{AssemblyView}
 use Rattle.arguments.specs.Asked.{map_of}
-use Rattle.loading.specs.Loads.{IsLoaded}
+use Rattle.loading.specs.Named.{IsNamed, IsUnnamed}
 use Rattle.loading.specs.Place.{names_of}
-use Rattle.loading.specs.Told.{Heard, IsUnloaded, Tells}
+use Rattle.loading.specs.Told.{Heard, Tells}
+use Rattle.loading.specs.Warned.{TellsWarnings}
 use Rattle.arguments.specs.FaultLines.{fault_line}
 use Rattle.arguments.specs.Statuses.{status_of}
 use Rattle.model.specs.Event.{start}
@@ -133,14 +134,17 @@ start_of a image = record {
 }
 
 -- A file was loaded: from the start of an image that it can have, on the map of the words and with
--- the names of the image's source, a session ran.
+-- the names of the image's source, or of the file of names, a session ran. Before that the error
+-- stream got how many warnings the source has.
 abbrev pub RanFile : RunAsked → Streams → Bool → Heard → ℕ → Type 0 → Type 0
 RanFile a streams interrupted heard status Alone = (image : List (Option ℕ))
-    × (assembly : Option AssemblyView) × IsLoaded a.file image assembly
+    × (assembly : Option AssemblyView) × IsNamed a.file a.symbols image assembly
+    × (between : Option (List ℕ))
+    × TellsWarnings (map_of a.file) assembly (heard_of heard.held between)
     × RanIfFound a assembly (place_asked (names_of assembly) a.until) (start_of a image)
-    streams interrupted heard status Alone
+    streams interrupted (heard_of between heard.now) status Alone
 
 -- What was done for words. `interrupted` says whether the writer was interrupted.
 abbrev pub IsDone : RunAsked → Streams → Bool → Heard → ℕ → Type 0 → Type 0
 IsDone a streams interrupted heard status Alone
-    = IsUnloaded a.file heard status Alone ⊎ RanFile a streams interrupted heard status Alone
+    = IsUnnamed a.file a.symbols heard status Alone ⊎ RanFile a streams interrupted heard status Alone

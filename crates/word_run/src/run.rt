@@ -3,6 +3,7 @@
 ghost use Rattle.std.specs.Prelude.{◌≡◌, ◌⊎◌, [], None, Some, false, if◌then◌else◌, option_map};
 ghost use Rattle.arguments.specs.Words.{Fits, Refuses, texts};
 ghost use Rattle.arguments_play.specs.Run.{RunAsked, asked, run, run_view};
+ghost use Rattle.loading.specs.Warned.{OnlyWarned};
 ghost use Rattle.model.specs.State.{input_waits, is_map};
 ghost use Rattle.word_run.specs.Runs.{IsDone, RanOrInterrupted, Start, TellsEnd};
 ghost use Rattle.word_run.specs.Runs.{TellsInterrupted, heard_of, streams_of};
@@ -17,7 +18,7 @@ use arguments_play::{RunWords, read_run_words};
 use assembler::Assembly;
 use console::{Played, play};
 use debugger::Session;
-use loading::{Loaded, load};
+use loading::{Loaded, load_named, tell_warnings};
 use std::alloc::Global;
 use std::io::{Read, Write};
 use std::rt::Files;
@@ -139,12 +140,15 @@ fn run_words<H: Files + AllocGlobal, R: Read, W: Write, S: Read, E: Write>(
         (heard_of (E.contents errors.old) (E.contents errors.new)) result
         ((input.new ≡ input.old) × (output.new ≡ output.old)) }
     ensures bad_map { is_map words.now.file.rom words.now.file.port ≡ false → result ≡ 2 }
-    ensures quiet { words.now.tells_cycles ≡ false → result ≡ 0 → errors.new ≡ errors.old }
+    ensures quiet { words.now.tells_cycles ≡ false → result ≡ 0
+        → OnlyWarned (E.contents errors.old) (E.contents errors.new) }
 {
-    let loaded = match load(rt, &words.file) {
+    let loaded = match load_named(rt, &words.file, words.symbols) {
         Ok(loaded) => loaded,
-        Err(fault) => return fault.tell(words.file.file, errors),
+        Err(fault) => return fault.tell(words.file.file, words.symbols, errors),
     };
+    let source = loaded.assembly.as_ref();
+    tell_warnings(rt.alloc(), &words.file, source, errors);
     let until = match place_named(&loaded, words.until, errors) {
         Ok(until) => until,
         Err(status) => return status,
@@ -175,11 +179,12 @@ fn run_words<H: Files + AllocGlobal, R: Read, W: Write, S: Read, E: Write>(
 /// - 10: the limit of steps. 11: a fault of the program. 12: the console is full.
 /// - 13: nothing stands where the program runs, or at the vector of its BRK. With `--free` a run
 ///   does not end there.
-/// - 1: the source or the tape is rejected. 2: the words, the place or the map are wrong. 3: memory
-///   ran out. 4: reading or writing failed. 130: the run was interrupted.
+/// - 1: the source, the tape or the file of names is rejected. 2: the words, the place or the map
+///   are wrong. 3: memory ran out. 4: reading or writing failed. 130: the run was interrupted.
 ///
-/// The program's output goes to `output`. For each status but those of the first line a line on
-/// `errors` says why; that it cannot be written changes no status.
+/// The program's output goes to `output`. Before it runs, a line on `errors` says how many warnings
+/// its source has, if it has some. For each status but those of the first line a line on `errors`
+/// says why; that a line cannot be written changes no status.
 pub fn run_program<H: Files + AllocGlobal, R: Read, W: Write, S: Read, E: Write>(
     rt: &H,
     words: &[&str],
@@ -204,9 +209,11 @@ pub fn run_program<H: Files + AllocGlobal, R: Read, W: Write, S: Read, E: Write>
     ensures bad_map { (a : RunAsked) → asked (texts words.entry.now) ≡ Some a
         → Fits run (texts words.entry.now)
         → is_map a.file.rom a.file.port ≡ false → (result ≡ 2) ⊎ (result ≡ 3) }
-    // Nothing is written on the error stream with the status 0, unless cycles are asked for.
+    // Nothing but how many warnings there are is written on the error stream with the status 0,
+    // unless cycles are asked for.
     ensures quiet { ((a : RunAsked) → asked (texts words.entry.now) ≡ Some a
-        → a.tells_cycles ≡ false) → result ≡ 0 → errors.new ≡ errors.old }
+        → a.tells_cycles ≡ false) → result ≡ 0
+        → OnlyWarned (E.contents errors.old) (E.contents errors.new) }
 {
     match read_run_words(rt.alloc(), words) {
         Ok(words) => run_words(rt, &words, input, output, errors),

@@ -3,8 +3,8 @@
 use Rattle.std.specs.Prelude.{ℕ, nat_lt, Bool, true, false, ◌||◌, if◌then◌else◌, List, [], ◌∷◌, Option, Some, None, codes}
 use Rattle.std.specs.List.{list_any}
 use Rattle.std.specs.Str.{bytes_eq}
-use Rattle.arguments.specs.Asked.{is_flag}
-use Rattle.arguments.specs.Values.{form_asked, steps_asked}
+use Rattle.arguments.specs.Asked.{form_by, is_flag}
+use Rattle.arguments.specs.Values.{steps_asked}
 use Rattle.arguments.specs.declared.file_options.FileForm.{FileForm}
 use Rattle.arguments.specs.declared.file_options.FileForm.TheVariants.{Source}
 use Rattle.clap.specs.Words.{Text}
@@ -96,8 +96,7 @@ reading_by (Some form) symbols seed only = reading_as form symbols seed only
 -- How the files are read that rows are run on: as images with `--image`, `--bin HHHH` or `--prg`;
 -- and which rows are run.
 abbrev pub reading_asked : (Text → Option Text) → Option ReadingAsked
-reading_asked value = reading_by (form_asked (is_flag (value (codes "image")))
-    (value (codes "bin")) (is_flag (value (codes "prg")))) (value (codes "symbols"))
+reading_asked value = reading_by (form_by value) (value (codes "symbols"))
     (seed_asked (value (codes "seed"))) (only_asked (value (codes "only")))
 
 -- TAP, unless something else is asked for; CSV has no line that sums up, and no row.

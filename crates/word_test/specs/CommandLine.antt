@@ -1,6 +1,7 @@
--- The command line of `test FILE .. [--source FILE ..] [--image] [--bin HHHH] [--prg] [--symbols
+-- The command line of `test FILE .. [--source FILE ..] [--bin HHHH] [--prg] [--image] [--symbols
 -- FILE] [--junit FILE] [--coverage FILE] [--steps N] [--seed N] [--only NAME] [--summary] [--quiet]
--- [--csv]`, as clap's definitions describe one. How words are matched with it is clap's to say. Source: mos65.
+-- [--csv]`, as clap's definitions describe one. How words are matched with it is clap's to say.
+-- Source: mos65.
 use Rattle.std.specs.Prelude.{◌≡◌, List, Option, Some, codes}
 use Rattle.arguments.specs.CommandLine.{files_rule, flag_rule, list_rule, option_rule, unnamed}
 use Rattle.arguments.specs.Words.{Fits, value_in, values_in}
@@ -8,10 +9,10 @@ use Rattle.clap.specs.Words.{App, Text, with_rule}
 use Rattle.image_files.specs.Options.{with_image}
 use Rattle.word_test.specs.Asked.{TestAsked, test_asked}
 
--- The files, and the flag that says that they are images.
+-- The files.
 abbrev pub test_files : App
-test_files = with_rule (with_rule (with_rule (unnamed (codes "test")) (files_rule (codes "FILE")))
-    (list_rule 1 (codes "source"))) (flag_rule (codes "image"))
+test_files = with_rule (with_rule (unnamed (codes "test")) (files_rule (codes "FILE")))
+    (list_rule 1 (codes "source"))
 
 -- A command line with the file of names, files that are written, and the steps of a call.
 abbrev pub with_files : App → App

@@ -3,8 +3,6 @@
 ghost use Rattle.std.specs.Prelude.{◌≡◌, ◌||◌, IfErr, IfOk, None, Some, codes, false, map};
 ghost use Rattle.std.specs.Prelude.{option_map};
 ghost use Rattle.std.specs.List.{list_any};
-ghost use Rattle.arguments.specs.Asked.{is_flag};
-ghost use Rattle.arguments.specs.Values.{form_asked};
 ghost use Rattle.arguments.specs.Words.{Fits, IsRefusalOf, all_values, texts};
 ghost use Rattle.clap.specs.Words.{app_of, first_value, found_of, kind_of};
 ghost use Rattle.clap.specs.declared.builder.command.Command.TheViews.{out-Command};
@@ -19,7 +17,7 @@ ghost use Rattle.word_test.specs.Views.{test_view};
 ghost use Rattle.t65_suites.specs.Suites.{reading_view};
 
 use arguments::{
-    FileForm, WordsFault, begin, file_list, flag, form_asked, is_given, list, matched, option,
+    FileForm, WordsFault, begin, file_list, flag, form_said_by, is_given, list, matched, option,
     steps_asked,
 };
 use clap::error::ErrorKind;
@@ -60,7 +58,7 @@ Examples:
   mos65 test crc8.t65 --source students/*/crc8.a65 --steps 10000 --csv
   mos65 test crc8.t65 --source crc8.bin --bin 0200 --symbols crc8.sym";
 
-/// Returns a command with the files, and the flag that says that they are images.
+/// Returns a command with the files.
 fn files_command<'a>(alloc: Global) -> Result<Command<'a>, Error>
     ensures shape { IfOk result (λ c. app_of c ≡ test_files) }
     ensures local { IfOk result (λ c. (out-Command c).has_globals ≡ false) }
@@ -69,11 +67,9 @@ fn files_command<'a>(alloc: Global) -> Result<Command<'a>, Error>
     let about = "Tests routines by rows: what is given to a call, and what it has to leave";
     let rows = "Files of rows, each of which names its source";
     let source = "Sources that the rows are run on, each, in place of the one that a file names";
-    let image = "What rows are run on is an image: a tape, Intel HEX or S-records";
     let command = begin(alloc, "test", "mos65 test", about, STATUSES)?
         .arg(file_list(alloc, "FILE", rows))?
-        .arg(list(alloc, "source", "FILE", 1, source))?
-        .arg(flag(alloc, "image", image))?;
+        .arg(list(alloc, "source", "FILE", 1, source))?;
     Ok(command)
 }
 
@@ -292,26 +288,13 @@ fn reading_as<'a>(
     }
 }
 
-/// Returns in which form files are read, or `None` if two are said or an address is wrong.
-fn form_of(matches: &ArgMatches<'_>) -> Option<FileForm>
-    ensures { result ≡ form_asked (is_flag (first_value (found_of matches.now) (codes "image")))
-        (first_value (found_of matches.now) (codes "bin"))
-        (is_flag (first_value (found_of matches.now) (codes "prg"))) }
-{
-    form_asked(
-        is_given(matches, "image"),
-        matches.get_str("bin"),
-        is_given(matches, "prg"),
-    )
-}
-
 /// Returns how files are read, and which rows are run, or `None` if a value is wrong or a source is
 /// given names.
 fn reading_asked<'a>(matches: &ArgMatches<'a>) -> Option<Reading<'a>>
     ensures { option_map reading_view result
         ≡ reading_asked (first_value (found_of matches.now)) }
 {
-    match form_of(matches) {
+    match form_said_by(matches) {
         None => None,
         Some(form) => reading_as(
             form,
@@ -441,7 +424,7 @@ fn clashing_words(matches: &ArgMatches<'_>) -> &'static str {
 fn wrong_words(matches: &ArgMatches<'_>) -> &'static str {
     if limit_asked(matches.get_str("steps")).is_none() {
         "--steps takes a decimal number up to 4294967295"
-    } else if form_of(matches).is_none() {
+    } else if form_said_by(matches).is_none() {
         "--bin takes four hex digits; only one of --image, --bin and --prg can be said"
     } else if seed_asked(matches.get_str("seed")).is_none() {
         "--seed takes a decimal number up to 4294967295"

@@ -5,7 +5,7 @@ ghost use Rattle.clap.specs.Words.{app_of, kind_of};
 ghost use Rattle.clap.specs.declared.builder.command.Command.TheViews.{out-Command};
 ghost use Rattle.word_convert.specs.DebugCommandLine.{debug, debug_part, with_map};
 
-use arguments::{begin, file, flag, option, port, profile, rom};
+use arguments::{begin, file, option, port, profile, rom};
 use clap::error::ErrorKind;
 use clap::{Command, Error};
 use image_files::with_image_options;
@@ -15,18 +15,16 @@ use std::alloc::Global;
 const EXAMPLE: &str = "Example:
   mos65 debug rom.bin --bin F000 --port none";
 
-/// The file, the flag and the history.
+/// The file and the history.
 fn part_command<'a>(alloc: Global) -> Result<Command<'a>, Error>
     ensures shape { IfOk result (λ c. app_of c ≡ debug_part) }
     ensures local { IfOk result (λ c. (out-Command c).has_globals ≡ false) }
     ensures memory { IfErr result (λ e. kind_of e ≡ ErrorKind.OutOfMemory) }
 {
     let about = "Debugs an image: commands on standard input, replies on standard output";
-    let image = "The form of FILE is that of its first record: a tape, Intel HEX or S-records";
     let history = "How many events can be undone, at most 65536 [default: 1024]";
     let command = begin(alloc, "debug", "mos65 debug", about, EXAMPLE)?
         .arg(file(alloc, "FILE", "The image to load"))?
-        .arg(flag(alloc, "image", image))?
         .arg(option(alloc, "history", "N", history))?;
     Ok(command)
 }
@@ -53,7 +51,7 @@ pub fn debug_image_command<'a>(alloc: Global) -> Result<Command<'a>, Error>
     ensures local { IfOk result (λ c. (out-Command c).has_globals ≡ false) }
     ensures memory { IfErr result (λ e. kind_of e ≡ ErrorKind.OutOfMemory) }
 {
-    let raw = "FILE has bytes alone, from this address on, four hex digits";
+    let raw = "FILE has bytes alone, from this address on, four hex digits, as FILE@HHHH";
     let prg = "FILE is a PRG file: its address in two bytes, and bytes from it on";
     let command = with_map(alloc, part_command(alloc)?)?;
     with_image_options(alloc, command, raw, prg)

@@ -9,7 +9,8 @@ ghost use Rattle.word_convert.specs.DebugCommandLine.{debug, words_asked};
 use crate::debugging::asked::DebugImageWords;
 use crate::debugging::command::debug_image_command;
 use arguments::{
-    WordsFault, debug_history_asked, matched, port_asked, profile_asked, rom_asked, value_fault,
+    WordsFault, debug_history_asked, matched, name_of, port_asked, profile_asked, rom_asked,
+    value_fault,
 };
 use clap::ArgMatches;
 use image_files::form_said;
@@ -19,14 +20,14 @@ use std::alloc::Global;
 fn debug_words<'a>(matches: &ArgMatches<'a>) -> Option<DebugImageWords<'a>>
     ensures { option_map debug_view result ≡ debug_by (first_value (found_of matches.now)) }
 {
-    let file = matches.get_str("FILE")?;
-    let form = form_said(matches)?;
+    let word = matches.get_str("FILE")?;
+    let form = form_said(Some(word), matches)?;
     let history = debug_history_asked(matches.get_str("history"))?;
     let port = port_asked(matches.get_str("port"))?;
     let rom = rom_asked(matches.get_str("rom"))?;
     let profile = profile_asked(matches.get_str("profile"))?;
     Some(DebugImageWords {
-        file,
+        file: name_of(word),
         form,
         history,
         port,

@@ -7,14 +7,14 @@ ghost use Rattle.word_convert.specs.ListingAsked.{dis_by, dis_view};
 ghost use Rattle.word_convert.specs.ListingCommandLine.{dis, words_asked};
 
 use crate::dis_rows::command::dis_image_command;
-use arguments::{WordsFault, address_asked, matched, profile_asked, wrong_value};
+use arguments::{WordsFault, address_asked, matched, name_of, profile_asked, wrong_value};
 use clap::ArgMatches;
 use image_files::form_said;
 use image_reader::Form;
 use model::Profile;
 use std::alloc::Global;
 
-/// What the words of `dis FILE LO HI [--image] [--bin HHHH] [--prg] [--profile N|C]` ask for.
+/// What the words of `dis FILE LO HI` with an image ask for.
 #[derive(Clone, Copy)]
 pub struct DisImageWords<'a> {
     /// The file to read.
@@ -33,9 +33,10 @@ pub struct DisImageWords<'a> {
 fn dis_words<'a>(matches: &ArgMatches<'a>) -> Option<DisImageWords<'a>>
     ensures { option_map dis_view result ≡ dis_by (first_value (found_of matches.now)) }
 {
+    let word = matches.get_str("FILE")?;
     let words = DisImageWords {
-        file: matches.get_str("FILE")?,
-        form: form_said(matches)?,
+        file: name_of(word),
+        form: form_said(Some(word), matches)?,
         first: address_asked(matches.get_str("LO"))?,
         last: address_asked(matches.get_str("HI"))?,
         profile: profile_asked(matches.get_str("profile"))?,

@@ -11,4 +11,5 @@ returns-clause-shape c =
     let with_rom = c.with-command-4.ensures.shape _ (option_rule (codes "rom")) (search rules) with_port in
     let with_profile = c.with-command-5.ensures.shape _ (option_rule (codes "profile")) (search rules) with_rom in
     let with_bin = c.with-command-6.ensures.shape _ (option_rule (codes "bin")) (search rules) with_profile in
-    c.in_ok-with.ensures.shape _ (flag_rule (codes "prg")) (search rules) with_bin
+    let with_prg = c.with-command-7.ensures.shape _ (flag_rule (codes "prg")) (search rules) with_bin in
+    c.in_ok-with.ensures.shape _ (flag_rule (codes "image")) (search rules) with_prg

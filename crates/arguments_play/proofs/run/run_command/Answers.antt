@@ -5,14 +5,16 @@ use Rattle.arguments_play.proofs.run.run_command.Goals as goal
 
 pub returns-clause-shape : goal.returns-clause-shape
 returns-clause-shape c =
-    let until_is : rule_of c.option.result ≡ option_rule (codes "until") = search rules in
-    let steps_is : rule_of c.option-2.result ≡ option_rule (codes "steps") = search rules in
-    let status_is : rule_of c.option-3.result ≡ option_rule (codes "status") = search rules in
+    let symbols_is : rule_of c.option.result ≡ option_rule (codes "symbols") = search rules in
+    let until_is : rule_of c.option-2.result ≡ option_rule (codes "until") = search rules in
+    let steps_is : rule_of c.option-3.result ≡ option_rule (codes "steps") = search rules in
+    let status_is : rule_of c.option-4.result ≡ option_rule (codes "status") = search rules in
     let cycles_is : rule_of c.flag.result ≡ flag_rule (codes "cycles") = search rules in
     let free_is : rule_of c.flag-2.result ≡ flag_rule (codes "free") = search rules in
     let filed : app_of c.in_ok-with_file_options.field-0 ≡ with_file (unnamed (codes "run")) = c.in_ok-with_file_options.ensures.shape ∙ ap with_file (c.in_ok-command.ensures.shape) in
-    let with_until = c.in_ok-arg.ensures.shape (search rules) ∙ ap₂ with_rule filed until_is in
-    let with_steps = c.in_ok-arg-2.ensures.shape (search rules) ∙ ap₂ with_rule with_until steps_is in
-    let with_status = c.in_ok-arg-3.ensures.shape (search rules) ∙ ap₂ with_rule with_steps status_is in
-    let with_cycles = c.in_ok-arg-4.ensures.shape (search rules) ∙ ap₂ with_rule with_status cycles_is in
+    let with_symbols = c.in_ok-arg.ensures.shape (search rules) ∙ ap₂ with_rule filed symbols_is in
+    let with_until = c.in_ok-arg-2.ensures.shape (search rules) ∙ ap₂ with_rule with_symbols until_is in
+    let with_steps = c.in_ok-arg-3.ensures.shape (search rules) ∙ ap₂ with_rule with_until steps_is in
+    let with_status = c.in_ok-arg-4.ensures.shape (search rules) ∙ ap₂ with_rule with_steps status_is in
+    let with_cycles = c.in_ok-arg-5.ensures.shape (search rules) ∙ ap₂ with_rule with_status cycles_is in
     c.in_ok-command-2.ensures.shape (search rules) ∙ ap₂ with_rule with_cycles free_is

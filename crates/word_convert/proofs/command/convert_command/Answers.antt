@@ -14,7 +14,10 @@ returns-clause-shape c =
     let bin_is : rule_of c.option-2.result ≡ option_rule (codes "bin") = search rules in
     let to_is : rule_of c.option-3.result ≡ option_rule (codes "to") = search rules in
     let fill_is : rule_of c.option-4.result ≡ option_rule (codes "fill") = search rules in
+    let sum_is : rule_of c.option-5.result ≡ option_rule (codes "sum8") = search rules in
     let prg_is : rule_of c.flag.result ≡ flag_rule (codes "prg") = search rules in
+    let image_is : rule_of c.flag-2.result ≡ flag_rule (codes "image") = search rules in
+    let tape_is : rule_of c.flag-3.result ≡ flag_rule (codes "tape") = search rules in
     let with_in = c.in_ok-arg.ensures.shape (search rules) ∙ ap₂ with_rule c.in_ok-begin.ensures.shape in_is in
     let with_out = c.in_ok-arg-2.ensures.shape (search rules) ∙ ap₂ with_rule with_in out_is in
     let with_low = c.in_ok-arg-3.ensures.shape (search rules) ∙ ap₂ with_rule with_out low_is in
@@ -23,4 +26,7 @@ returns-clause-shape c =
     let with_bin = c.in_ok-arg-6.ensures.shape (search rules) ∙ ap₂ with_rule with_from bin_is in
     let with_to = c.in_ok-arg-7.ensures.shape (search rules) ∙ ap₂ with_rule with_bin to_is in
     let with_fill = c.in_ok-arg-8.ensures.shape (search rules) ∙ ap₂ with_rule with_to fill_is in
-    c.in_ok-command.ensures.shape (search rules) ∙ ap₂ with_rule with_fill prg_is
+    let with_sum = c.in_ok-arg-9.ensures.shape (search rules) ∙ ap₂ with_rule with_fill sum_is in
+    let with_prg = c.in_ok-arg-10.ensures.shape (search rules) ∙ ap₂ with_rule with_sum prg_is in
+    let with_image = c.in_ok-arg-11.ensures.shape (search rules) ∙ ap₂ with_rule with_prg image_is in
+    c.in_ok-command.ensures.shape (search rules) ∙ ap₂ with_rule with_image tape_is

@@ -1,9 +1,6 @@
-use Rattle.std.proofs.Common.{ℕ, Vec, Global}
-use Rattle.word_convert.specs.Asked.{convert_view}
-use Rattle.word_convert.proofs.Whole.{part_as}
+use Rattle.std.proofs.Common.{ℕ, Option, subst}
+use Rattle.image_writer.specs.Window.{IsPart}
 use Rattle.word_convert.proofs.converting.part_written.Goals as goal
 
-pub returns : goal.returns
-returns c =
-    part_as c.written.result (λ (v : Vec ℕ Global). v.items) (convert_view c.args.words.now) c.args.image.now c.in_ok-part.part c.args.low c.args.high c.fill_for-fill.result
-    c.fill_for-fill.ensures c.in_ok-part.ensures c.written.ensures
+pub summed_written-requires-clause-part : goal.summed_written-requires-clause-part
+summed_written-requires-clause-part c = subst (λ (f : Option ℕ). IsPart c.args.low c.args.high f c.args.image.now c.in-Ok.part) c.fill_for-fill.ensures c.in-Ok.ensures

@@ -1,5 +1,5 @@
 use Rattle.std.proofs.Common.{sym, ◌∙◌, arith}
-use Rattle.word_dis.specs.Asked.{routine_of}
+use Rattle.marks_files.specs.Values.{routine_of}
 use Rattle.word_dis.proofs.Words.{begun, one_more, one_wrong, all_read}
 use Rattle.word_dis.proofs.following.routine_list.Goals as goal
 

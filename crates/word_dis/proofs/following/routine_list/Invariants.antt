@@ -1,4 +1,4 @@
-use Rattle.word_dis.specs.Asked.{routine_of}
+use Rattle.marks_files.specs.Values.{routine_of}
 use Rattle.word_dis.proofs.Words.{Reads}
 use Rattle.word_dis.proofs.following.routine_list.Given as goal
 

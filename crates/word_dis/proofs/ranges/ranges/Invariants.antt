@@ -1,4 +1,4 @@
-use Rattle.word_dis.specs.Asked.{range_of}
+use Rattle.marks_files.specs.Values.{range_of}
 use Rattle.word_dis.proofs.Words.{Reads}
 use Rattle.word_dis.proofs.ranges.ranges.Given as goal
 

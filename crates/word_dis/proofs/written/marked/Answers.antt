@@ -1,11 +1,9 @@
-use Rattle.std.proofs.Common.{sym, ◌∙◌}
+use Rattle.std.proofs.Common.{ap}
 use Rattle.word_dis.specs.Views.{source_view}
-use Rattle.word_dis.proofs.Parts.{followed, unfollowed}
+use Rattle.word_dis.proofs.Parts.{known}
 use Rattle.word_dis.proofs.written.marked.Goals as goal
 
-pub returns-then-is_followed : goal.returns-then-is_followed
-returns-then-is_followed c =
-    followed (λ v. v.items) (source_view c.args.words.now) c.args.part.now c.in_ok-plain.plain.items c.followed.result c.in_ok-plain.ensures (sym c.is_followed.ensures ∙ c.if-is_followed.true) (rw c.as_slice.ensures.value at c.followed.ensures)
-
-pub returns-else-is_followed : goal.returns-else-is_followed
-returns-else-is_followed c = unfollowed (source_view c.args.words.now) c.args.part.now c.in_ok-plain.plain.items c.in_ok-plain.ensures (sym c.is_followed.ensures ∙ c.if-is_followed.false)
+pub returns : goal.returns
+returns c =
+    known (λ v. v.items) (source_view c.args.words.now) c.args.part.now c.in_ok-reached.reached.items c.as_slice.result.now c.as_slice-2.result.now c.said_marks.result
+    c.as_slice.ensures.value c.as_slice-2.ensures.value c.in_ok-reached.ensures c.said_marks.ensures.len c.said_marks.ensures.each

@@ -4,8 +4,8 @@ use Rattle.word_mend.proofs.Found.{place_at_end, place_passed, place_reached, pl
 use Rattle.word_mend.proofs.run.place_in.Goals as goal
 use Rattle.word_mend.proofs.run.place_in.Goals.{then-is_kept+else-left-ends, else-is_kept}
 
-pub returns-then-left-ends : goal.returns-then-left-ends
-returns-then-left-ends c =
+pub returns-then-left-ends-clause-value : goal.returns-then-left-ends-clause-value
+returns-then-left-ends-clause-value c =
     let few : c.loop-place.left ≤ ends_before c.loop-place.is_first (slice_index c.args.text.now c.loop-place.place) = omega (arith, c.ends_before-ends.ensures, c.if-left-ends.true) in
     place_reached c.args.text.now c.loop-place.left c.loop-place.is_first c.loop-place.place _ (omega (arith, c.loop-place-test.true)) c.loop-place.invariant (sym c.is_kept.ensures ∙ c.if-is_kept.true) few
 
@@ -18,5 +18,5 @@ loop-place-preserved c =
       | else-is_kept w ↦ place_skipped c.args.text.now c.loop-place.left c.loop-place.is_first c.loop-place.place _ there c.loop-place.invariant _ _ (is ∙ w.if-is_kept.false) w.left-is w.is_first-is
     ]
 
-pub returns : goal.returns
-returns c = place_at_end c.args.text.now c.loop-place.left c.loop-place.is_first c.loop-place.place _ (omega (arith, c.loop-place-test.false)) c.loop-place.auto.place-end c.loop-place.invariant
+pub returns-clause-value : goal.returns-clause-value
+returns-clause-value c = place_at_end c.args.text.now c.loop-place.left c.loop-place.is_first c.loop-place.place _ (omega (arith, c.loop-place-test.false)) c.loop-place.auto.place-end c.loop-place.invariant

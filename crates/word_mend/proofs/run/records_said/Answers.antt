@@ -3,7 +3,7 @@ use Rattle.std.proofs.lemmas.Result.{IfOk-weaker}
 use Rattle.word_mend.proofs.run.records_said.Goals as goal
 
 pub returns : goal.returns
-returns c = IfOk-weaker c.records_report.result _ _ (λ said told. inr (record {
+returns c = IfOk-weaker c.records_report.result _ _ (λ said told. inr (inr (record {
   text = c.args.text.now;
   form = c.args.form;
   told_form = c.requires.form;
@@ -13,4 +13,4 @@ returns c = IfOk-weaker c.records_report.result _ _ (λ said told. inr (record {
   mended = c.requires.text;
   denotes = c.requires.denotes;
   report = told;
-})) c.records_report.ensures
+}))) c.records_report.ensures

@@ -10,5 +10,5 @@ returns c = inl (record {
   kind = c.args.fault.kind;
   offset = c.args.fault.offset;
   first = c.requires.first;
-  told = c.in_ok-text.ensures.line ∙ ap (λ (f : TapeFault). fault_line c.args.words.now.tape.now c.args.text.now f) c.moved.ensures;
+  told = c.in_ok-text.ensures.line ∙ ap (λ (f : TapeFault). fault_line c.args.words.now.tape.now c.args.text.now f) c.moved.ensures.value;
 })

@@ -11,11 +11,13 @@ returns-in-Ok-clause-done g c = inr (inr (
     words = c.args.words;
     mon = c.in-Ok.started.mon;
     view = c.first_view-view.result;
+    answered = c.new-answered.result;
     notes = c.new-notes.result;
     loaded = c.in-Ok.started.loaded;
   },
   named_starts (mon_view c.args.words.now) c.args.loaded.session c.args.loaded.assembly c.args.loaded.written c.in-Ok.started.loaded c.in-Ok.started.mon c.requires c.in-Ok.ensures.made c.in-Ok.ensures.loaded,
   c.new-notes.ensures.items,
+  c.new-answered.ensures.items,
   refl,
   c.first_view-view.ensures,
   c.wants_prompts-prompts.result,

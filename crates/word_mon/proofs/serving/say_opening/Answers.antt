@@ -9,7 +9,7 @@ returns-clause-rests c =
     let first = c.args.terminal.now in
     let shown = shows_then first.mon c.greet.new.mon c.show.new.self c.greet.ensures.shows c.show.ensures.shows in
     let rests = c.draw.ensures.rests in
-    (shows_then first.mon c.show.new.self c.draw.new.terminal.mon shown rests.0, rests.1, rests.2, rests.3, rests.4)
+    (shows_then first.mon c.show.new.self c.draw.new.terminal.mon shown rests.0, rests.1, rests.2, rests.3, rests.4, rests.5)
 
 pub returns-clause-said : goal.returns-clause-said
 returns-clause-said c =

@@ -20,6 +20,11 @@ pub returns-in-Reload-clause-obeyed : goal.returns-in-Reload-clause-obeyed
 returns-in-Reload-clause-obeyed g c =
     subst (λ (command : Command). OnOk c.reload.result (Obeys (command_view command) c.args.terminal.now c.reload.new.terminal)) (sym c.in-Reload.is) c.reload.ensures.reloaded
 
+pub returns-in-Draw-clause-obeyed : goal.returns-in-Draw-clause-obeyed
+returns-in-Draw-clause-obeyed g c =
+    subst (λ (command : Command). OnOk c.show_again.result (Obeys (command_view command) c.args.terminal.now c.show_again.new.terminal)) (sym c.in-Draw.is)
+    (on_ok_map c.show_again.result _ _ (λ said. (c.show_again.ensures.rests, said)) c.show_again.ensures.said)
+
 -- A line that is none of those before it.
 pub returns-in_default-clause-obeyed : goal.returns-in_default-clause-obeyed
 returns-in_default-clause-obeyed g c = by_command c.args.command.now refl
@@ -28,4 +33,5 @@ returns-in_default-clause-obeyed g c = by_command c.args.command.now refl
     by_command (line.Save file stretch) e = absurd (c.in_default.not-Save file stretch e)
     by_command (line.Page file) e = absurd (c.in_default.not-Page file e)
     by_command line.Reload e = absurd (c.in_default.not-Reload e)
+    by_command (line.Draw drawing) e = absurd (c.in_default.not-Draw drawing e)
     by_command _ e = refl

@@ -11,4 +11,5 @@ returns-clause-noted c =
           ∙ (λ i. notes_after c.serve.new.mon (c.placed_in-placed.ensures i) (c.regs-pc.ensures i).pc c.args.line.now first.notes.items);
       loaded = refl;
       words = refl;
+      answered = refl;
     }

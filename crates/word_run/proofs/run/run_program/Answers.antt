@@ -1,10 +1,11 @@
-use Rattle.std.proofs.Common.{◌≡◌, None, inl, inr, refl, subst}
+use Rattle.std.proofs.Common.{◌≡◌, ◌≤◌, None, arith, inl, inr, refl, subst}
 use Rattle.arguments.proofs.Refusing.{not_refused, refuses}
 use Rattle.arguments.specs.Words.{IsStatusOf, texts}
 use Rattle.arguments.proofs.Parsed.{not_both, one_asked}
 use Rattle.arguments_play.specs.Run.{RunAsked, asked, run, run_view}
 use Rattle.word_run.specs.Runs.{IsDone}
-use Rattle.loading.proofs.Unloaded.{unloaded_by_memory}
+use Rattle.loading.proofs.Unnamed.{unnamed_by_memory}
+use Rattle.loading.proofs.WarningsTold.{untold}
 use Rattle.word_run.proofs.run.run_program.Goals as goal
 
 pub returns-in-Ok-clause-done : goal.returns-in-Ok-clause-done
@@ -35,7 +36,7 @@ returns-in-Err-clause-refused g c =
 -- The words were right, so memory ran out.
 pub returns-in-Err-clause-done : goal.returns-in-Err-clause-done
 returns-in-Err-clause-done g c a h fits =
-    inl (unloaded_by_memory a.file (record {
+    inl (unnamed_by_memory a.file a.symbols (record {
       held = g.E.Write.contents c.args.errors.now;
       now = g.E.Write.contents c.refused_words.new.errors;
     }) c.in-Err.fault c.refused_words.result (c.args.input.now ≡ c.args.input.now) (c.refused_words.new.output ≡ c.args.output.now) (c.in-Err.ensures.served a fits h)
@@ -44,3 +45,10 @@ returns-in-Err-clause-done g c a h fits =
 pub returns-in-Err-clause-bad_map : goal.returns-in-Err-clause-bad_map
 returns-in-Err-clause-bad_map g c a h fits bad =
     inr (subst (λ f. IsStatusOf f c.refused_words.result) (c.in-Err.ensures.served a fits h) c.refused_words.ensures.status)
+
+pub returns-in-Ok-clause-quiet : goal.returns-in-Ok-clause-quiet
+returns-in-Ok-clause-quiet g c none zero = c.run_words.ensures.quiet (none (run_view c.in-Ok.words) c.in-Ok.ensures.asked) zero
+
+-- Help was written, and nothing was told.
+pub returns-in-Err-clause-quiet : goal.returns-in-Err-clause-quiet
+returns-in-Err-clause-quiet g c none zero = untold g.E.Write.contents c.args.errors.now c.refused_words.new.errors (c.refused_words.ensures.quiet (omega (arith, zero)))

@@ -1,5 +1,5 @@
 use Rattle.std.proofs.Common.{rules, ap₂, codes, ◌≡◌, ◌∙◌}
-use Rattle.arguments.specs.CommandLine.{file_rule, flag_rule}
+use Rattle.arguments.specs.CommandLine.{file_rule}
 use Rattle.clap.specs.Words.{rule_of, with_rule}
 use Rattle.word_convert.proofs.dis_rows.command.part_command.Goals as goal
 
@@ -8,8 +8,6 @@ returns-clause-shape c =
     let rule_0 : rule_of c.file.result ≡ file_rule (codes "FILE") = search rules in
     let rule_1 : rule_of c.file-2.result ≡ file_rule (codes "LO") = search rules in
     let rule_2 : rule_of c.file-3.result ≡ file_rule (codes "HI") = search rules in
-    let rule_3 : rule_of c.flag.result ≡ flag_rule (codes "image") = search rules in
     let with_0 = c.in_ok-arg.ensures.shape (search rules) ∙ ap₂ with_rule c.in_ok-begin.ensures.shape rule_0 in
     let with_1 = c.in_ok-arg-2.ensures.shape (search rules) ∙ ap₂ with_rule with_0 rule_1 in
-    let with_2 = c.in_ok-arg-3.ensures.shape (search rules) ∙ ap₂ with_rule with_1 rule_2 in
-    c.in_ok-command.ensures.shape (search rules) ∙ ap₂ with_rule with_2 rule_3
+    c.in_ok-command.ensures.shape (search rules) ∙ ap₂ with_rule with_1 rule_2

@@ -1,0 +1,105 @@
+-- Short debug files, and the rows of three addresses of files that ld65 wrote. Each is computed.
+use Rattle.std.proofs.Common.{◌≡◌, ℕ, List, [], ◌∷◌, ◌++◌, codes, Some, None, Result, Ok, Err, refl}
+use Rattle.model.specs.TextLines.{lines_from}
+use Rattle.debug_records.specs.Fields.{field_of, field_with, fields_within, next_field, said_by}
+use Rattle.debug_records.specs.Info.{Info, no_info, with_new}
+use Rattle.debug_records.specs.Numbers.{next_number, number_of, numbers_within}
+use Rattle.debug_records.specs.Reading.{debug_info, finished, lines_read, with_file, with_line, with_module, with_record, with_said, with_segment, with_span, with_text, with_uses, with_version}
+use Rattle.debug_records.specs.Records.{file_of, line_of, segment_of, span_of}
+use Rattle.debug_records.specs.Rows.{row_of, rows_at, rows_of, shown_at}
+use Rattle.debug_records.specs.declared.fault.DebugFault.{DebugFault}
+use Rattle.debug_records.specs.declared.fault.DebugFaultKind.{DebugFaultKind}
+use Rattle.debug_records.specs.declared.fault.DebugFaultKind.TheVariants as fault
+use Rattle.debug_records.specs.declared.record.LineKind.{LineKind}
+use Rattle.debug_records.specs.declared.record.LineKind.TheVariants as kind
+use Rattle.debug_records.specs.declared.row.Row.{Row}
+
+abbrev version : List ℕ
+version = codes "version\tmajor=2,minor=0\n"
+
+abbrev fault_in_file : ℕ → ℕ → DebugFaultKind → Result Info DebugFault
+fault_in_file line column kind = Err (record { line = line; column = column; kind = kind })
+
+-- ---- faults
+
+pub nothing : debug_info [] ≡ fault_in_file 1 1 fault.NoVersion
+unfolding debug_info lines_read lines_from finished
+nothing = refl
+
+pub other_version : debug_info (codes "version\tmajor=3,minor=0\n") ≡ fault_in_file 1 15 fault.OtherVersion
+unfolding debug_info lines_read lines_from with_text said_by fields_within next_field field_of field_with number_of with_said with_version finished
+other_version = refl
+
+-- counts are skipped
+pub counts : debug_info (version ++ codes "info\tfile=522,span=9\n") ≡ Ok no_info
+unfolding debug_info lines_read lines_from with_text said_by fields_within next_field field_of field_with number_of with_said with_version with_record finished
+counts = refl
+
+pub no_segment : debug_info (version ++ codes "span\tid=0,seg=3,start=0,size=1\n") ≡ fault_in_file 2 15 fault.NoRecord
+unfolding debug_info lines_read lines_from with_text said_by fields_within next_field field_of field_with number_of with_said with_version with_record with_span span_of with_new finished
+no_segment = refl
+
+pub twice : debug_info (version ++ codes "seg\tid=0,start=0x0,size=1\r\nseg\tid=0,start=1,size=1\n") ≡ fault_in_file 3 8 fault.IdTwice
+unfolding debug_info lines_read lines_from with_text said_by fields_within next_field field_of field_with number_of with_said with_version with_record with_segment segment_of with_new finished
+twice = refl
+
+pub open_quote : debug_info (version ++ codes "file\tid=0,name=" ++ 34 ∷ codes "a,b\n") ≡ fault_in_file 2 16 fault.OpenText
+unfolding debug_info lines_read lines_from with_text said_by fields_within next_field field_of field_with number_of with_said with_version finished
+open_quote = refl
+
+-- ---- two spans of a line of C, a `while` at its condition and at its jump
+
+abbrev rows_in : Result Info DebugFault → List Row
+rows_in (Ok info) = rows_of info
+rows_in (Err fault) = []
+
+abbrev row : ℕ → ℕ → LineKind → ℕ → ℕ → ℕ → Row
+row file line kind depth start end = record {
+  file = file;
+  line = line;
+  kind = kind;
+  depth = depth;
+  start = start;
+  end = end;
+}
+
+abbrev while_line : List ℕ
+while_line = version ++ codes "line\tid=0,file=0,line=8,type=1,span=1+0\nspan\tid=0,seg=0,start=325,size=3\nspan\tid=1,seg=0,start=376,size=13\nseg\tid=0,start=0x008019,size=0x055E\nfile\tid=0,name="
+    ++ 34 ∷ codes "bank.c" ++ 34 ∷ codes ",size=9,mtime=0x10\n"
+
+pub two_spans : rows_in (debug_info while_line) ≡ row 0 8 kind.C 0 0x8191 0x819E ∷ row 0 8 kind.C 0 0x815E 0x8161 ∷ []
+unfolding debug_info lines_read lines_from with_text said_by fields_within next_field field_of field_with number_of next_number numbers_within with_said with_version with_record with_file file_of with_segment segment_of with_span span_of with_line line_of with_uses with_new finished row_of
+two_spans = refl
+
+-- ---- a macro in a macro: the line that the author wrote is shown
+
+abbrev called : Row
+called = row 0 20 kind.Assembler 0 0xE025 0xE02F
+
+abbrev body : Row
+body = row 1 8 kind.Macro 1 0xE025 0xE02A
+
+abbrev inner : Row
+inner = row 1 3 kind.Macro 2 0xE025 0xE027
+
+abbrev behind : Row
+behind = row 1 4 kind.Macro 2 0xE027 0xE02A
+
+abbrev rows : List Row
+rows = body ∷ called ∷ behind ∷ inner ∷ []
+
+pub at_first : rows_at rows 0xE025 ≡ body ∷ called ∷ inner ∷ []
+at_first = refl
+
+pub shown_first : shown_at no_info rows 0xE027 ≡ Some called
+unfolding shown_at
+shown_first = refl
+
+-- ---- a statement of C stands over its lines of assembler
+
+abbrev statement : Row
+statement = row 3 33 kind.C 0 0x80A3 0x80B3
+
+pub shown_statement : shown_at no_info (row 1 243 kind.Assembler 0 0x80AD 0x80B0 ∷ statement ∷ []) 0x80AD ≡ Some statement
+unfolding shown_at
+shown_statement = refl

@@ -1,0 +1,6 @@
+pub mod Digits
+pub mod Examples
+pub mod Passing
+pub mod Pushed
+pub mod Tables
+pub mod Ways

@@ -1,0 +1,90 @@
+-- What a record of a debug file says, by its fields. Other words and other fields say nothing here: a
+-- minor version may add them. Names of a record are looked for in the order in which they stand
+-- here. Sources: those of Fields.antt; mos65 for the faults.
+use Rattle.std.specs.Prelude.{ℕ, ◌==◌, Bool, is_some, if◌then◌else◌, List, codes, Option, Some, None, Result, Ok, Err}
+use Rattle.debug_records.specs.Faults.{◌>>=◌, fault_before}
+use Rattle.debug_records.specs.Fields.{Field, field_in}
+use Rattle.debug_records.specs.Numbers.{number_in, number_or, number_value, text_in, text_value}
+use Rattle.debug_records.specs.declared.fault.DebugFaultKind.TheVariants.{NoKind}
+use Rattle.debug_records.specs.declared.fault.LineFault.{LineFault}
+use Rattle.debug_records.specs.declared.record.Line.{Line}
+use Rattle.debug_records.specs.declared.record.LineKind.{LineKind}
+use Rattle.debug_records.specs.declared.record.LineKind.TheVariants.{Assembler, C, Macro, Parameter}
+use Rattle.debug_records.specs.declared.record.Span.{Span}
+
+-- ---- `file`: a source, with its size and time when it was assembled
+
+pub record File : Type 0 where
+  pub name : List ℕ
+  pub size : ℕ
+  pub modified : ℕ
+
+unfoldable pub file_of : List Field → Result File LineFault
+file_of fields =
+    text_in fields (codes "name") >>= λ name.
+    number_in fields (codes "size") >>= λ size.
+    number_in fields (codes "mtime") >>= λ modified.
+    Ok (record { name = name; size = size; modified = modified })
+
+-- ---- `seg`: a segment, where it runs, and where its bytes are in a file that the linker wrote
+
+pub record Output : Type 0 where
+  pub name : List ℕ
+  pub offset : ℕ
+
+pub record Segment : Type 0 where
+  pub start : ℕ
+  pub size : ℕ
+  pub output : Option Output
+
+abbrev pub output_by : List Field → Option Field → Result (Option Output) LineFault
+output_by fields None = Ok None
+output_by fields (Some field) =
+    text_value field >>= λ name.
+    number_in fields (codes "ooffs") >>= λ offset.
+    Ok (Some (record { name = name; offset = offset }))
+
+unfoldable pub segment_of : List Field → Result Segment LineFault
+segment_of fields =
+    number_in fields (codes "start") >>= λ start.
+    number_in fields (codes "size") >>= λ size.
+    output_by fields (field_in fields (codes "oname")) >>= λ output.
+    Ok (record { start = start; size = size; output = output })
+
+-- ---- `span`: bytes of a segment; they are data if they have a type
+
+unfoldable pub span_of : ℕ → List Field → Result Span LineFault
+span_of segment fields =
+    number_in fields (codes "start") >>= λ start.
+    number_in fields (codes "size") >>= λ size.
+    Ok (record {
+      segment = segment;
+      start = start;
+      size = size;
+      is_data = is_some (field_in fields (codes "type"));
+    })
+
+-- ---- `line`: a line of a file; `count` says how deep in macros and loops it stands
+
+abbrev pub kind_of : ℕ → Option LineKind
+kind_of number =
+    if number == 0 then Some Assembler
+    else if number == 1 then Some C
+    else if number == 2 then Some Macro
+    else if number == 3 then Some Parameter
+    else None
+
+abbrev pub kind_or_fault : ℕ → Option LineKind → Result LineKind LineFault
+kind_or_fault left None = Err (fault_before NoKind left)
+kind_or_fault left (Some kind) = Ok kind
+
+abbrev pub kind_by : Option Field → Result LineKind LineFault
+kind_by None = Ok Assembler
+kind_by (Some field) = number_value field >>= λ number. kind_or_fault field.left (kind_of number)
+
+unfoldable pub line_of : ℕ → List Field → Result Line LineFault
+line_of file fields =
+    number_in fields (codes "line") >>= λ line.
+    kind_by (field_in fields (codes "type")) >>= λ kind.
+    number_or fields (codes "count") 0 >>= λ depth.
+    Ok (record { file = file; line = line; kind = kind; depth = depth })

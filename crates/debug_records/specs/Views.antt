@@ -1,0 +1,60 @@
+-- Fields and records without where they lie in memory.
+use Rattle.std.specs.Prelude.{ℕ, List, map, Option}
+use Rattle.std.specs.Borrow.{Bor}
+use Rattle.std.specs.Option.{option_map}
+use Rattle.debug_records.specs.Fields.{Field, Said}
+use Rattle.debug_records.specs.Info.{Info}
+use Rattle.debug_records.specs.Reading.{Reading}
+use Rattle.debug_records.specs.Records.{File, Output, Segment}
+use Rattle.debug_records.specs.declared.fields.Field.{Field as HeldField}
+use Rattle.debug_records.specs.declared.fields.Said.{Said as HeldSaid}
+use Rattle.debug_records.specs.declared.info.DebugInfo.{DebugInfo}
+use Rattle.debug_records.specs.declared.reading.Reading.{Reading as HeldReading}
+use Rattle.debug_records.specs.declared.record.File.{File as HeldFile}
+use Rattle.debug_records.specs.declared.record.Output.{Output as HeldOutput}
+use Rattle.debug_records.specs.declared.record.Segment.{Segment as HeldSegment}
+
+abbrev pub field_view : HeldField → Field
+field_view field = record {
+  name = field.name.now;
+  value = field.value.now;
+  is_text = field.is_text;
+  left = field.left;
+}
+
+abbrev pub said_view : HeldSaid → Said
+said_view said = record { word = said.word.now; fields = map field_view said.fields.items }
+
+abbrev pub file_view : HeldFile → File
+file_view file = record { name = file.name.now; size = file.size; modified = file.modified }
+
+abbrev pub output_view : HeldOutput → Output
+output_view output = record { name = output.name.now; offset = output.offset }
+
+abbrev pub segment_view : HeldSegment → Segment
+segment_view segment = record {
+  start = segment.start;
+  size = segment.size;
+  output = option_map output_view segment.output;
+}
+
+abbrev pub info_view : DebugInfo → Info
+info_view info = record {
+  files = map (option_map file_view) info.files.items;
+  segments = map (option_map segment_view) info.segments.items;
+  spans = info.spans.items;
+  lines = info.lines.items;
+  modules = info.modules.items;
+  uses = info.uses.items;
+}
+
+abbrev pub reading_view : HeldReading → Reading
+reading_view reading = record {
+  is_versioned = reading.is_versioned;
+  info = info_view reading.info;
+  references = reading.references.items;
+}
+
+-- A field, and the text behind it.
+abbrev pub read_view : HeldField × Bor (List ℕ) → Field × List ℕ
+read_view read = (field_view read.0, read.1.now)

@@ -1,0 +1,27 @@
+//! A debug file of ld65 as records and rows: which bytes came from which line of which file.
+//!
+//! `read_debug_info` reads a text that `ld65 --dbgfile` wrote, or tells its first fault; `rows_of`
+//! makes a row for each span of each line, and `shown_at` picks the one that is shown for an
+//! address. `specs/Fields.antt` says what a line says, `specs/Records.antt` what each record has,
+//! `specs/Reading.antt` what a file denotes, and `specs/Rows.antt` what the rows are. Symbols and
+//! scopes are skipped.
+#![tactic(auto)]
+
+mod fault;
+mod fields;
+mod info;
+mod numbers;
+mod reading;
+mod record;
+mod record_fields;
+mod reference;
+mod row;
+mod rows;
+mod text;
+
+pub use fault::{DebugError, DebugFault, DebugFaultKind};
+pub use info::{DebugInfo, Use, is_ambiguous};
+pub use record::{File, Line, LineKind, Output, Segment, Span};
+pub use row::Row;
+pub use rows::{rows_at, rows_of, shown_at};
+pub use text::read_debug_info;

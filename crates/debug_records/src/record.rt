@@ -1,0 +1,55 @@
+//! Records of a debug file.
+
+/// A source, with its size and time when it was assembled.
+#[derive(Clone, Copy)]
+pub struct File<'a> {
+    pub name: &'a [u8],
+    pub size: u32,
+    pub modified: u32,
+}
+
+/// A file that the linker wrote, and a place in it.
+#[derive(Clone, Copy)]
+pub struct Output<'a> {
+    pub name: &'a [u8],
+    pub offset: u32,
+}
+
+/// A segment: where it runs, and where its bytes are in a file that the linker wrote.
+#[derive(Clone, Copy)]
+pub struct Segment<'a> {
+    pub start: u32,
+    pub size: u32,
+    pub output: Option<Output<'a>>,
+}
+
+/// Bytes of a segment, from its start on. They are data if they have a type.
+#[derive(Clone, Copy)]
+pub struct Span {
+    pub segment: u32,
+    pub start: u32,
+    pub size: u32,
+    pub is_data: bool,
+}
+
+/// What a line is a line of.
+#[derive(Clone, Copy, Debug, PartialEq, Eq)]
+pub enum LineKind {
+    /// A source of the assembler.
+    Assembler,
+    /// A source in C.
+    C,
+    /// The body of a macro.
+    Macro,
+    /// The text of a parameter of a macro.
+    Parameter,
+}
+
+/// A line of a file; `depth` says how deep in macros and loops it stands.
+#[derive(Clone, Copy)]
+pub struct Line {
+    pub file: u32,
+    pub line: u32,
+    pub kind: LineKind,
+    pub depth: u32,
+}

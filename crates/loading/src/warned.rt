@@ -1,0 +1,102 @@
+//! What is told of the warnings of a source that is loaded.
+
+ghost use Rattle.std.specs.Prelude.{◌≡◌, length, option_map};
+ghost use Rattle.arguments.specs.Asked.{file_view, map_of};
+ghost use Rattle.loading.specs.Warned.{IsCount, TellsWarnings, many_text, warned_text};
+ghost use Rattle.model.specs.Writers.{AppendsFront};
+
+use crate::loaded::map_of_words;
+use arguments::{FileWords, put_all};
+use assembler::Assembly;
+use formatting::{Text, push_bytes, push_decimal};
+use memory_map::MapSpec;
+use std::alloc::Global;
+use std::io::Write;
+use warnings::{Warning, source_warnings};
+
+/// How the line begins that tells of several warnings.
+const PROGRAM: &str = "mos65: ";
+
+/// The line that tells of one warning.
+const ONE_WARNING: &str = "mos65: 1 warning; check shows it\n";
+
+/// How the line ends that tells of several.
+const MANY_WARNINGS: &str = " warnings; check shows them\n";
+
+/// Returns how many warnings there are.
+fn length_of(warnings: &[Warning]) -> usize
+    ensures { result ≡ length warnings.now }
+{
+    warnings.len()
+}
+
+/// Returns how many warnings a source has on a map, or 0 where memory runs out.
+fn count_on(alloc: Global, map: &MapSpec, source: &[u8]) -> usize
+    ensures { IsCount map.now source.now result }
+{
+    match source_warnings(alloc, source, map) {
+        Ok(warnings) => length_of(warnings.as_slice()),
+        Err(_) => 0,
+    }
+}
+
+/// Returns how many warnings a source has on the map of the words, or 0 where memory runs out.
+fn warning_count(alloc: Global, words: &FileWords<'_>, assembly: &Assembly) -> usize
+    ensures { IsCount (map_of (file_view words.now)) assembly.now.source result }
+{
+    match map_of_words(words) {
+        Ok(map) => count_on(alloc, &map, assembly.source()),
+        Err(_) => 0,
+    }
+}
+
+/// Returns the line that tells of several warnings.
+fn many_text(count: u64) -> Text
+    ensures { result.items ≡ many_text count }
+{
+    let mut text = Text::new();
+    push_bytes(&mut text, PROGRAM.as_bytes());
+    push_decimal(&mut text, count);
+    push_bytes(&mut text, MANY_WARNINGS.as_bytes());
+    text
+}
+
+/// Writes how many warnings there are, if there are some, or a beginning of that line if a write
+/// fails.
+#[tactic(auto, unfolding(crate::specs::Warned::warned_text))]
+fn tell_count<E: Write>(count: usize, errors: &mut E)
+    ensures { AppendsFront (E.contents errors.old) (E.contents errors.new) (warned_text count) }
+{
+    if count == 0 {
+        return;
+    }
+    if count == 1 {
+        put_all(&[ONE_WARNING.as_bytes()], errors);
+    } else {
+        put_all(&[many_text(count as u64).as_slice()], errors);
+    }
+}
+
+/// Writes how many warnings a source has, if there is one and it has some, or a beginning of that
+/// line if a write fails. Where memory runs out nothing is written.
+#[tactic(auto, using(crate::proofs::WarningsTold::none_told))]
+pub fn tell_warnings<E: Write>(
+    alloc: Global,
+    words: &FileWords<'_>,
+    assembly: Option<&Assembly>,
+    errors: &mut E,
+)
+    ensures { TellsWarnings (map_of (file_view words.now))
+        (option_map (λ a. a.now) assembly.entry) (record {
+          held = E.contents errors.old;
+          now = E.contents errors.new;
+        }) }
+{
+    match assembly {
+        None => {}
+        Some(assembly) => {
+            let count = warning_count(alloc, words, assembly);
+            tell_count(count, errors);
+        }
+    }
+}

@@ -1,0 +1,5 @@
+pub mod Rows
+pub mod Splits
+pub mod Strings
+pub mod RemarkedText
+pub mod Views
