@@ -1,5 +1,5 @@
 use Rattle.std.proofs.Common.{None, sym, ◌≡◌, ◌∙◌}
-use Rattle.arguments.proofs.Parsed.{asked_by, fits_by, value_refused}
+use Rattle.arguments.proofs.Parsed.{asked_by, fits_by, refused_by, value_refused}
 use Rattle.arguments.specs.Words.{texts}
 use Rattle.clap.specs.Words.{app_of, first_value, found_of}
 use Rattle.tape_words.specs.Asked.{cmp_asked, cmp_by}
@@ -15,3 +15,11 @@ returns-clause-refused c =
     value_refused cmp (texts c.args.words.now) (cmp_asked (texts c.args.words.now) ≡ None) _ _ c.value_fault.ensures
     (fits_by (app_of c.in_ok-cmp_command.field-0) cmp (texts c.args.words.now) c.in_ok-cmp_command.ensures.shape c.in_ok-matches.ensures.fits)
     (sym (c.in-None.ensures ∙ asked_by cmp_by (app_of c.in_ok-cmp_command.field-0) cmp (texts c.args.words.now) (first_value (found_of c.in_ok-matches.matches)) c.in_ok-cmp_command.ensures.shape c.in_ok-matches.ensures.values))
+
+pub returns-in_err-matches-clause-refused : goal.returns-in_err-matches-clause-refused
+returns-in_err-matches-clause-refused c =
+    refused_by (app_of c.in_ok-cmp_command.field-0) cmp (texts c.args.words.now) (cmp_asked (texts c.args.words.now) ≡ None) c.in_err-matches.field-0.0 c.from_residual-in_err-matches.result
+    c.in_ok-cmp_command.ensures.shape c.in_err-matches.ensures.refused c.from_residual-in_err-matches.ensures.1
+
+pub returns-in-Some-clause-taken : goal.returns-in-Some-clause-taken
+returns-in-Some-clause-taken c = fits_by (app_of c.in_ok-cmp_command.field-0) cmp (texts c.args.words.now) c.in_ok-cmp_command.ensures.shape c.in_ok-matches.ensures.fits
