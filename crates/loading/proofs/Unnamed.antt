@@ -42,6 +42,7 @@ some_load : (f : LoadFault) → 1 ≤ status_of_load f
 some_load load_fault.LooksLikeTape = omega arith
 some_load load_fault.LooksLikeHex = omega arith
 some_load load_fault.LooksLikeSRecords = omega arith
+some_load load_fault.LooksLikeRaw = omega arith
 some_load (load_fault.NoImage place what number) = omega arith
 some_load (load_fault.Faults fault text) = omega arith
 some_load (load_fault.AtPort first last free) = omega arith

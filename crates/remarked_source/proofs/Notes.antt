@@ -1,5 +1,5 @@
 -- Comments behind a line, one after another.
-use Rattle.std.proofs.Common.{◌≡◌, ◌∙◌, ℕ, Bool, true, false, List, [], ◌∷◌, ◌++◌, append_assoc, refl}
+use Rattle.std.proofs.Common.{◌≡◌, ◌∙◌, ℕ, suc, Bool, true, false, List, [], ◌∷◌, ◌++◌, ◌+◌, ◌<◌, ◌≤◌, length, drop, get_or, drop-cons, drop_of_length-le, add-one, append_assoc, append-nil, sym, refl}
 use Rattle.marks_files.specs.Marks.{text_of}
 use Rattle.marks_files.specs.declared.marks.Remark.{Remark}
 use Rattle.remarked_source.specs.Rows.{is_note, note_front, notes}
@@ -16,3 +16,14 @@ pub elsewhere : (texts : List ℕ) (low high : ℕ) (first : Bool) (r : Remark) 
     → out ++ notes texts low high first rs ≡ out ++ notes texts low high first (r ∷ rs)
 unfolding notes
 elsewhere texts low high first r rs out is = rw is refl
+
+-- one more of them
+pub one_more : (texts : List ℕ) (low high : ℕ) (first next : Bool) (remarks : List Remark) (i : ℕ) (d : Remark) (out new whole : List ℕ) → i < length remarks
+    → ((rs : List Remark) → new ++ notes texts low high next rs ≡ out ++ notes texts low high first (get_or remarks i d ∷ rs))
+    → out ++ notes texts low high first (drop i remarks) ≡ whole → new ++ notes texts low high next (drop (i + 1) remarks) ≡ whole
+one_more texts low high first next remarks i d out new whole h put w = rw add-one (put (drop (suc i) remarks) ∙ rw (drop-cons remarks i d) at w)
+
+-- none left
+pub none_left : (texts : List ℕ) (low high : ℕ) (first : Bool) (remarks : List Remark) (i : ℕ) (out whole : List ℕ) → length remarks ≤ i → out ++ notes texts low high first (drop i remarks) ≡ whole → out ≡ whole
+unfolding notes
+none_left texts low high first remarks i out whole h w = sym (append-nil out) ∙ rw (drop_of_length-le remarks h) at w

@@ -300,7 +300,8 @@ fn push_byte_lines(
     line: SourceLine<'_>,
 ) -> Result<(), AllocError>
     ensures { OnOk result (out.new.items ≡ out.old.items ++ byte_lines tables.entry.cells.now
-        tables.entry.splits.now (source_lines tables.entry.assembly.now) line.count line.address) }
+        tables.entry.splits.now (source_lines tables.entry.assembly.now) line.entry.count
+        line.entry.address) }
 {
     for offset in 0..line.count {
         push_byte_line(out, tables, line.address as u64 + offset as u64)?;
@@ -345,7 +346,7 @@ fn is_labelled(before: Option<SourceLine<'_>>, line: SourceLine<'_>) -> bool
 fn needs_label(tables: Tables<'_>, before: Option<SourceLine<'_>>, line: SourceLine<'_>) -> bool
     ensures exact { result ≡ needs_label tables.entry.cells.now tables.entry.splits.now
         (option_map line_view before.entry) (line_view line.entry) }
-    ensures within { result ≡ true → line.address < 65536 }
+    ensures within { result ≡ true → line.entry.address < 65536 }
 {
     let low = line.address as u64;
     line.address < 65536

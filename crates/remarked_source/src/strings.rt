@@ -150,7 +150,6 @@ fn push_last_end(out: &mut Vec<u8>, before: Option<SourceLine<'_>>) -> Result<()
 
 /// Returns the lines of an assembly, with the numbers that end a string on its line. The only error
 /// is that a request for memory was refused.
-#[tactic(auto, using(crate::proofs::StringLines::lines_end))]
 pub fn joined(alloc: Global, marks: &[Mark], assembly: &Assembly) -> Result<Vec<u8>, AllocError>
     ensures { IfOk result (λ text. text.items
         ≡ joined_from marks.now None (source_lines assembly.now)) }

@@ -1,12 +1,10 @@
-use Rattle.std.proofs.Common.{◌≡◌, ◌∷◌, ◌∙◌, List, suc, add-one, sym, ap, drop, drop-cons, arith}
-use Rattle.marks_files.specs.declared.marks.Remark.{Remark}
+use Rattle.std.proofs.Common.{arith}
+use Rattle.remarked_source.proofs.Notes.{none_left, one_more}
 use Rattle.remarked_source.proofs.beside.push_notes.Goals as goal
 
 pub loop-remark-preserved : goal.loop-remark-preserved
-loop-remark-preserved c =
-    let remarks = c.args.remarks.now in
-    let i = c.loop-remark.remark-index in
-    let r = c.remark-item.result in
-    let rest : List Remark = drop (suc i) remarks in
-    let cut : drop i remarks ≡ r ∷ rest = drop-cons remarks i r (omega arith) ∙ ap (λ (x : Remark). x ∷ rest) (sym c.remark-item.is) in
-    rw add-one (c.in_ok-first.ensures rest ∙ rw cut at c.loop-remark.invariant)
+loop-remark-preserved c = one_more c.args.texts.now c.args.low c.args.high c.loop-remark.first c.in_ok-first.first c.args.remarks.now c.loop-remark.remark-index _ c.loop-remark.out.items c.push_note.new.out.items _
+    (omega arith) c.in_ok-first.ensures c.loop-remark.invariant
+
+pub returns : goal.returns
+returns c = none_left c.args.texts.now c.args.low c.args.high c.loop-remark.first c.args.remarks.now c.loop-remark.remark-index c.loop-remark.out.items _ (omega arith) c.loop-remark.invariant

@@ -22,8 +22,8 @@ returns-then-branch-clause-text c =
       chosen = first_is profile image first c.args.plain.items c.in_ok-text.text.items same (subst (IsSourceOf profile image) c.as_slice-2.ensures.value (c.in_ok-is_right.ensures.right c.if-branch.true));
     }
 
-pub returns-clause-text : goal.returns-clause-text
-returns-clause-text c =
+pub returns-else-branch-clause-text : goal.returns-else-branch-clause-text
+returns-else-branch-clause-text c =
     let profile = c.args.profile in
     let image = c.args.image.now in
     let first = rows_from (beside_view c.args.beside) image 0 (source_lines c.in-Ok.assembly) in
@@ -42,5 +42,5 @@ pub returns-then-branch-clause-denotes : goal.returns-then-branch-clause-denotes
 returns-then-branch-clause-denotes c = λ plain. λ bus_map same spared.
     subst (λ (t : List ℕ). Denotes bus_map t c.args.image.now) c.as_slice-2.ensures.value (c.in_ok-is_right.ensures.denotes c.if-branch.true bus_map same spared)
 
-pub returns-clause-denotes : goal.returns-clause-denotes
-returns-clause-denotes c = λ plain. plain
+pub returns-else-branch-clause-denotes : goal.returns-else-branch-clause-denotes
+returns-else-branch-clause-denotes c = λ plain. plain
