@@ -2,8 +2,8 @@
  *
  * A call answers a status: MOS65_OK, which is 0, or why it was refused. A refused call changes nothing, and
  * what it was to fill in stays as it was, but for *fault, which always tells. There are two exceptions: mos65_write
- * is many calls, and those before the refused one were made; and where mos65_record_run is refused for memory,
- * some of its steps were made. A call on what is not open answers MOS65_CLOSED before anything else. Four
+ * and what runs devices or goes back with them are many calls, and those before the refused one were made; and
+ * where mos65_record_run is refused for memory, some of its steps were made. A call on what is not open answers MOS65_CLOSED before anything else. Four
  * statuses say that memory was refused: mos65_is_out_of_memory knows them.
  * A machine and an assembly are variables of the caller, MOS65_INIT before they are opened and again after
  * they are closed:
@@ -34,6 +34,7 @@
 #include <stdbool.h>
 #include <stddef.h>
 #include <stdint.h>
+#include <string.h>
 #ifdef __cplusplus
 extern "C" {
 #endif
@@ -370,6 +371,144 @@ static inline int mos65_run_with(mos65_t *m, const mos65_device_t *devices, size
     *ending = end;
     ending->did = did;
     return MOS65_OK;
+}
+
+/* ---- devices whose state goes back ---- */
+
+/* Devices, and all that they change: state[0..size), which goes back with the machine. What is called looks at
+   the machine and changes the state, and nothing else: no call of it makes an event. */
+typedef struct mos65_rig {
+    const mos65_device_t *devices; /* n of them, of which the first at an address counts */
+    size_t n;
+    void *state;
+    size_t size;
+    const uint64_t *due;      /* a place in the state: the cycle at which `at` is called */
+    void (*at)(void *user);   /* called before the first step that begins then or later; it moves *due; or NULL */
+    bool (*asks)(void *user); /* whether a device asks for an IRQ, by the state alone; or NULL */
+    void *user;
+    uint8_t *marks;           /* 65,536 bytes of the caller */
+    uint8_t *kept;            /* room of the caller for earlier states, of size + 8 bytes each */
+    size_t room;              /* for so many: as many as the machine holds events are always enough */
+    size_t first, count;      /* which of them there are, in a ring: the calls' own, as what follows */
+    uint64_t lost;            /* the newest state that was dropped is from before this cycle; 0 where none was */
+    bool level;               /* of the IRQ line, as the rig has set it */
+} mos65_rig_t;
+
+/* The place of an earlier state, counted from the oldest one: a cycle, and the state from before it. */
+static inline uint8_t *mos65_rig_place(const mos65_rig_t *rig, size_t index) {
+    return rig->kept + (rig->first + index) % rig->room * (rig->size + sizeof(uint64_t));
+}
+
+/* Keeps the state as one from before a cycle, unless one from before the same cycle is kept. */
+static inline void mos65_rig_keep_before(mos65_rig_t *rig, uint64_t cycle) {
+    uint64_t last = 0;
+    if (rig->count > 0) memcpy(&last, mos65_rig_place(rig, rig->count - 1), sizeof last);
+    if (rig->count > 0 && last == cycle) return;
+    if (rig->room == 0) {
+        rig->lost = cycle;
+        return;
+    }
+    if (rig->count == rig->room) {
+        memcpy(&rig->lost, mos65_rig_place(rig, 0), sizeof rig->lost);
+        rig->first = (rig->first + 1) % rig->room;
+        rig->count--;
+    }
+    uint8_t *place = mos65_rig_place(rig, rig->count++);
+    memcpy(place, &cycle, sizeof cycle);
+    memcpy(place + sizeof cycle, rig->state, rig->size);
+}
+
+/* Sets the IRQ line to what the devices ask for, by one event where that has changed. */
+static inline int mos65_rig_ask(mos65_rig_t *rig, mos65_t *m) {
+    bool level = rig->asks != NULL && rig->asks(rig->user);
+    int status = level == rig->level ? MOS65_OK : mos65_irq(m, level);
+    if (status == MOS65_OK) rig->level = level;
+    return status;
+}
+
+/* Begins with the devices, of which the caller has filled in all but the last four fields: the rig keeps no
+   earlier state, and takes the IRQ line for 0. Before the state is changed otherwise than by the rig's calls,
+   mos65_rig_keep keeps it; MOS65_CLOSED. */
+static inline void mos65_rig_start(mos65_rig_t *rig) {
+    memset(rig->marks, 0, 65536);
+    for (size_t i = 0; i < rig->n; i++)
+        for (uint32_t at = rig->devices[i].first; at <= rig->devices[i].last; at++) rig->marks[at] = 1;
+    rig->first = rig->count = 0;
+    rig->lost = 0;
+    rig->level = false;
+}
+static inline int mos65_rig_keep(mos65_rig_t *rig, const mos65_t *m) {
+    mos65_registers_t now;
+    int status = mos65_registers(m, &now);
+    if (status == MOS65_OK) mos65_rig_keep_before(rig, now.cycles);
+    return status;
+}
+
+/* Calls `at` where it is due, and puts into *most how many steps are made before it is looked at again. No step
+   takes more than 7 cycles. */
+static inline int mos65_rig_ready(mos65_rig_t *rig, mos65_t *m, uint32_t *most) {
+    mos65_registers_t now;
+    int status = mos65_registers(m, &now);
+    if (status != MOS65_OK) return status;
+    if (rig->at != NULL) {
+        if (*rig->due <= now.cycles) {
+            mos65_rig_keep_before(rig, now.cycles);
+            rig->at(rig->user);
+        }
+        uint64_t steps = *rig->due <= now.cycles ? 1 : (*rig->due - now.cycles - 1) / 7 + 1;
+        if (steps < *most) *most = (uint32_t)steps;
+    }
+    return mos65_rig_ask(rig, m);
+}
+
+/* Runs as mos65_run_with does. A change of the line is one event more: after the step in which a device was
+   asked, or before the one that `at` comes before. */
+static inline int mos65_rig_run(mos65_rig_t *rig, mos65_t *m, uint32_t limit, mos65_ending_t *ending) {
+    mos65_ending_t end = {0, MOS65_LIMIT, 0, 0, 0};
+    mos65_registers_t now;
+    uint32_t did = 0;
+    int status = mos65_registers(m, &now);
+    while (status == MOS65_OK && end.why == MOS65_LIMIT && did < limit) {
+        uint32_t most = limit - did;
+        status = mos65_rig_ready(rig, m, &most);
+        if (status == MOS65_OK) status = mos65_run_to_access(m, rig->marks, 65536, most, &end);
+        if (status != MOS65_OK) break;
+        did += end.did;
+        if (end.why != MOS65_LIMIT || end.did == most) continue;
+        mos65_registers(m, &now);
+        mos65_rig_keep_before(rig, now.cycles + 1);
+        status = mos65_step_with(m, rig->devices, rig->n, &end);
+        if (status != MOS65_OK) break;
+        did += end.did;
+        status = mos65_rig_ask(rig, m);
+    }
+    if (status != MOS65_OK) return status;
+    *ending = end;
+    ending->did = did;
+    return MOS65_OK;
+}
+
+/* Goes back, with the state, to the last event after which at most so many cycles have passed. Where the machine
+   or the rig holds less, NO_HISTORY: the machine stands at the oldest event that it holds, or where it was to go
+   to, and the state is the oldest that is kept. */
+static inline int mos65_rig_back_to(mos65_rig_t *rig, mos65_t *m, uint64_t cycle) {
+    mos65_registers_t now;
+    uint64_t from = 0;
+    int status = mos65_registers(m, &now), back = MOS65_OK;
+    while (status == MOS65_OK && back == MOS65_OK && now.cycles > cycle) {
+        back = mos65_back(m, 1);
+        status = mos65_registers(m, &now);
+    }
+    if (status != MOS65_OK) return status;
+    while (rig->count > 0) {
+        const uint8_t *place = mos65_rig_place(rig, rig->count - 1);
+        memcpy(&from, place, sizeof from);
+        if (from <= now.cycles) break;
+        memcpy(rig->state, place + sizeof from, rig->size);
+        rig->count--;
+    }
+    rig->level = rig->asks != NULL && rig->asks(rig->user);
+    return rig->lost > now.cycles ? MOS65_NO_HISTORY : back;
 }
 
 /* Whether a status says that a request for memory was refused. */

@@ -393,6 +393,116 @@ static void devices(void) {
     CHECK(mos65_close(&m) == MOS65_OK);
 }
 
+/* Devices whose state goes back: one gives a byte more at each read, and a timer asks for an IRQ. */
+struct board {
+    uint64_t due;
+    uint32_t reads;
+    uint8_t last;
+    bool is_over;
+};
+
+static uint8_t board_read(void *user, uint16_t address) {
+    struct board *board = user;
+    if (address == 0x3002) return board->is_over = false;
+    return (uint8_t)(0x40 + board->reads++);
+}
+
+static void board_write(void *user, uint16_t address, uint8_t byte) {
+    struct board *board = user;
+    (void)address;
+    board->last = byte;
+}
+
+static void board_at(void *user) {
+    struct board *board = user;
+    board->due += 50;
+    board->is_over = true;
+}
+
+static bool board_asks(void *user) {
+    return ((struct board *)user)->is_over;
+}
+
+static void rigs(void) {
+    enum { STEPS = 120, BYTES = 0x8000 };
+    static uint8_t marks[65536], kept[STEPS * (sizeof(struct board) + 8)], end_memory[BYTES], memory[BYTES];
+    static mos65_registers_t states[STEPS + 1], r;
+    static struct board boards[STEPS + 1], board;
+    mos65_config_t config = MOS65_CONFIG;
+    mos65_t m = MOS65_INIT;
+    mos65_ending_t end;
+    const mos65_device_t device = {0x3000, 0x3002, board_read, board_write, &board};
+    mos65_rig_t rig = {&device, 1, &board, sizeof board, &board.due, board_at, board_asks, &board,
+                       marks, kept, STEPS, 0, 0, 0, false};
+    /* CLI; LDA $3000, STA $3001, JMP $0201; at $020A, where all vectors lead: LDA $3002, INC $10, RTI */
+    static const uint8_t code[] = {0x58, 0xAD, 0x00, 0x30, 0x8D, 0x01, 0x30, 0x4C, 0x01, 0x02,
+                                   0xAD, 0x02, 0x30, 0xE6, 0x10, 0x40};
+    static const uint8_t vectors[] = {0x0A, 0x02, 0x00, 0x02, 0x0A, 0x02};
+    memset(&board, 0, sizeof board);
+    board.due = 40;
+    mos65_rig_start(&rig);
+    CHECK(mos65_rig_run(&rig, &m, 1, &end) == MOS65_CLOSED && mos65_rig_keep(&rig, &m) == MOS65_CLOSED);
+    CHECK(mos65_rig_back_to(&rig, &m, 7) == MOS65_CLOSED);
+    CHECK(mos65_open_bytes(&m, &config, 0x0200, code, sizeof code) == MOS65_OK);
+    CHECK(mos65_write(&m, 0xFFFA, vectors, 6) == MOS65_OK && mos65_set(&m, MOS65_PC, 0x0200) == MOS65_OK);
+    CHECK(mos65_rig_run(&rig, &m, 0, &end) == MOS65_OK && end.did == 0 && end.why == MOS65_LIMIT);
+    for (int step = 0; step <= STEPS; step++) {
+        CHECK(mos65_registers(&m, &states[step]) == MOS65_OK);
+        boards[step] = board;
+        if (step == STEPS) break;
+        CHECK(mos65_rig_run(&rig, &m, 1, &end) == MOS65_OK && end.did == 1 && end.why == MOS65_LIMIT);
+    }
+    /* CLI ends at 9, and rounds begin at 9, 20, 31 and 42, the first step at 40 or later: there comes the entry. */
+    CHECK(states[7].cycles == 31 && states[10].cycles == 42 && states[11].cycles == 49 && states[11].pc == 0x020A);
+    CHECK(boards[10].due == 40 && boards[11].due == 90 && boards[11].is_over && !boards[12].is_over);
+    CHECK(boards[10].reads == 3 && boards[10].last == 0x42 && boards[STEPS].due > 300);
+    CHECK(mos65_read(&m, 0, end_memory, BYTES) == MOS65_OK && end_memory[0x10] > 4);
+    for (int step = STEPS; step >= 0; step--) {
+        struct board last = boards[STEPS];
+        CHECK(mos65_rig_back_to(&rig, &m, states[step].cycles) == MOS65_OK);
+        CHECK(mos65_registers(&m, &r) == MOS65_OK && r.cycles == states[step].cycles && r.pc == states[step].pc);
+        /* What was called at this very cycle, before the step that comes, was called. */
+        bool is_called = step < STEPS && boards[step].due <= states[step].cycles;
+        CHECK(board.reads == boards[step].reads && board.last == boards[step].last);
+        CHECK(board.due == boards[step].due + (is_called ? 50 : 0));
+        CHECK(mos65_rig_run(&rig, &m, (uint32_t)(STEPS - step), &end) == MOS65_OK && end.did == (uint32_t)(STEPS - step));
+        CHECK(mos65_registers(&m, &r) == MOS65_OK && memcmp(&r, &states[STEPS], offsetof(mos65_registers_t, p) + 1) == 0);
+        CHECK(mos65_read(&m, 0, memory, BYTES) == MOS65_OK && memcmp(memory, end_memory, BYTES) == 0);
+        CHECK(board.due == last.due && board.reads == last.reads && board.last == last.last && board.is_over == last.is_over);
+    }
+    /* What the caller changes between runs goes back too, where it was kept. */
+    CHECK(mos65_rig_keep(&rig, &m) == MOS65_OK);
+    board.last = 9;
+    CHECK(mos65_rig_back_to(&rig, &m, states[STEPS].cycles) == MOS65_OK && board.last == 9);
+    CHECK(mos65_rig_back_to(&rig, &m, states[STEPS].cycles - 1) == MOS65_OK && board.last != 9);
+    CHECK(mos65_close(&m) == MOS65_OK);
+    /* Room for three states, and for none: what is older is not there. */
+    for (size_t room = 0; room < 4; room += 3) {
+        memset(&board, 0, sizeof board);
+        board.due = 1000;
+        rig.room = room;
+        mos65_rig_start(&rig);
+        CHECK(mos65_open_bytes(&m, &config, 0x0200, code, sizeof code) == MOS65_OK);
+        CHECK(mos65_set(&m, MOS65_PC, 0x0201) == MOS65_OK);
+        /* LDA 7, STA 11, JMP 15, LDA 18, STA 22, JMP 26: the last three with the device are at 11, 18 and 22. */
+        CHECK(mos65_rig_run(&rig, &m, 6, &end) == MOS65_OK && end.did == 6 && board.reads == 2);
+        CHECK(mos65_rig_back_to(&rig, &m, 18) == (room == 0 ? MOS65_NO_HISTORY : MOS65_OK));
+        CHECK(mos65_rig_back_to(&rig, &m, 11) == (room == 0 ? MOS65_NO_HISTORY : MOS65_OK));
+        CHECK(board.reads == (room == 0 ? 2 : 1) && board.last == (room == 0 ? 0x41 : 0));
+        CHECK(mos65_rig_back_to(&rig, &m, 10) == MOS65_NO_HISTORY);
+        CHECK(mos65_close(&m) == MOS65_OK);
+    }
+    /* The machine holds two events: the last STA and JMP. */
+    config.history = 2, rig.room = STEPS;
+    memset(&board, 0, sizeof board);
+    board.due = 1000;
+    mos65_rig_start(&rig);
+    CHECK(mos65_open_bytes(&m, &config, 0x0200, code, sizeof code) == MOS65_OK);
+    CHECK(mos65_set(&m, MOS65_PC, 0x0201) == MOS65_OK && mos65_rig_run(&rig, &m, 6, &end) == MOS65_OK);
+    CHECK(mos65_rig_back_to(&rig, &m, 18) == MOS65_NO_HISTORY && mos65_registers(&m, &r) == MOS65_OK && r.cycles == 22);
+    CHECK(board.reads == 2 && board.last == 0x40 && mos65_close(&m) == MOS65_OK);
+}
+
 /* A second machine from where the first one is: it has the memory and the registers, and each goes its own way. */
 static void second(mos65_t *m, mos65_config_t config) {
     static uint8_t one[65536], two[65536];
@@ -490,6 +600,7 @@ int main(void) {
     accesses();
     records();
     devices();
+    rigs();
     runs(&m, &a);
     second(&m, config);
     CHECK(mos65_open_bytes(&other, &rom, 0x8000, (const uint8_t *)"\x1A", 1) == MOS65_OK);
