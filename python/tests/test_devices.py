@@ -274,6 +274,16 @@ class Devices(Ways):
         self.refused(mos65.Refused, "History", None, none.on_read, 0, 1, touches.give)
         none.on_write(0, 1, touches.take)
 
+    def test_what_is_no_byte(self):
+        m = self.machine(b"*=$0200\nLDA $3000\n*=$FFFC\n.WORD $0200\n")
+        given = [None, 300, -1, "A"]
+        m.on_read(0x3000, 0x3000, lambda _: given[0])
+        while given:
+            fault = self.refused(mos65.Refused, "Value", None, m.step)
+            self.assertIn(f"a device gives {given[0]!r} at $3000", str(fault))
+            self.assertEqual((m.held, m.registers.pc), (0, 0x0200))
+            del given[0]
+
     def test_a_device_cannot_move_the_machine(self):
         m = self.machine(b"*=$0200\nLDA $3000\n*=$FFFC\n.WORD $0200\n")
         moves = [m.step, m.run, m.back, m.copy, m.last_steps]
