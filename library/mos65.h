@@ -24,8 +24,8 @@
  *
  * - A mos65_t or a mos65_assembly_t is not copied, and nothing but these calls changes its fields.
  * - It stays on the thread that opened it, and has one call at a time, also where the call takes it as const.
- * - No pointer is NULL, also where its length is 0, but for what a device has; and two pointers of one call do
- *   not overlap.
+ * - No pointer is NULL, also where its length is 0, but for what a device has and what a rig may leave out; and
+ *   two pointers of one call do not overlap.
  * - malloc, realloc and free are of one allocator. No call is made from a signal handler, or from the forked
  *   child of a process with threads.
  */
@@ -382,12 +382,12 @@ typedef struct mos65_rig {
     size_t n;
     void *state;
     size_t size;
-    const uint64_t *due;      /* a place in the state: the cycle at which `at` is called */
+    const uint64_t *due;      /* a place in the state: the cycle at which `at` is called; NULL without `at` */
     void (*at)(void *user);   /* called before the first step that begins then or later; it moves *due; or NULL */
     bool (*asks)(void *user); /* whether a device asks for an IRQ, by the state alone; or NULL */
     void *user;
     uint8_t *marks;           /* 65,536 bytes of the caller */
-    uint8_t *kept;            /* room of the caller for earlier states, of size + 8 bytes each */
+    uint8_t *kept;            /* room of the caller for earlier states, of size + 8 bytes each; NULL for none */
     size_t room;              /* for so many: as many as the machine holds events are always enough */
     size_t first, count;      /* which of them there are, in a ring: the calls' own, as what follows */
     uint64_t lost;            /* the newest state that was dropped is from before this cycle; 0 where none was */
