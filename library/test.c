@@ -401,50 +401,85 @@ struct board {
     bool is_over;
 };
 
+enum { STEPS = 120, BYTES = 0x8000 };
+static uint8_t rig_marks[65536], rig_kept[STEPS * (sizeof(struct board) + 8)];
+static struct board board;
+
 static uint8_t board_read(void *user, uint16_t address) {
-    struct board *board = user;
-    if (address == 0x3002) return board->is_over = false;
-    return (uint8_t)(0x40 + board->reads++);
+    struct board *it = user;
+    if (address == 0x3002) return it->is_over = false;
+    return (uint8_t)(0x40 + it->reads++);
 }
 
 static void board_write(void *user, uint16_t address, uint8_t byte) {
-    struct board *board = user;
+    struct board *it = user;
     (void)address;
-    board->last = byte;
+    it->last = byte;
 }
 
 static void board_at(void *user) {
-    struct board *board = user;
-    board->due += 50;
-    board->is_over = true;
+    struct board *it = user;
+    it->due += 50;
+    it->is_over = true;
 }
 
 static bool board_asks(void *user) {
     return ((struct board *)user)->is_over;
 }
 
-static void rigs(void) {
-    enum { STEPS = 120, BYTES = 0x8000 };
-    static uint8_t marks[65536], kept[STEPS * (sizeof(struct board) + 8)], end_memory[BYTES], memory[BYTES];
-    static mos65_registers_t states[STEPS + 1], r;
-    static struct board boards[STEPS + 1], board;
-    mos65_config_t config = MOS65_CONFIG;
-    mos65_t m = MOS65_INIT;
-    mos65_ending_t end;
-    const mos65_device_t device = {0x3000, 0x3002, board_read, board_write, &board};
-    mos65_rig_t rig = {&device, 1, &board, sizeof board, &board.due, board_at, board_asks, &board,
-                       marks, kept, STEPS, 0, 0, 0, false};
-    /* CLI; LDA $3000, STA $3001, JMP $0201; at $020A, where all vectors lead: LDA $3002, INC $10, RTI */
+/* The board as it begins, due at a cycle, with room for so many states, and a machine at its program: CLI; LDA $3000,
+   STA $3001, JMP $0201; at $020A, where all vectors lead: LDA $3002, INC $10, RTI. */
+static mos65_rig_t board_opened(mos65_t *m, uint32_t history, size_t room, uint64_t due, uint16_t pc) {
+    static const mos65_device_t device = {0x3000, 0x3002, board_read, board_write, &board};
     static const uint8_t code[] = {0x58, 0xAD, 0x00, 0x30, 0x8D, 0x01, 0x30, 0x4C, 0x01, 0x02,
                                    0xAD, 0x02, 0x30, 0xE6, 0x10, 0x40};
     static const uint8_t vectors[] = {0x0A, 0x02, 0x00, 0x02, 0x0A, 0x02};
+    mos65_config_t config = MOS65_CONFIG;
+    mos65_rig_t rig = {&device, 1, &board, sizeof board, &board.due, board_at, board_asks, &board,
+                       rig_marks, rig_kept, room, 0, 0, 0, false};
+    config.history = history;
     memset(&board, 0, sizeof board);
-    board.due = 40;
+    board.due = due;
     mos65_rig_start(&rig);
-    CHECK(mos65_rig_run(&rig, &m, 1, &end) == MOS65_CLOSED && mos65_rig_keep(&rig, &m) == MOS65_CLOSED);
-    CHECK(mos65_rig_back_to(&rig, &m, 7) == MOS65_CLOSED);
-    CHECK(mos65_open_bytes(&m, &config, 0x0200, code, sizeof code) == MOS65_OK);
-    CHECK(mos65_write(&m, 0xFFFA, vectors, 6) == MOS65_OK && mos65_set(&m, MOS65_PC, 0x0200) == MOS65_OK);
+    CHECK(mos65_open_bytes(m, &config, 0x0200, code, sizeof code) == MOS65_OK);
+    CHECK(mos65_write(m, 0xFFFA, vectors, 6) == MOS65_OK && mos65_set(m, MOS65_PC, pc) == MOS65_OK);
+    return rig;
+}
+
+static bool is_same_board(const struct board *one, const struct board *other) {
+    return one->due == other->due && one->reads == other->reads && one->last == other->last
+        && one->is_over == other->is_over;
+}
+
+/* Back to the end of each step, and to the last one again. */
+static void rig_there_and_back(mos65_rig_t *rig, mos65_t *m, const mos65_registers_t *states, const struct board *boards) {
+    static uint8_t last[BYTES], memory[BYTES];
+    mos65_registers_t r;
+    mos65_ending_t end;
+    CHECK(mos65_read(m, 0, last, BYTES) == MOS65_OK && last[0x10] > 4);
+    for (int step = STEPS; step >= 0; step--) {
+        uint32_t left = (uint32_t)(STEPS - step);
+        /* What was called at this very cycle, before the step that comes, was called. */
+        bool is_called = left > 0 && boards[step].due <= states[step].cycles;
+        CHECK(mos65_rig_back_to(rig, m, states[step].cycles) == MOS65_OK);
+        CHECK(mos65_registers(m, &r) == MOS65_OK && r.cycles == states[step].cycles && r.pc == states[step].pc);
+        CHECK(board.reads == boards[step].reads && board.last == boards[step].last);
+        CHECK(board.due == boards[step].due + (is_called ? 50 : 0));
+        CHECK(mos65_rig_run(rig, m, left, &end) == MOS65_OK && end.did == left && end.why == MOS65_LIMIT);
+        CHECK(mos65_registers(m, &r) == MOS65_OK && memcmp(&r, &states[STEPS], offsetof(mos65_registers_t, p) + 1) == 0);
+        CHECK(mos65_read(m, 0, memory, BYTES) == MOS65_OK && memcmp(memory, last, BYTES) == 0);
+        CHECK(is_same_board(&board, &boards[STEPS]));
+    }
+}
+
+static void rigs(void) {
+    static mos65_registers_t states[STEPS + 1];
+    static struct board boards[STEPS + 1];
+    mos65_t m = MOS65_INIT, none = MOS65_INIT;
+    mos65_ending_t end;
+    mos65_rig_t rig = board_opened(&m, 1024, STEPS, 40, 0x0200);
+    CHECK(mos65_rig_run(&rig, &none, 1, &end) == MOS65_CLOSED && mos65_rig_keep(&rig, &none) == MOS65_CLOSED);
+    CHECK(mos65_rig_back_to(&rig, &none, 7) == MOS65_CLOSED);
     CHECK(mos65_rig_run(&rig, &m, 0, &end) == MOS65_OK && end.did == 0 && end.why == MOS65_LIMIT);
     for (int step = 0; step <= STEPS; step++) {
         CHECK(mos65_registers(&m, &states[step]) == MOS65_OK);
@@ -456,51 +491,33 @@ static void rigs(void) {
     CHECK(states[7].cycles == 31 && states[10].cycles == 42 && states[11].cycles == 49 && states[11].pc == 0x020A);
     CHECK(boards[10].due == 40 && boards[11].due == 90 && boards[11].is_over && !boards[12].is_over);
     CHECK(boards[10].reads == 3 && boards[10].last == 0x42 && boards[STEPS].due > 300);
-    CHECK(mos65_read(&m, 0, end_memory, BYTES) == MOS65_OK && end_memory[0x10] > 4);
-    for (int step = STEPS; step >= 0; step--) {
-        struct board last = boards[STEPS];
-        CHECK(mos65_rig_back_to(&rig, &m, states[step].cycles) == MOS65_OK);
-        CHECK(mos65_registers(&m, &r) == MOS65_OK && r.cycles == states[step].cycles && r.pc == states[step].pc);
-        /* What was called at this very cycle, before the step that comes, was called. */
-        bool is_called = step < STEPS && boards[step].due <= states[step].cycles;
-        CHECK(board.reads == boards[step].reads && board.last == boards[step].last);
-        CHECK(board.due == boards[step].due + (is_called ? 50 : 0));
-        CHECK(mos65_rig_run(&rig, &m, (uint32_t)(STEPS - step), &end) == MOS65_OK && end.did == (uint32_t)(STEPS - step));
-        CHECK(mos65_registers(&m, &r) == MOS65_OK && memcmp(&r, &states[STEPS], offsetof(mos65_registers_t, p) + 1) == 0);
-        CHECK(mos65_read(&m, 0, memory, BYTES) == MOS65_OK && memcmp(memory, end_memory, BYTES) == 0);
-        CHECK(board.due == last.due && board.reads == last.reads && board.last == last.last && board.is_over == last.is_over);
-    }
+    rig_there_and_back(&rig, &m, states, boards);
     /* What the caller changes between runs goes back too, where it was kept. */
     CHECK(mos65_rig_keep(&rig, &m) == MOS65_OK);
     board.last = 9;
     CHECK(mos65_rig_back_to(&rig, &m, states[STEPS].cycles) == MOS65_OK && board.last == 9);
     CHECK(mos65_rig_back_to(&rig, &m, states[STEPS].cycles - 1) == MOS65_OK && board.last != 9);
     CHECK(mos65_close(&m) == MOS65_OK);
-    /* Room for three states, and for none: what is older is not there. */
+}
+
+/* LDA 7, STA 11, JMP 15, LDA 18, STA 22, JMP 26: the last three steps with the device are at 11, 18 and 22. Room for
+   three states, and for none: what is older is not there. Then a machine that holds the last STA and JMP alone. */
+static void short_rigs(void) {
+    mos65_t m = MOS65_INIT;
+    mos65_ending_t end;
+    mos65_registers_t r;
     for (size_t room = 0; room < 4; room += 3) {
-        memset(&board, 0, sizeof board);
-        board.due = 1000;
-        rig.room = room;
-        mos65_rig_start(&rig);
-        CHECK(mos65_open_bytes(&m, &config, 0x0200, code, sizeof code) == MOS65_OK);
-        CHECK(mos65_set(&m, MOS65_PC, 0x0201) == MOS65_OK);
-        /* LDA 7, STA 11, JMP 15, LDA 18, STA 22, JMP 26: the last three with the device are at 11, 18 and 22. */
+        int told = room == 0 ? MOS65_NO_HISTORY : MOS65_OK;
+        mos65_rig_t rig = board_opened(&m, 1024, room, 1000, 0x0201);
         CHECK(mos65_rig_run(&rig, &m, 6, &end) == MOS65_OK && end.did == 6 && board.reads == 2);
-        CHECK(mos65_rig_back_to(&rig, &m, 18) == (room == 0 ? MOS65_NO_HISTORY : MOS65_OK));
-        CHECK(mos65_rig_back_to(&rig, &m, 11) == (room == 0 ? MOS65_NO_HISTORY : MOS65_OK));
+        CHECK(mos65_rig_back_to(&rig, &m, 18) == told && mos65_rig_back_to(&rig, &m, 11) == told);
         CHECK(board.reads == (room == 0 ? 2 : 1) && board.last == (room == 0 ? 0x41 : 0));
-        CHECK(mos65_rig_back_to(&rig, &m, 10) == MOS65_NO_HISTORY);
-        CHECK(mos65_close(&m) == MOS65_OK);
+        CHECK(mos65_rig_back_to(&rig, &m, 10) == MOS65_NO_HISTORY && mos65_close(&m) == MOS65_OK);
     }
-    /* The machine holds two events: the last STA and JMP. */
-    config.history = 2, rig.room = STEPS;
-    memset(&board, 0, sizeof board);
-    board.due = 1000;
-    mos65_rig_start(&rig);
-    CHECK(mos65_open_bytes(&m, &config, 0x0200, code, sizeof code) == MOS65_OK);
-    CHECK(mos65_set(&m, MOS65_PC, 0x0201) == MOS65_OK && mos65_rig_run(&rig, &m, 6, &end) == MOS65_OK);
-    CHECK(mos65_rig_back_to(&rig, &m, 18) == MOS65_NO_HISTORY && mos65_registers(&m, &r) == MOS65_OK && r.cycles == 22);
-    CHECK(board.reads == 2 && board.last == 0x40 && mos65_close(&m) == MOS65_OK);
+    mos65_rig_t rig = board_opened(&m, 2, STEPS, 1000, 0x0201);
+    CHECK(mos65_rig_run(&rig, &m, 6, &end) == MOS65_OK && mos65_rig_back_to(&rig, &m, 18) == MOS65_NO_HISTORY);
+    CHECK(mos65_registers(&m, &r) == MOS65_OK && r.cycles == 22 && board.reads == 2 && board.last == 0x40);
+    CHECK(mos65_close(&m) == MOS65_OK);
 }
 
 /* A second machine from where the first one is: it has the memory and the registers, and each goes its own way. */
@@ -601,6 +618,7 @@ int main(void) {
     records();
     devices();
     rigs();
+    short_rigs();
     runs(&m, &a);
     second(&m, config);
     CHECK(mos65_open_bytes(&other, &rom, 0x8000, (const uint8_t *)"\x1A", 1) == MOS65_OK);
