@@ -168,7 +168,7 @@ fn wrong_word(matches: &ArgMatches<'_>) -> &'static str {
     } else if fill_asked(matches.get_str("fill")).is_none() {
         "--fill takes two hex digits"
     } else {
-        let lists = "ranges are 0200-02FF, addresses 0200, routines 0200=z or 0200=12";
+        let lists = "ranges are 0200-02FF, addresses 0200, routines 0200=z, =n, =h or 0200=12";
         wrong_value(matches).unwrap_or(lists)
     }
 }
