@@ -47,7 +47,7 @@ fn one_behind(form: TextForm, has_ended: bool, line: &[u8]) -> usize
 }
 
 /// Returns how many records of a text stand behind its first end record.
-#[tactic(auto, using(crate::proofs::Behinds::all_counted), unfolding(crate::specs::Behind::behind_from))]
+#[tactic(auto, unfolding(crate::specs::Behind::behind_from))]
 pub fn records_behind(form: TextForm, text: &[u8]) -> usize
     ensures { result ≡ records_behind form text.now }
 {
