@@ -9,8 +9,8 @@ ghost use Rattle.clap.specs.declared.builder.command.Command.TheViews.{out-Comma
 use crate::mon_words::MonWords;
 use crate::size::{SIZE_TAKES, size_asked};
 use arguments::{
-    WordsFault, begin, file_words, flag, history_asked, is_given, matched, option,
-    with_file_options, wrong_value,
+    WordsFault, begin, file_words, flag, history_asked, is_given, matched, option, other_files,
+    with_files_options, wrong_value,
 };
 use clap::error::ErrorKind;
 use clap::{ArgMatches, Command, Error};
@@ -40,7 +40,7 @@ pub fn mon_command<'a>(alloc: Global) -> Result<Command<'a>, Error>
     let screen = "Draws a screen after each line, if standard input is a terminal";
     let size = "The size of the screen [default: COLUMNS and LINES, or 80x24]";
     let command = begin(alloc, "mon", "mos65 mon", about, STATUSES)?;
-    let command = with_file_options(alloc, command)?
+    let command = with_files_options(alloc, command)?
         .arg(option(alloc, "history", "N", history))?
         .arg(option(alloc, "symbols", "FILE", symbols))?
         .arg(flag(alloc, "prompt", prompt))?
@@ -58,6 +58,7 @@ fn asked<'a>(matches: &ArgMatches<'a>) -> Option<MonWords<'a>>
     };
     Some(MonWords {
         file,
+        others: other_files(matches),
         history: history_asked(matches.get_str("history"))?,
         symbols: matches.get_str("symbols"),
         prompts: is_given(matches, "prompt"),

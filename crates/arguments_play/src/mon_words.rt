@@ -2,13 +2,15 @@
 
 ghost use Rattle.std.specs.Prelude.{◌≤◌};
 
-use arguments::FileWords;
+use arguments::{FileWords, OtherFiles};
 
 /// What the words of `mon` ask for.
 #[derive(Clone, Copy, Debug, PartialEq, Eq)]
 pub struct MonWords<'a> {
     /// The file to load, and its map.
     pub file: FileWords<'a>,
+    /// More files of the same machine.
+    pub others: OtherFiles<'a>,
     /// How many events can be undone.
     pub history: u32,
     /// A file of names, if one is named.

@@ -245,7 +245,7 @@ pub fn start_image(
 }
 
 /// Returns the image of a file that is no source.
-fn image_in<H: Files + AllocGlobal>(
+pub fn image_in<H: Files + AllocGlobal>(
     rt: &H,
     path: &str,
     said: Option<Form>,

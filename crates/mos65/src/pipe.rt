@@ -56,7 +56,8 @@ pub struct Quiet<'a, W: Write> {
 }
 
 impl<'a, W: Write> Quiet<'a, W> {
-    /// Returns a writer of what `inner` writes, until `is_unread` says that nobody reads the output.
+    /// Returns a writer of what `inner` writes, until `is_unread` says that nobody reads the
+    /// output.
     pub fn new(inner: W, is_unread: &'a Cell<bool>) -> Quiet<'a, W>
         ensures { result.inner ≡ inner }
     {

@@ -4,7 +4,8 @@ use Rattle.accesses.specs.Writing.{bytes_in}
 use Rattle.assembler.specs.Assembly.{AssemblyView, IsAssembled}
 use Rattle.loading.specs.declared.loaded.ImageNames.{ImageNames}
 use Rattle.arguments.specs.Asked.{FileAsked, map_of}
-use Rattle.loading.specs.Loads.{AreOfFile, IsLoaded}
+use Rattle.loading.specs.Loads.{AreOfFile}
+use Rattle.loading.specs.Machine.{AreLoaded}
 use Rattle.model.specs.Event.{start}
 use Rattle.model.specs.Session.{Session, new_session}
 use Rattle.word_mon.specs.Starts.{AreNamed, IsNewState, StartsMon, places_in, with_names}
@@ -13,7 +14,7 @@ use Rattle.arguments_play.specs.Mon.{MonAsked}
 
 -- The session of a new state is the one that was loaded.
 pub named_starts : (asked : MonAsked) (session : Session) (assembly : Option AssemblyView) (written loaded : List Bool) (mon : MonState)
-    → (image : List (Option ℕ)) × IsLoaded asked.file image assembly × (session ≡ new_session asked.history (start (map_of asked.file) image)) × (written ≡ bytes_in image)
+    → (image : List (Option ℕ)) × AreLoaded asked.file asked.others image assembly × (session ≡ new_session asked.history (start (map_of asked.file) image)) × (written ≡ bytes_in image)
     → (names : Option ImageNames) × AreNamed asked.symbols asked.file names × IsNewState session asked.history (with_names names (places_in asked.file.file assembly)) mon
     → loaded ≡ written → StartsMon asked mon loaded
 named_starts asked session assembly written loaded mon given new same =

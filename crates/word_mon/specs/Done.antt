@@ -10,7 +10,8 @@ use Rattle.arguments.specs.declared.refusal.Refusal.TheVariants.{OutOfMemory, Re
 use Rattle.arguments_play.specs.Mon.{MonAsked, mon_view}
 use Rattle.clap.specs.Words.{Text}
 use Rattle.loading.specs.Loads.{EndsNames}
-use Rattle.loading.specs.Told.{Heard, IsUnloaded, Tells}
+use Rattle.loading.specs.Machine.{AreUnloaded}
+use Rattle.loading.specs.Told.{Heard, Tells}
 use Rattle.word_mon.specs.Attended.{AttendsInPart, IsAttended, IsAttendedSoFar}
 use Rattle.word_mon.specs.Greeting.{greeting_of}
 use Rattle.word_mon.specs.Screens.{drawn}
@@ -91,7 +92,8 @@ EndsAt prompts first given left held now heard status = (outcome : Result ⊤ Re
 -- the words ask for them, or if the input is typed; screens only if the words ask for them.
 abbrev pub IsDone : MonAsked → Option (List ℕ) → Option (List ℕ) → Option (List ℕ)
     → Option (List ℕ) → Heard → ℕ → Type 0 → Type 0
-IsDone asked given left old new heard status Alone = IsUnloaded asked.file heard status Alone
+IsDone asked given left old new heard status Alone
+    = AreUnloaded asked.file asked.others heard status Alone
     ⊎ (IsUnnamed asked.symbols asked.file heard status Alone
     ⊎ ((terminal : Terminal) × StartsMon asked terminal.mon terminal.loaded
     × (terminal.notes.items ≡ []) × (terminal.answered.items ≡ [])

@@ -6,7 +6,8 @@ use Rattle.arguments.specs.Asked.{FileAsked, map_of}
 use Rattle.arguments.specs.declared.refusal.Refusal.{Refusal}
 use Rattle.arguments_play.specs.Mon.{MonAsked}
 use Rattle.clap.specs.Words.{Text}
-use Rattle.loading.specs.Loads.{AreOfFile, EndsNames, IsLoaded}
+use Rattle.loading.specs.Loads.{AreOfFile, EndsNames}
+use Rattle.loading.specs.Machine.{AreLoaded}
 use Rattle.loading.specs.declared.loaded.ImageNames.{ImageNames}
 use Rattle.model.specs.Event.{start}
 use Rattle.model.specs.Session.{Session, new_session}
@@ -57,7 +58,7 @@ pub record IsNewState (begun : Session) (history : ℕ) (known : PlacesView) (mo
 -- has a byte.
 abbrev pub StartsMon : MonAsked → MonState → List Bool → Type 0
 StartsMon asked mon loaded = (image : List (Option ℕ)) × (assembly : Option AssemblyView)
-    × IsLoaded asked.file image assembly × (loaded ≡ bytes_in image)
+    × AreLoaded asked.file asked.others image assembly × (loaded ≡ bytes_in image)
     × (names : Option ImageNames) × AreNamed asked.symbols asked.file names
     × IsNewState (new_session asked.history (start (map_of asked.file) image)) asked.history
     (with_names names (places_in asked.file.file assembly)) mon

@@ -10,7 +10,7 @@ use Rattle.console.specs.declared.ending.Ending.{Ending}
 use Rattle.console.specs.declared.ending.PlayFault.{PlayFault}
 use Rattle.console.specs.declared.ending.Played.{Played}
 use Rattle.arguments.specs.Asked.{map_of}
-use Rattle.loading.specs.Named.{IsNamed}
+use Rattle.loading.specs.Machine.{IsMachine}
 use Rattle.loading.specs.Place.{names_of, place_of}
 use Rattle.model.specs.Event.{start}
 use Rattle.model.specs.Names.{Definitions}
@@ -111,7 +111,7 @@ interrupted_to a assembly until s t streams interrupted heard status was silent 
     inr (was, (is, (broke.0, t, broke.1, broke.2, broke.3, broke.4, front, more, told)))
 
 -- A file that was loaded, and its warnings told.
-ran_file : (a : RunAsked) (s : Session) (w : List Bool) (assembly : Option AssemblyView) (image : List (Option ℕ)) (streams : Streams) (interrupted : Bool) (held between now : Option (List ℕ)) (status : ℕ) (Alone : Type 0) → IsNamed a.file a.symbols image assembly
+ran_file : (a : RunAsked) (s : Session) (w : List Bool) (assembly : Option AssemblyView) (image : List (Option ℕ)) (streams : Streams) (interrupted : Bool) (held between now : Option (List ℕ)) (status : ℕ) (Alone : Type 0) → IsMachine a.file a.others a.symbols image assembly
     → s ≡ new_session 0 (start (map_of a.file) image) → w ≡ bytes_in image
     → TellsWarnings (map_of a.file) assembly (record { held = held; now = between })
     → RanIfFound a assembly (place_asked (names_of assembly) a.until) (record { session = s; written = or_everywhere a.is_free w }) streams interrupted (record { held = between; now = now }) status Alone
@@ -129,7 +129,7 @@ warned_of bus_map source assembly heard same warned = subst (λ (o : Option Asse
 
 -- A file that was loaded, and a place that was found, of which nothing was told.
 pub ran_found : {E : Type 0} (contents : E → Option (List ℕ)) (a : RunAsked) (s : Session) (w v : List Bool) (assembly source told : Option AssemblyView) (image : List (Option ℕ)) (until : Option ℕ)
-    (streams : Streams) (interrupted : Bool) (first second middle last : E) (status : ℕ) (Alone : Type 0) → IsNamed a.file a.symbols image assembly
+    (streams : Streams) (interrupted : Bool) (first second middle last : E) (status : ℕ) (Alone : Type 0) → IsMachine a.file a.others a.symbols image assembly
     → s ≡ new_session 0 (start (map_of a.file) image) → w ≡ bytes_in image
     → source ≡ assembly → TellsWarnings (map_of a.file) source (record { held = contents first; now = contents second })
     → Ok until ≡ place_asked (names_of assembly) a.until → middle ≡ second → told ≡ assembly → v ≡ or_everywhere a.is_free w
@@ -147,7 +147,7 @@ ran_found contents a s w v assembly source told image until streams interrupted 
 
 -- A place that was not found.
 pub ran_unfound : (a : RunAsked) (s : Session) (w : List Bool) (assembly source : Option AssemblyView) (image : List (Option ℕ)) (streams : Streams) (interrupted : Bool) (held between now : Option (List ℕ)) (status : ℕ) (Alone : Type 0)
-    → IsNamed a.file a.symbols image assembly → s ≡ new_session 0 (start (map_of a.file) image) → w ≡ bytes_in image
+    → IsMachine a.file a.others a.symbols image assembly → s ≡ new_session 0 (start (map_of a.file) image) → w ≡ bytes_in image
     → source ≡ assembly → TellsWarnings (map_of a.file) source (record { held = held; now = between })
     → Err status ≡ place_asked (names_of assembly) a.until → Tells (record { held = between; now = now }) (unplaced_line a.until) → Alone
     → IsDone a streams interrupted (record { held = held; now = now }) status Alone

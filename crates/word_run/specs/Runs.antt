@@ -9,7 +9,7 @@ use Rattle.console.specs.declared.ending.Ending.{Ending}
 use Rattle.console.specs.declared.ending.PlayFault.{PlayFault}
 use Rattle.assembler.specs.Assembly.{AssemblyView}
 use Rattle.arguments.specs.Asked.{map_of}
-use Rattle.loading.specs.Named.{IsNamed, IsUnnamed}
+use Rattle.loading.specs.Machine.{IsMachine, IsUnmade}
 use Rattle.loading.specs.Place.{names_of}
 use Rattle.loading.specs.Told.{Heard, Tells}
 use Rattle.loading.specs.Warned.{TellsWarnings}
@@ -138,7 +138,7 @@ start_of a image = record {
 -- stream got how many warnings the source has.
 abbrev pub RanFile : RunAsked → Streams → Bool → Heard → ℕ → Type 0 → Type 0
 RanFile a streams interrupted heard status Alone = (image : List (Option ℕ))
-    × (assembly : Option AssemblyView) × IsNamed a.file a.symbols image assembly
+    × (assembly : Option AssemblyView) × IsMachine a.file a.others a.symbols image assembly
     × (between : Option (List ℕ))
     × TellsWarnings (map_of a.file) assembly (heard_of heard.held between)
     × RanIfFound a assembly (place_asked (names_of assembly) a.until) (start_of a image)
@@ -147,4 +147,4 @@ RanFile a streams interrupted heard status Alone = (image : List (Option ℕ))
 -- What was done for words. `interrupted` says whether the writer was interrupted.
 abbrev pub IsDone : RunAsked → Streams → Bool → Heard → ℕ → Type 0 → Type 0
 IsDone a streams interrupted heard status Alone
-    = IsUnnamed a.file a.symbols heard status Alone ⊎ RanFile a streams interrupted heard status Alone
+    = IsUnmade a.file a.others a.symbols heard status Alone ⊎ RanFile a streams interrupted heard status Alone

@@ -18,7 +18,7 @@ use arguments_play::{RunWords, read_run_words};
 use assembler::Assembly;
 use console::{Played, play};
 use debugger::Session;
-use loading::{Loaded, load_named, tell_warnings};
+use loading::{Loaded, load_machine, tell_warnings};
 use std::alloc::Global;
 use std::io::{Read, Write};
 use std::rt::Files;
@@ -143,7 +143,7 @@ fn run_words<H: Files + AllocGlobal, R: Read, W: Write, S: Read, E: Write>(
     ensures quiet { words.now.tells_cycles ≡ false → result ≡ 0
         → OnlyWarned (E.contents errors.old) (E.contents errors.new) }
 {
-    let loaded = match load_named(rt, &words.file, words.symbols) {
+    let loaded = match load_machine(rt, &words.file, words.others, words.symbols) {
         Ok(loaded) => loaded,
         Err(fault) => return fault.tell(words.file.file, words.symbols, errors),
     };

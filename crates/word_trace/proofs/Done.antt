@@ -8,7 +8,7 @@ use Rattle.console.specs.Written.{AreBytesOf, RanAs}
 use Rattle.console.specs.declared.ending.Ending.{Ending}
 use Rattle.console.specs.declared.ending.Played.{Played}
 use Rattle.arguments.specs.Asked.{map_of}
-use Rattle.loading.specs.Named.{IsNamed}
+use Rattle.loading.specs.Machine.{IsMachine}
 use Rattle.loading.specs.Place.{names_of}
 use Rattle.model.specs.Event.{start}
 use Rattle.model.specs.Session.{Session, new_session}
@@ -108,7 +108,7 @@ traced_quiet contents a b from to streams first middle now status same done = su
 
 -- A file that was loaded.
 pub traced_file : (a : TraceAsked) (b : Begin) (image : List (Option ℕ)) (streams : Streams) (heard : Heard) (status : ℕ) (Alone : Type 0)
-    → IsNamed a.file a.symbols image b.assembly → b.session ≡ new_session 0 (start (map_of a.file) image) → b.written ≡ bytes_in image
+    → IsMachine a.file a.others a.symbols image b.assembly → b.session ≡ new_session 0 (start (map_of a.file) image) → b.written ≡ bytes_in image
     → TracedIfFound a b (place_asked (names_of b.assembly) a.from) (place_asked (names_of b.assembly) a.to) streams heard status Alone → IsDone a streams heard status Alone
 traced_file a b image streams heard status A loaded begins written done =
     let T : Begin → Type 0 = λ x. TracedIfFound a x (place_asked (names_of b.assembly) a.from) (place_asked (names_of b.assembly) a.to) streams heard status A in

@@ -12,7 +12,7 @@ use Rattle.console.specs.declared.ending.Ending.TheVariants.{Until}
 use Rattle.console.specs.declared.ending.Played.{Played}
 use Rattle.console.specs.declared.turn.Player.{Player}
 use Rattle.arguments.specs.Asked.{map_of}
-use Rattle.loading.specs.Named.{IsNamed, IsUnnamed}
+use Rattle.loading.specs.Machine.{IsMachine, IsUnmade}
 use Rattle.loading.specs.Place.{names_of}
 use Rattle.loading.specs.declared.loaded.Loaded.{Loaded}
 use Rattle.model.specs.Event.{start}
@@ -302,8 +302,8 @@ begin_of a image assembly = record {
 -- alone; or from the start of an image that the file can have, on the map of the words and with the
 -- names of the image's source, or of the file of names, a session was traced.
 abbrev pub IsDone : TraceAsked → Streams → Heard → ℕ → Type 0 → Type 0
-IsDone a streams heard status Alone = IsUnnamed a.file a.symbols heard status Alone
+IsDone a streams heard status Alone = IsUnmade a.file a.others a.symbols heard status Alone
     ⊎ ((image : List (Option ℕ)) × (assembly : Option AssemblyView)
-    × IsNamed a.file a.symbols image assembly × TracedIfFound a (begin_of a image assembly)
+    × IsMachine a.file a.others a.symbols image assembly × TracedIfFound a (begin_of a image assembly)
     (place_asked (names_of assembly) a.from) (place_asked (names_of assembly) a.to)
     streams heard status Alone)

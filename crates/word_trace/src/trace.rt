@@ -34,7 +34,7 @@ use arguments::{Refusal, put_two, refuse, refuse_file, refused_words};
 use arguments_play::{TraceWords, read_trace_words};
 use console::{Ending, Played, Player, begin, ending_after};
 use debugger::Session;
-use loading::{Loaded, load_named};
+use loading::{Loaded, load_machine};
 use std::alloc::Global;
 use std::io::{Read, Write};
 use std::rt::Files;
@@ -542,7 +542,7 @@ fn trace_words<H: Files + AllocGlobal, R: Read, O: Write, E: Write>(
         result ((input.new ≡ input.old) × (output.new ≡ output.old)) }
     ensures bad_map { is_map words.now.file.rom words.now.file.port ≡ false → result ≡ 2 }
 {
-    match load_named(rt, &words.file, words.symbols) {
+    match load_machine(rt, &words.file, words.others, words.symbols) {
         Ok(mut loaded) => trace_loaded(rt, words, &mut loaded, input, output, errors),
         Err(fault) => fault.tell(words.file.file, words.symbols, errors),
     }

@@ -1,5 +1,6 @@
 use Rattle.std.proofs.Common.{◌≡◌, inr, refl}
 use Rattle.arguments.specs.Asked.{file_view}
+use Rattle.arguments.specs.OtherFiles.{others_view}
 use Rattle.arguments_play.specs.Mon.{mon_view}
 use Rattle.word_mon.proofs.Ends.{ends_named}
 use Rattle.word_mon.proofs.Starts.{named_starts}
@@ -27,7 +28,7 @@ returns-in-Ok-clause-done g c = inr (inr (
 
 pub returns-in-Err-clause-done : goal.returns-in-Err-clause-done
 returns-in-Err-clause-done g c =
-    ends_named c.args.words.now.symbols c.args.words.now.file.file (file_view c.args.words.now.file) (record {
+    ends_named c.args.words.now.symbols c.args.words.now.file.file (file_view c.args.words.now.file) (others_view c.args.words.now.others) (record {
       held = g.E.Write.contents c.args.errors.now;
       now = g.E.Write.contents c.refuse_file.new.errors;
     }) c.in-Err.refusal c.refuse_file.result ((c.args.input.now ≡ c.args.input.now) × (c.args.output.now ≡ c.args.output.now)) _

@@ -1,7 +1,7 @@
 use Rattle.std.proofs.Common.{◌≡◌, ◌∙◌, refl}
 use Rattle.arguments.specs.Asked.{map_of}
 use Rattle.arguments_play.specs.Run.{run_view}
-use Rattle.loading.proofs.Unnamed.{never_zero}
+use Rattle.loading.proofs.Machines.{never_made}
 use Rattle.loading.proofs.WarningsTold.{only_warned}
 use Rattle.loading.specs.Place.{names_of}
 use Rattle.word_run.proofs.Ran.{ran_found, ran_unfound, unfound_status}
@@ -9,7 +9,7 @@ use Rattle.word_run.specs.Runs.{streams_of}
 use Rattle.word_run.proofs.run.run_words.Goals as goal
 
 pub returns-in-Err-clause-quiet : goal.returns-in-Err-clause-quiet
-returns-in-Err-clause-quiet g c untold zero = absurd (never_zero c.in-Err.fault c.tell.result c.tell.ensures.status zero)
+returns-in-Err-clause-quiet g c untold zero = absurd (never_made c.in-Err.fault c.tell.result c.tell.ensures.status zero)
 
 pub returns-in-Err-place_named-clause-done : goal.returns-in-Err-place_named-clause-done
 returns-in-Err-place_named-clause-done g c =
