@@ -24,4 +24,4 @@ pub use loaded::{
 pub use machine::{FileFault, MachineFault, load_files, load_machine};
 pub use named::{NamedFault, load_named};
 pub use place::place_of;
-pub use warned::tell_warnings;
+pub use warned::{tell_lost, tell_warnings};

@@ -14,14 +14,14 @@ ghost use Rattle.loading.specs.Loads.{EndsImageFile, EndsLoad, IsLoaded};
 ghost use Rattle.loading.specs.Machine.{AreLoaded, EndsFiles, EndsJoining, EndsMachine, EndsSeveral};
 ghost use Rattle.loading.specs.Machine.{HasNames, IsClash, IsJoined, IsMachine, IsOneOf, IsWith};
 ghost use Rattle.loading.specs.Machine.{clash_place, form_of_other, machine_text, status_of_machine};
-ghost use Rattle.loading.specs.Named.{IsNamed};
+ghost use Rattle.loading.specs.Named.{IsLost, IsNamed, MayLose};
 ghost use Rattle.model.specs.Event.{start};
 ghost use Rattle.model.specs.Session.{new_session};
 ghost use Rattle.model.specs.State.{has_port_byte, input_waits, is_map};
 ghost use Rattle.model.specs.Writers.{AppendsFront};
 
 use crate::loaded::{
-    Loaded, image_in, load_image_names, load_with_history, map_of_words, start_image,
+    Loaded, image_in, load_counted_names, load_with_history, map_of_words, start_image,
 };
 use crate::named::{NamedFault, load_named};
 use arguments::{
@@ -322,6 +322,7 @@ fn load_joined<'a, H: Files + AllocGlobal>(
     ensures session { IfOk result (λ made. made.0.session
         ≡ new_session history (start (map_of (file_view words.now)) made.1)) }
     ensures bytes { IfOk result (λ made. made.0.written ≡ bytes_in made.1) }
+    ensures lost { IfOk result (λ made. made.0.lost ≡ 0) }
     ensures bad_map { is_map words.now.rom words.now.port ≡ false
         → IfErr result (λ why. status_of_load why.fault ≡ 2) × IfOk result (λ _. ⊥) }
     ensures refused { IfErr result
@@ -354,6 +355,7 @@ fn several_named<'a, H: Files + AllocGlobal>(
         × HasNames (file_view words.now) (Some path.now) image loaded.assembly
         × (loaded.session ≡ new_session 0 (start (map_of (file_view words.now)) image))
         × (loaded.written ≡ bytes_in image)) }
+    ensures lost { IfOk result (λ loaded. IsLost words.now.profile loaded.lost) }
     ensures bad_map { is_map words.now.rom words.now.port ≡ false
         → IfErr result (λ fault. status_of_machine fault ≡ 2) × IfOk result (λ _. ⊥) }
     ensures refused { IfErr result (EndsMachine (file_view words.now) (others_view others.entry)
@@ -363,10 +365,14 @@ fn several_named<'a, H: Files + AllocGlobal>(
         Ok(made) => made,
         Err(why) => return Err(MachineFault::OfFile(why)),
     };
-    match load_image_names(rt, words, path) {
-        Ok(names) => {
+    match load_counted_names(rt, words, path) {
+        Ok((names, lost)) => {
             let assembly = Some(names.with_image(rt.alloc(), image));
-            Ok(Loaded { assembly, ..loaded })
+            Ok(Loaded {
+                assembly,
+                lost,
+                ..loaded
+            })
         }
         Err(refusal) => Err(MachineFault::OfNames(refusal)),
     }
@@ -386,6 +392,7 @@ fn several_alone<'a, H: Files + AllocGlobal>(
         × HasNames (file_view words.now) None image loaded.assembly
         × (loaded.session ≡ new_session history (start (map_of (file_view words.now)) image))
         × (loaded.written ≡ bytes_in image)) }
+    ensures lost { IfOk result (λ loaded. loaded.lost ≡ 0) }
     ensures bad_map { is_map words.now.rom words.now.port ≡ false
         → IfErr result (λ why. status_of_load why.fault ≡ 2) × IfOk result (λ _. ⊥) }
     ensures refused { IfErr result
@@ -411,6 +418,8 @@ fn load_several<'a, H: Files + AllocGlobal>(
         loaded.assembly
         × (loaded.session ≡ new_session 0 (start (map_of (file_view words.now)) image))
         × (loaded.written ≡ bytes_in image)) }
+    ensures lost { IfOk result (λ loaded. MayLose words.now.profile
+        (option_map (λ s. s.now) symbols.entry) loaded.lost) }
     ensures bad_map { is_map words.now.rom words.now.port ≡ false
         → IfErr result (λ fault. status_of_machine fault ≡ 2) × IfOk result (λ _. ⊥) }
     ensures refused { IfErr result (EndsMachine (file_view words.now) (others_view others.entry)
@@ -437,6 +446,8 @@ fn load_alone<'a, H: Files + AllocGlobal>(
         loaded.assembly
         × (loaded.session ≡ new_session 0 (start (map_of (file_view words.now)) image))
         × (loaded.written ≡ bytes_in image)) }
+    ensures lost { IfOk result (λ loaded. MayLose words.now.profile
+        (option_map (λ s. s.now) symbols.entry) loaded.lost) }
     ensures bad_map { is_map words.now.rom words.now.port ≡ false
         → IfErr result (λ fault. status_of_machine fault ≡ 2) × IfOk result (λ _. ⊥) }
     ensures refused { IfErr result (EndsMachine (file_view words.now) (others_view others.entry)
@@ -471,6 +482,8 @@ pub fn load_machine<'a, H: Files + AllocGlobal>(
         × (loaded.written ≡ bytes_in image)) }
     ensures idle { IfOk result (λ loaded. input_waits loaded.session.current.bus ≡ false) }
     ensures silent { IfOk result (λ loaded. loaded.session.current.bus.out ≡ []) }
+    ensures lost { IfOk result (λ loaded. MayLose words.now.profile
+        (option_map (λ s. s.now) symbols.entry) loaded.lost) }
     ensures bad_map { is_map words.now.rom words.now.port ≡ false
         → IfErr result (λ fault. status_of_machine fault ≡ 2) × IfOk result (λ _. ⊥) }
     ensures refused { IfErr result (EndsMachine (file_view words.now) (others_view others.entry)

@@ -71,6 +71,7 @@ fn of_source(names: Option<ImageNames>) -> Option<Assembly> {
             ImageNames {
                 assembly,
                 others: _,
+                lost: _,
             },
         ) => Some(assembly),
         None => None,
@@ -99,6 +100,7 @@ pub fn start<H: Files + AllocGlobal>(
         session,
         assembly,
         written,
+        lost: _,
     } = loaded;
     let mut places = places_of(rt.alloc(), words.file.file, &assembly)?;
     let names = add_names(rt, words, &mut places)?;

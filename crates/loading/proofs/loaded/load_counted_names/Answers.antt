@@ -1,4 +1,4 @@
-use Rattle.loading.proofs.loaded.load_image_names.Goals as goal
+use Rattle.loading.proofs.loaded.load_counted_names.Goals as goal
 
 pub returns-clause-named : goal.returns-clause-named
 returns-clause-named g c = (
