@@ -24,7 +24,8 @@ ghost use Rattle.model.specs.declared.bus_fault.BusFault.TheVariants.{BadMap};
 
 use accesses::Written;
 use arguments::{
-    FileForm, FileWords, LoadFault, ReadFault, Refusal, map_of, read_source, shown_name,
+    FileForm, FileWords, LoadFault, ReadFault, Refusal, map_of, read_given_source, read_source,
+    shown_name,
 };
 use assembler::{Assembly, assemble};
 use clean_source::clean_source;
@@ -222,7 +223,7 @@ fn load_source<H: Files + AllocGlobal>(
     ensures lost { IfOk result (λ loaded. loaded.lost ≡ 0) }
     ensures refused { IfErr result (EndsFile FileForm.Source map words.now.file.now) }
 {
-    let source = read_source(rt, words.file)?;
+    let source = read_given_source(rt, words.file)?;
     let assembly = assembled_source(rt.alloc(), words.file, source.as_slice(), &map)?;
     Ok(start_source(rt.alloc(), map, assembly, history)?)
 }

@@ -184,8 +184,9 @@ fn run_words<H: Files + AllocGlobal, R: Read, W: Write, S: Read, E: Write>(
 ///   are wrong. 3: memory ran out. 4: reading or writing failed. 130: the run was interrupted.
 ///
 /// The program's output goes to `output`. Before it runs, a line on `errors` says how many warnings
-/// its source has, if it has some, and one how many lines of a file of names gave no name. For each status but those of the first line a line on `errors`
-/// says why; that a line cannot be written changes no status.
+/// its source has, if it has some, and one how many lines of a file of names gave no name. For each
+/// status but those of the first line a line on `errors` says why; that a line cannot be written
+/// changes no status.
 pub fn run_program<H: Files + AllocGlobal, R: Read, W: Write, S: Read, E: Write>(
     rt: &H,
     words: &[&str],
