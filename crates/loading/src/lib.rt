@@ -18,8 +18,8 @@ mod place;
 mod warned;
 
 pub use loaded::{
-    ImageNames, Loaded, assembled_source, faults_of, load, load_image_names, load_names,
-    load_with_history,
+    ImageNames, Loaded, assembled_source, faults_of, load, load_counted_names, load_image_names,
+    load_names, load_with_history,
 };
 pub use machine::{FileFault, MachineFault, load_files, load_machine};
 pub use named::{NamedFault, load_named};

@@ -71,7 +71,8 @@ impl FileFault<'_> {
         ensures told { AppendsFront (E.contents errors.old) (E.contents errors.new)
             (load_text self.entry.fault self.entry.file.now) }
     {
-        self.fault.tell(self.file, errors)
+        let FileFault { file, fault } = self;
+        fault.tell(file, errors)
     }
 }
 
@@ -260,7 +261,7 @@ fn at_port(
     requires map { map.now ≡ map_of (file_view words.now) }
     requires joined { IsJoined (file_view words.now) (others_view others) image.now }
     requires met { has_port_byte map.now image.now ≡ true }
-    ensures { EndsSeveral (file_view words.now) (others_view others) result }
+    ensures { EndsSeveral (file_view words.now) (others_view others.entry) result }
 {
     LoadFault::AtPort {
         first: map.port(),

@@ -25,7 +25,7 @@ use crate::starting::{Started, start};
 use crate::terminal::{Terminal, of_memory};
 use crate::wording::LOADED_AGAIN;
 use arguments::{LoadFault, Refusal};
-use loading::{Loaded, load_files};
+use loading::{FileFault, Loaded, load_files};
 use mon_dispatch::follow;
 use mon_files::say_name;
 use mon_lines::ReadLine;
@@ -212,6 +212,6 @@ pub fn reload<H: Files + AllocGlobal>(rt: &H, terminal: &mut Terminal<'_>) -> Re
     let words = terminal.words;
     match load_files(rt, &words.file, words.others, words.history) {
         Ok(loaded) => begin_anew(rt, terminal, loaded),
-        Err(why) => keep_session(terminal, why.fault, why.file),
+        Err(FileFault { file, fault }) => keep_session(terminal, fault, file),
     }
 }
