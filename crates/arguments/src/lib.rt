@@ -41,9 +41,7 @@ pub use file_names::{
 };
 pub use file_options::{FileForm, FileWords, file_words, with_file_options};
 pub use file_refusal::FileRefusal;
-pub use files::{
-    check_output, read_given, read_given_source, read_most, read_source, write_file,
-};
+pub use files::{check_output, read_given, read_given_source, read_most, read_source, write_file};
 pub use load_fault::{LoadFault, tell_no_image};
 pub use map::map_of;
 pub use matching::{is_given, let_go, matched, says_image};

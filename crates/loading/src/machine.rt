@@ -252,12 +252,7 @@ fn joined_image<'a, H: Files + AllocGlobal>(
 
 /// Returns why an image of several files is not loaded that has bytes at the port of a map.
 #[tactic(auto, using(crate::proofs::Joins::port_ends))]
-fn at_port(
-    map: &MapSpec,
-    words: &FileWords<'_>,
-    others: OtherFiles<'_>,
-    image: &Image,
-) -> LoadFault
+fn at_port(map: &MapSpec, words: &FileWords<'_>, others: OtherFiles<'_>, image: &Image) -> LoadFault
     requires map { map.now ≡ map_of (file_view words.now) }
     requires joined { IsJoined (file_view words.now) (others_view others) image.now }
     requires met { has_port_byte map.now image.now ≡ true }
