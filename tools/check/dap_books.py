@@ -124,7 +124,7 @@ class Book:
         kinds = [self.move] * 6 + [self.stack] * 3 + [self.scopes] * 2 + [self.variables] * 3 + [
             self.set_variable, self.set_expression, self.evaluate, self.evaluate,
             self.breakpoints, self.breakpoints, self.locations,
-            self.instructions, self.watch, self.goto, self.memory, self.written, self.rows,
+            self.instructions, self.functions, self.watch, self.goto, self.memory, self.written, self.rows,
             self.completed, self.unserved, self.small]
         self.dice.choice(kinds)()
 
@@ -278,6 +278,13 @@ class Book:
                  for _ in range(self.dice.randrange(3))]
         is_good, is_spoiled, body, _ = self.sent("setInstructionBreakpoints", breakpoints=asked)
         self.took("instructions", asked, is_good, is_spoiled, body)
+
+    def functions(self):
+        asked = [{"name": self.dice.choice(("start", "main", "loop", "done", "$0205", "nowhere", "A",
+                                            "start+1", "", "é")), **self.tests()}
+                 for _ in range(self.dice.randrange(3))]
+        is_good, is_spoiled, body, _ = self.sent("setFunctionBreakpoints", breakpoints=asked)
+        self.took("functions", asked, is_good, is_spoiled, body)
 
     def watch(self):
         name = self.dice.choice(("$10", "A", "none", "$F000", "PC", "C", "$0200"))

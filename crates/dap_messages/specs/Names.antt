@@ -49,6 +49,7 @@ names = (codes "initialize", to.Initialize) ∷ (codes "launch", to.Launch)
     ∷ moves (codes "continue") move.Go ∷ moves (codes "reverseContinue") move.BackToStop
     ∷ sets (codes "setBreakpoints") list.Source
     ∷ sets (codes "setInstructionBreakpoints") list.Instruction
+    ∷ sets (codes "setFunctionBreakpoints") list.Function
     ∷ sets (codes "setDataBreakpoints") list.Data
     ∷ changes (codes "evaluate") change.Evaluate ∷ changes (codes "setVariable") change.SetVariable
     ∷ changes (codes "setExpression") change.SetExpression

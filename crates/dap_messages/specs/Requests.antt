@@ -5,7 +5,7 @@ use Rattle.dap_messages.specs.Counting.{counting_of}
 use Rattle.dap_messages.specs.Members.{wrong_member}
 use Rattle.dap_messages.specs.Names.{name_of}
 use Rattle.dap_messages.specs.References.{offset_at, place_at}
-use Rattle.dap_messages.specs.Seen.{SeenBreakpoints, SeenChange, SeenCondition, SeenInstruction, SeenLaunch, SeenQuery, SeenRequest, SeenSessionRequest, SeenSource}
+use Rattle.dap_messages.specs.Seen.{SeenBreakpoints, SeenChange, SeenCondition, SeenFunction, SeenInstruction, SeenLaunch, SeenQuery, SeenRequest, SeenSessionRequest, SeenSource}
 use Rattle.dap_messages.specs.Seen as seen
 use Rattle.dap_messages.specs.declared.members.Member.{Member}
 use Rattle.dap_messages.specs.declared.names.ChangeName.{ChangeName}
@@ -109,6 +109,12 @@ instruction_of listed = record {
   condition = condition_of listed;
 }
 
+abbrev pub function_of : Data → SeenFunction
+function_of listed = record {
+  name = text_in (codes "/name") listed;
+  condition = condition_of listed;
+}
+
 -- A byte is watched for changes if another access is named, or none.
 abbrev pub access_named : List ℕ → Access
 access_named name = if bytes_eq name (codes "read") then access.Read
@@ -125,6 +131,7 @@ breakpoints_by request list.Source
     = seen.at_lines (path_in request) (map source_of (listed_in request))
 breakpoints_by request list.Instruction
     = seen.at_addresses (map instruction_of (listed_in request))
+breakpoints_by request list.Function = seen.at_names (map function_of (listed_in request))
 breakpoints_by request list.Data = seen.of_bytes (map data_of (listed_in request))
 
 -- ---- changes

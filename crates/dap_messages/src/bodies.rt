@@ -24,6 +24,7 @@ pub fn capabilities(alloc: Global) -> Result<Value, AllocError>
         .flag("supportsDisassembleRequest", true)
         .flag("supportsEvaluateForHovers", true)
         .flag("supportsExceptionInfoRequest", true)
+        .flag("supportsFunctionBreakpoints", true)
         .flag("supportsGotoTargetsRequest", true)
         .flag("supportsHitConditionalBreakpoints", true)
         .flag("supportsInstructionBreakpoints", true)

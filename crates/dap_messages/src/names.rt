@@ -15,6 +15,7 @@ use serde_json::Value;
 pub enum ListName {
     Source,
     Instruction,
+    Function,
     Data,
 }
 
@@ -71,7 +72,7 @@ pub enum RequestName {
 }
 
 /// The names of requests, each with what it asks for, but for moves by instructions.
-const NAMES: [(&str, RequestName); 34] = [
+const NAMES: [(&str, RequestName); 35] = [
     ("initialize", RequestName::Initialize),
     ("launch", RequestName::Launch),
     ("disconnect", RequestName::Disconnect),
@@ -106,6 +107,10 @@ const NAMES: [(&str, RequestName); 34] = [
     (
         "setInstructionBreakpoints",
         RequestName::InSession(SessionName::Sets(ListName::Instruction)),
+    ),
+    (
+        "setFunctionBreakpoints",
+        RequestName::InSession(SessionName::Sets(ListName::Function)),
     ),
     (
         "setDataBreakpoints",

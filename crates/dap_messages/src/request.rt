@@ -50,6 +50,13 @@ pub struct InstructionBreakpoint {
     pub condition: Condition,
 }
 
+/// A breakpoint that a client wants at a name of the program.
+#[derive(Drop)]
+pub struct FunctionBreakpoint {
+    pub name: String,
+    pub condition: Condition,
+}
+
 /// The accesses for which a client wants a byte watched.
 #[derive(Clone, Copy)]
 pub enum Access {
@@ -77,6 +84,8 @@ pub enum Breakpoints<'a> {
     },
     /// Those at addresses: `setInstructionBreakpoints`.
     Instruction(Vec<InstructionBreakpoint>),
+    /// Those at names: `setFunctionBreakpoints`.
+    Function(Vec<FunctionBreakpoint>),
     /// The bytes that are watched: `setDataBreakpoints`.
     Data(Vec<DataBreakpoint>),
 }

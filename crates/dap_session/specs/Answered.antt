@@ -1,7 +1,7 @@
 -- What a request does to a session, and what is answered. Source: Debug Adapter Protocol 1.65; mos65.
 use Rattle.std.specs.Prelude.{ℕ, ◌≡◌, ◌==◌, ◌&&◌, Bool, true, false, if◌then◌else◌, List, [], ◌∷◌, codes, length, string_bytes, Option, Some, None, Vec}
 use Rattle.std.specs.declared.alloc.Global.{Global}
-use Rattle.dap_views.specs.Breaks.{HoldsAddresses, HoldsLines, SetsAddresses, SetsLines, SetsSource}
+use Rattle.dap_views.specs.Breaks.{HoldsAddresses, HoldsFunctions, HoldsLines, SetsAddresses, SetsFunctions, SetsLines, SetsSource}
 use Rattle.dap_session.specs.Completions.{completions}
 use Rattle.dap_views.specs.Targets.{AreTargets}
 use Rattle.dap_views.specs.Watches.{KeepsBreaks, SetsWatches, TellsWatches, data_shown}
@@ -9,8 +9,9 @@ use Rattle.dap_messages.specs.Bodies.{continued, nothing, scopes, threads}
 use Rattle.dap_messages.specs.Messages.{Said, done, event}
 use Rattle.dap_messages.specs.declared.halt.Reason.{Reason}
 use Rattle.dap_messages.specs.declared.halt.Reason.TheVariants.{Entry, NoStop}
-use Rattle.dap_messages.specs.Listed.{addresses_of, lines_of, reserving}
+use Rattle.dap_messages.specs.Listed.{addresses_of, functions_of, lines_of, reserving}
 use Rattle.dap_messages.specs.declared.listed.AddressList.{AddressList}
+use Rattle.dap_messages.specs.declared.listed.FunctionList.{FunctionList}
 use Rattle.dap_messages.specs.declared.listed.LineList.{LineList}
 use Rattle.dap_messages.specs.declared.listed.Listed.{Listed}
 use Rattle.dap_messages.specs.declared.request.Breakpoints.{Breakpoints}
@@ -116,7 +117,7 @@ Shows query counting client said
 abbrev pub HoldsBytes : Vec DataBreakpoint Global → Listed → Listed → Type 0
 HoldsBytes listed old new = (new.last_bytes ≡ Some listed)
     × (new.last_lines ≡ old.last_lines) × (new.last_addresses ≡ old.last_addresses)
-    × (new.next ≡ old.next)
+    × (new.last_functions ≡ old.last_functions) × (new.next ≡ old.next)
 
 -- Those of a kind are replaced by those of a list, and each of these is told of. Of watches is told
 -- whether each byte is watched.
@@ -129,6 +130,11 @@ abbrev pub ListsAddresses : Counting → AddressList → Client → Client → D
 ListsAddresses counting listed old new v = SetsAddresses counting listed
     old.listed.addresses.items new.listed.addresses.items old.mon new.mon v
     × KeepsEvents old.mon new.mon × HoldsAddresses listed old.listed new.listed
+
+abbrev pub ListsFunctions : Counting → FunctionList → Client → Client → Data → Type 0
+ListsFunctions counting listed old new v = SetsFunctions counting listed
+    old.listed.functions.items new.listed.functions.items old.mon new.mon v
+    × KeepsEvents old.mon new.mon × HoldsFunctions listed old.listed new.listed
 
 abbrev pub ListsBytes : Vec DataBreakpoint Global → Client → Client → Data → Type 0
 ListsBytes listed old new v = SetsWatches listed.items old.mon new.mon
@@ -150,6 +156,8 @@ SetsListed (kind.Source path listed) counting old new v = SetsSourceOf counting 
     (lines_of old.listed listed) (with_reserved (length listed.items) old) new v
 SetsListed (kind.Instruction listed) counting old new v = ListsAddresses counting
     (addresses_of old.listed listed) (with_reserved (length listed.items) old) new v
+SetsListed (kind.Function listed) counting old new v = ListsFunctions counting
+    (functions_of old.listed listed) (with_reserved (length listed.items) old) new v
 SetsListed (kind.Data listed) counting old new v = ListsBytes listed old new v
 
 abbrev pub Sets : Breakpoints → Counting → Client → Client → List Said → Type 0
@@ -175,9 +183,11 @@ with_next n client = record client { listed = record client.listed { next = n } 
 
 abbrev pub SetsAllAgain : Listed → Counting → Client → Client → Type 0
 SetsAllAgain held counting old new = (lines : Client) × (addresses : Client)
+    × (functions : Client)
     × SetsAgain (ListsLines counting) held.last_lines (with_next held.next old) lines
     × SetsAgain (ListsAddresses counting) held.last_addresses lines addresses
-    × SetsAgain ListsBytes held.last_bytes addresses new
+    × SetsAgain (ListsFunctions counting) held.last_functions addresses functions
+    × SetsAgain ListsBytes held.last_bytes functions new
 
 -- It begins by the launch of another, and has the breakpoints and the watches that the client has
 -- listed there last.

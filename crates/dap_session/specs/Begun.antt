@@ -50,6 +50,7 @@ pub record IsNewClient (asked : SeenLaunch) (begun : Session) (read : Option Ass
   pub text : client.mon.text.items ≡ []
   pub lines : client.listed.lines.items ≡ []
   pub addresses : client.listed.addresses.items ≡ []
+  pub functions : client.listed.functions.items ≡ []
   pub told : client.told.count ≡ 0
   pub lasts : client.told.is_over ≡ false
 

@@ -4,7 +4,8 @@ ghost use Rattle.std.specs.Prelude.{◌≡◌, IfErr, IfOk, Ok, OnOk, map as eac
 ghost use Rattle.dap_messages.specs.Messages.{said_of};
 ghost use Rattle.dap_session.specs.Answered.{AreAnswers, AreOpenAnswers, Begins, HasChangedBy};
 ghost use Rattle.dap_session.specs.Answered.{IsShown, KeepsMade};
-ghost use Rattle.dap_session.specs.Answered.{ListsAddresses, ListsBytes, ListsLines, Moves};
+ghost use Rattle.dap_session.specs.Answered.{ListsAddresses, ListsBytes, ListsFunctions, ListsLines};
+ghost use Rattle.dap_session.specs.Answered.{Moves};
 ghost use Rattle.dap_session.specs.Answered.{SetsAgain, SetsAllAgain, SetsListed, begun_fault};
 ghost use Rattle.dap_session.specs.Answered.{begun_reason, begun_stand, begun_words, goes_on};
 ghost use Rattle.dap_session.specs.Answered.{Restarts, Shows, is_first_frame, lets_run};
@@ -27,13 +28,13 @@ use crate::telling::answered;
 use crate::wording::NOT_BEGUN;
 use dap_desk::make_move;
 use dap_messages::{
-    AddressList, Breakpoints, Change, Counting, DataBreakpoint, Halt, LineList, Listed, Message,
-    Move, Query, Reason, SessionRequest, breakpoints_body, continued, exception, nothing,
-    number_addresses, number_lines, scopes, stand_by, threads,
+    AddressList, Breakpoints, Change, Counting, DataBreakpoint, FunctionList, Halt, LineList,
+    Listed, Message, Move, Query, Reason, SessionRequest, breakpoints_body, continued, exception,
+    nothing, number_addresses, number_functions, number_lines, scopes, stand_by, threads,
 };
 use dap_views::{
     breakpoint_locations, data_shown, disassembled, frames_shown, goto_targets, is_frame,
-    memory_shown, set_addresses, set_data, set_lines, set_source, variables_shown,
+    memory_shown, set_addresses, set_data, set_functions, set_lines, set_source, variables_shown,
 };
 use mon_session::MonState;
 use serde_json::Value;
@@ -103,6 +104,10 @@ fn set_listed<H: Files + AllocGlobal>(
             let wanted = number_addresses(&mut client.listed, listed);
             set_addresses(alloc, &mut client.mon, &mut client.listed, counting, wanted)
         }
+        Breakpoints::Function(listed) => {
+            let wanted = number_functions(&mut client.listed, listed);
+            set_functions(alloc, &mut client.mon, &mut client.listed, counting, wanted)
+        }
         Breakpoints::Data(listed) => set_data(alloc, &mut client.mon, &mut client.listed, listed),
     }
 }
@@ -155,6 +160,23 @@ fn addresses_again(
     let_go(set_addresses(alloc, &mut client.mon, &mut client.listed, counting, listed))
 }
 
+/// Sets the breakpoints at names that were listed last in an earlier session, if some were.
+fn functions_again(
+    alloc: Global,
+    client: &mut Client,
+    counting: Counting,
+    listed: Option<FunctionList>,
+) -> Result<(), AllocError>
+    ensures set { OnOk result (SetsAgain (ListsFunctions counting) listed client.old client.new) }
+    ensures kept { KeepsMade client.old.mon client.new.mon }
+    ensures launch { client.new.launch ≡ client.old.launch }
+{
+    let Some(listed) = listed else {
+        return Ok(());
+    };
+    let_go(set_functions(alloc, &mut client.mon, &mut client.listed, counting, listed))
+}
+
 /// Sets the watches that were listed last in an earlier session, if some were.
 fn bytes_again(
     alloc: Global,
@@ -186,14 +208,17 @@ fn set_all_again(
     let Listed {
         lines: _,
         addresses: _,
+        functions: _,
         last_lines,
         last_addresses,
+        last_functions,
         last_bytes,
         next,
     } = old;
     client.listed.next = next;
     lines_again(alloc, client, counting, last_lines)?;
     addresses_again(alloc, client, counting, last_addresses)?;
+    functions_again(alloc, client, counting, last_functions)?;
     bytes_again(alloc, client, last_bytes)
 }
 

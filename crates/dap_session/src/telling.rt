@@ -142,8 +142,8 @@ fn with_stop(
             with_output(alloc, messages, "console", format!(in alloc; "{remark}\n"))
         }
         Reason::Step | Reason::Breakpoint | Reason::InstructionBreakpoint => messages,
-        Reason::DataBreakpoint | Reason::Exception | Reason::Goto | Reason::Pause => messages,
-        Reason::NoStop => messages,
+        Reason::FunctionBreakpoint | Reason::DataBreakpoint | Reason::Exception => messages,
+        Reason::Goto | Reason::Pause | Reason::NoStop => messages,
     };
     let body = Object::new(alloc)
         .flag("allThreadsStopped", true)

@@ -40,7 +40,7 @@ mod watches;
 
 pub use frames::frames_shown;
 pub use laws::frames_are_those_of_where;
-pub use listed::{set_addresses, set_lines, set_source};
+pub use listed::{set_addresses, set_functions, set_lines, set_source};
 pub use locations::breakpoint_locations;
 pub use looks::look_at;
 pub use memory::memory_shown;

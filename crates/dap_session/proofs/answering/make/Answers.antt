@@ -26,6 +26,6 @@ returns c =
         move.fault ∙ ap (λ (n : Option ℕ). moved_fault n c.args.way old.mon) c.steps_of.ensures,
         subst (λ (d : MonState). map said_of ms.items ≡ done continued ∷ told_at old.listed d old.told.count halt) (sym kept.0) told.0,
       ),
-      told.2 ∙ (λ i. reason_at old.listed.lines.items old.listed.addresses.items ((sym kept.0) i).session.current.regs.pc (reason i)),
+      told.2 ∙ (λ i. reason_at old.listed ((sym kept.0) i).session.current.regs.pc (reason i)),
     ))
     (c.with_halt_at.ensures.told _ (c.answered.ensures _ c.continued.ensures))
