@@ -235,6 +235,10 @@ class Book:
             made["hitCondition"] = self.dice.choice(("1", "2", "0", "x", ">2", ""))
         return {name: it for name, it in made.items() if it is not None}
 
+    def logs(self):
+        texts = ("here", "{A} {nowhere} {PC", "", "}{}{$0200}", "é{é}", 3)
+        return {"logMessage": self.dice.choice(texts)} if self.dice.random() < 0.3 else {}
+
     def took(self, kind, asked, is_good, is_spoiled, body):
         """The numbers of a list of breakpoints that was set."""
         if not is_good:
@@ -251,7 +255,7 @@ class Book:
         self.placed[kind] = set(ids)
 
     def breakpoints(self):
-        asked = [{"line": self.dice.randrange(-1, self.count + 4), **self.tests()}
+        asked = [{"line": self.dice.randrange(-1, self.count + 4), **self.tests(), **self.logs()}
                  for _ in range(self.dice.randrange(4))]
         if asked and self.dice.random() < 0.1:
             asked[0] = self.dice.choice(WRONG)

@@ -101,6 +101,7 @@ abbrev pub source_of : Data → SeenSource
 source_of listed = record {
   line = number_at (codes "/line") listed;
   condition = condition_of listed;
+  log = text_in (codes "/logMessage") listed;
 }
 
 abbrev pub instruction_of : Data → SeenInstruction

@@ -32,6 +32,7 @@ pub record SeenCondition : Type 0 where
 pub record SeenSource : Type 0 where
   pub line : Option ℕ
   pub condition : SeenCondition
+  pub log : List ℕ
 
 pub record SeenInstruction : Type 0 where
   pub address : Option ℕ
@@ -45,7 +46,11 @@ abbrev pub condition_view : Condition → SeenCondition
 condition_view c = record { tests = string_bytes c.tests; hits = string_bytes c.hits }
 
 abbrev pub source_view : SourceBreakpoint → SeenSource
-source_view b = record { line = b.line; condition = condition_view b.condition }
+source_view b = record {
+  line = b.line;
+  condition = condition_view b.condition;
+  log = string_bytes b.log;
+}
 
 abbrev pub instruction_view : InstructionBreakpoint → SeenInstruction
 instruction_view b = record { address = b.address; condition = condition_view b.condition }

@@ -95,9 +95,11 @@ fn source_of(alloc: Global, listed: &Value) -> Result<SourceBreakpoint, AllocErr
     ensures { IfOk result (λ b. source_view b ≡ source_of (view listed.now)) }
 {
     let condition = condition_of(alloc, listed)?;
+    let log = String::from_str(alloc, text_or(listed, "/logMessage", ""))?;
     Ok(SourceBreakpoint {
         line: number_at(listed, "/line"),
         condition,
+        log,
     })
 }
 

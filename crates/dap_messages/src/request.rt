@@ -40,6 +40,8 @@ pub struct SourceBreakpoint {
     /// The number of the line, as the client counts lines, if it names one.
     pub line: Option<u64>,
     pub condition: Condition,
+    /// What is said there in place of a stop: empty if it is to stop.
+    pub log: String,
 }
 
 /// A breakpoint that a client wants at an address.

@@ -32,8 +32,10 @@ use Rattle.dap_session.specs.Console.{Evaluates}
 use Rattle.dap_desk.specs.Breaks.{KeepsEvents}
 use Rattle.dap_desk.specs.Moves.{KeepsWatches, Stand, moved, moved_fault, moved_reason, moved_words, stand_of}
 use Rattle.dap_session.specs.Options.{program_of, steps_of}
+use Rattle.dap_session.specs.Passes.{Makes, PassesLogs, further_of}
 use Rattle.dap_session.specs.Stands.{KeepsProgram, NotesReason, TellsGone, TellsStand}
 use Rattle.dap_session.specs.declared.client.Client.{Client}
+use Rattle.dap_session.specs.declared.passing.Further.TheVariants.{Again}
 use Rattle.dap_session.specs.declared.wording.TheConstants.{NOT_BEGUN}
 use Rattle.dap_messages.specs.Answers.{breakpoints_body, exception_body}
 use Rattle.dap_messages.specs.declared.counting.Counting.{Counting}
@@ -70,11 +72,16 @@ begun_fault client = if client.launch.stop_on_entry then None
     else moved_fault (steps_of (launch_view client.launch)) move.Go client.mon
 
 -- So it stands after a request, and that is told.
-abbrev pub Begins : Client → Client → List Said → Type 0
-Begins old new said = (stand_of new.mon ≡ begun_stand old) × KeepsWatches old.mon new.mon
+abbrev pub BeginsFirst : Client → Client → List Said → Type 0
+BeginsFirst old new said = (stand_of new.mon ≡ begun_stand old) × KeepsWatches old.mon new.mon
     × KeepsProgram old new
     × TellsStand (begun_reason old) (begun_words old) (begun_fault old) old new.mon nothing said
     × NotesReason (begun_reason old) old new
+
+-- A run goes on past log points.
+abbrev pub Begins : Client → Client → List Said → Type 0
+Begins old new said = (first : Client) × (so_far : List Said) × BeginsFirst old first so_far
+    × PassesLogs (Again move.Go) first so_far new said
 
 -- ---- what is shown
 
@@ -210,15 +217,14 @@ ended client = record client { told = record client.told { is_over = true } }
 abbrev pub Terminates : List Said → Type 0
 Terminates said = said ≡ done nothing ∷ event (codes "terminated") nothing ∷ []
 
--- A move is made, and it is told why the machine stands.
+-- A move is made, which goes on past log points, and it is told why the machine stands.
+abbrev pub go_answer : List Said
+go_answer = done continued ∷ []
+
 abbrev pub Moves : Move → Client → Client → List Said → Type 0
-Moves way old new said
-    = (stand_of new.mon ≡ moved (steps_of (launch_view old.launch)) way old.mon)
-    × KeepsWatches old.mon new.mon × KeepsProgram old new
-    × TellsStand (moved_reason (steps_of (launch_view old.launch)) way old.mon)
-    (moved_words (steps_of (launch_view old.launch)) way old.mon)
-    (moved_fault (steps_of (launch_view old.launch)) way old.mon) old new.mon continued said
-    × NotesReason (moved_reason (steps_of (launch_view old.launch)) way old.mon) old new
+Moves way old new said = (first : Client) × (so_far : List Said)
+    × Makes way go_answer old first so_far
+    × PassesLogs (further_of way old.mon) first so_far new said
 
 -- A change is made, which can be undone, and what it has done is told.
 abbrev pub HasChangedBy : Change → Counting → Client → Client → List Said → Type 0

@@ -77,13 +77,19 @@ abbrev pub NotesReason : Reason → Client → Client → Type 0
 NotesReason reason old new
     = new.told.reason ≡ reason_at old.listed new.mon.session.current.regs.pc reason
 
--- A request is answered, and behind it is told that the machine stands, for this reason, in these
--- words, and where a step is refused, why.
+-- Behind what was said before is told that the machine stands, for this reason, in these words, and
+-- where a step is refused, why.
+abbrev pub TellsBehind : Reason → List ℕ → Option EventFault → Client → MonState → List Said
+    → List Said → Type 0
+TellsBehind reason words fault old mon before said = (halt : Halt) × (halt.reason ≡ reason)
+    × (halt.words.now ≡ words) × (halt.fault ≡ fault)
+    × (said ≡ before ++ told_at old.listed mon old.told.count halt)
+
+-- A request is answered, and that is told behind it.
 abbrev pub TellsStand : Reason → List ℕ → Option EventFault → Client → MonState → Data → List Said
     → Type 0
-TellsStand reason words fault old mon body said = (halt : Halt) × (halt.reason ≡ reason)
-    × (halt.words.now ≡ words) × (halt.fault ≡ fault)
-    × (said ≡ done body ∷ told_at old.listed mon old.told.count halt)
+TellsStand reason words fault old mon body said
+    = TellsBehind reason words fault old mon (done body ∷ []) said
 
 -- It stands at another line.
 abbrev pub TellsGone : Client → MonState → List Said → Type 0

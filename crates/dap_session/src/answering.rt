@@ -2,14 +2,16 @@
 
 ghost use Rattle.std.specs.Prelude.{◌≡◌, IfErr, IfOk, Ok, OnOk, map as each, true};
 ghost use Rattle.dap_messages.specs.Messages.{said_of};
-ghost use Rattle.dap_session.specs.Answered.{AreAnswers, AreOpenAnswers, Begins, HasChangedBy};
-ghost use Rattle.dap_session.specs.Answered.{IsShown, KeepsMade};
+ghost use Rattle.dap_session.specs.Answered.{AreAnswers, AreOpenAnswers, Begins, BeginsFirst};
+ghost use Rattle.dap_session.specs.Answered.{HasChangedBy, IsShown, KeepsMade};
 ghost use Rattle.dap_session.specs.Answered.{ListsAddresses, ListsBytes, ListsFunctions, ListsLines};
 ghost use Rattle.dap_session.specs.Answered.{Moves};
 ghost use Rattle.dap_session.specs.Answered.{SetsAgain, SetsAllAgain, SetsListed, begun_fault};
-ghost use Rattle.dap_session.specs.Answered.{begun_reason, begun_stand, begun_words, goes_on};
+ghost use Rattle.dap_session.specs.Answered.{begun_reason, begun_stand, begun_words, go_answer};
+ghost use Rattle.dap_session.specs.Answered.{goes_on};
 ghost use Rattle.dap_session.specs.Answered.{Restarts, Shows, is_first_frame, lets_run};
 ghost use Rattle.dap_session.specs.Console.{ShowsIfRefused};
+ghost use Rattle.dap_session.specs.Passes.{Makes};
 ghost use Rattle.dap_session.specs.Refusals.{IfRefused, MayRefuse, MayRefuseAt, MayRefuseChange};
 ghost use Rattle.dap_session.specs.Refusals.{cannot_show, is_known};
 ghost use Rattle.dap_session.specs.Stands.{KeepsProgram};
@@ -23,6 +25,7 @@ use crate::completion::completions;
 use crate::console::{evaluate, set_variable, with_terminated};
 use crate::fault::{Fault, or_memory, refused};
 use crate::launching::steps_of;
+use crate::passing::{Further, further_of, go, go_on};
 use crate::stands::{all_done, with_halt_at};
 use crate::telling::answered;
 use crate::wording::NOT_BEGUN;
@@ -43,11 +46,20 @@ use std::mem;
 use std::rt::Files;
 
 /// Makes a move, and tells why the machine stands then.
+fn go_first(alloc: Global, client: &mut Client, way: Move) -> Result<Vec<Message>, AllocError>
+    ensures { IfOk result
+        (λ ms. Makes way go_answer client.old client.new (each said_of ms.items)) }
+{
+    go(alloc, client, way, answered(alloc, continued(alloc)))
+}
+
+/// Makes a move, which goes on past log points, and tells why the machine stands then.
 fn make(alloc: Global, client: &mut Client, way: Move) -> Result<Vec<Message>, AllocError>
     ensures { IfOk result (λ ms. Moves way client.old client.new (each said_of ms.items)) }
 {
-    let halt = make_move(&mut client.mon, steps_of(&client.launch), way);
-    with_halt_at(alloc, answered(alloc, continued(alloc)), client, halt)
+    let further = further_of(&client.mon, way);
+    let said = go_first(alloc, client, way)?;
+    go_on(alloc, client, further, said)
 }
 
 /// Runs to a stop, unless the machine is to stand before the first instruction, and returns why it
@@ -69,11 +81,20 @@ fn first_halt(client: &mut Client) -> Halt
 
 /// Runs to a stop, unless the machine is to stand before the first instruction, and tells why it
 /// stands.
-fn configured(alloc: Global, client: &mut Client) -> Result<Vec<Message>, AllocError>
-    ensures { IfOk result (λ ms. Begins client.old client.new (each said_of ms.items)) }
+fn begun(alloc: Global, client: &mut Client) -> Result<Vec<Message>, AllocError>
+    ensures { IfOk result (λ ms. BeginsFirst client.old client.new (each said_of ms.items)) }
 {
     let halt = first_halt(client);
     with_halt_at(alloc, all_done(alloc), client, halt)
+}
+
+/// Runs to a stop, past log points, unless the machine is to stand before the first instruction,
+/// and tells why it stands.
+fn configured(alloc: Global, client: &mut Client) -> Result<Vec<Message>, AllocError>
+    ensures { IfOk result (λ ms. Begins client.old client.new (each said_of ms.items)) }
+{
+    let said = begun(alloc, client)?;
+    go_on(alloc, client, Further::Again(Move::Go), said)
 }
 
 /// Sets the breakpoints that a client wants, and returns what is told of them.

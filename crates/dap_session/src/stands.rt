@@ -21,7 +21,7 @@ pub fn all_done(alloc: Global) -> Result<Vec<Message>, AllocError>
 }
 
 /// Returns whether one of some breakpoints stands at an address.
-fn is_at(placed: &[Placed], address: u16) -> bool
+pub fn is_at(placed: &[Placed], address: u16) -> bool
     ensures { result ≡ is_at placed.now address }
 {
     placed.iter().any(|other| other.address == address)

@@ -51,7 +51,7 @@ pub fn with_event(
 
 /// Returns messages with an event that has a text behind them, if memory did not run out for
 /// either.
-fn with_output(
+pub fn with_output(
     alloc: Global,
     messages: Result<Vec<Message>, AllocError>,
     category: &str,

@@ -1,6 +1,7 @@
 -- What is shown of a register or of a place: a place is an address as `mon` reads one. Source:
 -- mos65.
 use Rattle.std.specs.Prelude.{ℕ, false, if◌then◌else◌, List, codes, slice_index, Option, Some, None, option_map, Result, Ok, Err}
+use Rattle.std.specs.Option.{option_or}
 use Rattle.std.specs.Str.{bytes_eq}
 use Rattle.dap_messages.specs.Answers.{evaluated_body}
 use Rattle.dap_messages.specs.Texts.{address_text}
@@ -54,3 +55,16 @@ register_or None place = place
 
 abbrev pub look_at : State → PlacesView → List ℕ → Option Data
 look_at s places text = register_or (register_shown s.regs text) (place_shown s places text)
+
+-- ---- the value alone
+
+abbrev pub place_byte : State → PlacesView → List ℕ → Option ℕ
+place_byte s places text
+    = option_map (slice_index s.bus.memory) (place_named places s.regs.pc text)
+
+abbrev pub looked_byte : State → PlacesView → List ℕ → Option ℕ
+looked_byte s places text = option_or (register_byte s.regs text) (place_byte s places text)
+
+abbrev pub looked_text : State → PlacesView → List ℕ → Option (List ℕ)
+looked_text s places text = if bytes_eq text (codes "PC") then Some (address_text s.regs.pc)
+    else option_map byte_text (looked_byte s places text)
