@@ -266,6 +266,7 @@ launch_asked request = launch_by request (wrong_member request)
 abbrev pub request_by : Data → RequestName → SeenRequest
 request_by message to.Initialize = seen.initialize (counting_of message)
 request_by message to.Launch = launch_asked message
+request_by message to.Attach = seen.attach
 request_by message to.Disconnect = seen.disconnect
 request_by message (to.InSession name) = seen.in_session (asked_by message name)
 request_by message to.NoRequest = seen.no_request

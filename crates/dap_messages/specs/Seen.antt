@@ -181,6 +181,7 @@ pub data SeenRequest : Type 0 where
   initialize : Counting → SeenRequest
   launch : SeenLaunch → SeenRequest
   wrong_launch : Member → SeenRequest
+  attach : SeenRequest
   disconnect : SeenRequest
   in_session : SeenSessionRequest → SeenRequest
   no_request : SeenRequest
@@ -189,6 +190,7 @@ abbrev pub request_view : Request → SeenRequest
 request_view (request.Initialize counting) = initialize counting
 request_view (request.Launch asked) = launch (launch_view asked)
 request_view (request.WrongLaunch member) = wrong_launch member
+request_view request.Attach = attach
 request_view request.Disconnect = disconnect
 request_view (request.InSession asked) = in_session (session_view asked)
 request_view request.NoRequest = no_request

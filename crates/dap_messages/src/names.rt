@@ -66,15 +66,17 @@ pub enum SessionName {
 pub enum RequestName {
     Initialize,
     Launch,
+    Attach,
     Disconnect,
     InSession(SessionName),
     NoRequest,
 }
 
 /// The names of requests, each with what it asks for, but for moves by instructions.
-const NAMES: [(&str, RequestName); 35] = [
+const NAMES: [(&str, RequestName); 36] = [
     ("initialize", RequestName::Initialize),
     ("launch", RequestName::Launch),
+    ("attach", RequestName::Attach),
     ("disconnect", RequestName::Disconnect),
     (
         "next",

@@ -495,6 +495,7 @@ pub fn request_of(alloc: Global, message: &Value) -> Result<Request<'_>, AllocEr
     match name_of(message) {
         RequestName::Initialize => Ok(Request::Initialize(Counting::of(message))),
         RequestName::Launch => launch_asked(alloc, message),
+        RequestName::Attach => Ok(Request::Attach),
         RequestName::Disconnect => Ok(Request::Disconnect),
         RequestName::InSession(name) => {
             let asked = asked_by(alloc, message, name)?;

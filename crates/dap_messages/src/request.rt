@@ -289,6 +289,8 @@ pub enum Request<'a> {
     Launch(Launch),
     /// A launch that gives this member another value than one that it can have.
     WrongLaunch(Member),
+    /// A session on a program that runs already, which there is not.
+    Attach,
     /// The end of the session.
     Disconnect,
     /// A request that needs a session.
