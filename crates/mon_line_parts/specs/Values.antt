@@ -55,11 +55,20 @@ address_word Word word = None
 address_word Bit word = None
 address_word Count word = None
 
--- The number of a word: of the program counter, of a name, of what is an address alone, of decimal
--- digits.
+-- Hex digits may stand behind `0x`, capitals or not.
+abbrev pub marked_number : List ℕ → Option ℕ
+marked_number [] = None
+marked_number (first ∷ []) = None
+marked_number (first ∷ mark ∷ digits)
+    = if first == byte "0" && (mark == byte "x" || mark == byte "X") then number_in 16 digits
+    else None
+
+-- The number of a word: of the program counter, of a name, of what is an address alone, of hex digits
+-- behind `0x`, of decimal digits.
 abbrev pub number_of : PlacesView → Kind → List ℕ → Option ℕ
 number_of places kind word = option_or (counter_word kind word)
-    (option_or (address_of places.names word) (option_or (address_word kind word) (number_in 10 word)))
+    (option_or (address_of places.names word)
+    (option_or (address_word kind word) (option_or (marked_number word) (number_in 10 word))))
 
 -- A number that was read, or what is missing.
 abbrev pub number_or : SeenFlaw → Option ℕ → List ℕ → Reads ℤ
