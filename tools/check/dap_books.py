@@ -197,7 +197,8 @@ class Book:
             self.variables()
             return
         number, row = self.dice.choice(known)
-        value = self.dice.choice(("1", "0", "$12", "blue", "", "-1", "256", "65536", "1 2"))
+        value = self.dice.choice(("1", "0", "$12", "blue", "", "-1", "256", "65536", "1 2",
+                                  row["value"], "$42" + row["value"][3:]))
         is_good, is_spoiled, body, made = self.sent("setVariable", variablesReference=number,
                                                     name=row["name"], value=value)
         if is_good and not is_spoiled:

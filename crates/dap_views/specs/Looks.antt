@@ -6,7 +6,7 @@ use Rattle.std.specs.Str.{bytes_eq}
 use Rattle.dap_messages.specs.Answers.{evaluated_body}
 use Rattle.dap_messages.specs.Texts.{address_text}
 use Rattle.dap_views.specs.Values.{looked_at_body}
-use Rattle.dap_views.specs.Variables.{byte_text}
+use Rattle.dap_views.specs.Variables.{byte_text, value_text}
 use Rattle.model.specs.Effect.{status}
 use Rattle.model.specs.State.{State}
 use Rattle.model.specs.declared.registers.Regs.{Regs}
@@ -26,7 +26,7 @@ register_byte regs name = if bytes_eq name (codes "A") then Some regs.a
 
 abbrev pub register_shown : Regs → List ℕ → Option (List ℕ)
 register_shown regs name = if bytes_eq name (codes "PC") then Some (address_text regs.pc)
-    else option_map byte_text (register_byte regs name)
+    else option_map value_text (register_byte regs name)
 
 -- ---- places
 
@@ -40,7 +40,7 @@ place_named places pc text = place_read (place_in places pc text)
 
 abbrev pub byte_at : List ℕ → Option ℕ → Option Data
 byte_at memory (Some address)
-    = Some (looked_at_body address (byte_text (slice_index memory address)))
+    = Some (looked_at_body address (value_text (slice_index memory address)))
 byte_at memory None = None
 
 abbrev pub place_shown : State → PlacesView → List ℕ → Option Data

@@ -44,7 +44,7 @@ pub use listed::{set_addresses, set_functions, set_lines, set_source};
 pub use locations::breakpoint_locations;
 pub use looks::{look_at, looked_text};
 pub use memory::memory_shown;
-pub use named::{Variable, value_shown, variable_named};
+pub use named::{Variable, meant, value_shown, variable_named};
 pub use rows::disassembled;
 pub use source::Source;
 pub use stack::is_frame;

@@ -7,7 +7,7 @@ ghost use Rattle.dap_views.specs.Looks.{place_shown, register_byte};
 ghost use Rattle.dap_views.specs.Variables.{byte_text};
 ghost use Rattle.serde_json.specs.View.{view};
 
-use crate::texts::byte_text;
+use crate::texts::{byte_text, value_text};
 use dap_messages::{address_text, evaluated, reference};
 use json_messages::Object;
 use model::Regs;
@@ -50,7 +50,7 @@ fn place_shown(alloc: Global, mon: &MonState, text: &str) -> Result<Option<Value
     };
     let value = Object::new(alloc)
         .text("memoryReference", reference(alloc, address))
-        .text("result", byte_text(alloc, mon.session.peek(address)))
+        .text("result", value_text(alloc, mon.session.peek(address)))
         .count("variablesReference", 0)
         .build()?;
     Ok(Some(value))
@@ -72,7 +72,7 @@ pub fn look_at(alloc: Global, mon: &MonState, text: &str) -> Result<Option<Value
         "P" => regs.flags.to_byte(false),
         _ => return place_shown(alloc, mon, text),
     };
-    register_shown(alloc, byte_text(alloc, byte))
+    register_shown(alloc, value_text(alloc, byte))
 }
 
 /// Returns the byte of the register that a text names, if it names one that has a byte.
@@ -123,8 +123,8 @@ fn some_text(text: Result<String, AllocError>) -> Result<Option<String>, AllocEr
     Ok(Some(text))
 }
 
-/// Returns the byte of the register that a text names, or the one at the place that it names, as it
-/// is shown.
+/// Returns the byte of the register that a text names, or the one at the place that it names, in
+/// hexadecimal.
 fn looked_shown(alloc: Global, mon: &MonState, text: &str) -> Result<Option<String>, AllocError>
     ensures { IfOk result (λ found. option_map (λ s. string_bytes s) found ≡ option_map byte_text
         (looked_byte mon.now.session.current mon.now.places text.now)) }
@@ -135,8 +135,8 @@ fn looked_shown(alloc: Global, mon: &MonState, text: &str) -> Result<Option<Stri
     }
 }
 
-/// Returns the value of the register that a text names, or of the byte at the place that it names:
-/// `None` if it names neither.
+/// Returns the value of the register that a text names, or of the byte at the place that it names,
+/// in hexadecimal: `None` if it names neither.
 pub fn looked_text(alloc: Global, mon: &MonState, text: &str) -> Result<Option<String>, AllocError>
     ensures { IfOk result (λ found. option_map (λ s. string_bytes s) found
         ≡ looked_text mon.now.session.current mon.now.places text.now) }

@@ -13,7 +13,7 @@ ghost use Rattle.serde_json.specs.View.{view};
 ghost use Rattle.source_map.specs.Names.{named};
 
 use crate::paged::Paged;
-use crate::texts::byte_text;
+use crate::texts::value_text;
 use dap_messages::{Page, Scope, address_text, reference};
 use json_messages::Object;
 use model::{Flags, Regs};
@@ -30,11 +30,11 @@ pub fn register_text(alloc: Global, regs: Regs, register: Register) -> Result<St
 {
     match register {
         Register::Pc => address_text(alloc, regs.pc),
-        Register::A => byte_text(alloc, regs.a),
-        Register::X => byte_text(alloc, regs.x),
-        Register::Y => byte_text(alloc, regs.y),
-        Register::S => byte_text(alloc, regs.s),
-        Register::P => byte_text(alloc, regs.flags.to_byte(false)),
+        Register::A => value_text(alloc, regs.a),
+        Register::X => value_text(alloc, regs.x),
+        Register::Y => value_text(alloc, regs.y),
+        Register::S => value_text(alloc, regs.s),
+        Register::P => value_text(alloc, regs.flags.to_byte(false)),
     }
 }
 
@@ -91,7 +91,7 @@ fn byte_variable(alloc: Global, name: &str, address: u16, byte: u8) -> Result<Va
         .word("evaluateName", name)
         .text("memoryReference", reference(alloc, address))
         .word("name", name)
-        .text("value", byte_text(alloc, byte))
+        .text("value", value_text(alloc, byte))
         .count("variablesReference", 0)
         .build()
 }
