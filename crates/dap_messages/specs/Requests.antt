@@ -1,6 +1,6 @@
 -- What a message asks for, with its arguments. Source: Debug Adapter Protocol 1.65; what stands for
 -- an argument that is missing, mos65.
-use Rattle.std.specs.Prelude.{ℕ, ◌==◌, min, ◌||◌, nat_le, Bool, false, true, bytes_eq, if◌then◌else◌, List, [], ◌∷◌, codes, map, Option, Some, None, option_and_then, unwrap_or}
+use Rattle.std.specs.Prelude.{ℕ, ◌-◌, ◌==◌, min, ◌&&◌, ◌||◌, nat_le, nat_lt, Bool, false, true, bytes_eq, if◌then◌else◌, List, [], ◌∷◌, codes, map, Option, Some, None, option_and_then, unwrap_or}
 use Rattle.dap_messages.specs.Counting.{counting_of}
 use Rattle.dap_messages.specs.Members.{wrong_member}
 use Rattle.dap_messages.specs.Names.{name_of}
@@ -49,6 +49,12 @@ abbrev pub target_in : Data → Option ℕ
 target_in request
     = option_and_then address_of (number_at (codes "/arguments/targetId") request)
 
+-- A word of the zero page has the number of its address, behind all 16-bit numbers. The last byte has
+-- none behind it.
+abbrev pub word_of : ℕ → Option Scope
+word_of number = if nat_le 65536 number && nat_lt number 65791
+    then Some (scope.Word (number - 65536)) else None
+
 -- A scope has a number, by which its variables are asked for.
 unfoldable pub scope_of : ℕ → Option Scope
 scope_of number = if number == 1 then Some scope.Registers
@@ -56,7 +62,7 @@ scope_of number = if number == 1 then Some scope.Registers
     else if number == 3 then Some scope.Symbols
     else if number == 4 then Some scope.Stack
     else if number == 5 then Some scope.ZeroPage
-    else if number == 6 then Some scope.Machine else None
+    else if number == 6 then Some scope.Machine else word_of number
 
 abbrev pub scope_in : Data → Option Scope
 scope_in request

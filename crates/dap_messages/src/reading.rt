@@ -10,7 +10,7 @@ ghost use Rattle.dap_messages.specs.Requests.{end_in, expression_change, is_regi
 ghost use Rattle.dap_messages.specs.Requests.{locations_query, scope_expressed};
 ghost use Rattle.dap_messages.specs.Requests.{items_in, listed_in, launch_asked};
 ghost use Rattle.dap_messages.specs.Requests.{launch_of, memory_in, query_by};
-ghost use Rattle.dap_messages.specs.Requests.{request_of, source_of, target_in};
+ghost use Rattle.dap_messages.specs.Requests.{request_of, source_of, target_in, word_of};
 ghost use Rattle.dap_messages.specs.Seen.{breakpoints_view, change_view, condition_view};
 ghost use Rattle.dap_messages.specs.Seen.{function_view, instruction_view, launch_view, query_view};
 ghost use Rattle.dap_messages.specs.Seen.{request_view, session_view, source_view, text_view};
@@ -29,6 +29,17 @@ use json_messages::{flag_or, number_at, text_at, text_or};
 use serde_json::Value;
 use std::alloc::{AllocError, Global};
 
+/// Returns the scope of a word of the zero page by its number, if it is that of one.
+fn word_of(number: u64) -> Option<Scope>
+    ensures { result ≡ word_of number }
+{
+    if number >= 65536 && number < 65791 {
+        Some(Scope::Word((number - 65536) as u16))
+    } else {
+        None
+    }
+}
+
 /// Returns the scope of a number, if it is that of one.
 #[tactic(auto, unfolding(crate::specs::Requests::scope_of))]
 fn scope_of(number: u64) -> Option<Scope>
@@ -41,7 +52,7 @@ fn scope_of(number: u64) -> Option<Scope>
         4 => Some(Scope::Stack),
         5 => Some(Scope::ZeroPage),
         6 => Some(Scope::Machine),
-        _ => None,
+        _ => word_of(number),
     }
 }
 

@@ -103,6 +103,8 @@ pub enum Scope {
     ZeroPage,
     /// What is told of the machine.
     Machine,
+    /// The word at an address, and the byte that it points to.
+    Word(u16),
 }
 
 /// Which values of a list a client wants: those from one on, of which 0 is the first, at most so

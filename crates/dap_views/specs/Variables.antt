@@ -1,5 +1,5 @@
 -- Variables of a scope. Source: Debug Adapter Protocol 1.65, "Variable"; what is shown, mos65.
-use Rattle.std.specs.Prelude.{ℕ, ◌&&◌, nat_le, Bool, false, if◌then◌else◌, List, [], ◌∷◌, ◌++◌, codes, decimal}
+use Rattle.std.specs.Prelude.{ℕ, ◌+◌, ◌&&◌, nat_le, nat_lt, Bool, false, if◌then◌else◌, List, [], ◌∷◌, ◌++◌, codes, decimal}
 use Rattle.std.specs.Str.Lossy.{utf8_lossy}
 use Rattle.json_messages.specs.Values.{count, object_of, word}
 use Rattle.dap_messages.specs.Bodies.{list_body}
@@ -52,11 +52,18 @@ abbrev pub plain_variable : List ℕ → List ℕ → Data
 plain_variable name value = object_of ((codes "name", word name) ∷ (codes "value", word value)
     ∷ (codes "variablesReference", count 0) ∷ [])
 
+-- The number by which the word at an address is asked for, if it lies in the zero page: else 0.
+abbrev pub word_number : ℕ → ℕ
+word_number address = if nat_lt address 255 then 65536 + address else 0
+
 -- A byte has a reference to its address, by which the memory there is read.
-abbrev pub byte_variable : List ℕ → ℕ → ℕ → Data
-byte_variable name address byte = object_of ((codes "evaluateName", word name)
+abbrev pub byte_with : List ℕ → ℕ → ℕ → ℕ → Data
+byte_with name address byte number = object_of ((codes "evaluateName", word name)
     ∷ (codes "memoryReference", word (reference address)) ∷ (codes "name", word name)
-    ∷ (codes "value", word (value_text byte)) ∷ (codes "variablesReference", count 0) ∷ [])
+    ∷ (codes "value", word (value_text byte)) ∷ (codes "variablesReference", count number) ∷ [])
+
+abbrev pub byte_variable : List ℕ → ℕ → ℕ → Data
+byte_variable name address byte = byte_with name address byte (word_number address)
 
 abbrev pub register_variable : List ℕ → Regs → Register → Data
 register_variable name regs register = variable name (register_text regs register)

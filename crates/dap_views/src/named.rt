@@ -32,7 +32,8 @@ fn is_of_processor(scope: Scope) -> bool
 {
     match scope {
         Scope::Registers | Scope::Flags => true,
-        Scope::Symbols | Scope::Stack | Scope::ZeroPage | Scope::Machine => false,
+        Scope::Symbols | Scope::Stack | Scope::ZeroPage => false,
+        Scope::Machine | Scope::Word(_) => false,
     }
 }
 
