@@ -97,12 +97,12 @@ named_number places kind lack text =
     else if is_empty (word_of text) then Err (why_none places kind text)
     else number_or (why_none places kind text) (number_of places kind (word_of text)) (after_word text)
 
--- The line of the source that stands where an address is meant.
-abbrev pub line_asked : PlacesView → Kind → List ℕ → Option ℕ
+-- The file and the line of the source that stand where an address is meant.
+abbrev pub line_asked : PlacesView → Kind → List ℕ → Option (ℕ × ℕ)
 line_asked places kind text = if is_place kind then own_line places text else None
 
-abbrev pub line_or : PlacesView → Option ℕ → List ℕ → Reads ℤ → Reads ℤ
-line_or places (Some line) text other = line_address places line (after_line text)
+abbrev pub line_or : PlacesView → Option (ℕ × ℕ) → List ℕ → Reads ℤ → Reads ℤ
+line_or places (Some line) text other = line_address places line.0 line.1 (after_line text)
 line_or places None text other = other
 
 -- A line of the source where an address is meant, or else a word.

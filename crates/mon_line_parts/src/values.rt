@@ -227,8 +227,8 @@ fn named_number<'a>(
     )
 }
 
-/// Returns the line of the source that stands where an address is meant, if one does.
-fn line_asked(places: &Places, kind: Kind, text: &[u8]) -> Option<u32>
+/// Returns the file and the line of the source that stand where an address is meant, if they do.
+fn line_asked(places: &Places, kind: Kind, text: &[u8]) -> Option<(u32, u32)>
     ensures { result ≡ line_asked places.now kind text.now }
 {
     if is_place(kind) {
@@ -251,7 +251,7 @@ fn line_or_number<'a>(
         (λ why. line_or_number places.now kind lack text.now ≡ Err (flaw_view why)) }
 {
     match line_asked(places, kind, text) {
-        Some(line) => line_address(places, line, after_line(text)),
+        Some((file, line)) => line_address(places, file, line, after_line(text)),
         None => named_number(places, kind, lack, text),
     }
 }
