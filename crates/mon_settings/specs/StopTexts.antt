@@ -28,14 +28,15 @@ abbrev pub is_instruction : Option Row → Bool
 is_instruction None = false
 is_instruction (Some row) = row.is_instruction
 
--- That no instruction of the source begins at an address, if the source has lines.
+-- That no instruction of the source begins at an address, if all lines of the program are known.
 abbrev pub none_begins : List Named → ℕ → List ℕ
 none_begins names address
     = NO_INSTRUCTION_BEGINS.now ++ place_text names address ++ codes "\n"
 
 unfoldable pub lines_text : PlacesView → ℕ → List ℕ
 lines_text places address
-    = if nat_lt 0 (length places.lines) && not (is_instruction (row_at places.lines address))
+    = if places.is_whole && nat_lt 0 (length places.lines)
+    && not (is_instruction (row_at places.lines address))
     then none_begins places.names address else []
 
 -- A name is a text with a colon and four bytes behind it, as `loop:E150`: a name that had another

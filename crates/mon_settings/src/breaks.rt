@@ -58,14 +58,15 @@ fn say_none_begins(mon: &mut MonState, address: u16) -> Result<(), AllocError>
     mon.say("\n")
 }
 
-/// Says where no instruction of the source begins, if the source has lines.
+/// Says where no instruction of the source begins, if all lines of the program are known.
 #[tactic(auto, unfolding(crate::specs::StopTexts::lines_text))]
 fn say_lines(mon: &mut MonState, address: u16) -> Result<(), AllocError>
     ensures shows { ShowsOnly mon.old mon.new }
     ensures text { OnOk result
         (mon.new.text.items ≡ mon.old.text.items ++ lines_text mon.old.places address) }
 {
-    if mon.places.has_lines() && !begins_instruction(&mon.places, address) {
+    let places = &mon.places;
+    if places.is_whole() && places.has_lines() && !begins_instruction(places, address) {
         return say_none_begins(mon, address);
     }
     Ok(())
