@@ -15,6 +15,10 @@ pub struct MonWords<'a> {
     pub history: u32,
     /// A file of names, if one is named.
     pub symbols: Option<&'a str>,
+    /// A file of debug information, if one is named.
+    pub debug_info: Option<&'a str>,
+    /// Where relative names of its sources begin, if that is given.
+    pub source_root: Option<&'a str>,
     /// Whether a prompt is asked for.
     pub prompts: bool,
     /// Whether a screen is asked for.

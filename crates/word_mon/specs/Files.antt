@@ -6,6 +6,7 @@ use Rattle.arguments.specs.declared.load_fault.LoadFault.TheVariants.{Refused}
 use Rattle.arguments.specs.declared.refusal.Refusal.{Refusal}
 use Rattle.arguments.specs.declared.refusal.Refusal.TheVariants.{OutOfMemory}
 use Rattle.arguments_play.specs.Mon.{MonAsked, mon_view}
+use Rattle.debug_files.specs.Loads.{EndsDebug}
 use Rattle.loading.specs.Loads.{EndsNames}
 use Rattle.loading.specs.Machine.{EndsFiles, IsOneOf}
 use Rattle.model.specs.Writers.{AppendsFront}
@@ -46,12 +47,14 @@ IsReloaded old new = (fresh : MonState) × StartsMon (mon_view old.words.now) fr
     × ServesAgain old.mon.text.items old.notes.items fresh new.mon new.notes.items
     × (new.view ≡ old.view) × (new.words ≡ old.words)
 
--- Why a file of a session is not loaded: its own file, or one of several, or that of its names.
+-- Why a file of a session is not loaded: its own file, or one of several, that of its names, or
+-- that of its debug information.
 abbrev pub EndsReload : MonAsked → List ℕ → LoadFault → Type 0
 EndsReload asked path fault = (IsOneOf asked.others.second asked.file path
     × EndsFiles asked.file asked.others fault)
-    ⊎ ((refusal : Refusal) × (fault ≡ Refused refusal) × (asked.symbols ≡ Some path)
+    ⊎ (((refusal : Refusal) × (fault ≡ Refused refusal) × (asked.symbols ≡ Some path)
     × EndsNames asked.file refusal)
+    ⊎ ((asked.debug_info ≡ Some path) × EndsDebug fault))
 
 abbrev pub is_memory : LoadFault → Bool
 is_memory (Refused OutOfMemory) = true

@@ -21,7 +21,7 @@ ghost use Rattle.mon_lines.specs.Lines.{line_of};
 ghost use Rattle.mon_session.specs.Course.{ShowsOnly};
 
 use crate::notes::{Note, note_line, placed_in};
-use crate::starting::{Started, start};
+use crate::starting::{StartFault, Started, start};
 use crate::terminal::{Terminal, of_memory};
 use crate::wording::LOADED_AGAIN;
 use arguments::{LoadFault, Refusal};
@@ -169,8 +169,8 @@ fn keep_session(terminal: &mut Terminal<'_>, fault: LoadFault, file: &str) -> Re
     Ok(())
 }
 
-/// Begins the session again from its file, which was loaded. The names of a file of names are read
-/// again.
+/// Begins the session again from its file, which was loaded. The names of a file of names and the
+/// debug information are read again.
 fn begin_anew<H: Files + AllocGlobal>(
     rt: &H,
     terminal: &mut Terminal<'_>,
@@ -191,9 +191,13 @@ fn begin_anew<H: Files + AllocGlobal>(
             of_memory(take_over(rt.alloc(), terminal, started))?;
             Ok(())
         }
-        Err(refusal) => {
+        Err(StartFault::OfNames(refusal)) => {
             let file = words.symbols.unwrap_or(words.file.file);
             keep_session(terminal, LoadFault::Refused(refusal), file)
+        }
+        Err(StartFault::OfDebug(fault)) => {
+            let file = words.debug_info.unwrap_or(words.file.file);
+            keep_session(terminal, fault, file)
         }
     }
 }

@@ -20,7 +20,7 @@ ghost use Rattle.word_mon.specs.Screens.{Rests};
 use crate::greeting::greet;
 use crate::lines::attend;
 use crate::screens::{first_view, is_typed};
-use crate::starting::{Started, start};
+use crate::starting::{StartFault, Started, start};
 use crate::terminal::{Terminal, draw, of_memory};
 use arguments::{Refusal, refuse, refuse_file, refused_words};
 use arguments_play::{MonWords, read_mon_words};
@@ -137,9 +137,13 @@ fn mon_loaded<'a, H: Env + Files + AllocGlobal, R: Read + IsTerminal, O: Write, 
             };
             served(rt, &mut terminal, prompts, input, output, errors)
         }
-        Err(refusal) => {
+        Err(StartFault::OfNames(refusal)) => {
             let file = words.symbols.unwrap_or(words.file.file);
             refuse_file(refusal, file, errors)
+        }
+        Err(StartFault::OfDebug(fault)) => {
+            let file = words.debug_info.unwrap_or(words.file.file);
+            fault.tell(file, errors)
         }
     }
 }
