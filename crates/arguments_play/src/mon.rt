@@ -83,11 +83,12 @@ fn asked<'a>(matches: &ArgMatches<'a>) -> Option<MonWords<'a>>
     let Some(file) = file_words(matches) else {
         return None;
     };
+    let history = history_asked(matches.get_str("history"))?;
     let debug_info = debug_asked(&file, matches.get_str("debug-info"))?;
     Some(MonWords {
         file,
         others: other_files(matches),
-        history: history_asked(matches.get_str("history"))?,
+        history,
         symbols: matches.get_str("symbols"),
         debug_info,
         source_root: matches.get_str("source-root"),
