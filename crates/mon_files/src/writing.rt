@@ -37,18 +37,23 @@ fn is_of_word<H: Files>(rt: &H, path: &str, word: Option<&str>) -> bool {
     }
 }
 
+/// Returns whether a file is the one that an option names, if one is named.
+fn is_beside<H: Files>(rt: &H, path: &str, named: Option<&str>) -> bool {
+    match named {
+        Some(named) => is_one_file(rt, path, named),
+        None => false,
+    }
+}
+
 /// Returns whether a session has read a file.
 fn is_own<H: Files>(rt: &H, words: &MonWords<'_>, path: &str) -> bool {
     let others = words.others;
-    match words.symbols {
-        Some(symbols) if is_one_file(rt, path, symbols) => true,
-        _ => {
-            is_one_file(rt, path, words.file.file)
-                || is_of_word(rt, path, others.second)
-                || is_of_word(rt, path, others.third)
-                || is_of_word(rt, path, others.fourth)
-        }
-    }
+    is_one_file(rt, path, words.file.file)
+        || is_of_word(rt, path, others.second)
+        || is_of_word(rt, path, others.third)
+        || is_of_word(rt, path, others.fourth)
+        || is_beside(rt, path, words.symbols)
+        || is_beside(rt, path, words.debug_info)
 }
 
 /// Writes a text to a file, unless the session has read that file. A file that is there is replaced
