@@ -1,5 +1,6 @@
 pub mod Digits
 pub mod Examples
+pub mod LineLengths
 pub mod Passing
 pub mod Pushed
 pub mod Tables
