@@ -1,18 +1,74 @@
--- A record that was taken.
-use Rattle.std.proofs.Common.{◌≡◌, List, codes, refl, Ok}
+-- A record that was taken, or refused.
+use Rattle.std.proofs.Common.{◌≡◌, List, codes, map, refl, Result, Ok, Err}
+use Rattle.std.specs.Option.{option_map}
+use Rattle.debug_records.specs.Faults.{Gives}
 use Rattle.debug_records.specs.Fields.{Field}
 use Rattle.debug_records.specs.Info.{Table, with_new}
 use Rattle.debug_records.specs.Numbers.{placed_in}
 use Rattle.debug_records.specs.Reading.{Reading, most_files, most_records, with_file, with_segment}
 use Rattle.debug_records.specs.Records.{File, Segment, file_of, segment_of}
+use Rattle.debug_records.specs.Views.{file_view, segment_view}
+use Rattle.debug_records.specs.declared.fault.LineError.{LineError}
+use Rattle.debug_records.specs.declared.fault.LineFault.{LineFault}
 use Rattle.debug_records.specs.declared.numbers.Placed.{Placed}
+use Rattle.debug_records.specs.declared.record.File.{File as HeldFile}
+use Rattle.debug_records.specs.declared.record.Segment.{Segment as HeldSegment}
+use Rattle.debug_records.proofs.Passing.{passed_on}
+use Rattle.debug_records.proofs.Tables.{new_put, new_refused}
 
-pub file_pushed : (fields : List Field) (r : Reading) (id : Placed) (file : File) (files : Table File) → placed_in fields (codes "id") ≡ Ok id → file_of fields ≡ Ok file
+-- ---- files
+
+file_pushed : (fields : List Field) (r : Reading) (id : Placed) (file : File) (files : Table File) → placed_in fields (codes "id") ≡ Ok id → file_of fields ≡ Ok file
     → with_new most_files r.info.files id file ≡ Ok files → with_file fields r ≡ Ok (record r { info = record r.info { files = files } })
 unfolding with_file
 file_pushed fields r id file files h k p = rw h (rw k (rw p refl))
 
-pub segment_pushed : (fields : List Field) (r : Reading) (id : Placed) (segment : Segment) (segments : Table Segment) → placed_in fields (codes "id") ≡ Ok id → segment_of fields ≡ Ok segment
+file_refused : (fields : List Field) (r : Reading) (id : Placed) (file : File) (fault : LineFault) → placed_in fields (codes "id") ≡ Ok id → file_of fields ≡ Ok file
+    → with_new most_files r.info.files id file ≡ Err fault → with_file fields r ≡ Err fault
+unfolding with_file
+file_refused fields r id file fault h k p = rw h (rw k (rw p refl))
+
+-- what a table gives, the whole gives
+pub file_given : {A : Type 0} (result : Result A LineError) (fields : List Field) (r : Reading) (table new : Table HeldFile) (id : Placed) (file : HeldFile)
+    → map (option_map file_view) table ≡ r.info.files → placed_in fields (codes "id") ≡ Ok id → file_of fields ≡ Ok (file_view file)
+    → Gives (λ (x : A). new) result (with_new most_files table id file)
+    → Gives (λ (x : A). record r { info = record r.info { files = map (option_map file_view) new } }) result (with_file fields r)
+file_given (Ok x) fields r table new id file same h k given =
+    let put : with_new most_files r.info.files id (file_view file) ≡ Ok (map (option_map file_view) new) =
+    rw (← same) (new_put file_view most_files table new id file given) in
+    file_pushed fields r id (file_view file) (map (option_map file_view) new) h k put
+file_given (Err why) fields r table new id file same h k given =
+    passed_on why (with_new most_files table id file) (with_file fields r)
+    (λ (fault : LineFault) (refused : with_new most_files table id file ≡ Err fault).
+    let whole : with_new most_files r.info.files id (file_view file) ≡ Err fault =
+    rw (← same) (new_refused file_view most_files table id file fault refused) in
+    file_refused fields r id (file_view file) fault h k whole)
+    given
+
+-- ---- segments
+
+segment_pushed : (fields : List Field) (r : Reading) (id : Placed) (segment : Segment) (segments : Table Segment) → placed_in fields (codes "id") ≡ Ok id → segment_of fields ≡ Ok segment
     → with_new most_records r.info.segments id segment ≡ Ok segments → with_segment fields r ≡ Ok (record r { info = record r.info { segments = segments } })
 unfolding with_segment
 segment_pushed fields r id segment segments h k p = rw h (rw k (rw p refl))
+
+segment_refused : (fields : List Field) (r : Reading) (id : Placed) (segment : Segment) (fault : LineFault) → placed_in fields (codes "id") ≡ Ok id → segment_of fields ≡ Ok segment
+    → with_new most_records r.info.segments id segment ≡ Err fault → with_segment fields r ≡ Err fault
+unfolding with_segment
+segment_refused fields r id segment fault h k p = rw h (rw k (rw p refl))
+
+pub segment_given : {A : Type 0} (result : Result A LineError) (fields : List Field) (r : Reading) (table new : Table HeldSegment) (id : Placed) (segment : HeldSegment)
+    → map (option_map segment_view) table ≡ r.info.segments → placed_in fields (codes "id") ≡ Ok id → segment_of fields ≡ Ok (segment_view segment)
+    → Gives (λ (x : A). new) result (with_new most_records table id segment)
+    → Gives (λ (x : A). record r { info = record r.info { segments = map (option_map segment_view) new } }) result (with_segment fields r)
+segment_given (Ok x) fields r table new id segment same h k given =
+    let put : with_new most_records r.info.segments id (segment_view segment) ≡ Ok (map (option_map segment_view) new) =
+    rw (← same) (new_put segment_view most_records table new id segment given) in
+    segment_pushed fields r id (segment_view segment) (map (option_map segment_view) new) h k put
+segment_given (Err why) fields r table new id segment same h k given =
+    passed_on why (with_new most_records table id segment) (with_segment fields r)
+    (λ (fault : LineFault) (refused : with_new most_records table id segment ≡ Err fault).
+    let whole : with_new most_records r.info.segments id (segment_view segment) ≡ Err fault =
+    rw (← same) (new_refused segment_view most_records table id segment fault refused) in
+    segment_refused fields r id (segment_view segment) fault h k whole)
+    given

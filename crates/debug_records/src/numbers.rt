@@ -1,6 +1,6 @@
 //! The values of fields.
 
-ghost use Rattle.std.specs.Prelude.{◌≡◌, ◌≤◌, ◌+◌, ◌*◌, ◌==◌, [], Some, drop, length, map};
+ghost use Rattle.std.specs.Prelude.{◌≡◌, ◌≤◌, ◌+◌, ◌-◌, ◌*◌, ◌==◌, [], Some, drop, length, map};
 ghost use Rattle.std.specs.Prelude.{option_map, position};
 ghost use Rattle.std.specs.Str.{byte};
 ghost use Rattle.model.specs.Digits.{decimal_number, hex_number};
@@ -210,6 +210,13 @@ fn behind_plus(text: &[u8]) -> &[u8]
     }
 }
 
+/// Returns how many of so many bytes are left behind the first `+`.
+fn left_behind(left: usize, text: &[u8]) -> usize
+    ensures { result ≡ left - (plus_in text.now + 1) }
+{
+    left.saturating_sub(plus_in(text) + 1)
+}
+
 /// Returns the numbers of a text with `+` between them.
 fn numbers_within(alloc: Global, first: usize, text: &[u8]) -> Result<Vec<Placed>, LineError>
     ensures { Gives (λ numbers. numbers.items) result
@@ -226,7 +233,7 @@ fn numbers_within(alloc: Global, first: usize, text: &[u8]) -> Result<Vec<Placed
         if is_last(rest) {
             return Ok(numbers);
         }
-        left = left.saturating_sub(plus_in(rest) + 1);
+        left = left_behind(left, rest);
         rest = behind_plus(rest);
     }
     Err(LineError::Fault(LineFault {

@@ -65,8 +65,7 @@ fn push_file<'a>(reading: &mut Reading<'a>, fields: &[Field<'a>]) -> Result<(), 
 {
     let id = placed_in(fields, b"id")?;
     let file = file_of(fields)?;
-    put_new(&mut reading.info.files, MOST_FILES, id, file)?;
-    Ok(())
+    put_new(&mut reading.info.files, MOST_FILES, id, file)
 }
 
 /// Takes a record `seg`.
@@ -77,8 +76,7 @@ fn push_segment<'a>(reading: &mut Reading<'a>, fields: &[Field<'a>]) -> Result<(
 {
     let id = placed_in(fields, b"id")?;
     let segment = segment_of(fields)?;
-    put_new(&mut reading.info.segments, MOST_RECORDS, id, segment)?;
-    Ok(())
+    put_new(&mut reading.info.segments, MOST_RECORDS, id, segment)
 }
 
 /// Takes a record `span`.

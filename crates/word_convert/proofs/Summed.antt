@@ -16,13 +16,13 @@ module _ (cells : List (Option ℕ)) (address byte : ℕ) (inside : address < le
       omega (arith, without, value)
 
   pub summed : (right : ℕ) → right < 256 → (sum_by cell_value cells - byte + right) % 256 ≡ 0 → IsSummed (Some address) cells (set cells address (Some right))
-  summed right small zero =
+  summed right small none =
       let changed = sum_by-set cell_value cells address (Some right) None inside in
       let whole : sum_by cell_value (set cells address (Some right)) ≡ sum_by cell_value cells - byte + right = omega (arith, changed, value, within) in
-      (right, small, ap is_some there, refl, ap (λ (n : ℕ). n % 256) whole ∙ zero)
+      (right, small, ap is_some there, refl, ap (λ (n : ℕ). n % 256) whole ∙ none)
 
 -- the sum of one cell more
-sum-more : (cells : List (Option ℕ)) (k n : ℕ) → n ≡ k + 1 → sum_by cell_value (take n cells) ≡ sum_by cell_value (take k cells) + cell_value (get_or cells k None)
+pub sum-more : (cells : List (Option ℕ)) (k n : ℕ) → n ≡ k + 1 → sum_by cell_value (take n cells) ≡ sum_by cell_value (take k cells) + cell_value (get_or cells k None)
 sum-more cells k zero e = absurd (omega (arith, e))
 sum-more [] zero (suc n) e = refl
 sum-more [] (suc k) (suc n) e = refl

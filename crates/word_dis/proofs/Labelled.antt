@@ -18,7 +18,9 @@ behind profile source fault told count has is =
 
 -- why a source of names is refused, by the same line
 pub defined_ends : (profile : Profile) (source : List ℕ) (refusal : Refusal) → EndsNames profile source refusal → EndsDefined profile refusal
-defined_ends profile source (Source fault) ends = behind profile source fault fault 0 ends refl
+defined_ends profile source (Source fault) ends =
+    let same : fault.line + 0 ≡ fault.line = omega arith in
+    (source, 0, subst (λ (n : ℕ). HasFault (names_map profile) source (record fault { line = n })) (sym same) ends)
 defined_ends profile source OutOfMemory ends = tt
 defined_ends profile source Words ends = absurd ends
 defined_ends profile source (Map f) ends = absurd ends

@@ -80,9 +80,9 @@ given_path asked path profile labels n is given =
 -- marks with ranges of instructions as code
 pub known : {X E : Type 0} (items : X → List Mark) (asked : SourceAsked) (part : List (Option ℕ)) (reached : List Mark) (ranges : List (ℕ × ℕ)) (before : List Mark) (r : Result X E) → ranges ≡ asked.said.instructions → before ≡ reached
     → AreReached asked part reached → IfOk r (λ x. length (items x) ≡ 65536) → IfOk r (λ x. (a : ℕ) → a < 65536 → mark_at (items x) a ≡ said_mark ranges before a) → IfOk r (λ x. AreMarkedBy asked part (items x))
-known items asked part reached ranges before (Ok x) same own known size each =
-    record { reached = reached; known = known; size = size; each = λ a below. each a below ∙ ap₂ (λ (rs : List (ℕ × ℕ)) (ms : List Mark). said_mark rs ms a) same own }
-known items asked part reached ranges before (Err e) same own known size each = tt
+known items asked part reached ranges before (Ok x) same own has size each =
+    record { reached = reached; known = has; size = size; each = λ a below. each a below ∙ ap₂ (λ (rs : List (ℕ × ℕ)) (ms : List Mark). said_mark rs ms a) same own }
+known items asked part reached ranges before (Err e) same own has size each = tt
 
 -- the names of labels alone
 pub given_labels : (asked : Option Text) (profile : Profile) (labels : List ℕ) (n : Names) → asked ≡ None → AreLabels profile labels (option_map (λ a. a.names) n.assembly) → n.left_out.items ≡ []

@@ -1,9 +1,10 @@
 //! What the words ask for.
-ghost use Rattle.std.specs.Prelude.{◌≡◌, IfErr, IfOk, None, Some, option_map};
+ghost use Rattle.std.specs.Prelude.{◌≡◌, IfErr, IfOk, None, Some, option_map, true};
 ghost use Rattle.arguments.specs.Words.{Fits, IsRefusalOf, all_values, texts};
 ghost use Rattle.clap.specs.Words.{first_value, found_of};
 ghost use Rattle.marks_files.specs.Views.{marks_view};
 ghost use Rattle.word_dis.specs.Asked.{bounds_asked, listed, said_of, source_asked};
+ghost use Rattle.word_dis.specs.Asked.{source_of_values};
 ghost use Rattle.word_dis.specs.CommandLine.{dis, words_asked};
 ghost use Rattle.word_dis.specs.Views.{following_view, ranges_view, source_view};
 
@@ -110,6 +111,46 @@ fn said_of(alloc: Global, ranges: RangeWords, following: FollowWords) -> (Marks,
     (said, only)
 }
 
+/// Values of the words, each one that its name can have.
+#[derive(Clone, Copy)]
+struct Values<'a> {
+    tape: &'a str,
+    form: Option<Form>,
+    bounds: (u16, u16),
+    profile: Profile,
+    fill: Option<u8>,
+}
+
+/// What is asked for where each value is one that its name can have.
+fn words_of<'a>(
+    alloc: Global,
+    matches: &ArgMatches<'a>,
+    values: Values<'a>,
+    ranges: RangeWords,
+    following: FollowWords,
+) -> SourceWords<'a>
+    ensures { Some (source_view result) ≡ source_of_values true (Some values.entry.tape.now)
+        (Some values.entry.form) (Some values.entry.bounds) (Some (ranges_view ranges))
+        (Some (following_view following)) (Some values.entry.profile) (Some values.entry.fill)
+        (first_value (found_of matches.now)) }
+{
+    let (said, only) = said_of(alloc, ranges, following);
+    SourceWords {
+        tape: values.tape,
+        form: values.form,
+        first: values.bounds.0,
+        last: values.bounds.1,
+        said,
+        only,
+        labels: is_given(matches, "labels"),
+        addresses: is_given(matches, "addresses"),
+        symbols: matches.get_str("symbols"),
+        marks: matches.get_str("marks"),
+        profile: values.profile,
+        fill: values.fill,
+    }
+}
+
 /// What the values that were found ask for, or `None` where one is wrong.
 fn source_words<'a>(
     alloc: Global,
@@ -142,21 +183,14 @@ fn source_words<'a>(
     let Some(fill) = fill_asked(matches.get_str("fill")) else {
         return Ok(None);
     };
-    let (said, only) = said_of(alloc, ranges, following);
-    Ok(Some(SourceWords {
+    let values = Values {
         tape: name_of(word),
         form,
-        first: bounds.0,
-        last: bounds.1,
-        said,
-        only,
-        labels: is_given(matches, "labels"),
-        addresses: is_given(matches, "addresses"),
-        symbols: matches.get_str("symbols"),
-        marks: matches.get_str("marks"),
+        bounds,
         profile,
         fill,
-    }))
+    };
+    Ok(Some(words_of(alloc, matches, values, ranges, following)))
 }
 
 /// Returns a sentence that says which of the values that were found is wrong.

@@ -24,7 +24,7 @@ returns-then-is_last c = c.loop.invariant.read
 pub loop-preserved : goal.loop-preserved
 loop-preserved c =
     let n = length c.args.text.now - (c.loop.counter + 1) in
-    let left = c.saturating_sub-left.ensures in
+    let left = c.left_behind-left.ensures in
     record {
       read = c.loop.invariant.read
           ∙ (number_more (length c.args.text.now - c.loop.counter) n _ _ _ _ (omega arith) c.in-Ok.ensures (sym c.is_last.ensures ∙ c.if-is_last.false)

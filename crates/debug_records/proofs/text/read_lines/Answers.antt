@@ -2,6 +2,7 @@ use Rattle.std.proofs.Common.{◌∙◌, ap, arith, sym, true-eqb}
 use Rattle.model.specs.TextLines.{lines_of}
 use Rattle.debug_records.specs.Reading.{lines_read}
 use Rattle.debug_records.specs.Views.{reading_view}
+use Rattle.debug_records.proofs.LineLengths.{length-first_line}
 use Rattle.debug_records.proofs.Passing.{passed_on_in_file}
 use Rattle.debug_records.proofs.Ways.{line_more, line_refused, no_line_left}
 use Rattle.debug_records.proofs.text.read_lines.Goals as goal
@@ -11,6 +12,9 @@ loop-rest-init c = record {
   room = omega arith;
   read = ap (lines_read 1 (lines_of c.args.text.now)) (sym c.nothing_read-reading.ensures);
 }
+
+pub push_numbered-requires : goal.push_numbered-requires
+push_numbered-requires c = omega (arith, length-first_line c.loop-rest.rest.now c.next_line.result.0.now _ c.next_line.ensures.cut, c.loop-rest.invariant.room)
 
 pub loop-rest-preserved : goal.loop-rest-preserved
 loop-rest-preserved c = record {
