@@ -148,10 +148,7 @@ fn asks_for_following(rest: &[&str]) -> bool
 fn asks_for_ranges(rest: &[&str]) -> bool
     ensures { result ≡ asks_for_ranges (texts rest.entry.now) }
 {
-    has("--data", rest)
-        || has("--text", rest)
-        || has("--words", rest)
-        || has("--rts-words", rest)
+    has("--data", rest) || has("--text", rest) || has("--words", rest) || has("--rts-words", rest)
 }
 
 /// Whether an option is among the words that gives labels, names, marks or addresses.
