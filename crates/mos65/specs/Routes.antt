@@ -46,14 +46,24 @@ abbrev pub asm_route : List Text → Route
 asm_route rest = if asks_for_help rest then to.Whole
     else if asks_for_files rest then to.AsmFiles else to.Program
 
+-- Options of `dis` say how control is followed, what ranges have, and labels, names, marks or
+-- addresses.
+abbrev pub asks_for_following : List Text → Bool
+asks_for_following rest = has (codes "--follow") rest || has (codes "--follow-only") rest
+    || has (codes "--inline") rest
+
+abbrev pub asks_for_ranges : List Text → Bool
+asks_for_ranges rest = has (codes "--data") rest || has (codes "--text") rest
+    || has (codes "--words") rest || has (codes "--rts-words") rest
+
+abbrev pub asks_for_names : List Text → Bool
+asks_for_names rest = has (codes "--labels") rest || has (codes "--symbols") rest
+    || has (codes "--marks") rest || has (codes "--addresses") rest
+
 -- An option is among the words that only a source has. Without `--source` it is refused.
 abbrev pub asks_for_source : List Text → Bool
-asks_for_source rest = has (codes "--source") rest || has (codes "--follow") rest
-    || has (codes "--follow-only") rest || has (codes "--inline") rest
-    || has (codes "--labels") rest || has (codes "--symbols") rest
-    || has (codes "--data") rest || has (codes "--text") rest || has (codes "--words") rest
-    || has (codes "--rts-words") rest || has (codes "--marks") rest
-    || has (codes "--addresses") rest
+asks_for_source rest = has (codes "--source") rest || asks_for_following rest
+    || asks_for_ranges rest || asks_for_names rest
 
 abbrev pub dis_route : List Text → Route
 dis_route rest = if asks_for_help rest then to.Whole

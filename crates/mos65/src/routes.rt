@@ -3,6 +3,7 @@
 ghost use Rattle.std.specs.Prelude.{◌≡◌};
 ghost use Rattle.arguments.specs.Words.{texts};
 ghost use Rattle.mos65.specs.Routes.{added, asks_for_help, asks_for_image, asks_for_source};
+ghost use Rattle.mos65.specs.Routes.{asks_for_following, asks_for_names, asks_for_ranges};
 ghost use Rattle.mos65.specs.Routes.{asm_route, debug_route};
 ghost use Rattle.mos65.specs.Routes.{dis_route, find, has, names_image, route_of, session_route};
 
@@ -136,22 +137,38 @@ fn asm_route(rest: &[&str]) -> Route
     }
 }
 
+/// Whether an option is among the words that says how control is followed.
+fn asks_for_following(rest: &[&str]) -> bool
+    ensures { result ≡ asks_for_following (texts rest.entry.now) }
+{
+    has("--follow", rest) || has("--follow-only", rest) || has("--inline", rest)
+}
+
+/// Whether an option is among the words that says what ranges have.
+fn asks_for_ranges(rest: &[&str]) -> bool
+    ensures { result ≡ asks_for_ranges (texts rest.entry.now) }
+{
+    has("--data", rest) || has("--text", rest) || has("--words", rest) || has("--rts-words", rest)
+}
+
+/// Whether an option is among the words that gives labels, names, marks or addresses.
+fn asks_for_names(rest: &[&str]) -> bool
+    ensures { result ≡ asks_for_names (texts rest.entry.now) }
+{
+    has("--labels", rest)
+        || has("--symbols", rest)
+        || has("--marks", rest)
+        || has("--addresses", rest)
+}
+
 /// Whether an option is among the words that only a source has.
 fn asks_for_source(rest: &[&str]) -> bool
     ensures { result ≡ asks_for_source (texts rest.entry.now) }
 {
     has("--source", rest)
-        || has("--follow", rest)
-        || has("--follow-only", rest)
-        || has("--inline", rest)
-        || has("--labels", rest)
-        || has("--symbols", rest)
-        || has("--data", rest)
-        || has("--text", rest)
-        || has("--words", rest)
-        || has("--rts-words", rest)
-        || has("--marks", rest)
-        || has("--addresses", rest)
+        || asks_for_following(rest)
+        || asks_for_ranges(rest)
+        || asks_for_names(rest)
 }
 
 /// Returns the call for the words after `dis`.
