@@ -120,10 +120,10 @@ all_taken wanted row first past at old table p f e t =
 
 -- ---- all rows
 
-pub no_rows : (table : List (Option Row)) → table ≡ [] ++ replicate (65536 - length []) None → IsTable table (λ address. None)
+pub no_rows : (table : List (Option Row)) → table ≡ [] ++ replicate (65536 - length {A = Option Row} []) None → IsTable table (λ address. None)
 no_rows table e = record {
-  size = ap length e ∙ length-replicate 65536 None;
-  rows = λ address h. ap (λ t. record_at t address) e ∙ get_or-replicate 65536 address None None h;
+  size = ap length e ∙ length-replicate {A = Option Row} 65536 None;
+  rows = λ address h. ap (λ t. record_at t address) e ∙ get_or-replicate {A = Option Row} 65536 address None None h;
 }
 
 -- What each address has in the end, by what it has now and the rows that are left.
@@ -137,10 +137,10 @@ all_left wanted rows table t = record {
   rest = λ address h. ap (λ best. best_of wanted address best rows) (t.rows address h);
 }
 
-pub row_put : (wanted : Wanted) (row : Row) (rows : List Row) (i : ℕ) (table new : List (Option Row)) → i < length rows → row ≡ get_or rows i row
-    → IsTable new (λ address. with_row wanted address (record_at table address) row) → Left wanted rows (drop i rows) table → Left wanted rows (drop (i + 1) rows) new
-row_put wanted row rows i table new h at t l =
-    let step : drop i rows ≡ row ∷ drop (i + 1) rows = drop_more rows i row h ∙ ap (λ r. r ∷ drop (i + 1) rows) (sym at) in record {
+pub row_put : (wanted : Wanted) (d : Row) (rows : List Row) (i : ℕ) (table new : List (Option Row)) → i < length rows
+    → IsTable new (λ address. with_row wanted address (record_at table address) (get_or rows i d)) → Left wanted rows (drop i rows) table → Left wanted rows (drop (i + 1) rows) new
+row_put wanted d rows i table new h t l =
+    let step : drop i rows ≡ get_or rows i d ∷ drop (i + 1) rows = drop_more rows i d h in record {
       size = t.size;
       rest = λ address k. ap (λ best. best_of wanted address best (drop (i + 1) rows)) (t.rows address k)
           ∙ (sym (ap (best_of wanted address (record_at table address)) step) ∙ l.rest address k);
