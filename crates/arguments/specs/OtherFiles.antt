@@ -1,7 +1,7 @@
 -- More files of one machine, by the values that clap's definition of a parse finds among the words.
 -- Source: mos65.
 use Rattle.std.specs.Prelude.{Option, codes, option_map}
-use Rattle.arguments.specs.declared.other_files.OtherFiles.{OtherFiles}
+use Rattle.arguments.specs.declared.machine_files.OtherFiles.{OtherFiles}
 use Rattle.clap.specs.Words.{Text}
 
 -- The words for them, in their order.

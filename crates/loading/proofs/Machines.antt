@@ -11,7 +11,7 @@ use Rattle.arguments.specs.declared.fault.WordsFault.{WordsFault}
 use Rattle.arguments.specs.declared.fault.WordsFault.TheVariants as words_fault
 use Rattle.arguments.specs.declared.load_fault.LoadFault.TheVariants.{Refused}
 use Rattle.arguments.specs.declared.refusal.Refusal.TheVariants.{OutOfMemory}
-use Rattle.arguments.specs.declared.other_files.OtherFiles.{OtherFiles}
+use Rattle.arguments.specs.declared.machine_files.OtherFiles.{OtherFiles}
 use Rattle.assembler.specs.Assembly.{AssemblyView}
 use Rattle.clap.specs.Words.{Text}
 use Rattle.loading.proofs.Starts.{starts_idle, starts_silent}

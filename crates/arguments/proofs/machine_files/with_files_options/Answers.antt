@@ -1,7 +1,7 @@
 use Rattle.std.proofs.Common.{rules, codes}
 use Rattle.clap.specs.Words.{app_of}
 use Rattle.arguments.specs.CommandLine.{with_file, word_rule}
-use Rattle.arguments.proofs.other_files.with_files_options.Goals as goal
+use Rattle.arguments.proofs.machine_files.with_files_options.Goals as goal
 
 pub returns-clause-shape : goal.returns-clause-shape
 returns-clause-shape c =
