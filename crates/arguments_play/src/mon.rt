@@ -1,6 +1,7 @@
 //! The words of `mon`.
 
 ghost use Rattle.std.specs.Prelude.{◌≡◌, IsOkUnless, IfErr, IfOk, None, Some, false, option_map};
+ghost use Rattle.arguments.specs.Asked.{file_view};
 ghost use Rattle.arguments.specs.Words.{Fits, IsRefusalOf, texts};
 ghost use Rattle.arguments_play.specs.Mon.{MonAsked, asked, debug_asked, mon, mon_asked, mon_view};
 ghost use Rattle.clap.specs.Words.{app_of, first_value, found_of, kind_of};

@@ -1,5 +1,7 @@
 //! An output that nobody reads any more.
 
+ghost use Rattle.std.specs.Prelude.{◌≡◌};
+
 use std::cell::Cell;
 use std::io;
 use std::io::{ErrorKind, Write};

@@ -3,6 +3,7 @@ use Rattle.std.specs.Prelude.{ℕ, Bool, true, false, List, [], Option, None, So
 use Rattle.accesses.specs.Tallies.{Counts, no_counts}
 use Rattle.arguments.specs.declared.file_options.FileForm.{FileForm}
 use Rattle.arguments.specs.declared.file_options.FileForm.TheVariants.{Source}
+use Rattle.source_map.specs.Lines.{file_name}
 use Rattle.trace_rows.specs.Records.{record_text}
 use Rattle.word_test.specs.declared.report.Report.{Report}
 use Rattle.t65_reports.specs.Junit.{ReportTold, report_told}

@@ -2,6 +2,7 @@
 
 ghost use Rattle.std.specs.Prelude.{◌≡◌, ◌++◌, [], IfOk, None, OnOk, is_some};
 ghost use Rattle.std.specs.Option.{option_map};
+ghost use Rattle.source_map.specs.Lines.{file_name};
 ghost use Rattle.trace_rows.specs.Records.{record_text};
 ghost use Rattle.word_test.specs.Covered.{counts_begun, record_of};
 ghost use Rattle.t65_reader.specs.RowText.{row_view};
