@@ -1,6 +1,5 @@
-use Rattle.std.proofs.Common.{◌∙◌, ap, arith, sym}
+use Rattle.std.proofs.Common.{◌∙◌, arith, sym}
 use Rattle.model.specs.Digits.{decimal_value}
-use Rattle.debug_records.specs.Numbers.{not_large}
 use Rattle.debug_records.proofs.Digits.{large_digit, number_done}
 use Rattle.debug_records.proofs.numbers.decimal_number.Goals as goal
 
