@@ -18,7 +18,7 @@ loop-place-preserved c =
     let made = c.loop-place.pieces.items in
     record {
       few = omega (arith, c.loop-place-test.true);
-      left = piece_made program c.args.rows.now begun shown made c.push_some.new.pieces.items place c.loop-place-test.true
+      left = piece_made program c.args.rows.now begun shown made c.push_some.new.rows.items place c.loop-place-test.true
           c.in_ok-begun_rows.ensures c.in_ok-shown_rows.ensures
           (c.in_ok-push_some.ensures ∙ ap (λ (o : Option Row). made ++ option_to_list o)
           (c.piece_of-row.ensures ∙ (ap (λ b. piece_of program place b c.record_at-shown.result) c.record_at-begun.ensures

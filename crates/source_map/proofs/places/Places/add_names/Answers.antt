@@ -10,7 +10,8 @@ returns-clause-err c = IfErr-weaker c.append.result _ _ (λ _ h. (
   λ i. record {
     names = (h.1 ∙ ap (λ (v : PlacesView). v.names ++ names_of c.args.assembly.now.image (take h.0 (named_numbers c.args.assembly.now))) c.self.view_is) i;
     lines = (c.self.view_is i).lines;
-    texts = (c.self.view_is i).texts;
-    file = (c.self.view_is i).file;
+    sites = (c.self.view_is i).sites;
+    sources = (c.self.view_is i).sources;
+    is_whole = (c.self.view_is i).is_whole;
   },
 )) c.append.ensures.err
