@@ -17,9 +17,9 @@ pub record HasBytesBelow (state : State) (marks : List Bool) (image : List (Opti
 pub none_taken : (state : State) (marks : List Bool) (image : List (Option ℕ)) → image ≡ empty_image → HasBytesBelow state marks image 0
 unfolding empty_image
 none_taken state marks image e = record {
-  size = ap length e ∙ length-replicate 65536 None;
+  size = ap length e ∙ length-replicate {A = Option ℕ} 65536 None;
   below = λ address h. absurd (omega (arith, h));
-  above = λ address h k. ap (λ i. cell_at i address) e ∙ get_or-replicate 65536 address None None k;
+  above = λ address h k. ap (λ i. cell_at i address) e ∙ get_or-replicate {A = Option ℕ} 65536 address None None k;
 }
 
 taken_here : (state : State) (marks : List Bool) (image : List (Option ℕ)) (past : ℕ) (b : Bool) → is_written marks past ≡ b → past < 65536 → HasBytesBelow state marks image past
