@@ -39,18 +39,21 @@ again_more notes i note outcome a b noted more h at follows is new left p =
     (b, outcome, follows, subst (λ n. Repeats (drop (i + 1) notes) b n new left) is p)
 
 -- a session that has begun, put in place of another
-pub reloads : (a b : Terminal) (fresh ready : MonState) (loaded : List Bool) (text : List ℕ)
-    (notes left : List SeenNote) → StartsMon (mon_view a.words.now) fresh loaded
-    → text ≡ a.mon.text.items → notes ≡ a.notes.items → ServesAgain text notes fresh ready left
+pub reloads : (a b : Terminal) (fresh ready : MonState) (loaded : List Bool) (text line said : List ℕ)
+    (notes left : List SeenNote) → StartsMon (mon_view a.words.now) fresh loaded line
+    → text ≡ a.mon.text.items → said ≡ line → notes ≡ a.notes.items
+    → ServesAgain text said notes fresh ready left
     → b.mon ≡ ready → b.loaded ≡ loaded → b.notes.items ≡ left → b.view ≡ a.view
     → b.words ≡ a.words → IsReloaded a b
-reloads a b fresh ready loaded text notes left starts t n again mon known items view words = (
+reloads a b fresh ready loaded text line said notes left starts t s n again mon known items view words = (
   fresh,
-  subst (λ (k : List Bool). StartsMon (mon_view a.words.now) fresh k) (sym known) starts,
-  subst (λ (x : List ℕ). ServesAgain x a.notes.items fresh b.mon b.notes.items) t
-      (subst (λ (x : List SeenNote). ServesAgain text x fresh b.mon b.notes.items) n
-      (subst (λ (d : MonState). ServesAgain text notes fresh d b.notes.items) (sym mon)
-      (subst (λ (x : List SeenNote). ServesAgain text notes fresh ready x) (sym items) again))),
+  line,
+  subst (λ (k : List Bool). StartsMon (mon_view a.words.now) fresh k line) (sym known) starts,
+  subst (λ (x : List ℕ). ServesAgain x line a.notes.items fresh b.mon b.notes.items) t
+      (subst (λ (x : List ℕ). ServesAgain text x a.notes.items fresh b.mon b.notes.items) s
+      (subst (λ (x : List SeenNote). ServesAgain text said x fresh b.mon b.notes.items) n
+      (subst (λ (d : MonState). ServesAgain text said notes fresh d b.notes.items) (sym mon)
+      (subst (λ (x : List SeenNote). ServesAgain text said notes fresh ready x) (sym items) again)))),
   view,
   words,
 )

@@ -15,7 +15,7 @@ use Rattle.loading.proofs.Machines.{memory_files, one_of}
 use Rattle.loading.specs.Machine.{AreUnloaded}
 use Rattle.loading.specs.Told.{Heard, Tells}
 use Rattle.word_mon.specs.Attended.{AttendsInPart, IsAttendedSoFar}
-use Rattle.word_mon.specs.Done.{Attends, EndsSession, IsUndebugged, IsUnnamed, opening}
+use Rattle.word_mon.specs.Done.{Attends, EndsSession, IsUndebugged, IsUnnamed}
 use Rattle.word_mon.specs.declared.terminal.Terminal.{Terminal}
 use Rattle.word_mon.specs.Starts.{EndsDebugInfo, EndsNamed}
 
@@ -47,15 +47,15 @@ ends_debug None other heard fault status A ends is told alone = absurd ends
 ends_debug (Some path) other heard fault status A ends is told alone = (fault, ends, is, told, alone)
 
 -- How a session ended with a fault.
-pub attends_err : (prompts : Bool) (first last : Terminal) (given left held now : Option (List ℕ))
-    (fault : Refusal) → EndsSession fault
+pub attends_err : (prompts : Bool) (shown : List ℕ) (first last : Terminal)
+    (given left held now : Option (List ℕ)) (fault : Refusal) → EndsSession fault
     → (fault ≡ Read Other → (written : List ℕ)
     × IsAttendedSoFar prompts given left first last written
-    × Appends held now (opening prompts first ++ written))
-    → AttendsInPart prompts (opening prompts first) first given left held now
-    → Attends {X = ⊤} prompts first given left held now (Err fault)
-attends_err prompts first last given left held now OutOfMemory ends unread broken = broken
-attends_err prompts first last given left held now Write ends unread broken = broken
-attends_err prompts first last given left held now (Read Other) ends unread broken =
+    × Appends held now (shown ++ written))
+    → AttendsInPart prompts shown first given left held now
+    → Attends {X = ⊤} prompts shown first given left held now (Err fault)
+attends_err prompts shown first last given left held now OutOfMemory ends unread broken = broken
+attends_err prompts shown first last given left held now Write ends unread broken = broken
+attends_err prompts shown first last given left held now (Read Other) ends unread broken =
     let h = unread refl in (last, h.0, h.1, h.2)
-attends_err prompts first last given left held now fault ends unread broken = absurd ends
+attends_err prompts shown first last given left held now fault ends unread broken = absurd ends

@@ -41,19 +41,21 @@ repeats_say (note ∷ notes) a noted b left p =
       rest.1 ∙ ap (λ t. t ++ rest.0) first.1 ∙ append_assoc a.text.items first.0 rest.0,
     )
 
-again_says : (old : List ℕ) (notes : List SeenNote) (fresh new : MonState) (left : List SeenNote)
-    → ServesAgain old notes fresh new left → (said : List ℕ) × (new.text.items ≡ old ++ said)
+again_says : (old line : List ℕ) (notes : List SeenNote) (fresh new : MonState)
+    (left : List SeenNote) → ServesAgain old line notes fresh new left
+    → (said : List ℕ) × (new.text.items ≡ old ++ said)
 unfolding ServesAgain
-again_says old notes fresh new left p =
+again_says old line notes fresh new left p =
     let again = repeats_say notes p.0 [] p.4 left p.5 in
+    let first = p.2 ++ line in
     let shown = shown_text p.4.session.current p.4.places.names None in (
-      p.2 ++ (again.0 ++ shown),
+      first ++ (again.0 ++ shown),
       p.7 ∙ ap (λ t. t ++ shown) (again.1 ∙ ap (λ t. t ++ again.0) p.3)
-          ∙ append_assoc (old ++ p.2) again.0 shown ∙ append_assoc old p.2 (again.0 ++ shown),
+          ∙ append_assoc (old ++ first) again.0 shown ∙ append_assoc old first (again.0 ++ shown),
     )
 
 reloaded_says : (a b : Terminal) → IsReloaded a b → (said : List ℕ) × Says said a.mon b.mon
-reloaded_says a b p = again_says a.mon.text.items a.notes.items p.0 b.mon b.notes.items p.2
+reloaded_says a b p = again_says a.mon.text.items p.1 a.notes.items p.0 b.mon b.notes.items p.3
 
 reloads_say : (a b : Terminal) → Reloads a b → (said : List ℕ) × Says said a.mon b.mon
 reloads_say a b (inl p) = reloaded_says a b p
@@ -90,7 +92,7 @@ both_say read is_over a b c p q =
 
 -- no screen comes or goes
 reloads_view : (a b : Terminal) → Reloads a b → b.view ≡ a.view
-reloads_view a b (inl p) = p.3
+reloads_view a b (inl p) = p.4
 reloads_view a b (inr p) = p.0.1
 
 command_keeps_view : (command : SeenCommand) (a b : Terminal) → Obeys command a b → b.view ≡ a.view

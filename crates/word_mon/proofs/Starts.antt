@@ -8,18 +8,18 @@ use Rattle.loading.specs.Loads.{AreOfFile}
 use Rattle.loading.specs.Machine.{AreLoaded}
 use Rattle.model.specs.Event.{start}
 use Rattle.model.specs.Session.{Session, new_session}
-use Rattle.word_mon.specs.Starts.{AreNamed, ArePlaces, IsNewState, StartsMon, with_names}
+use Rattle.word_mon.specs.Starts.{AreNamed, ArePlaces, IsNewState, IsWarningLine, StartsMon, with_names}
 use Rattle.source_map.specs.Lines.{PlacesView}
 use Rattle.mon_session.specs.declared.mon_state.MonState.{MonState}
 use Rattle.arguments_play.specs.Mon.{MonAsked}
 
 -- The session of a new state is the one that was loaded.
-pub named_starts : (asked : MonAsked) (session : Session) (assembly : Option AssemblyView) (written loaded : List Bool) (mon : MonState)
+pub named_starts : (asked : MonAsked) (session : Session) (assembly : Option AssemblyView) (written loaded : List Bool) (mon : MonState) (warning_line : List ℕ)
     → (image : List (Option ℕ)) × AreLoaded asked.file asked.others image assembly × (session ≡ new_session asked.history (start (map_of asked.file) image)) × (written ≡ bytes_in image)
     → (places : PlacesView) × ArePlaces asked.debug_info asked.file.file session assembly written places
     × (names : Option ImageNames) × AreNamed asked.symbols asked.file names × IsNewState session asked.history (with_names names places) mon
-    → loaded ≡ written → StartsMon asked mon loaded
-named_starts asked session assembly written loaded mon given new same =
+    → loaded ≡ written → IsWarningLine (map_of asked.file) assembly warning_line → StartsMon asked mon loaded warning_line
+named_starts asked session assembly written loaded mon warning_line given new same warned =
     let begun = new_session asked.history (start (map_of asked.file) given.0) in (
       given.0,
       assembly,
@@ -31,6 +31,7 @@ named_starts asked session assembly written loaded mon given new same =
       new.2,
       new.3,
       subst (λ s. IsNewState s asked.history (with_names new.2 new.0) mon) given.2 new.4,
+      warned,
     )
 
 -- A file of names that was read is the one that is named.

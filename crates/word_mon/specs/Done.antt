@@ -64,41 +64,42 @@ StartsView asked mon (Some view) = (asked.has_screen ≡ true) × IsSizeFor aske
     × (view.regs ≡ mon.session.current.regs)
     × (view.cycles ≡ None) × (view.skipped ≡ 0)
 
--- What is written first: the greeting and the state, or a screen with both.
-abbrev pub opening : Bool → Terminal → List ℕ
-opening prompts terminal = drawn terminal.view terminal.mon (terminal.mon.text.items
-    ++ (greeting_of prompts terminal.mon.session.current terminal.mon.places.names
+-- What is written first: the greeting, with the line that tells of warnings, and the state, or a
+-- screen with both.
+abbrev pub opening : Bool → List ℕ → Terminal → List ℕ
+opening prompts warning_line terminal = drawn terminal.view terminal.mon (terminal.mon.text.items
+    ++ (greeting_of prompts terminal.mon.session.current terminal.mon.places.names warning_line
     ++ shown_text terminal.mon.session.current terminal.mon.places.names None))
 
--- What a session at a terminal wrote of what it read, by how it ended. `Ok`: its lines were served
--- up to `quit` or to the end of the input, and what is said of them was written. `Read`: the
--- complete lines that were read were served, and what is said of them was written. `Write` and
--- `OutOfMemory`: a beginning was written of what is said of lines that were read. It ends with no
--- other fault.
-abbrev pub Attends : {X : Type 0} → Bool → Terminal → Option (List ℕ) → Option (List ℕ)
+-- What a session at a terminal wrote of what it read, behind what is shown first, by how it ended.
+-- `Ok`: its lines were served up to `quit` or to the end of the input, and what is said of them was
+-- written. `Read`: the complete lines that were read were served, and what is said of them was
+-- written. `Write` and `OutOfMemory`: a beginning was written of what is said of lines that were
+-- read. It ends with no other fault.
+abbrev pub Attends : {X : Type 0} → Bool → List ℕ → Terminal → Option (List ℕ) → Option (List ℕ)
     → Option (List ℕ) → Option (List ℕ) → Result X Refusal → Type 0
-Attends prompts first given left held now (Ok done) = (last : Terminal) × (written : List ℕ)
-    × IsAttended prompts given left first last written
-    × Appends held now (opening prompts first ++ written)
-Attends prompts first given left held now (Err (Read Other)) = (last : Terminal) × (written : List ℕ)
-    × IsAttendedSoFar prompts given left first last written
-    × Appends held now (opening prompts first ++ written)
-Attends prompts first given left held now (Err Write)
-    = AttendsInPart prompts (opening prompts first) first given left held now
-Attends prompts first given left held now (Err OutOfMemory)
-    = AttendsInPart prompts (opening prompts first) first given left held now
-Attends prompts first given left held now (Err fault) = ⊥
+Attends prompts shown first given left held now (Ok done) = (last : Terminal) × (written : List ℕ)
+    × IsAttended prompts given left first last written × Appends held now (shown ++ written)
+Attends prompts shown first given left held now (Err (Read Other)) = (last : Terminal)
+    × (written : List ℕ) × IsAttendedSoFar prompts given left first last written
+    × Appends held now (shown ++ written)
+Attends prompts shown first given left held now (Err Write)
+    = AttendsInPart prompts shown first given left held now
+Attends prompts shown first given left held now (Err OutOfMemory)
+    = AttendsInPart prompts shown first given left held now
+Attends prompts shown first given left held now (Err fault) = ⊥
 
 -- The exit status is 0, or that of the fault, which the error stream got.
 abbrev pub TellsEnd : {X : Type 0} → Heard → ℕ → Result X Refusal → Type 0
 TellsEnd heard status (Ok done) = status ≡ 0
 TellsEnd heard status (Err fault) = (status ≡ status_of fault) × Tells heard (fault_line fault)
 
--- A session ended at a terminal, as the status says.
-abbrev pub EndsAt : Bool → Terminal → Option (List ℕ) → Option (List ℕ) → Option (List ℕ)
+-- A session ended at a terminal, as the status says. Its greeting has this line of warnings.
+abbrev pub EndsAt : Bool → List ℕ → Terminal → Option (List ℕ) → Option (List ℕ) → Option (List ℕ)
     → Option (List ℕ) → Heard → ℕ → Type 0
-EndsAt prompts first given left held now heard status = (outcome : Result ⊤ Refusal)
-    × Attends prompts first given left held now outcome × TellsEnd heard status outcome
+EndsAt prompts warning_line first given left held now heard status = (outcome : Result ⊤ Refusal)
+    × Attends prompts (opening prompts warning_line first) first given left held now outcome
+    × TellsEnd heard status outcome
 
 -- What was done for words: no session began, and the streams were left alone, `Alone`; or one began
 -- at its terminal, with some input given, and ended so, with some input left. Prompts are written if
@@ -108,8 +109,9 @@ abbrev pub IsDone : MonAsked → Option (List ℕ) → Option (List ℕ) → Opt
 IsDone asked given left old new heard status Alone
     = AreUnloaded asked.file asked.others heard status Alone
     ⊎ (IsUnstarted asked heard status Alone
-    ⊎ ((terminal : Terminal) × StartsMon asked terminal.mon terminal.loaded
+    ⊎ ((terminal : Terminal) × (warning_line : List ℕ)
+    × StartsMon asked terminal.mon terminal.loaded warning_line
     × (terminal.notes.items ≡ []) × (terminal.answered.items ≡ [])
     × (mon_view terminal.words.now ≡ asked) × StartsView asked terminal.mon terminal.view
     × (prompts : Bool) × (asked.prompts ≡ true → prompts ≡ true)
-    × EndsAt prompts terminal given left old new heard status))
+    × EndsAt prompts warning_line terminal given left old new heard status))

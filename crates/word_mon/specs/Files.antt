@@ -31,20 +31,22 @@ Repeats (note ∷ notes) old noted new left =
     × Repeats notes between
     (notes_after between (placed_in read) note.pc note.line noted) new left
 
--- Behind a text something is said of the file, lines that were noted are served again, and the state
--- is shown.
-unfoldable pub ServesAgain : List ℕ → List SeenNote → MonState → MonState → List SeenNote → Type 0
-ServesAgain text notes fresh new left = (begun : MonState) × ShowsOnly fresh begun
-    × (first : List ℕ) × (begun.text.items ≡ text ++ first)
+-- Behind a text something is said of the file, and the line that tells of warnings; lines that were
+-- noted are served again, and the state is shown.
+unfoldable pub ServesAgain : List ℕ → List ℕ → List SeenNote → MonState → MonState → List SeenNote
+    → Type 0
+ServesAgain text warning_line notes fresh new left = (begun : MonState) × ShowsOnly fresh begun
+    × (first : List ℕ) × (begun.text.items ≡ text ++ (first ++ warning_line))
     × (ready : MonState) × Repeats notes begun [] ready left
     × ShowsOnly ready new
     × Says (shown_text ready.session.current ready.places.names None) ready new
 
--- A session begins on the file as it is now, the lines that were noted are served again, and the
--- state is shown. No event can be undone then.
+-- A session begins on the file as it is now, how many warnings it has is said, the lines that were
+-- noted are served again, and the state is shown. No event can be undone then.
 abbrev pub IsReloaded : Terminal → Terminal → Type 0
-IsReloaded old new = (fresh : MonState) × StartsMon (mon_view old.words.now) fresh new.loaded
-    × ServesAgain old.mon.text.items old.notes.items fresh new.mon new.notes.items
+IsReloaded old new = (fresh : MonState) × (warning_line : List ℕ)
+    × StartsMon (mon_view old.words.now) fresh new.loaded warning_line
+    × ServesAgain old.mon.text.items warning_line old.notes.items fresh new.mon new.notes.items
     × (new.view ≡ old.view) × (new.words ≡ old.words)
 
 -- Why a file of a session is not loaded: its own file, or one of several, that of its names, or

@@ -44,11 +44,13 @@ hidden_text names = if has_hidden names
 abbrev pub vector_text : ℕ → ℕ → List ℕ
 vector_text low high = if (low == 0) && (high == 0) then NO_VECTOR.now else []
 
-unfoldable pub greeting : List Named → ℕ → ℕ → List ℕ
-greeting names low high = GREETING.now ++ hidden_text names ++ vector_text low high
+-- The last line is the one that tells of warnings, if there are some.
+unfoldable pub greeting : List Named → ℕ → ℕ → List ℕ → List ℕ
+greeting names low high warning_line
+    = GREETING.now ++ hidden_text names ++ vector_text low high ++ warning_line
 
 -- What is written first, if prompts are.
-abbrev pub greeting_of : Bool → State → List Named → List ℕ
-greeting_of prompts state names = if prompts
+abbrev pub greeting_of : Bool → State → List Named → List ℕ → List ℕ
+greeting_of prompts state names warning_line = if prompts
     then greeting names (slice_index state.bus.memory 0xFFFC) (slice_index state.bus.memory 0xFFFD)
-    else []
+    warning_line else []

@@ -11,11 +11,12 @@ use Rattle.clap.specs.Words.{Text}
 use Rattle.debug_files.specs.Loads.{AreDebugPlaces, EndsDebug}
 use Rattle.loading.specs.Loads.{AreOfFile, EndsNames}
 use Rattle.loading.specs.Machine.{AreLoaded}
+use Rattle.loading.specs.Warned.{TellsWarnings}
 use Rattle.loading.specs.declared.loaded.ImageNames.{ImageNames}
 use Rattle.model.specs.Event.{start}
 use Rattle.model.specs.Image.{cell_at}
 use Rattle.model.specs.Session.{Session, new_session}
-use Rattle.model.specs.State.{State}
+use Rattle.model.specs.State.{Map, State}
 use Rattle.mon_session.specs.declared.mon_state.MonState.{MonState}
 use Rattle.source_map.specs.Lines.{PlacesView, no_places, places_of}
 use Rattle.source_map.specs.Names.{names_in, other_names}
@@ -65,6 +66,12 @@ ArePlaces (Some path) file session assembly loaded places = (image : List (Optio
     × HasBytesOf session.current loaded image
     × AreDebugPlaces (record { profile = session.current.bus.map.profile; image = image }) places
 
+-- The line that tells how many warnings a source has on a map, as `run` writes it; nothing without a
+-- source or a warning, and nothing or a beginning where memory runs out.
+abbrev pub IsWarningLine : Map → Option AssemblyView → List ℕ → Type 0
+IsWarningLine bus_map assembly line
+    = TellsWarnings bus_map assembly 0 (record { held = Some []; now = Some line })
+
 -- Why a session does not begin on what was loaded.
 abbrev pub EndsDebugInfo : Option Text → LoadFault → Type 0
 EndsDebugInfo None fault = ⊥
@@ -89,10 +96,11 @@ pub record IsNewState (begun : Session) (history : ℕ) (known : PlacesView) (mo
   pub text : mon.text.items ≡ []
 
 -- A state of `mon` with a session at the start of an image that the file can have, with the names
--- and lines of its source or of its debug information and the names of a file of names; and the
--- addresses at which the image has a byte.
-abbrev pub StartsMon : MonAsked → MonState → List Bool → Type 0
-StartsMon asked mon loaded = (image : List (Option ℕ)) × (assembly : Option AssemblyView)
+-- and lines of its source or of its debug information and the names of a file of names; the
+-- addresses at which the image has a byte; and the line that tells of the warnings of its source.
+abbrev pub StartsMon : MonAsked → MonState → List Bool → List ℕ → Type 0
+StartsMon asked mon loaded warning_line = (image : List (Option ℕ))
+    × (assembly : Option AssemblyView)
     × AreLoaded asked.file asked.others image assembly × (loaded ≡ bytes_in image)
     × (places : PlacesView)
     × ArePlaces asked.debug_info asked.file.file
@@ -100,3 +108,4 @@ StartsMon asked mon loaded = (image : List (Option ℕ)) × (assembly : Option A
     × (names : Option ImageNames) × AreNamed asked.symbols asked.file names
     × IsNewState (new_session asked.history (start (map_of asked.file) image)) asked.history
     (with_names names places) mon
+    × IsWarningLine (map_of asked.file) assembly warning_line

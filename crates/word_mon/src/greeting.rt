@@ -106,22 +106,30 @@ fn push_vector(text: &mut Vec<u8>, low: u8, high: u8) -> Result<(), AllocError>
     Ok(())
 }
 
-/// Appends what is written first.
+/// Appends what is written first. The line of the warnings is its last one.
 #[tactic(auto, unfolding(crate::specs::Greeting::greeting))]
-fn push_greeting(text: &mut Vec<u8>, names: &Names, low: u8, high: u8) -> Result<(), AllocError>
-    ensures { OnOk result (text.new.items ≡ text.old.items ++ greeting names.now low high) }
+fn push_greeting(
+    text: &mut Vec<u8>,
+    names: &Names,
+    low: u8,
+    high: u8,
+    warning_line: &[u8],
+) -> Result<(), AllocError>
+    ensures { OnOk result (text.new.items
+        ≡ text.old.items ++ greeting names.now low high warning_line.now) }
 {
     push_text(text, GREETING)?;
     push_hidden(text, names)?;
-    push_vector(text, low, high)
+    push_vector(text, low, high)?;
+    text.extend_from_slice(warning_line)
 }
 
 /// Says what is written first, if prompts are asked for: which lines help, which names of the
-/// program mean registers or flags, and that there is no reset vector.
-pub fn greet(mon: &mut MonState, prompts: bool) -> Result<(), Refusal>
+/// program mean registers or flags, that there is no reset vector, and how many warnings there are.
+pub fn greet(mon: &mut MonState, prompts: bool, warning_line: &[u8]) -> Result<(), Refusal>
     ensures shows { ShowsOnly mon.old mon.new }
-    ensures said { OnOk result (mon.new.text.items ≡ mon.old.text.items
-        ++ greeting_of prompts mon.old.session.current mon.old.places.names) }
+    ensures said { OnOk result (mon.new.text.items ≡ mon.old.text.items ++ greeting_of prompts
+        mon.old.session.current mon.old.places.names warning_line.now) }
     ensures refused { IfErr result EndsAnswer }
 {
     if !prompts {
@@ -129,5 +137,5 @@ pub fn greet(mon: &mut MonState, prompts: bool) -> Result<(), Refusal>
     }
     let low = mon.session.peek(0xFFFC);
     let high = mon.session.peek(0xFFFD);
-    of_memory(push_greeting(&mut mon.text, mon.places.names(), low, high))
+    of_memory(push_greeting(&mut mon.text, mon.places.names(), low, high, warning_line))
 }

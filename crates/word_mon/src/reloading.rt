@@ -79,8 +79,23 @@ fn say_loaded(mon: &mut MonState, text: &[u8], file: &str) -> Result<(), AllocEr
     mon.say(LOADED_AGAIN)
 }
 
-/// Says that a file is loaded again, serves the lines that were noted once more, and shows the
-/// state. Returns the lines that have placed something.
+/// Says behind a text that a file is loaded again, and how many warnings it has.
+fn say_warned(
+    mon: &mut MonState,
+    text: &[u8],
+    file: &str,
+    warning_line: &[u8],
+) -> Result<(), AllocError>
+    ensures shows { ShowsOnly mon.old mon.new }
+    ensures text { mon.old.text.items ≡ [] → OnOk result ((first : List ℕ)
+        × (mon.new.text.items ≡ text.now ++ (first ++ warning_line.now))) }
+{
+    say_loaded(mon, text, file)?;
+    mon.text.extend_from_slice(warning_line)
+}
+
+/// Says that a file is loaded again, and how many warnings it has, serves the lines that were noted
+/// once more, and shows the state. Returns the lines that have placed something.
 ///
 /// Errors: `AllocError` if an allocation fails.
 fn serve_again(
@@ -88,12 +103,13 @@ fn serve_again(
     mon: &mut MonState,
     text: &[u8],
     file: &str,
+    warning_line: &[u8],
     notes: &[Note],
 ) -> Result<Vec<Note>, AllocError>
     ensures { mon.old.text.items ≡ [] → IfOk result
-        (λ left. ServesAgain text.now notes.now mon.old mon.new left.items) }
+        (λ left. ServesAgain text.now warning_line.now notes.now mon.old mon.new left.items) }
 {
-    say_loaded(mon, text, file)?;
+    say_warned(mon, text, file, warning_line)?;
     let left = repeat(alloc, mon, notes)?;
     mon.show(None)?;
     Ok(left)
@@ -107,7 +123,11 @@ fn put_started(terminal: &mut Terminal<'_>, started: Started, notes: Vec<Note>)
     ensures view { terminal.new.view ≡ terminal.old.view }
     ensures words { terminal.new.words ≡ terminal.old.words }
 {
-    let Started { mon, loaded } = started;
+    let Started {
+        mon,
+        loaded,
+        warning_line: _,
+    } = started;
     terminal.mon = mon;
     terminal.loaded = loaded;
     terminal.notes = notes;
@@ -119,14 +139,16 @@ fn forget(_started: Started) {}
 /// Takes over a session that has begun, serves the lines that were noted once more, and shows the
 /// state.
 fn take_over(alloc: Global, terminal: &mut Terminal<'_>, started: Started) -> Result<(), AllocError>
-    requires { StartsMon (mon_view terminal.old.words.now) started.mon started.loaded }
+    requires { StartsMon (mon_view terminal.old.words.now) started.mon started.loaded
+        started.warning_line.items }
     ensures { OnOk result (IsReloaded terminal.old terminal.new) }
 {
     let mut started = started;
     let words = terminal.words;
     let text = terminal.mon.text.as_slice();
     let notes = terminal.notes.as_slice();
-    match serve_again(alloc, &mut started.mon, text, words.file.file, notes) {
+    let line = started.warning_line.as_slice();
+    match serve_again(alloc, &mut started.mon, text, words.file.file, line, notes) {
         Ok(left) => {
             put_started(terminal, started, left);
             Ok(())

@@ -30,12 +30,18 @@ use std::io::{IsTerminal, Read, Write};
 use std::rt::{Env, Files};
 
 /// Says what a session begins with, or draws a screen with it.
-fn say_opening(alloc: Global, terminal: &mut Terminal<'_>, prompts: bool) -> Result<(), Refusal>
+fn say_opening(
+    alloc: Global,
+    terminal: &mut Terminal<'_>,
+    prompts: bool,
+    warning_line: &[u8],
+) -> Result<(), Refusal>
     ensures rests { OnOk result (Rests terminal.old terminal.new) }
-    ensures said { OnOk result (terminal.new.mon.text.items ≡ opening prompts terminal.old) }
+    ensures said { OnOk result
+        (terminal.new.mon.text.items ≡ opening prompts warning_line.now terminal.old) }
     ensures refused { IfErr result EndsAnswer }
 {
-    greet(&mut terminal.mon, prompts)?;
+    greet(&mut terminal.mon, prompts, warning_line)?;
     of_memory(terminal.mon.show(None))?;
     draw(alloc, terminal)?;
     Ok(())
@@ -46,6 +52,7 @@ fn serve<H: Files + AllocGlobal, R: Read, O: Write>(
     rt: &H,
     terminal: &mut Terminal<'_>,
     prompts: bool,
+    warning_line: &[u8],
     input: &mut R,
     output: &mut O,
 ) -> Result<(), Refusal>
@@ -53,19 +60,19 @@ fn serve<H: Files + AllocGlobal, R: Read, O: Write>(
         × IsAttended prompts (R.remaining input.old) (R.remaining input.new) terminal.old
         terminal.new written
         × Appends (O.contents output.old) (O.contents output.new)
-        (opening prompts terminal.old ++ written)) }
+        (opening prompts warning_line.now terminal.old ++ written)) }
     ensures unread { result ≡ Err (Refusal.Read Other) → (written : List ℕ)
         × IsAttendedSoFar prompts (R.remaining input.old) (R.remaining input.new) terminal.old
         terminal.new written
         × Appends (O.contents output.old) (O.contents output.new)
-        (opening prompts terminal.old ++ written) }
-    ensures broken { IfErr result (λ _. AttendsInPart prompts (opening prompts terminal.old)
-        terminal.old (R.remaining input.old) (R.remaining input.new)
+        (opening prompts warning_line.now terminal.old ++ written) }
+    ensures broken { IfErr result (λ _. AttendsInPart prompts
+        (opening prompts warning_line.now terminal.old) terminal.old (R.remaining input.old) (R.remaining input.new)
         (O.contents output.old) (O.contents output.new)) }
     ensures written { IfOk result (λ _. terminal.new.mon.text.items ≡ []) }
     ensures refused { IfErr result EndsSession }
 {
-    say_opening(rt.alloc(), terminal, prompts)?;
+    say_opening(rt.alloc(), terminal, prompts, warning_line)?;
     attend(rt, terminal, prompts, input, output)
 }
 
@@ -74,18 +81,19 @@ fn served<H: Files + AllocGlobal, R: Read, O: Write, E: Write>(
     rt: &H,
     terminal: &mut Terminal<'_>,
     prompts: bool,
+    warning_line: &[u8],
     input: &mut R,
     output: &mut O,
     errors: &mut E,
 ) -> u8
-    ensures ended { EndsAt prompts terminal.old (R.remaining input.old) (R.remaining input.new)
-        (O.contents output.old) (O.contents output.new) (record {
+    ensures ended { EndsAt prompts warning_line.now terminal.old (R.remaining input.old)
+        (R.remaining input.new) (O.contents output.old) (O.contents output.new) (record {
           held = E.contents errors.old;
           now = E.contents errors.new;
         }) result }
     ensures quiet { result ≡ 0 → errors.new ≡ errors.old }
 {
-    match serve(rt, terminal, prompts, input, output) {
+    match serve(rt, terminal, prompts, warning_line, input, output) {
         Ok(()) => 0,
         Err(refusal) => refuse(refusal, errors),
     }
@@ -123,7 +131,11 @@ fn mon_loaded<'a, H: Env + Files + AllocGlobal, R: Read + IsTerminal, O: Write, 
     let prompts = wants_prompts(rt, words.prompts, input);
     match start(rt, words, loaded) {
         Ok(started) => {
-            let Started { mon, loaded } = started;
+            let Started {
+                mon,
+                loaded,
+                warning_line,
+            } = started;
             let view = first_view(rt, words, input, &mon);
             let answered = Vec::new(rt.alloc());
             let notes = Vec::new(rt.alloc());
@@ -135,7 +147,8 @@ fn mon_loaded<'a, H: Env + Files + AllocGlobal, R: Read + IsTerminal, O: Write, 
                 notes,
                 loaded,
             };
-            served(rt, &mut terminal, prompts, input, output, errors)
+            let line = warning_line.as_slice();
+            served(rt, &mut terminal, prompts, line, input, output, errors)
         }
         Err(StartFault::OfNames(refusal)) => {
             let file = words.symbols.unwrap_or(words.file.file);

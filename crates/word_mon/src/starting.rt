@@ -1,15 +1,15 @@
 //! How a session begins on what was loaded.
 
 ghost use Rattle.std.specs.Prelude.{◌≡◌, ◌⊎◌, IfErr, IfOk, Option, OnOk, Some, if◌then◌else◌};
-ghost use Rattle.std.specs.Prelude.{slice_index, slice_set};
+ghost use Rattle.std.specs.Prelude.{option_map, slice_index, slice_set};
 ghost use Rattle.accesses.specs.Writing.{is_written};
 ghost use Rattle.model.specs.Image.{empty_image};
 ghost use Rattle.source_map.specs.Lines.{PlacesView};
-ghost use Rattle.arguments.specs.Asked.{file_view};
+ghost use Rattle.arguments.specs.Asked.{file_view, map_of};
 ghost use Rattle.arguments_play.specs.Mon.{mon_view};
 ghost use Rattle.loading.specs.declared.loaded.ImageNames.{ImageNames};
 ghost use Rattle.word_mon.specs.Starts.{AreNamed, ArePlaces, EndsNamed, EndsStart, HasBytesOf};
-ghost use Rattle.word_mon.specs.Starts.{IsNewState, places_in, with_names};
+ghost use Rattle.word_mon.specs.Starts.{IsNewState, IsWarningLine, places_in, with_names};
 ghost use Rattle.word_mon.specs.declared.starting.StartFault.TheVariants.{OfDebug, OfNames};
 
 use crate::terminal::of_memory;
@@ -18,7 +18,7 @@ use arguments::{LoadFault, Refusal};
 use arguments_play::MonWords;
 use assembler::Assembly;
 use debug_files::load_places;
-use loading::{ImageNames, Loaded, load_names};
+use loading::{ImageNames, Loaded, load_names, tell_warnings};
 use memory_map::Image;
 use mon_files::Known;
 use mon_runs::Session;
@@ -33,6 +33,8 @@ pub struct Started {
     pub mon: MonState,
     /// The addresses at which the file has a byte, and what a page shows besides.
     pub loaded: Known,
+    /// The line that tells how many warnings the source has, or nothing.
+    pub warning_line: Vec<u8>,
 }
 
 /// Why a session does not begin on what was loaded.
@@ -181,7 +183,19 @@ fn known_places<H: Files + AllocGlobal>(
     }
 }
 
-/// Returns the state of `mon` for what was loaded, with the names of a file, if one is named.
+/// Returns the line that tells how many warnings a source has, if there is a source and it has some;
+/// or a beginning of it where memory runs out.
+fn warning_line_of(alloc: Global, words: &MonWords<'_>, assembly: Option<&Assembly>) -> Vec<u8>
+    ensures { IsWarningLine (map_of (file_view words.now.file))
+        (option_map (λ a. a.now) assembly.entry) result.items }
+{
+    let mut line: Vec<u8> = Vec::new(alloc);
+    tell_warnings(alloc, &words.file, assembly, 0, &mut line);
+    line
+}
+
+/// Returns the state of `mon` for what was loaded, with the names of a file, if one is named, and
+/// the line that tells of the warnings of its source.
 ///
 /// # Errors
 ///
@@ -199,10 +213,13 @@ pub fn start<H: Files + AllocGlobal>(
         × AreNamed (mon_view words.now).symbols (file_view words.now.file) names
         × IsNewState loaded.session words.now.history (with_names names places) started.mon) }
     ensures loaded { IfOk result (λ started. started.loaded ≡ loaded.written) }
+    ensures warned { IfOk result (λ started. IsWarningLine (map_of (file_view words.now.file))
+        loaded.assembly started.warning_line.items) }
     ensures refused { IfErr result (EndsStart (mon_view words.now).symbols
         (mon_view words.now).debug_info (file_view words.now.file)) }
 {
     let mut places = known_places(rt, words, &loaded)?;
+    let warning_line = warning_line_of(rt.alloc(), words, loaded.assembly.as_ref());
     let Loaded {
         session,
         assembly,
@@ -214,5 +231,6 @@ pub fn start<H: Files + AllocGlobal>(
     Ok(Started {
         mon,
         loaded: Known::new(written, assembly, of_source(names)),
+        warning_line,
     })
 }

@@ -4,9 +4,9 @@ use Rattle.word_mon.proofs.reloading.serve_again.Goals as goal
 pub returns : goal.returns
 unfolding ServesAgain
 returns c none =
-    let first = c.in_ok-say_loaded.ensures.text none in (
-      c.say_loaded.new.mon,
-      c.say_loaded.ensures.shows,
+    let first = c.in_ok-say_warned.ensures.text none in (
+      c.say_warned.new.mon,
+      c.say_warned.ensures.shows,
       first.0,
       first.1,
       c.repeat.new.mon,

@@ -16,14 +16,16 @@ returns-in-Ok-clause-done g c = inr (inr (
     notes = c.new-notes.result;
     loaded = c.in-Ok.started.loaded;
   },
-  named_starts (mon_view c.args.words.now) c.args.loaded.session c.args.loaded.assembly c.args.loaded.written c.in-Ok.started.loaded c.in-Ok.started.mon c.requires c.in-Ok.ensures.made c.in-Ok.ensures.loaded,
+  c.in-Ok.started.warning_line.items,
+  named_starts (mon_view c.args.words.now) c.args.loaded.session c.args.loaded.assembly c.args.loaded.written c.in-Ok.started.loaded c.in-Ok.started.mon c.in-Ok.started.warning_line.items
+      c.requires c.in-Ok.ensures.made c.in-Ok.ensures.loaded c.in-Ok.ensures.warned,
   c.new-notes.ensures.items,
   c.new-answered.ensures.items,
   refl,
   c.first_view-view.ensures,
   c.wants_prompts-prompts.result,
   c.wants_prompts-prompts.ensures,
-  c.served.ensures.ended,
+  rw c.as_slice-line.ensures.value at c.served.ensures.ended,
 ))
 
 pub returns-in-Err-OfNames-clause-done : goal.returns-in-Err-OfNames-clause-done

@@ -1,5 +1,7 @@
-use Rattle.std.proofs.Common.{◌∙◌, ap}
-use Rattle.word_mon.specs.Starts.{with_names}
+use Rattle.std.proofs.Common.{◌∙◌, ap, Option, subst}
+use Rattle.arguments.specs.Asked.{file_view, map_of}
+use Rattle.assembler.specs.Assembly.{AssemblyView}
+use Rattle.word_mon.specs.Starts.{IsWarningLine, with_names}
 use Rattle.word_mon.proofs.starting.start.Goals as goal
 
 pub returns-clause-made : goal.returns-clause-made
@@ -21,3 +23,8 @@ returns-clause-made g c =
         places = (rw made at c.new.ensures.places) ∙ named.2;
       },
     )
+
+pub returns-clause-warned : goal.returns-clause-warned
+returns-clause-warned g c =
+    subst (λ (o : Option AssemblyView). IsWarningLine (map_of (file_view c.args.words.now.file)) o c.warning_line_of-warning_line.result.items)
+    c.as_ref.ensures.value c.warning_line_of-warning_line.ensures
