@@ -56,7 +56,8 @@ def looks_like_tape(text):
     start = text.find(b";")
     if start < 0:
         return False
-    end = min((at for at in (text.find(b"\r", start), text.find(b"\n", start)) if at >= 0), default=len(text))
+    ends = text.find(b"\r", start), text.find(b"\n", start)
+    end = min((at for at in ends if at >= 0), default=len(text))
     try:
         read_tape(text[:end] + b";")
     except TapeFault as fault:
