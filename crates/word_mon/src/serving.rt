@@ -67,8 +67,8 @@ fn serve<H: Files + AllocGlobal, R: Read, O: Write>(
         × Appends (O.contents output.old) (O.contents output.new)
         (opening prompts warning_line.now terminal.old ++ written) }
     ensures broken { IfErr result (λ _. AttendsInPart prompts
-        (opening prompts warning_line.now terminal.old) terminal.old (R.remaining input.old) (R.remaining input.new)
-        (O.contents output.old) (O.contents output.new)) }
+        (opening prompts warning_line.now terminal.old) terminal.old (R.remaining input.old)
+        (R.remaining input.new) (O.contents output.old) (O.contents output.new)) }
     ensures written { IfOk result (λ _. terminal.new.mon.text.items ≡ []) }
     ensures refused { IfErr result EndsSession }
 {

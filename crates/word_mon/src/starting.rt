@@ -183,8 +183,8 @@ fn known_places<H: Files + AllocGlobal>(
     }
 }
 
-/// Returns the line that tells how many warnings a source has, if there is a source and it has some;
-/// or a beginning of it where memory runs out.
+/// Returns the line that tells how many warnings a source has, if there is a source and it has
+/// some; or a beginning of it where memory runs out.
 fn warning_line_of(alloc: Global, words: &MonWords<'_>, assembly: Option<&Assembly>) -> Vec<u8>
     ensures { IsWarningLine (map_of (file_view words.now.file))
         (option_map (λ a. a.now) assembly.entry) result.items }
