@@ -8,7 +8,6 @@ use Rattle.arguments.specs.declared.load_fault.LoadFault.{LoadFault}
 use Rattle.arguments.specs.declared.load_fault.LoadFault.TheVariants.{AtPort, Refused}
 use Rattle.arguments.specs.declared.refusal.Refusal.{Refusal}
 use Rattle.arguments.specs.declared.refusal.Refusal.TheVariants.{OutOfMemory}
-use Rattle.clap.specs.Words.{Text}
 use Rattle.image_files.specs.Files.{IsOfFile}
 use Rattle.image_files.specs.FreeBase.{IsFreeBase}
 use Rattle.image_files.specs.Union.{IsFirstClash, IsUnion}
@@ -20,6 +19,9 @@ use Rattle.model.specs.State.{Map, has_port_byte}
 
 abbrev Cells : Type 0
 Cells = List (Option ℕ)
+
+abbrev Text : Type 0
+Text = List ℕ
 
 -- ---- one file more
 

@@ -13,7 +13,6 @@ use Rattle.arguments.specs.declared.load_fault.LoadFault.TheVariants.{Refused}
 use Rattle.arguments.specs.declared.refusal.Refusal.TheVariants.{OutOfMemory}
 use Rattle.arguments.specs.declared.machine_files.OtherFiles.{OtherFiles}
 use Rattle.assembler.specs.Assembly.{AssemblyView}
-use Rattle.clap.specs.Words.{Text}
 use Rattle.loading.proofs.Starts.{starts_idle, starts_silent}
 use Rattle.loading.proofs.Ends.{memory_ends}
 use Rattle.loading.proofs.Joins.{memory_runs_out}
@@ -32,6 +31,9 @@ use Rattle.model.specs.State.{input_waits, is_map}
 
 abbrev Cells : Type 0
 Cells = List (Option ℕ)
+
+abbrev Text : Type 0
+Text = List ℕ
 
 abbrev Begins : FileAsked → Cells → Loaded → Type 0
 Begins asked image loaded = (loaded.session ≡ new_session 0 (start (map_of asked) image)) × (loaded.written ≡ bytes_in image)

@@ -122,11 +122,11 @@ machine_text (Alone fault) file symbols = named_text fault file symbols
 machine_text (OfFile other) file symbols = load_text other.fault other.file.now
 machine_text (OfNames fault) file symbols = file_line (unwrap_or symbols []) fault
 
--- Nothing was loaded, the error stream got why, and the other streams were left alone, `Alone`.
+-- Nothing was loaded, the error stream got why, and the other streams were left alone, `Untouched`.
 abbrev pub IsUnmade : FileAsked → Others → Option (List ℕ) → Heard → ℕ → Type 0 → Type 0
-IsUnmade asked others symbols heard status Alone = (fault : MachineFault)
+IsUnmade asked others symbols heard status Untouched = (fault : MachineFault)
     × EndsMachine asked others symbols fault × (status ≡ status_of_machine fault)
-    × Tells heard (machine_text fault asked.file symbols) × Alone
+    × Tells heard (machine_text fault asked.file symbols) × Untouched
 
 -- A line names the one file, or one of several.
 abbrev pub IsOneOf : Option (List ℕ) → FileAsked → List ℕ → Type 0
@@ -135,10 +135,10 @@ IsOneOf (Some second) asked file = ⊤
 
 -- The same of files without a file of names: the line has the name of one of them.
 abbrev pub AreUnloaded : FileAsked → Others → Heard → ℕ → Type 0 → Type 0
-AreUnloaded asked others heard status Alone = (file : List ℕ) × (fault : LoadFault)
+AreUnloaded asked others heard status Untouched = (file : List ℕ) × (fault : LoadFault)
     × IsOneOf others.second asked file × EndsFiles asked others fault
     × (status ≡ status_of_load fault)
-    × Tells heard (load_text fault file) × Alone
+    × Tells heard (load_text fault file) × Untouched
 
 -- A session may begin on files: on the image of one of a source or of a file, or of several.
 abbrev pub AreLoaded : FileAsked → Others → List (Option ℕ) → Option AssemblyView → Type 0

@@ -131,7 +131,6 @@ fn clash(one: &Image, other: &Image, address: u16) -> LoadFault
 }
 
 /// Returns what two images have. The only error is that memory ran out.
-#[tactic(auto, using(crate::proofs::Joins::joined_is, crate::proofs::Joins::memory_ends))]
 fn union_with(alloc: Global, word: &str, one: &Image, other: &Image) -> Result<Image, LoadFault>
     requires file { IsOfFile (form_of_other word.now) other.now }
     requires agrees { IsFirstClash one.now other.now None }
@@ -213,7 +212,6 @@ fn with_other<'a, H: Files + AllocGlobal>(
 }
 
 /// Returns the image of the first file.
-#[tactic(auto, using(crate::proofs::Joins::other_ends))]
 fn first_joined<'a, H: Files + AllocGlobal>(
     rt: &H,
     map: &MapSpec,
@@ -251,7 +249,6 @@ fn joined_image<'a, H: Files + AllocGlobal>(
 }
 
 /// Returns why an image of several files is not loaded that has bytes at the port of a map.
-#[tactic(auto, using(crate::proofs::Joins::port_ends))]
 fn at_port(map: &MapSpec, words: &FileWords<'_>, others: OtherFiles<'_>, image: &Image) -> LoadFault
     requires map { map.now ≡ map_of (file_view words.now) }
     requires joined { IsJoined (file_view words.now) (others_view others) image.now }
