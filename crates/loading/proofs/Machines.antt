@@ -53,25 +53,25 @@ several_are asked o second symbols image assembly some map joined names =
 pub alone_started : {E : Type 0} (asked : FileAsked) (o : OtherFiles) (symbols : Option Text) (result : Result Loaded E) → o.second ≡ None
     → IfOk result (λ loaded. (image : Cells) × IsNamed asked symbols image loaded.assembly × Begins asked image loaded)
     → IfOk result (λ loaded. (image : Cells) × IsMachine asked (others_view o) symbols image loaded.assembly × Begins asked image loaded)
-alone_started asked o symbols (Ok loaded) none s = (s.0, alone_is asked o symbols s.0 loaded.assembly none s.1, s.2, s.3)
+alone_started asked o symbols (Ok loaded) none s = (s.0, alone_is asked o symbols s.0 loaded.assembly none s.1, s.2)
 alone_started asked o symbols (Err fault) none s = tt
 
 pub several_started : {E : Type 0} (asked : FileAsked) (o : OtherFiles) (second : Bor Text) (symbols : Option Text) (result : Result Loaded E) → o.second ≡ Some second
     → IfOk result (λ loaded. (image : Cells) × (is_map asked.rom asked.port ≡ true) × IsJoined asked (others_view o) image × HasNames asked symbols image loaded.assembly × Begins asked image loaded)
     → IfOk result (λ loaded. (image : Cells) × IsMachine asked (others_view o) symbols image loaded.assembly × Begins asked image loaded)
-several_started asked o second symbols (Ok loaded) some s = (s.0, several_are asked o second symbols s.0 loaded.assembly some s.1 s.2 s.3, s.4, s.5)
+several_started asked o second symbols (Ok loaded) some s = (s.0, several_are asked o second symbols s.0 loaded.assembly some s.1 s.2 s.3, s.4)
 several_started asked o second symbols (Err fault) some s = tt
 
 pub machine_idle : {E : Type 0} (asked : FileAsked) (others : Others) (symbols : Option Text) (result : Result Loaded E)
     → IfOk result (λ loaded. (image : Cells) × IsMachine asked others symbols image loaded.assembly × Begins asked image loaded)
     → IfOk result (λ loaded. input_waits loaded.session.current.bus ≡ false)
-machine_idle asked others symbols (Ok loaded) s = ap (λ (t : Session). input_waits t.current.bus) s.2 ∙ starts_idle _ s.0
+machine_idle asked others symbols (Ok loaded) s = ap (λ (t : Session). input_waits t.current.bus) s.2.0 ∙ starts_idle _ s.0
 machine_idle asked others symbols (Err fault) s = tt
 
 pub machine_silent : {E : Type 0} (asked : FileAsked) (others : Others) (symbols : Option Text) (result : Result Loaded E)
     → IfOk result (λ loaded. (image : Cells) × IsMachine asked others symbols image loaded.assembly × Begins asked image loaded)
     → IfOk result (λ loaded. loaded.session.current.bus.out ≡ [])
-machine_silent asked others symbols (Ok loaded) s = ap (λ (t : Session). t.current.bus.out) s.2 ∙ starts_silent _ s.0
+machine_silent asked others symbols (Ok loaded) s = ap (λ (t : Session). t.current.bus.out) s.2.0 ∙ starts_silent _ s.0
 machine_silent asked others symbols (Err fault) s = tt
 
 -- ---- words that are refused

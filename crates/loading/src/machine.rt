@@ -300,7 +300,7 @@ fn of_words<'a>(words: &FileWords<'a>, refusal: Refusal) -> FileFault<'a>
 }
 
 /// Loads several files.
-#[tactic(auto, using(crate::proofs::Joins::map_ends, crate::proofs::Joins::memory_runs_out))]
+#[tactic(auto, using(crate::proofs::Joins::map_ends))]
 fn load_joined<'a, H: Files + AllocGlobal>(
     rt: &H,
     words: &FileWords<'a>,
