@@ -35,10 +35,19 @@ Cells = List (Option ℕ)
 abbrev Text : Type 0
 Text = List ℕ
 
-abbrev Begins : FileAsked → Cells → Loaded → Type 0
-Begins asked image loaded = (loaded.session ≡ new_session 0 (start (map_of asked) image)) × (loaded.written ≡ bytes_in image)
-
 -- ---- what is loaded
+
+abbrev IsAloneStart : FileAsked → Option Text → Loaded → Type 0
+IsAloneStart asked symbols loaded = (image : Cells) × IsNamed asked symbols image loaded.assembly
+    × (loaded.session ≡ new_session 0 (start (map_of asked) image)) × (loaded.written ≡ bytes_in image)
+
+abbrev IsSeveralStart : FileAsked → Others → Option Text → Loaded → Type 0
+IsSeveralStart asked others symbols loaded = (image : Cells) × (is_map asked.rom asked.port ≡ true) × IsJoined asked others image × HasNames asked symbols image loaded.assembly
+    × (loaded.session ≡ new_session 0 (start (map_of asked) image)) × (loaded.written ≡ bytes_in image)
+
+abbrev IsMachineStart : FileAsked → Others → Option Text → Loaded → Type 0
+IsMachineStart asked others symbols loaded = (image : Cells) × IsMachine asked others symbols image loaded.assembly
+    × (loaded.session ≡ new_session 0 (start (map_of asked) image)) × (loaded.written ≡ bytes_in image)
 
 alone_is : (asked : FileAsked) (o : OtherFiles) (symbols : Option Text) (image : Cells) (assembly : Option AssemblyView) → o.second ≡ None → IsNamed asked symbols image assembly
     → IsMachine asked (others_view o) symbols image assembly
@@ -51,27 +60,27 @@ several_are asked o second symbols image assembly some map joined names =
     subst (λ (other : Option (Bor Text)). IsMachineOf (option_map (λ s. s.now) other) asked (others_view o) symbols image assembly) (sym some) (map, joined, names)
 
 pub alone_started : {E : Type 0} (asked : FileAsked) (o : OtherFiles) (symbols : Option Text) (result : Result Loaded E) → o.second ≡ None
-    → IfOk result (λ loaded. (image : Cells) × IsNamed asked symbols image loaded.assembly × Begins asked image loaded)
-    → IfOk result (λ loaded. (image : Cells) × IsMachine asked (others_view o) symbols image loaded.assembly × Begins asked image loaded)
-alone_started asked o symbols (Ok loaded) none s = (s.0, alone_is asked o symbols s.0 loaded.assembly none s.1, s.2)
+    → IfOk result (IsAloneStart asked symbols)
+    → IfOk result (IsMachineStart asked (others_view o) symbols)
+alone_started asked o symbols (Ok loaded) none s = (s.0, alone_is asked o symbols s.0 loaded.assembly none s.1, s.2, s.3)
 alone_started asked o symbols (Err fault) none s = tt
 
 pub several_started : {E : Type 0} (asked : FileAsked) (o : OtherFiles) (second : Bor Text) (symbols : Option Text) (result : Result Loaded E) → o.second ≡ Some second
-    → IfOk result (λ loaded. (image : Cells) × (is_map asked.rom asked.port ≡ true) × IsJoined asked (others_view o) image × HasNames asked symbols image loaded.assembly × Begins asked image loaded)
-    → IfOk result (λ loaded. (image : Cells) × IsMachine asked (others_view o) symbols image loaded.assembly × Begins asked image loaded)
-several_started asked o second symbols (Ok loaded) some s = (s.0, several_are asked o second symbols s.0 loaded.assembly some s.1 s.2 s.3, s.4)
+    → IfOk result (IsSeveralStart asked (others_view o) symbols)
+    → IfOk result (IsMachineStart asked (others_view o) symbols)
+several_started asked o second symbols (Ok loaded) some s = (s.0, several_are asked o second symbols s.0 loaded.assembly some s.1 s.2 s.3, s.4, s.5)
 several_started asked o second symbols (Err fault) some s = tt
 
 pub machine_idle : {E : Type 0} (asked : FileAsked) (others : Others) (symbols : Option Text) (result : Result Loaded E)
-    → IfOk result (λ loaded. (image : Cells) × IsMachine asked others symbols image loaded.assembly × Begins asked image loaded)
+    → IfOk result (IsMachineStart asked others symbols)
     → IfOk result (λ loaded. input_waits loaded.session.current.bus ≡ false)
-machine_idle asked others symbols (Ok loaded) s = ap (λ (t : Session). input_waits t.current.bus) s.2.0 ∙ starts_idle _ s.0
+machine_idle asked others symbols (Ok loaded) s = ap (λ (t : Session). input_waits t.current.bus) s.2 ∙ starts_idle _ s.0
 machine_idle asked others symbols (Err fault) s = tt
 
 pub machine_silent : {E : Type 0} (asked : FileAsked) (others : Others) (symbols : Option Text) (result : Result Loaded E)
-    → IfOk result (λ loaded. (image : Cells) × IsMachine asked others symbols image loaded.assembly × Begins asked image loaded)
+    → IfOk result (IsMachineStart asked others symbols)
     → IfOk result (λ loaded. loaded.session.current.bus.out ≡ [])
-machine_silent asked others symbols (Ok loaded) s = ap (λ (t : Session). t.current.bus.out) s.2.0 ∙ starts_silent _ s.0
+machine_silent asked others symbols (Ok loaded) s = ap (λ (t : Session). t.current.bus.out) s.2 ∙ starts_silent _ s.0
 machine_silent asked others symbols (Err fault) s = tt
 
 -- ---- words that are refused
