@@ -1,14 +1,19 @@
 -- How a session begins.
-use Rattle.std.proofs.Common.{◌≡◌, ◌∙◌, ℕ, Bool, List, Option, Some, option_map, subst, sym, Bor}
+use Rattle.std.proofs.Common.{◌≡◌, ◌⊎◌, ◌∙◌, ℕ, Bool, List, Option, Some, Result, Ok, Err, IfErr, option_map, subst, sym, Bor}
+use Rattle.std.specs.Result.{IsErrAnd}
 use Rattle.accesses.specs.Writing.{bytes_in}
 use Rattle.assembler.specs.Assembly.{AssemblyView, IsAssembled}
 use Rattle.loading.specs.declared.loaded.ImageNames.{ImageNames}
 use Rattle.arguments.specs.Asked.{FileAsked, map_of}
+use Rattle.arguments.specs.declared.refusal.Refusal.{Refusal}
+use Rattle.arguments.specs.declared.refusal.Refusal.TheVariants.{OutOfMemory}
 use Rattle.loading.specs.Loads.{AreOfFile}
 use Rattle.loading.specs.Machine.{AreLoaded}
 use Rattle.model.specs.Event.{start}
 use Rattle.model.specs.Session.{Session, new_session}
-use Rattle.word_mon.specs.Starts.{AreNamed, ArePlaces, IsNewState, IsWarningLine, StartsMon, with_names}
+use Rattle.word_mon.specs.Starts.{AreNamed, ArePlaces, EndsNamed, EndsStart, IsNewState, IsWarningLine, StartsMon, with_names}
+use Rattle.word_mon.specs.declared.starting.StartFault.{StartFault}
+use Rattle.word_mon.specs.declared.starting.StartFault.TheVariants.{OfNames}
 use Rattle.source_map.specs.Lines.{PlacesView}
 use Rattle.mon_session.specs.declared.mon_state.MonState.{MonState}
 use Rattle.arguments_play.specs.Mon.{MonAsked}
@@ -38,3 +43,9 @@ named_starts asked session assembly written loaded mon warning_line given new sa
 pub named_with : (symbols : Option (Bor (List ℕ))) (path : Bor (List ℕ)) (file : FileAsked) (names : ImageNames) → symbols ≡ Some path → IsAssembled (map_of file) names.assembly
     → AreOfFile file.profile names.assembly names.others → AreNamed (option_map (λ s. s.now) symbols) file (Some names)
 named_with symbols path file names is assembled given = subst (λ o. AreNamed (option_map (λ s. s.now) o) file (Some names)) (sym is) (assembled, given)
+
+-- Why no session begins on the names of a file.
+pub names_end : {X : Type 0} (symbols debug : Option (List ℕ)) (file : FileAsked) (refusal : Refusal) (result : Result X StartFault) → (refusal ≡ OutOfMemory) ⊎ EndsNamed symbols file refusal
+    → IsErrAnd result (λ fault. fault ≡ OfNames refusal) → IfErr result (EndsStart symbols debug file)
+names_end symbols debug file refusal (Ok x) ends is = absurd is
+names_end symbols debug file refusal (Err fault) ends is = subst (EndsStart symbols debug file) (sym is) ends

@@ -12,12 +12,14 @@ take_over-requires g c =
 pub keep_session-requires : goal.keep_session-requires
 keep_session-requires g c =
     let words = c.args.terminal.now.words.now in
-    rw c.unwrap_or-file.ensures (ends_reload words.symbols words.file.file (mon_view words) c.in-Err-OfNames.refusal refl c.in-Err-OfNames.ensures.refused)
+    let ends = rw c.in-Err-OfNames.field-0-is at c.in-Err-OfNames.ensures.refused in
+    rw c.unwrap_or-file.ensures (ends_reload words.symbols words.file.file (mon_view words) c.in-Err-OfNames.refusal refl ends)
 
-pub keep_session-2-requires : goal.keep_session-2-requires
-keep_session-2-requires g c =
+pub keep_session-requires-in-Err-OfDebug : goal.keep_session-requires-in-Err-OfDebug
+keep_session-requires-in-Err-OfDebug g c =
     let words = c.args.terminal.now.words.now in
-    rw c.unwrap_or-file-2.ensures (debug_ends_reload words.debug_info words.file.file (mon_view words) c.in-Err-OfDebug.fault refl c.in-Err-OfDebug.ensures.refused)
+    let ends = rw c.in-Err-OfDebug.field-0-is at c.in-Err-OfDebug.ensures.refused in
+    rw c.unwrap_or-file-in-Err-OfDebug.ensures (debug_ends_reload words.debug_info words.file.file (mon_view words) c.in-Err-OfDebug.fault refl ends)
 
 pub returns-in_ok-of_memory-in-Ok-clause-reloaded : goal.returns-in_ok-of_memory-in-Ok-clause-reloaded
 returns-in_ok-of_memory-in-Ok-clause-reloaded g c = inl (rw c.in_ok-of_memory-in-Ok.ensures.made at c.take_over.ensures)
@@ -26,4 +28,4 @@ pub returns-in-Err-OfNames-clause-reloaded : goal.returns-in-Err-OfNames-clause-
 returns-in-Err-OfNames-clause-reloaded g c = on_ok_map c.keep_session.result _ _ inr c.keep_session.ensures.kept
 
 pub returns-in-Err-OfDebug-clause-reloaded : goal.returns-in-Err-OfDebug-clause-reloaded
-returns-in-Err-OfDebug-clause-reloaded g c = on_ok_map c.keep_session-2.result _ _ inr c.keep_session-2.ensures.kept
+returns-in-Err-OfDebug-clause-reloaded g c = on_ok_map c.keep_session-in-Err-OfDebug.result _ _ inr c.keep_session-in-Err-OfDebug.ensures.kept

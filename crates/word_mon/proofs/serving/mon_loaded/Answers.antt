@@ -30,16 +30,18 @@ returns-in-Ok-clause-done g c = inr (inr (
 
 pub returns-in-Err-OfNames-clause-done : goal.returns-in-Err-OfNames-clause-done
 returns-in-Err-OfNames-clause-done g c =
+    let ends = rw c.in-Err-OfNames.field-0-is at c.in-Err-OfNames.ensures.refused in
     ends_named c.args.words.now.symbols c.args.words.now.file.file (file_view c.args.words.now.file) (others_view c.args.words.now.others) (record {
       held = g.E.Write.contents c.args.errors.now;
       now = g.E.Write.contents c.refuse_file.new.errors;
     }) c.in-Err-OfNames.refusal c.refuse_file.result ((c.args.input.now ≡ c.args.input.now) × (c.args.output.now ≡ c.args.output.now)) _ _
-    c.in-Err-OfNames.ensures.refused c.refuse_file.ensures.status (rw c.unwrap_or-file.ensures at c.refuse_file.ensures.told) (refl, refl)
+    ends c.refuse_file.ensures.status (rw c.unwrap_or-file.ensures at c.refuse_file.ensures.told) (refl, refl)
 
 pub returns-in-Err-OfDebug-clause-done : goal.returns-in-Err-OfDebug-clause-done
 returns-in-Err-OfDebug-clause-done g c =
+    let ends = rw c.in-Err-OfDebug.field-0-is at c.in-Err-OfDebug.ensures.refused in
     inr (inl (inr (ends_debug c.args.words.now.debug_info c.args.words.now.file.file (record {
       held = g.E.Write.contents c.args.errors.now;
       now = g.E.Write.contents c.tell.new.errors;
     }) c.in-Err-OfDebug.fault c.tell.result ((c.args.input.now ≡ c.args.input.now) × (c.args.output.now ≡ c.args.output.now))
-    c.in-Err-OfDebug.ensures.refused c.tell.ensures.status (rw c.unwrap_or-file-2.ensures at c.tell.ensures.told) (refl, refl))))
+    ends c.tell.ensures.status (rw c.unwrap_or-file-in-Err-OfDebug.ensures at c.tell.ensures.told) (refl, refl))))
