@@ -1,10 +1,10 @@
 """The part of the program mos65 that a word needs, made from crates/mos65 as it stands.
 
-crates/mos65/src/main.rt has a match whose arms call what serves a route, and src/routes.rt says
-which word has which route. A part keeps the arms of one word, or of `asm`, `dis` and `debug`, or
-the arm for help and for words that are none, and the crates which those name. What `asm`, `dis` and
-`debug` promise is in each, so each answers the session by which tools/proving/first-look checks a
-program."""
+`serve_route` of crates/mos65/src/main.rt has a match whose arms call what serves a route, and
+src/routes.rt says which word has which route. A part keeps the arms of one word, or of `asm`, `dis`
+and `debug`, or the arm for help and for words that are none, and the crates which those name. What
+`asm`, `dis` and `debug` promise is in each, so each answers the session by which
+tools/proving/first-look checks a program."""
 
 import re
 
@@ -75,14 +75,14 @@ def with_called(text, functions, route):
 
 
 def serve_word(serve, word, route):
-    """`serve` for one word: what it does for that, and what was promised."""
+    """`serve_route` for one word: what it does for that, and what was promised."""
     only = f'    if words.is_empty() || words[0] != "{word}" {{\n        return serve_promised(rt, words);\n    }}\n'
     head, opening, body = cut(serve, route).partition("{\n")
     return f"{head}{opening}{only}{body}"
 
 
 def serve_promised(serve, others):
-    """`serve` for `asm`, `dis` and `debug` with all their options."""
+    """`serve_route` for `asm`, `dis` and `debug` with all their options."""
     found = re.search(MATCH, serve)
     arms = re.findall(ARM, found[2])
     kept = [(it, what) for it, what in arms
@@ -92,7 +92,7 @@ def serve_promised(serve, others):
 
 
 def serve_help(serve):
-    """`serve` for help, for words that are none, and for what was promised."""
+    """`serve_route` for help, for words that are none, and for what was promised."""
     found = re.search(MATCH, serve)
     arms = re.findall(ARM, found[2])
     promised, whole = (arms_for(arms, it)[0] for it in ("Program", "Whole"))
@@ -123,7 +123,7 @@ def make(name):
     main, routes = re.sub(r"(?m)^ *///.*\n", "", text_of("main.rt")), text_of("routes.rt")
     functions = {it[1]: it[0] for it in re.finditer(FUNCTION, main)}
     words = added()
-    serve, begin = functions.pop("serve"), functions.pop("main")
+    serve, begin = functions.pop("serve_route"), functions.pop("main")
     if name in words:
         serve = serve_word(serve, name, words[name])
     elif name in PROMISED:
@@ -133,8 +133,8 @@ def make(name):
     else:
         raise LookupError(name)
     kept = with_called(f"{serve}\n{begin}", functions, words.get(name))
-    files = {f"{it}.rt": text_of(f"{it}.rt") for it in ("command_line", "routes")
-             if calls(main, it, kept)}
+    modules = re.findall(r"(?m)^mod (\w+);\n", main)
+    files = {f"{it}.rt": text_of(f"{it}.rt") for it in modules if calls(main, it, kept)}
     heads = [f"mod {it[:-3]};\n" for it in files] + [f"use {it};\n" for it in uses_in(main, kept)]
     files["main.rt"] = "".join([*heads, "\n", kept])
     row, below = crates_in(files.values())
