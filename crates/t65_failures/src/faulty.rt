@@ -4,9 +4,8 @@ ghost use Rattle.std.specs.Prelude.{◌≡◌, ◌++◌, IfOk, OnOk, string_byte
 ghost use Rattle.t65_failures.specs.Faulty.{faulty_place, faulty_text, faulty_words, marked_line};
 
 use crate::steps::push_blanks;
-use crate::texts::push_bytes;
 use std::alloc::{AllocError, Global};
-use t65_values::{RowFaultKind, TextFault};
+use t65_values::{RowFaultKind, TextFault, push_visible_text};
 
 /// Appends the place of a fault in the file of rows.
 fn push_place(text: &mut String, rows: &str, fault: TextFault) -> Result<(), AllocError>
@@ -14,7 +13,7 @@ fn push_place(text: &mut String, rows: &str, fault: TextFault) -> Result<(), All
         ≡ string_bytes text.old ++ faulty_place rows.now fault) }
 {
     text.push_str("mos65: ")?;
-    push_bytes(text, rows.as_bytes())?;
+    push_visible_text(text, rows.as_bytes())?;
     write!(text, ":{}:{}: ", fault.line, fault.column)
 }
 
@@ -30,7 +29,7 @@ fn push_marked(text: &mut String, line: &[u8], column: usize) -> Result<(), Allo
     ensures { OnOk result (string_bytes text.new
         ≡ string_bytes text.old ++ marked_line line.now column) }
 {
-    push_bytes(text, line)?;
+    push_visible_text(text, line)?;
     text.push('\n')?;
     push_blanks(text, column.saturating_sub(1))?;
     text.push_str("^\n")
