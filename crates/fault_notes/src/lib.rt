@@ -4,7 +4,7 @@
 //! `faults_text` writes a block for each fault: the fault's line, name and number, words, and the
 //! source's own line with a mark under the bytes that are meant. `told_faults` finds the faults
 //! itself. Which bytes are meant is proved, and that a right word is one that may stand there and
-//! that the words name (`Marks.antt`); what else the words say is tested and not proved. `note_of`
+//! that the words name (`Marks.antt`), and which names are near one another (`Near.antt`); what else the words say is tested and not proved. `note_of`
 //! finds all of it for each kind of fault, with `scan` for bytes that begin no token, `form` for
 //! tokens that are none of the grammar and `left` for those that are no value or left over,
 //! `operands` for what an instruction takes, `values` for values, and `near` for names that are
@@ -22,4 +22,5 @@ mod values;
 mod wording;
 
 pub use block::{faults_text, told_faults};
+pub use near::is_near;
 pub use note::{Context, note_of};
