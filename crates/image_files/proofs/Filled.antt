@@ -1,8 +1,8 @@
 -- An image without what it has at the port has no byte there.
-use Rattle.std.proofs.Common.{◌≡◌, ℕ, ◌+◌, ◌≤◌, Bool, true, false, leb, ltb, ◌&&◌, ◌||◌, if◌then◌else◌, is_some, List, length, Option, None, refl, ap, ◌∙◌, arith, inl, inr}
+use Rattle.std.proofs.Common.{◌≡◌, ℕ, ◌+◌, ◌≤◌, Bool, true, false, leb, ltb, ◌&&◌, ◌||◌, if◌then◌else◌, is_some, List, length, Option, None, Some, refl, ap, ◌∙◌, arith, inl, inr}
 use Rattle.std.proofs.lemmas.List.{get_or_past}
 use Rattle.std.proofs.lemmas.Bool.{cases_lt, le-leb, lt-ltb}
-use Rattle.image_files.specs.Fill.{IsWithoutPort}
+use Rattle.image_files.specs.Fill.{IsWithoutPort, fill_at, is_as_first}
 use Rattle.model.specs.Image.{cell_at, has_byte}
 use Rattle.model.specs.State.{Map, has_port_byte, is_port}
 
@@ -30,3 +30,8 @@ none_at_port bus_map whole part size without =
       none (bus_map.port + 2) (omega arith) (omega arith),
       none (bus_map.port + 3) (omega arith) (omega arith),
     ) refl
+
+-- An image without a byte at the port has no fill there.
+pub never_filled : (omits : Bool) (bus_map : Map) (image : Cells) → has_port_byte bus_map image ≡ false → fill_at omits bus_map image ≡ None
+never_filled true bus_map image none = ap (λ (b : Bool). if b && (is_as_first bus_map image 1 && (is_as_first bus_map image 2 && is_as_first bus_map image 3)) then Some bus_map.port else None) none
+never_filled false bus_map image none = refl

@@ -1,6 +1,6 @@
 pub mod Images
 pub mod Ended
 pub mod Ranges
-mod Filled
+pub mod Filled
 mod Begun
 pub mod Unions

@@ -1,5 +1,5 @@
--- Fill at the port of a map: one byte at all of its four addresses, as where an EPROM is erased. Where
--- the words say so, an image is loaded without it. Our own rule. Source: mos65.
+-- Fill at the port of a map: one byte at all of its four addresses, as where an EPROM is erased.
+-- Where the words say so, an image is loaded without it. Our own rule. Source: mos65.
 use Rattle.std.specs.Prelude.{◌≡◌, ◌+◌, ◌<◌, ◌==◌, ◌&&◌, ℕ, Bool, true, false, if◌then◌else◌, List, Option, None, Some}
 use Rattle.model.specs.Image.{cell_at}
 use Rattle.model.specs.State.{Map, has_port_byte, is_port}
