@@ -7,3 +7,4 @@ mod Starts
 pub mod Unloaded
 pub mod Unnamed
 pub mod WarningsTold
+pub mod Whole

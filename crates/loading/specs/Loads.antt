@@ -137,7 +137,7 @@ IsImageOf form omits bus_map fill image None
 IsImageOf form omits bus_map fill image (Some a) = ⊥
 
 -- What is loaded: the port and the ROM make a map, and the image is one that a file can have, with
--- the assembly of a source. `fill` is the base of the port whose fill is left out of it, if some is.
+-- the assembly of a source. `fill` is the base of the port whose fill is left out, if some is.
 abbrev pub IsLoaded : FileAsked → Option ℕ → List (Option ℕ) → Option AssemblyView → Type 0
 IsLoaded asked fill image assembly = (is_map asked.rom asked.port ≡ true)
     × IsImageOf asked.form asked.omits_fill (map_of asked) fill image assembly

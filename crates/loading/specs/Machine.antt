@@ -58,8 +58,8 @@ abbrev pub IsSparedJoin : FileAsked → Others → Option ℕ → List (Option �
 IsSparedJoin asked others fill image = (whole : List (Option ℕ)) × IsJoined asked others whole
     × IsSpared asked.omits_fill (map_of asked) whole fill image
 
--- One file is loaded as it is alone. Several are images, and make one machine. `fill` is the base of
--- the port whose fill is left out of the image, if some is.
+-- One file is loaded as it is alone. Several are images, and make one machine. `fill` is the base
+-- of the port whose fill is left out of the image, if some is.
 abbrev pub IsMachineOf : Option (List ℕ) → FileAsked → Others → Option (List ℕ) → Option ℕ
     → List (Option ℕ) → Option AssemblyView → Type 0
 IsMachineOf None asked others symbols fill image assembly

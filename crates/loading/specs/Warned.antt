@@ -40,8 +40,8 @@ TellsWarnings bus_map None lost fill heard = Tells heard (left_text lost fill)
 TellsWarnings bus_map (Some a) lost fill heard = (count : ℕ) × IsCount bus_map a.source count
     × Tells heard (warned_text count ++ left_text lost fill)
 
--- The error stream got nothing, or how many warnings there are, how many lines gave no name, and that
--- fill was left out, where words leave it out.
+-- The error stream got nothing, or how many warnings there are, how many lines gave no name, and
+-- that fill was left out, where words leave it out.
 abbrev pub OnlyWarned : Bool → Option (List ℕ) → Option (List ℕ) → Type 0
 OnlyWarned omits held now = (count : ℕ) × (lost : ℕ) × (fill : Option ℕ)
     × (omits ≡ false → fill ≡ None)

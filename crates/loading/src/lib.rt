@@ -7,8 +7,8 @@
 //! source the names of a file (`specs/Named.antt`), and `load_machine` several images as one
 //! machine (`specs/Machine.antt`). Where the words say so, fill at the port is left out of an image
 //! (`image_files/specs/Fill.antt`). `tell_warnings` tells how many warnings a source has, and what
-//! was left out (`specs/Warned.antt`). `place_of` finds the address of a name, of hex digits or of a
-//! sum (`specs/Place.antt`).
+//! was left out (`specs/Warned.antt`). `place_of` finds the address of a name, of hex digits or of
+//! a sum (`specs/Place.antt`).
 #![tactic(auto)]
 
 mod digits;
