@@ -40,7 +40,7 @@ IsShownAs (Some loaded) a = a ≡ loaded
 -- has no byte at the port.
 pub record IsProgram (asked : FileAsked) (symbols : Option Text) (a : AssemblyView) : Type 0 where
   pub loaded : Option AssemblyView
-  pub named : IsNamed asked symbols a.image loaded
+  pub named : IsNamed asked symbols None a.image loaded
   pub shown : IsShownAs loaded a
   pub spared : has_port_byte (map_of asked) a.image ≡ false
 
