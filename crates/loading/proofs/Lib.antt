@@ -3,6 +3,7 @@ pub mod DigitLemmas
 pub mod Ends
 mod Joins
 pub mod Machines
+mod Spared
 mod Starts
 pub mod Unloaded
 pub mod Unnamed

@@ -329,7 +329,7 @@ pub fn without_fill(
 
 /// Returns the image of a file that is no source, if it has no byte at the port of a map but fill
 /// that is left out.
-#[tactic(auto, using(crate::proofs::Ends::as_ends))]
+#[tactic(auto, using(crate::proofs::Ends::as_ends, crate::proofs::Spared::file_kept, crate::proofs::Spared::file_left))]
 pub fn image_on<H: Files + AllocGlobal>(
     rt: &H,
     path: &str,

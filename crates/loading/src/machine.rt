@@ -268,7 +268,7 @@ fn at_port(map: &MapSpec, words: &FileWords<'_>, others: OtherFiles<'_>, image: 
 
 /// Returns the image of all files, if it has no byte at the port of the map but fill that is left
 /// out.
-#[tactic(auto, using(crate::proofs::Joins::joining_ends))]
+#[tactic(auto, using(crate::proofs::Joins::joining_ends, crate::proofs::Joins::memory_runs_out, crate::proofs::Spared::join_kept, crate::proofs::Spared::join_left))]
 fn image_on<'a, H: Files + AllocGlobal>(
     rt: &H,
     map: &MapSpec,
