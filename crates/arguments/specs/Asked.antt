@@ -53,8 +53,8 @@ form_in None said = None
 form_in (Some word) None = None
 form_in (Some word) (Some said) = form_for word said
 
--- What the values of the names ask for, where each is one that its name can have. Fill at the port is
--- left out of an image only where a port is given.
+-- What the values of the names ask for, where each is one that its name can have. Fill at the port
+-- is left out of an image only where a port is given.
 abbrev pub file_asked : (Text → Option Text) → Option FileAsked
 file_asked value = file_of (is_some (value (codes "port")))
     (option_map name_of (value (codes "FILE"))) (form_in (value (codes "FILE")) (form_by value))
