@@ -342,7 +342,10 @@ fn load_joined<'a, H: Files + AllocGlobal>(
         Err(why) => return Err(why),
     };
     match start_image(rt.alloc(), map, &spared, history) {
-        Ok(loaded) => Ok((loaded, spared.image)),
+        Ok(loaded) => {
+            let Spared { image, fill: _ } = spared;
+            Ok((loaded, image))
+        }
         Err(refusal) => Err(of_words(words, refusal)),
     }
 }
