@@ -224,8 +224,7 @@ pub fn start<H: Files + AllocGlobal>(
         (mon_view words.now).debug_info (file_view words.now.file)) }
 {
     let mut places = known_places(rt, words, &loaded)?;
-    let assembly = loaded.assembly.as_ref();
-    let warning_line = warning_line_of(rt.alloc(), words, assembly, loaded.fill);
+    let warning_line = warning_line_of(rt.alloc(), words, loaded.assembly.as_ref(), loaded.fill);
     let Loaded {
         session,
         assembly,
