@@ -46,8 +46,8 @@ pub record TestedFile (steps : ℕ) (suite : SuiteAsked) : Type 0 where
 
 -- ---- its machine
 
--- A machine at its start, what stands where in its source, the source's names, and the rows that are
--- run before and after each test.
+-- A machine at its start, what stands where in its source, the source's names, and the rows that
+-- are run before and after each test.
 pub record Ground : Type 0 where
   pub bus_map : Map
   pub image : List (Option ℕ)
