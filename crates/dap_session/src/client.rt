@@ -157,6 +157,7 @@ fn client_on(
         assembly,
         written: _,
         lost: _,
+        fill: _,
     } = loaded;
     match MonState::new(alloc, session, places, history_of(launch)) {
         Ok(mon) => match launch.copied(alloc) {

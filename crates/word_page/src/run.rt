@@ -21,7 +21,7 @@ use accesses::Written;
 use arguments::{FileRefusal, NewFile, Refusal, create, read_most, refused_words};
 use assembler::Assembly;
 use console::Played;
-use loading::{Loaded, load, load_counted_names, place_of, tell_lost};
+use loading::{Loaded, load, load_counted_names, place_of, tell_left_out};
 use page_writer::{
     Note, Opening, Program, SendFault, Texts, facts_of, push_opening, source_of, viewer, write_page,
 };
@@ -345,7 +345,7 @@ fn show_words<H: Files + AllocGlobal, E: Write>(rt: &H, words: &PageWords<'_>, e
         Ok(names) => names,
         Err(why) => return why.tell(errors),
     };
-    tell_lost(lost, errors);
+    tell_left_out(lost, loaded.fill, errors);
     let until = match place_in(&loaded, names.as_ref(), words.until, errors) {
         Ok(until) => until,
         Err(status) => return status,
