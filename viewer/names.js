@@ -3,6 +3,9 @@
 const {readNames, readLabels, nameOf, placeOf, lineText, lineOrAddress, lengthOf,
   disassembled} = (() => {
 
+// So many bytes from its own on an address is named by a label, as in `mon`.
+const REACH = 64;
+
 function readNames() {
   now.lineAt = new Int32Array(65536).fill(-1);
   for (const [number, address, length] of now.info.lines) {
@@ -35,9 +38,10 @@ function readLabels() {
   now.labels.forEach((label, j) => now.labelAt.fill(j, label[1]));
 }
 
-// The name of an address, or of one shortly before it.
+// The name of an address, or of one at most 63 bytes before it, and 15 in page zero. On the stack a
+// name has one byte: what lies behind it belongs to calls, and not to it.
 function nameOf(address) {
-  const most = address < 256 ? 16 : 256;
+  const page = address >> 8, most = page > 1 ? REACH : page ? 1 : 16;
   for (let k = 0; k < most && k <= address; k++) {
     if (now.named.has(address - k)) return now.named.get(address - k) + (k ? "+" + k : "");
   }
@@ -45,9 +49,9 @@ function nameOf(address) {
 }
 
 function placeOf(address) {
-  const label = now.labels[now.labelAt[address]];
-  if (!label) return address4(address);
-  return label[0] + (address > label[1] ? "+" + (address - label[1]) : "");
+  const label = now.labels[now.labelAt[address]], beyond = label ? address - label[1] : REACH;
+  if (beyond >= REACH) return address4(address);
+  return label[0] + (beyond ? "+" + beyond : "");
 }
 
 const lineText = address => now.lineAt[address] < 0 ? "" : "line " + (now.lineAt[address] + 1);

@@ -124,7 +124,7 @@ class Book:
         kinds = [self.move] * 6 + [self.stack] * 3 + [self.scopes] * 2 + [self.variables] * 3 + [
             self.set_variable, self.set_expression, self.evaluate, self.evaluate,
             self.breakpoints, self.breakpoints, self.locations,
-            self.instructions, self.watch, self.goto, self.memory, self.written, self.rows,
+            self.instructions, self.functions, self.watch, self.goto, self.memory, self.written, self.rows,
             self.completed, self.unserved, self.small]
         self.dice.choice(kinds)()
 
@@ -197,7 +197,8 @@ class Book:
             self.variables()
             return
         number, row = self.dice.choice(known)
-        value = self.dice.choice(("1", "0", "$12", "blue", "", "-1", "256", "65536", "1 2"))
+        value = self.dice.choice(("1", "0", "$12", "blue", "", "-1", "256", "65536", "1 2",
+                                  row["value"], "$42" + row["value"][3:]))
         is_good, is_spoiled, body, made = self.sent("setVariable", variablesReference=number,
                                                     name=row["name"], value=value)
         if is_good and not is_spoiled:
@@ -235,6 +236,10 @@ class Book:
             made["hitCondition"] = self.dice.choice(("1", "2", "0", "x", ">2", ""))
         return {name: it for name, it in made.items() if it is not None}
 
+    def logs(self):
+        texts = ("here", "{A} {nowhere} {PC", "", "}{}{$0200}", "é{é}", 3)
+        return {"logMessage": self.dice.choice(texts)} if self.dice.random() < 0.3 else {}
+
     def took(self, kind, asked, is_good, is_spoiled, body):
         """The numbers of a list of breakpoints that was set."""
         if not is_good:
@@ -251,7 +256,7 @@ class Book:
         self.placed[kind] = set(ids)
 
     def breakpoints(self):
-        asked = [{"line": self.dice.randrange(-1, self.count + 4), **self.tests()}
+        asked = [{"line": self.dice.randrange(-1, self.count + 4), **self.tests(), **self.logs()}
                  for _ in range(self.dice.randrange(4))]
         if asked and self.dice.random() < 0.1:
             asked[0] = self.dice.choice(WRONG)
@@ -278,6 +283,13 @@ class Book:
                  for _ in range(self.dice.randrange(3))]
         is_good, is_spoiled, body, _ = self.sent("setInstructionBreakpoints", breakpoints=asked)
         self.took("instructions", asked, is_good, is_spoiled, body)
+
+    def functions(self):
+        asked = [{"name": self.dice.choice(("start", "main", "loop", "done", "$0205", "nowhere", "A",
+                                            "start+1", "", "é")), **self.tests()}
+                 for _ in range(self.dice.randrange(3))]
+        is_good, is_spoiled, body, _ = self.sent("setFunctionBreakpoints", breakpoints=asked)
+        self.took("functions", asked, is_good, is_spoiled, body)
 
     def watch(self):
         name = self.dice.choice(("$10", "A", "none", "$F000", "PC", "C", "$0200"))

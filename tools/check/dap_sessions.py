@@ -5,6 +5,7 @@ compared with both."""
 import base64
 import os
 import random
+import re
 from collections import namedtuple
 
 import dap_model
@@ -128,6 +129,17 @@ def differing(before, after):
     return [i << 12 | j << 8 | k for i in range(16) if before[i] is not after[i] for j in range(16)
             if before[i][j] is not after[i][j] for k in range(256)
             if before[i][j][k] != after[i][j][k]]
+
+
+def plain(shown):
+    """The hexadecimal value of what is shown: of a byte the decimal one and the character have to
+    stand behind it, and nothing behind anything else."""
+    it = re.match(r"\$([0-9A-F]{2})(?![0-9A-F])", shown)
+    if not it:
+        return shown
+    byte = int(it[1], 16)
+    character = f" '{chr(byte)}'" if 32 <= byte <= 126 else ""
+    return it[0] if shown == f"{it[0]} {byte}{character}" else f"wrong: {shown}"
 
 
 def file_of(name, folder):
@@ -269,7 +281,7 @@ class Session:
                                  f"${self.dice.randrange(65536):04X}"])
         told = self.adapter.ask("evaluate", expression=text,
                                 context=self.dice.choice(["hover", "watch"]))
-        self.want(told["result"] == self.model.looked_at(text),
+        self.want(plain(told["result"]) == self.model.looked_at(text),
                   f"{self.where}: {text} shows {told}")
 
     def offer(self):
@@ -402,7 +414,7 @@ class Session:
         if good:
             self.told_changed()
             shown = self.model.variables(scope).get(name)
-            self.want(told["value"] == shown,
+            self.want(plain(told["value"]) == shown,
                       f"{self.where}: {name} is {told['value']}, and in the model {shown}")
         self.mon.line(f"{'set' if scope < 3 else 'put'} {name} {text}")
 

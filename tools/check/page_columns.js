@@ -5,7 +5,8 @@
 // A line is JSON: `data`, the bytes of a page in base64; `loaded`; and `moves`, each a list of a
 // word and more: append FROM TO (bytes of the data), truncate K, event WHAT (for appendEvent).
 // Or it has `trips`, each a list of a step, a word of TRIPS, and more: what is printed are the
-// steps to which the viewer's moves and its search lead, without a document.
+// steps to which the viewer's moves and its search lead, without a document. Or it has `places`,
+// addresses, with `names` and `labels`: what is printed is how the viewer names each.
 const path = require("path");
 for (const name of ["run", "now", "names", "moves", "find"]) {
   Object.assign(globalThis, require(path.join(__dirname, "..", "..", "viewer", `${name}.js`)));
@@ -32,6 +33,12 @@ function ends(run, trips) {
     TRIPS[word](...words);
     return now.cur;
   });
+}
+
+function namesOf(run, {names, labels, places}) {
+  Object.assign(now, {run, info: {labels, names, lines: [], source: null}});
+  readNames();
+  return places.map(at => [nameOf(at), placeOf(at)]);
 }
 
 const listed = column => [...column];
@@ -82,5 +89,7 @@ function made({data, loaded, moves}) {
 const lines = require("fs").readFileSync(0, "utf8").trimEnd().split("\n");
 for (const line of lines) {
   const asked = JSON.parse(line), run = made(asked);
-  console.log(JSON.stringify(asked.trips ? {ends: ends(run, asked.trips)} : held(run)));
+  const answer = asked.trips ? {ends: ends(run, asked.trips)}
+    : asked.places ? {names: namesOf(run, asked)} : held(run);
+  console.log(JSON.stringify(answer));
 }

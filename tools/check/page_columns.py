@@ -272,6 +272,19 @@ def journeys(name, data, rng):
     return {"trips": [words for words, _ in made]}, {"ends": [end for _, end in made]}
 
 
+def names_asked():
+    """Addresses near names, and how the viewer names each: as an address, and as a place of the
+    program. `arg` and `far` are definitions, the others labels."""
+    shown = {0x10: ("count", "$0010"), 0x1F: ("count+15", "$001F"), 0x20: ("", "$0020"),
+             0x103: ("arg", "$0103"), 0x104: ("", "$0104"), 0x1F4: ("", "$01F4"),
+             0x200: ("main", "main"), 0x23F: ("main+63", "main+63"), 0x240: ("", "$0240"),
+             0x33F: ("far+63", "$033F"), 0x340: ("", "$0340"), 0x400: ("sub", "sub")}
+    names = {"count": 0x10, "arg": 0x103, "far": 0x300, "main": 0x200, "sub": 0x400}
+    labels = [(it, names[it]) for it in ("main", "sub")]
+    asked = {"names": list(names.items()), "labels": labels, "places": list(shown)}
+    return asked, {"names": [list(it) for it in shown.values()]}
+
+
 def look(compare, runs, seed):
     """Compares runs, each a name and its data, and some random ones. False where there is no
     Node.js."""
@@ -287,6 +300,8 @@ def look(compare, runs, seed):
     for name, data in runs[:-RANDOM_RUNS]:
         trips, wanted = journeys(name, data, rng)
         asked.append((f"{name} moves", question(data, trips), wanted))
+    places, wanted = names_asked()
+    asked.append(("names", question(runs[0][1], places), wanted))
     lines = "".join(json.dumps(it) + "\n" for _, it, _ in asked)
     ran = subprocess.run([node, f"{FOLDER}/page_columns.js"], input=lines, capture_output=True,
                          text=True, timeout=600)

@@ -50,3 +50,12 @@ with_file app = with_rule (with_rule (with_rule (with_rule (with_rule (with_rule
     (with_rule app (file_rule (codes "FILE"))) (flag_rule (codes "tape"))) (option_rule (codes "port")))
     (option_rule (codes "rom"))) (option_rule (codes "profile"))) (option_rule (codes "bin")))
     (flag_rule (codes "prg"))) (flag_rule (codes "image"))
+
+-- A word that may be there.
+abbrev pub word_rule : Text → Rule
+word_rule name = record (new_rule name) { action = Some Set }
+
+-- The same with `[SECOND] [THIRD] [FOURTH]` behind it: more files of one machine.
+abbrev pub with_files : App → App
+with_files app = with_rule (with_rule (with_rule (with_file app) (word_rule (codes "SECOND")))
+    (word_rule (codes "THIRD"))) (word_rule (codes "FOURTH"))

@@ -46,7 +46,7 @@ pub struct FileWords<'a> {
 }
 
 /// Returns a command with an argument added, if no allocation failed before.
-fn with<'a>(
+pub fn with<'a>(
     command: Result<Command<'a>, AllocError>,
     arg: Arg<'a>,
 ) -> Result<Command<'a>, AllocError>

@@ -14,6 +14,9 @@ use std::rt::Files;
 /// being read to its end.
 const MOST_OF_SOURCE: u64 = 1_048_577;
 
+/// The file that the system has for the standard input.
+const STANDARD_INPUT: &str = "/dev/stdin";
+
 /// Reads the first bytes of a file.
 fn first_bytes<H: Files + AllocGlobal>(rt: &H, path: &str, most: u64) -> io::Result<Vec<u8>> {
     let mut bytes = Vec::new(rt.alloc());
@@ -37,6 +40,33 @@ pub fn read_source<H: Files + AllocGlobal>(rt: &H, path: &str) -> Result<Vec<u8>
     ensures { IfErr result EndsReading }
 {
     read_most(rt, path, MOST_OF_SOURCE)
+}
+
+/// Returns the path of a file that a word names: `-` is the standard input.
+fn path_of(file: &str) -> &str {
+    if file == "-" { STANDARD_INPUT } else { file }
+}
+
+/// Returns the bytes of a file as `read_most` does; those of the standard input if the name is `-`.
+///
+/// The standard input is opened anew by the name that the system has for it: of a pipe or a
+/// terminal all bytes are then read, and of a file that stands for it those from its beginning on.
+///
+/// Errors: `OutOfMemory` if an allocation fails, `Read` if the file cannot be read.
+pub fn read_given<H: Files + AllocGlobal>(rt: &H, file: &str, most: u64) -> Result<Vec<u8>, Refusal>
+    ensures { IfErr result EndsReading }
+{
+    read_most(rt, path_of(file), most)
+}
+
+/// Returns the bytes of a source's file as `read_source` does; those of the standard input if the
+/// name is `-`.
+///
+/// Errors: `OutOfMemory` if an allocation fails, `Read` if the file cannot be read.
+pub fn read_given_source<H: Files + AllocGlobal>(rt: &H, file: &str) -> Result<Vec<u8>, Refusal>
+    ensures { IfErr result EndsReading }
+{
+    read_given(rt, file, MOST_OF_SOURCE)
 }
 
 /// Writes a text to a file of that name. A file that is there is replaced, and only by the whole

@@ -2,23 +2,25 @@
 -- a parse finds among them. Source: mos65.
 use Rattle.std.specs.Prelude.{ℕ, Bool, ◌||◌, is_some, List, Option, Some, None, codes, option_map}
 use Rattle.arguments.specs.Asked.{FileAsked, file_asked, file_view, is_flag}
-use Rattle.arguments.specs.CommandLine.{flag_rule, option_rule, unnamed, with_file}
+use Rattle.arguments.specs.CommandLine.{flag_rule, option_rule, unnamed, with_files}
+use Rattle.arguments.specs.OtherFiles.{Others, others_by, others_view}
 use Rattle.arguments.specs.Values.{steps_asked}
 use Rattle.arguments.specs.Words.{value_in}
 use Rattle.arguments_play.specs.declared.trace.TraceWords.{TraceWords}
 use Rattle.clap.specs.Words.{App, Text, with_rule}
 
--- `FILE` with its map, `[--symbols FILE] [--from WHERE] [--to WHERE] [--steps N] [--stores]
+-- `FILE` with more files and its map, `[--symbols FILE] [--from WHERE] [--to WHERE] [--steps N] [--stores]
 -- [--count] [--lcov FILE] [--unwritten] [--free]`.
 abbrev pub trace : App
 trace = with_rule (with_rule (with_rule (with_rule (with_rule (with_rule (with_rule (with_rule
-    (with_rule (with_file (unnamed (codes "trace"))) (option_rule (codes "symbols")))
+    (with_rule (with_files (unnamed (codes "trace"))) (option_rule (codes "symbols")))
     (option_rule (codes "from"))) (option_rule (codes "to"))) (option_rule (codes "steps")))
     (flag_rule (codes "stores"))) (flag_rule (codes "count"))) (option_rule (codes "lcov")))
     (flag_rule (codes "unwritten"))) (flag_rule (codes "free"))
 
 pub record TraceAsked : Type 0 where
   pub file : FileAsked
+  pub others : Others
   pub symbols : Option Text
   pub from : Option Text
   pub to : Option Text
@@ -30,11 +32,12 @@ pub record TraceAsked : Type 0 where
   pub is_free : Bool
 
 -- Where a file for lcov is asked for, so are counts.
-abbrev pub trace_of : Option FileAsked → Option Text → Option Text → Option Text → Option ℕ
+abbrev pub trace_of : Option FileAsked → Others → Option Text → Option Text → Option Text → Option ℕ
     → Bool → Bool → Option Text → Bool → Bool → Option TraceAsked
-trace_of (Some file) symbols from to (Some steps) shows_stores counts lcov finds_unwritten is_free
+trace_of (Some file) others symbols from to (Some steps) shows_stores counts lcov finds_unwritten is_free
     = Some (record {
       file = file;
+      others = others;
       symbols = symbols;
       from = from;
       to = to;
@@ -45,11 +48,11 @@ trace_of (Some file) symbols from to (Some steps) shows_stores counts lcov finds
       finds_unwritten = finds_unwritten;
       is_free = is_free;
     })
-trace_of file symbols from to steps shows_stores counts lcov finds_unwritten is_free = None
+trace_of file others symbols from to steps shows_stores counts lcov finds_unwritten is_free = None
 
 -- What the values of the names ask for, where each is one that its name can have.
 abbrev pub trace_asked : (Text → Option Text) → Option TraceAsked
-trace_asked value = trace_of (file_asked value) (value (codes "symbols"))
+trace_asked value = trace_of (file_asked value) (others_by value) (value (codes "symbols"))
     (value (codes "from")) (value (codes "to")) (steps_asked (value (codes "steps")))
     (is_flag (value (codes "stores"))) (is_flag (value (codes "count"))) (value (codes "lcov"))
     (is_flag (value (codes "unwritten"))) (is_flag (value (codes "free")))
@@ -62,6 +65,7 @@ asked words = trace_asked (value_in trace words)
 abbrev pub trace_view : TraceWords → TraceAsked
 trace_view w = record {
   file = file_view w.file;
+  others = others_view w.others;
   symbols = option_map (λ s. s.now) w.symbols;
   from = option_map (λ s. s.now) w.from;
   to = option_map (λ s. s.now) w.to;

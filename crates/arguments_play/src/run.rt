@@ -7,8 +7,8 @@ ghost use Rattle.clap.specs.Words.{app_of, first_value, found_of, kind_of};
 ghost use Rattle.clap.specs.declared.builder.command.Command.TheViews.{out-Command};
 
 use arguments::{
-    FileWords, WordsFault, begin, file_words, flag, is_given, matched, option, steps_asked,
-    with_file_options, wrong_value,
+    FileWords, OtherFiles, WordsFault, begin, file_words, flag, is_given, matched, option,
+    other_files, steps_asked, with_files_options, wrong_value,
 };
 use clap::error::ErrorKind;
 use clap::{ArgMatches, Command, Error};
@@ -19,6 +19,8 @@ use std::alloc::Global;
 pub struct RunWords<'a> {
     /// The file to run, and its map.
     pub file: FileWords<'a>,
+    /// More files of the same machine.
+    pub others: OtherFiles<'a>,
     /// The file of names, if one is named.
     pub symbols: Option<&'a str>,
     /// The place that ends the run, if one is named.
@@ -40,7 +42,8 @@ const STATUSES: &str = "Exit status: 0 the run came to its end (with --status A 
 1 bad source or tape, 2 bad words or map, 3 out of memory, 4 I/O failed
 
 Example:
-  mos65 run guess.a65";
+  mos65 run guess.a65
+  mos65 run lo.bin@8000 hi.bin@C000";
 
 /// Returns the command line of `run`.
 ///
@@ -58,7 +61,7 @@ pub fn run_command<'a>(alloc: Global) -> Result<Command<'a>, Error>
     let cycles = "Prints cycles and steps at the end, on the error stream";
     let free = "Runs on where nothing was written, and at a BRK without a vector";
     let command = begin(alloc, "run", "mos65 run", about, STATUSES)?;
-    let command = with_file_options(alloc, command)?
+    let command = with_files_options(alloc, command)?
         .arg(option(alloc, "symbols", "FILE", symbols))?
         .arg(option(alloc, "until", "WHERE", until))?
         .arg(option(alloc, "steps", "N", steps))?
@@ -87,6 +90,7 @@ fn asked<'a>(matches: &ArgMatches<'a>) -> Option<RunWords<'a>>
     };
     Some(RunWords {
         file,
+        others: other_files(matches),
         symbols: matches.get_str("symbols"),
         until: matches.get_str("until"),
         steps: steps_asked(matches.get_str("steps"))?,

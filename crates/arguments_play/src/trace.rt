@@ -7,8 +7,8 @@ ghost use Rattle.clap.specs.Words.{app_of, first_value, found_of, kind_of};
 ghost use Rattle.clap.specs.declared.builder.command.Command.TheViews.{out-Command};
 
 use arguments::{
-    FileWords, WordsFault, begin, file_words, flag, is_given, matched, option, steps_asked,
-    value_fault, with_file_options,
+    FileWords, OtherFiles, WordsFault, begin, file_words, flag, is_given, matched, option,
+    other_files, steps_asked, value_fault, with_files_options,
 };
 use clap::error::ErrorKind;
 use clap::{ArgMatches, Command, Error};
@@ -19,6 +19,8 @@ use std::alloc::Global;
 pub struct TraceWords<'a> {
     /// The file to run, and its map.
     pub file: FileWords<'a>,
+    /// More files of the same machine.
+    pub others: OtherFiles<'a>,
     /// The file of names, if one is named.
     pub symbols: Option<&'a str>,
     /// The place where the trace begins, if one is named.
@@ -71,7 +73,7 @@ pub fn trace_command<'a>(alloc: Global) -> Result<Command<'a>, Error>
     let unwritten = "Shows no rows, but reads of memory that nobody ever wrote";
     let free = "Runs on where nothing was written, and at a BRK without a vector";
     let command = begin(alloc, "trace", "mos65 trace", about, STATUSES)?;
-    let command = with_file_options(alloc, command)?
+    let command = with_files_options(alloc, command)?
         .arg(option(alloc, "symbols", "FILE", symbols))?
         .arg(option(alloc, "from", "WHERE", from))?
         .arg(option(alloc, "to", "WHERE", to))?
@@ -93,6 +95,7 @@ fn asked<'a>(matches: &ArgMatches<'a>) -> Option<TraceWords<'a>>
     };
     Some(TraceWords {
         file,
+        others: other_files(matches),
         symbols: matches.get_str("symbols"),
         from: matches.get_str("from"),
         to: matches.get_str("to"),

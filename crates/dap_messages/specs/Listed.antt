@@ -4,8 +4,10 @@ use Rattle.std.specs.Prelude.{ℕ, zero, suc, Vec}
 use Rattle.std.specs.declared.alloc.Global.{Global}
 use Rattle.dap_messages.specs.Messages.{next_number}
 use Rattle.dap_messages.specs.declared.listed.AddressList.{AddressList}
+use Rattle.dap_messages.specs.declared.listed.FunctionList.{FunctionList}
 use Rattle.dap_messages.specs.declared.listed.LineList.{LineList}
 use Rattle.dap_messages.specs.declared.listed.Listed.{Listed}
+use Rattle.dap_messages.specs.declared.request.FunctionBreakpoint.{FunctionBreakpoint}
 use Rattle.dap_messages.specs.declared.request.InstructionBreakpoint.{InstructionBreakpoint}
 use Rattle.dap_messages.specs.declared.request.SourceBreakpoint.{SourceBreakpoint}
 
@@ -24,3 +26,6 @@ lines_of listed list = record { first = listed.next; list = list }
 
 abbrev pub addresses_of : Listed → Vec InstructionBreakpoint Global → AddressList
 addresses_of listed list = record { first = listed.next; list = list }
+
+abbrev pub functions_of : Listed → Vec FunctionBreakpoint Global → FunctionList
+functions_of listed list = record { first = listed.next; list = list }

@@ -43,12 +43,13 @@ shows name kind = in_session name (session.Shows kind)
 -- All but moves by instructions.
 unfoldable pub names : List Row
 names = (codes "initialize", to.Initialize) ∷ (codes "launch", to.Launch)
-    ∷ (codes "disconnect", to.Disconnect)
+    ∷ (codes "attach", to.Attach) ∷ (codes "disconnect", to.Disconnect)
     ∷ moves (codes "next") move.Over ∷ moves (codes "stepIn") move.Step
     ∷ moves (codes "stepOut") move.Out ∷ moves (codes "stepBack") move.BackOver
     ∷ moves (codes "continue") move.Go ∷ moves (codes "reverseContinue") move.BackToStop
     ∷ sets (codes "setBreakpoints") list.Source
     ∷ sets (codes "setInstructionBreakpoints") list.Instruction
+    ∷ sets (codes "setFunctionBreakpoints") list.Function
     ∷ sets (codes "setDataBreakpoints") list.Data
     ∷ changes (codes "evaluate") change.Evaluate ∷ changes (codes "setVariable") change.SetVariable
     ∷ changes (codes "setExpression") change.SetExpression

@@ -1,11 +1,11 @@
 -- What a message asks for, with its arguments. Source: Debug Adapter Protocol 1.65; what stands for
 -- an argument that is missing, mos65.
-use Rattle.std.specs.Prelude.{ℕ, ◌==◌, min, ◌||◌, nat_le, Bool, false, true, bytes_eq, if◌then◌else◌, List, [], ◌∷◌, codes, map, Option, Some, None, option_and_then, unwrap_or}
+use Rattle.std.specs.Prelude.{ℕ, ◌-◌, ◌==◌, min, ◌&&◌, ◌||◌, nat_le, nat_lt, Bool, false, true, bytes_eq, if◌then◌else◌, List, [], ◌∷◌, codes, map, Option, Some, None, option_and_then, unwrap_or}
 use Rattle.dap_messages.specs.Counting.{counting_of}
 use Rattle.dap_messages.specs.Members.{wrong_member}
 use Rattle.dap_messages.specs.Names.{name_of}
 use Rattle.dap_messages.specs.References.{offset_at, place_at}
-use Rattle.dap_messages.specs.Seen.{SeenBreakpoints, SeenChange, SeenCondition, SeenInstruction, SeenLaunch, SeenQuery, SeenRequest, SeenSessionRequest, SeenSource}
+use Rattle.dap_messages.specs.Seen.{SeenBreakpoints, SeenChange, SeenCondition, SeenFunction, SeenInstruction, SeenLaunch, SeenQuery, SeenRequest, SeenSessionRequest, SeenSource}
 use Rattle.dap_messages.specs.Seen as seen
 use Rattle.dap_messages.specs.declared.members.Member.{Member}
 use Rattle.dap_messages.specs.declared.names.ChangeName.{ChangeName}
@@ -49,6 +49,12 @@ abbrev pub target_in : Data → Option ℕ
 target_in request
     = option_and_then address_of (number_at (codes "/arguments/targetId") request)
 
+-- A word of the zero page has the number of its address, behind all 16-bit numbers. The last byte has
+-- none behind it.
+abbrev pub word_of : ℕ → Option Scope
+word_of number = if nat_le 65536 number && nat_lt number 65791
+    then Some (scope.Word (number - 65536)) else None
+
 -- A scope has a number, by which its variables are asked for.
 unfoldable pub scope_of : ℕ → Option Scope
 scope_of number = if number == 1 then Some scope.Registers
@@ -56,7 +62,7 @@ scope_of number = if number == 1 then Some scope.Registers
     else if number == 3 then Some scope.Symbols
     else if number == 4 then Some scope.Stack
     else if number == 5 then Some scope.ZeroPage
-    else if number == 6 then Some scope.Machine else None
+    else if number == 6 then Some scope.Machine else word_of number
 
 abbrev pub scope_in : Data → Option Scope
 scope_in request
@@ -101,11 +107,18 @@ abbrev pub source_of : Data → SeenSource
 source_of listed = record {
   line = number_at (codes "/line") listed;
   condition = condition_of listed;
+  log = text_in (codes "/logMessage") listed;
 }
 
 abbrev pub instruction_of : Data → SeenInstruction
 instruction_of listed = record {
   address = place_at (codes "/instructionReference") (codes "/offset") listed;
+  condition = condition_of listed;
+}
+
+abbrev pub function_of : Data → SeenFunction
+function_of listed = record {
+  name = text_in (codes "/name") listed;
   condition = condition_of listed;
 }
 
@@ -125,6 +138,7 @@ breakpoints_by request list.Source
     = seen.at_lines (path_in request) (map source_of (listed_in request))
 breakpoints_by request list.Instruction
     = seen.at_addresses (map instruction_of (listed_in request))
+breakpoints_by request list.Function = seen.at_names (map function_of (listed_in request))
 breakpoints_by request list.Data = seen.of_bytes (map data_of (listed_in request))
 
 -- ---- changes
@@ -258,6 +272,7 @@ launch_asked request = launch_by request (wrong_member request)
 abbrev pub request_by : Data → RequestName → SeenRequest
 request_by message to.Initialize = seen.initialize (counting_of message)
 request_by message to.Launch = launch_asked message
+request_by message to.Attach = seen.attach
 request_by message to.Disconnect = seen.disconnect
 request_by message (to.InSession name) = seen.in_session (asked_by message name)
 request_by message to.NoRequest = seen.no_request

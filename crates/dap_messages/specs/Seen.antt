@@ -9,6 +9,7 @@ use Rattle.dap_messages.specs.declared.request.Change.{Change}
 use Rattle.dap_messages.specs.declared.request.Change.TheVariants as change
 use Rattle.dap_messages.specs.declared.request.Condition.{Condition}
 use Rattle.dap_messages.specs.declared.request.DataBreakpoint.{DataBreakpoint}
+use Rattle.dap_messages.specs.declared.request.FunctionBreakpoint.{FunctionBreakpoint}
 use Rattle.dap_messages.specs.declared.request.InstructionBreakpoint.{InstructionBreakpoint}
 use Rattle.dap_messages.specs.declared.request.Launch.{Launch}
 use Rattle.dap_messages.specs.declared.request.Move.{Move}
@@ -31,28 +32,45 @@ pub record SeenCondition : Type 0 where
 pub record SeenSource : Type 0 where
   pub line : Option ℕ
   pub condition : SeenCondition
+  pub log : List ℕ
 
 pub record SeenInstruction : Type 0 where
   pub address : Option ℕ
+  pub condition : SeenCondition
+
+pub record SeenFunction : Type 0 where
+  pub name : List ℕ
   pub condition : SeenCondition
 
 abbrev pub condition_view : Condition → SeenCondition
 condition_view c = record { tests = string_bytes c.tests; hits = string_bytes c.hits }
 
 abbrev pub source_view : SourceBreakpoint → SeenSource
-source_view b = record { line = b.line; condition = condition_view b.condition }
+source_view b = record {
+  line = b.line;
+  condition = condition_view b.condition;
+  log = string_bytes b.log;
+}
 
 abbrev pub instruction_view : InstructionBreakpoint → SeenInstruction
 instruction_view b = record { address = b.address; condition = condition_view b.condition }
 
+abbrev pub function_view : FunctionBreakpoint → SeenFunction
+function_view b = record {
+  name = string_bytes b.name;
+  condition = condition_view b.condition;
+}
+
 pub data SeenBreakpoints : Type 0 where
   at_lines : List ℕ → List SeenSource → SeenBreakpoints
   at_addresses : List SeenInstruction → SeenBreakpoints
+  at_names : List SeenFunction → SeenBreakpoints
   of_bytes : List DataBreakpoint → SeenBreakpoints
 
 abbrev pub breakpoints_view : Breakpoints → SeenBreakpoints
 breakpoints_view (list.Source path listed) = at_lines path.now (map source_view listed.items)
 breakpoints_view (list.Instruction listed) = at_addresses (map instruction_view listed.items)
+breakpoints_view (list.Function listed) = at_names (map function_view listed.items)
 breakpoints_view (list.Data listed) = of_bytes listed.items
 
 -- ---- changes and questions
@@ -163,6 +181,7 @@ pub data SeenRequest : Type 0 where
   initialize : Counting → SeenRequest
   launch : SeenLaunch → SeenRequest
   wrong_launch : Member → SeenRequest
+  attach : SeenRequest
   disconnect : SeenRequest
   in_session : SeenSessionRequest → SeenRequest
   no_request : SeenRequest
@@ -171,6 +190,7 @@ abbrev pub request_view : Request → SeenRequest
 request_view (request.Initialize counting) = initialize counting
 request_view (request.Launch asked) = launch (launch_view asked)
 request_view (request.WrongLaunch member) = wrong_launch member
+request_view request.Attach = attach
 request_view request.Disconnect = disconnect
 request_view (request.InSession asked) = in_session (session_view asked)
 request_view request.NoRequest = no_request

@@ -16,6 +16,8 @@ pub enum Reason {
     Breakpoint,
     /// A breakpoint at an address.
     InstructionBreakpoint,
+    /// A breakpoint at a name.
+    FunctionBreakpoint,
     /// A watched byte or register.
     DataBreakpoint,
     /// A step is refused.
@@ -38,6 +40,7 @@ impl Reason {
             Reason::Step => "step",
             Reason::Breakpoint => "breakpoint",
             Reason::InstructionBreakpoint => "instruction breakpoint",
+            Reason::FunctionBreakpoint => "function breakpoint",
             Reason::DataBreakpoint => "data breakpoint",
             Reason::Exception => "exception",
             Reason::Goto => "goto",

@@ -33,12 +33,16 @@ pub use answers::{evaluated, exception, value_set, written_body};
 pub use bodies::{breakpoints_body, capabilities, continued, nothing, scopes, threads};
 pub use counting::Counting;
 pub use halt::{Halt, Reason, stand_by};
-pub use listed::{AddressList, LineList, Listed, Placed, Told, number_addresses, number_lines};
+pub use listed::{
+    AddressList, FunctionList, LineList, Listed, Placed, Told, number_addresses, number_functions,
+    number_lines,
+};
 pub use members::{Form, Member};
 pub use message::{Message, message_value, next_number};
 pub use reading::request_of;
 pub use request::{
-    Access, Breakpoints, Change, Condition, DataBreakpoint, InstructionBreakpoint, Launch, Move,
-    Page, Query, Request, Scope, SessionRequest, SourceBreakpoint,
+    Access, Breakpoints, Change, Condition, DataBreakpoint, FunctionBreakpoint,
+    InstructionBreakpoint, Launch, Move, Page, Query, Request, Scope, SessionRequest,
+    SourceBreakpoint,
 };
 pub use texts::{address_text, reference};

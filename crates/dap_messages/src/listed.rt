@@ -1,11 +1,12 @@
 //! What a client has listed, and what it was told.
 
 ghost use Rattle.std.specs.Prelude.{◌≡◌, [], length};
-ghost use Rattle.dap_messages.specs.Listed.{addresses_of, lines_of, reserved, reserving};
+ghost use Rattle.dap_messages.specs.Listed.{addresses_of, functions_of, lines_of, reserved};
+ghost use Rattle.dap_messages.specs.Listed.{reserving};
 
 use crate::halt::Reason;
 use crate::message::next_number;
-use crate::request::{DataBreakpoint, InstructionBreakpoint, SourceBreakpoint};
+use crate::request::{DataBreakpoint, FunctionBreakpoint, InstructionBreakpoint, SourceBreakpoint};
 use std::alloc::Global;
 
 /// A breakpoint that stands at an address, with its number.
@@ -30,6 +31,13 @@ pub struct AddressList {
     pub list: Vec<InstructionBreakpoint>,
 }
 
+/// Breakpoints at names, as a client has listed them, numbered so too.
+#[derive(Drop)]
+pub struct FunctionList {
+    pub first: u64,
+    pub list: Vec<FunctionBreakpoint>,
+}
+
 /// The breakpoints that a client has listed.
 #[derive(Drop)]
 pub struct Listed {
@@ -37,9 +45,12 @@ pub struct Listed {
     pub lines: Vec<Placed>,
     /// Where those at addresses stand that are set.
     pub addresses: Vec<Placed>,
+    /// Where those at names stand that are set.
+    pub functions: Vec<Placed>,
     /// What the last request for each kind has listed, if there was one.
     pub last_lines: Option<LineList>,
     pub last_addresses: Option<AddressList>,
+    pub last_functions: Option<FunctionList>,
     pub last_bytes: Option<Vec<DataBreakpoint>>,
     /// The number of the next breakpoint that is listed.
     pub next: u64,
@@ -50,12 +61,15 @@ impl Listed {
     pub fn new(alloc: Global) -> Listed
         ensures lines { result.lines.items ≡ [] }
         ensures addresses { result.addresses.items ≡ [] }
+        ensures functions { result.functions.items ≡ [] }
     {
         Listed {
             lines: Vec::new(alloc),
             addresses: Vec::new(alloc),
+            functions: Vec::new(alloc),
             last_lines: None,
             last_addresses: None,
+            last_functions: None,
             last_bytes: None,
             next: 1,
         }
@@ -100,6 +114,15 @@ pub fn number_addresses(listed: &mut Listed, list: Vec<InstructionBreakpoint>) -
 {
     let first = reserve(listed, list.len());
     AddressList { first, list }
+}
+
+/// Returns breakpoints at names that a client lists, with their numbers.
+pub fn number_functions(listed: &mut Listed, list: Vec<FunctionBreakpoint>) -> FunctionList
+    ensures list { result ≡ functions_of listed.old list }
+    ensures next { listed.new ≡ reserving (length list.items) listed.old }
+{
+    let first = reserve(listed, list.len());
+    FunctionList { first, list }
 }
 
 /// What a client was told: how many of the bytes that the program put out, why the machine stands,

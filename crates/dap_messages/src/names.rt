@@ -15,6 +15,7 @@ use serde_json::Value;
 pub enum ListName {
     Source,
     Instruction,
+    Function,
     Data,
 }
 
@@ -65,15 +66,17 @@ pub enum SessionName {
 pub enum RequestName {
     Initialize,
     Launch,
+    Attach,
     Disconnect,
     InSession(SessionName),
     NoRequest,
 }
 
 /// The names of requests, each with what it asks for, but for moves by instructions.
-const NAMES: [(&str, RequestName); 34] = [
+const NAMES: [(&str, RequestName); 36] = [
     ("initialize", RequestName::Initialize),
     ("launch", RequestName::Launch),
+    ("attach", RequestName::Attach),
     ("disconnect", RequestName::Disconnect),
     (
         "next",
@@ -106,6 +109,10 @@ const NAMES: [(&str, RequestName); 34] = [
     (
         "setInstructionBreakpoints",
         RequestName::InSession(SessionName::Sets(ListName::Instruction)),
+    ),
+    (
+        "setFunctionBreakpoints",
+        RequestName::InSession(SessionName::Sets(ListName::Function)),
     ),
     (
         "setDataBreakpoints",

@@ -4,15 +4,16 @@ ghost use Rattle.std.specs.Prelude.{◌≡◌, IfOk, map as each};
 ghost use Rattle.dap_messages.specs.Requests.{asked_by, asked_of, breakpoints_by, change_by};
 ghost use Rattle.dap_messages.specs.Requests.{condition_of, is_of_thread, needs_thread, page_in};
 ghost use Rattle.dap_messages.specs.Requests.{scope_in, scope_of};
-ghost use Rattle.dap_messages.specs.Requests.{count_in, data_of, instruction_of, is_console};
+ghost use Rattle.dap_messages.specs.Requests.{count_in, data_of, function_of, instruction_of};
+ghost use Rattle.dap_messages.specs.Requests.{is_console};
 ghost use Rattle.dap_messages.specs.Requests.{end_in, expression_change, is_register};
 ghost use Rattle.dap_messages.specs.Requests.{locations_query, scope_expressed};
 ghost use Rattle.dap_messages.specs.Requests.{items_in, listed_in, launch_asked};
 ghost use Rattle.dap_messages.specs.Requests.{launch_of, memory_in, query_by};
-ghost use Rattle.dap_messages.specs.Requests.{request_of, source_of, target_in};
+ghost use Rattle.dap_messages.specs.Requests.{request_of, source_of, target_in, word_of};
 ghost use Rattle.dap_messages.specs.Seen.{breakpoints_view, change_view, condition_view};
-ghost use Rattle.dap_messages.specs.Seen.{instruction_view, launch_view, query_view, request_view};
-ghost use Rattle.dap_messages.specs.Seen.{session_view, source_view, text_view};
+ghost use Rattle.dap_messages.specs.Seen.{function_view, instruction_view, launch_view, query_view};
+ghost use Rattle.dap_messages.specs.Seen.{request_view, session_view, source_view, text_view};
 ghost use Rattle.json_messages.specs.Fields.{text_at};
 ghost use Rattle.serde_json.specs.View.{items_view, view};
 
@@ -21,12 +22,23 @@ use crate::members::wrong_member;
 use crate::names::{ChangeName, ListName, QueryName, RequestName, SessionName, name_of};
 use crate::references::{offset_at, place_at};
 use crate::request::{
-    Access, Breakpoints, Change, Condition, DataBreakpoint, InstructionBreakpoint, Launch, Page,
-    Query, Request, Scope, SessionRequest, SourceBreakpoint,
+    Access, Breakpoints, Change, Condition, DataBreakpoint, FunctionBreakpoint,
+    InstructionBreakpoint, Launch, Page, Query, Request, Scope, SessionRequest, SourceBreakpoint,
 };
 use json_messages::{flag_or, number_at, text_at, text_or};
 use serde_json::Value;
 use std::alloc::{AllocError, Global};
+
+/// Returns the scope of a word of the zero page by its number, if it is that of one.
+fn word_of(number: u64) -> Option<Scope>
+    ensures { result ≡ word_of number }
+{
+    if number >= 65536 && number < 65791 {
+        Some(Scope::Word((number - 65536) as u16))
+    } else {
+        None
+    }
+}
 
 /// Returns the scope of a number, if it is that of one.
 #[tactic(auto, unfolding(crate::specs::Requests::scope_of))]
@@ -40,7 +52,7 @@ fn scope_of(number: u64) -> Option<Scope>
         4 => Some(Scope::Stack),
         5 => Some(Scope::ZeroPage),
         6 => Some(Scope::Machine),
-        _ => None,
+        _ => word_of(number),
     }
 }
 
@@ -94,9 +106,11 @@ fn source_of(alloc: Global, listed: &Value) -> Result<SourceBreakpoint, AllocErr
     ensures { IfOk result (λ b. source_view b ≡ source_of (view listed.now)) }
 {
     let condition = condition_of(alloc, listed)?;
+    let log = String::from_str(alloc, text_or(listed, "/logMessage", ""))?;
     Ok(SourceBreakpoint {
         line: number_at(listed, "/line"),
         condition,
+        log,
     })
 }
 
@@ -109,6 +123,15 @@ fn instruction_of(alloc: Global, listed: &Value) -> Result<InstructionBreakpoint
         address: place_at(listed, "/instructionReference", "/offset"),
         condition,
     })
+}
+
+/// Returns a breakpoint at a name that a request lists.
+fn function_of(alloc: Global, listed: &Value) -> Result<FunctionBreakpoint, AllocError>
+    ensures { IfOk result (λ b. function_view b ≡ function_of (view listed.now)) }
+{
+    let name = String::from_str(alloc, text_or(listed, "/name", ""))?;
+    let condition = condition_of(alloc, listed)?;
+    Ok(FunctionBreakpoint { name, condition })
 }
 
 /// Returns a byte to be watched that a request lists.
@@ -167,6 +190,20 @@ fn instructions_in(alloc: Global, request: &Value) -> Result<Vec<InstructionBrea
     Ok(list)
 }
 
+/// Returns the breakpoints at names that a request lists.
+fn functions_in(alloc: Global, request: &Value) -> Result<Vec<FunctionBreakpoint>, AllocError>
+    ensures { IfOk result (λ list. each function_view list.items
+        ≡ each function_of (listed_in (view request.now))) }
+{
+    let mut list = Vec::new(alloc);
+    let all = items_in(request);
+    for listed in all {
+        let breakpoint = function_of(alloc, listed)?;
+        list.push(breakpoint)?;
+    }
+    Ok(list)
+}
+
 /// Returns the bytes to be watched that a request lists.
 fn bytes_in(alloc: Global, request: &Value) -> Result<Vec<DataBreakpoint>, AllocError>
     ensures { IfOk result (λ list. list.items ≡ each data_of (listed_in (view request.now))) }
@@ -196,6 +233,10 @@ fn breakpoints_by(
         ListName::Instruction => {
             let listed = instructions_in(alloc, request)?;
             Ok(Breakpoints::Instruction(listed))
+        }
+        ListName::Function => {
+            let listed = functions_in(alloc, request)?;
+            Ok(Breakpoints::Function(listed))
         }
         ListName::Data => {
             let listed = bytes_in(alloc, request)?;
@@ -465,6 +506,7 @@ pub fn request_of(alloc: Global, message: &Value) -> Result<Request<'_>, AllocEr
     match name_of(message) {
         RequestName::Initialize => Ok(Request::Initialize(Counting::of(message))),
         RequestName::Launch => launch_asked(alloc, message),
+        RequestName::Attach => Ok(Request::Attach),
         RequestName::Disconnect => Ok(Request::Disconnect),
         RequestName::InSession(name) => {
             let asked = asked_by(alloc, message, name)?;

@@ -40,6 +40,8 @@ pub struct SourceBreakpoint {
     /// The number of the line, as the client counts lines, if it names one.
     pub line: Option<u64>,
     pub condition: Condition,
+    /// What is said there in place of a stop: empty if it is to stop.
+    pub log: String,
 }
 
 /// A breakpoint that a client wants at an address.
@@ -47,6 +49,13 @@ pub struct SourceBreakpoint {
 pub struct InstructionBreakpoint {
     /// The address, if it names one.
     pub address: Option<u16>,
+    pub condition: Condition,
+}
+
+/// A breakpoint that a client wants at a name of the program.
+#[derive(Drop)]
+pub struct FunctionBreakpoint {
+    pub name: String,
     pub condition: Condition,
 }
 
@@ -77,6 +86,8 @@ pub enum Breakpoints<'a> {
     },
     /// Those at addresses: `setInstructionBreakpoints`.
     Instruction(Vec<InstructionBreakpoint>),
+    /// Those at names: `setFunctionBreakpoints`.
+    Function(Vec<FunctionBreakpoint>),
     /// The bytes that are watched: `setDataBreakpoints`.
     Data(Vec<DataBreakpoint>),
 }
@@ -92,6 +103,8 @@ pub enum Scope {
     ZeroPage,
     /// What is told of the machine.
     Machine,
+    /// The word at an address, and the byte that it points to.
+    Word(u16),
 }
 
 /// Which values of a list a client wants: those from one on, of which 0 is the first, at most so
@@ -278,6 +291,8 @@ pub enum Request<'a> {
     Launch(Launch),
     /// A launch that gives this member another value than one that it can have.
     WrongLaunch(Member),
+    /// A session on a program that runs already, which there is not.
+    Attach,
     /// The end of the session.
     Disconnect,
     /// A request that needs a session.

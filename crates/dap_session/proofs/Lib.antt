@@ -1,6 +1,7 @@
 mod Begun
 pub mod Done
 mod Hits
+mod LogRuns
 mod Outputs
 pub mod Stays
 mod Writable

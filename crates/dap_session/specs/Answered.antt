@@ -1,7 +1,7 @@
 -- What a request does to a session, and what is answered. Source: Debug Adapter Protocol 1.65; mos65.
 use Rattle.std.specs.Prelude.{ℕ, ◌≡◌, ◌==◌, ◌&&◌, Bool, true, false, if◌then◌else◌, List, [], ◌∷◌, codes, length, string_bytes, Option, Some, None, Vec}
 use Rattle.std.specs.declared.alloc.Global.{Global}
-use Rattle.dap_views.specs.Breaks.{HoldsAddresses, HoldsLines, SetsAddresses, SetsLines, SetsSource}
+use Rattle.dap_views.specs.Breaks.{HoldsAddresses, HoldsFunctions, HoldsLines, SetsAddresses, SetsFunctions, SetsLines, SetsSource}
 use Rattle.dap_session.specs.Completions.{completions}
 use Rattle.dap_views.specs.Targets.{AreTargets}
 use Rattle.dap_views.specs.Watches.{KeepsBreaks, SetsWatches, TellsWatches, data_shown}
@@ -9,8 +9,9 @@ use Rattle.dap_messages.specs.Bodies.{continued, nothing, scopes, threads}
 use Rattle.dap_messages.specs.Messages.{Said, done, event}
 use Rattle.dap_messages.specs.declared.halt.Reason.{Reason}
 use Rattle.dap_messages.specs.declared.halt.Reason.TheVariants.{Entry, NoStop}
-use Rattle.dap_messages.specs.Listed.{addresses_of, lines_of, reserving}
+use Rattle.dap_messages.specs.Listed.{addresses_of, functions_of, lines_of, reserving}
 use Rattle.dap_messages.specs.declared.listed.AddressList.{AddressList}
+use Rattle.dap_messages.specs.declared.listed.FunctionList.{FunctionList}
 use Rattle.dap_messages.specs.declared.listed.LineList.{LineList}
 use Rattle.dap_messages.specs.declared.listed.Listed.{Listed}
 use Rattle.dap_messages.specs.declared.request.Breakpoints.{Breakpoints}
@@ -31,8 +32,10 @@ use Rattle.dap_session.specs.Console.{Evaluates}
 use Rattle.dap_desk.specs.Breaks.{KeepsEvents}
 use Rattle.dap_desk.specs.Moves.{KeepsWatches, Stand, moved, moved_fault, moved_reason, moved_words, stand_of}
 use Rattle.dap_session.specs.Options.{program_of, steps_of}
+use Rattle.dap_session.specs.Passes.{Makes, PassesLogs, further_of}
 use Rattle.dap_session.specs.Stands.{KeepsProgram, NotesReason, TellsGone, TellsStand}
 use Rattle.dap_session.specs.declared.client.Client.{Client}
+use Rattle.dap_session.specs.declared.passing.Further.TheVariants.{Again}
 use Rattle.dap_session.specs.declared.wording.TheConstants.{NOT_BEGUN}
 use Rattle.dap_messages.specs.Answers.{breakpoints_body, exception_body}
 use Rattle.dap_messages.specs.declared.counting.Counting.{Counting}
@@ -69,11 +72,16 @@ begun_fault client = if client.launch.stop_on_entry then None
     else moved_fault (steps_of (launch_view client.launch)) move.Go client.mon
 
 -- So it stands after a request, and that is told.
-abbrev pub Begins : Client → Client → List Said → Type 0
-Begins old new said = (stand_of new.mon ≡ begun_stand old) × KeepsWatches old.mon new.mon
+abbrev pub BeginsFirst : Client → Client → List Said → Type 0
+BeginsFirst old new said = (stand_of new.mon ≡ begun_stand old) × KeepsWatches old.mon new.mon
     × KeepsProgram old new
     × TellsStand (begun_reason old) (begun_words old) (begun_fault old) old new.mon nothing said
     × NotesReason (begun_reason old) old new
+
+-- A run goes on past log points.
+abbrev pub Begins : Client → Client → List Said → Type 0
+Begins old new said = (first : Client) × (so_far : List Said) × BeginsFirst old first so_far
+    × PassesLogs (Again move.Go) first so_far new said
 
 -- ---- what is shown
 
@@ -116,7 +124,7 @@ Shows query counting client said
 abbrev pub HoldsBytes : Vec DataBreakpoint Global → Listed → Listed → Type 0
 HoldsBytes listed old new = (new.last_bytes ≡ Some listed)
     × (new.last_lines ≡ old.last_lines) × (new.last_addresses ≡ old.last_addresses)
-    × (new.next ≡ old.next)
+    × (new.last_functions ≡ old.last_functions) × (new.next ≡ old.next)
 
 -- Those of a kind are replaced by those of a list, and each of these is told of. Of watches is told
 -- whether each byte is watched.
@@ -129,6 +137,11 @@ abbrev pub ListsAddresses : Counting → AddressList → Client → Client → D
 ListsAddresses counting listed old new v = SetsAddresses counting listed
     old.listed.addresses.items new.listed.addresses.items old.mon new.mon v
     × KeepsEvents old.mon new.mon × HoldsAddresses listed old.listed new.listed
+
+abbrev pub ListsFunctions : Counting → FunctionList → Client → Client → Data → Type 0
+ListsFunctions counting listed old new v = SetsFunctions counting listed
+    old.listed.functions.items new.listed.functions.items old.mon new.mon v
+    × KeepsEvents old.mon new.mon × HoldsFunctions listed old.listed new.listed
 
 abbrev pub ListsBytes : Vec DataBreakpoint Global → Client → Client → Data → Type 0
 ListsBytes listed old new v = SetsWatches listed.items old.mon new.mon
@@ -150,6 +163,8 @@ SetsListed (kind.Source path listed) counting old new v = SetsSourceOf counting 
     (lines_of old.listed listed) (with_reserved (length listed.items) old) new v
 SetsListed (kind.Instruction listed) counting old new v = ListsAddresses counting
     (addresses_of old.listed listed) (with_reserved (length listed.items) old) new v
+SetsListed (kind.Function listed) counting old new v = ListsFunctions counting
+    (functions_of old.listed listed) (with_reserved (length listed.items) old) new v
 SetsListed (kind.Data listed) counting old new v = ListsBytes listed old new v
 
 abbrev pub Sets : Breakpoints → Counting → Client → Client → List Said → Type 0
@@ -175,9 +190,11 @@ with_next n client = record client { listed = record client.listed { next = n } 
 
 abbrev pub SetsAllAgain : Listed → Counting → Client → Client → Type 0
 SetsAllAgain held counting old new = (lines : Client) × (addresses : Client)
+    × (functions : Client)
     × SetsAgain (ListsLines counting) held.last_lines (with_next held.next old) lines
     × SetsAgain (ListsAddresses counting) held.last_addresses lines addresses
-    × SetsAgain ListsBytes held.last_bytes addresses new
+    × SetsAgain (ListsFunctions counting) held.last_functions addresses functions
+    × SetsAgain ListsBytes held.last_bytes functions new
 
 -- It begins by the launch of another, and has the breakpoints and the watches that the client has
 -- listed there last.
@@ -200,15 +217,14 @@ ended client = record client { told = record client.told { is_over = true } }
 abbrev pub Terminates : List Said → Type 0
 Terminates said = said ≡ done nothing ∷ event (codes "terminated") nothing ∷ []
 
--- A move is made, and it is told why the machine stands.
+-- A move is made, which goes on past log points, and it is told why the machine stands.
+abbrev pub go_answer : List Said
+go_answer = done continued ∷ []
+
 abbrev pub Moves : Move → Client → Client → List Said → Type 0
-Moves way old new said
-    = (stand_of new.mon ≡ moved (steps_of (launch_view old.launch)) way old.mon)
-    × KeepsWatches old.mon new.mon × KeepsProgram old new
-    × TellsStand (moved_reason (steps_of (launch_view old.launch)) way old.mon)
-    (moved_words (steps_of (launch_view old.launch)) way old.mon)
-    (moved_fault (steps_of (launch_view old.launch)) way old.mon) old new.mon continued said
-    × NotesReason (moved_reason (steps_of (launch_view old.launch)) way old.mon) old new
+Moves way old new said = (first : Client) × (so_far : List Said)
+    × Makes way go_answer old first so_far
+    × PassesLogs (further_of way old.mon) first so_far new said
 
 -- A change is made, which can be undone, and what it has done is told.
 abbrev pub HasChangedBy : Change → Counting → Client → Client → List Said → Type 0

@@ -9,14 +9,14 @@ use Rattle.loading.specs.Loads.{AreOfFile, IsLoaded}
 use Rattle.loading.specs.declared.loaded.ImageNames.{ImageNames}
 use Rattle.model.specs.Event.{start}
 use Rattle.model.specs.Session.{Session, new_session}
-use Rattle.source_map.specs.Lines.{PlacesView, places_of}
+use Rattle.source_map.specs.Lines.{PlacesView, no_places, places_of}
 use Rattle.source_map.specs.Names.{names_in, other_names}
 
 -- ---- the places of a program
 
 -- The names and the lines of a source; of an image there are none.
 abbrev pub places_in : List ℕ → Option AssemblyView → PlacesView
-places_in file None = record { names = []; lines = []; texts = []; file = [] }
+places_in file None = no_places
 places_in file (Some assembly) = places_of file assembly
 
 -- With the names of a file of names: those of its source, and those that cannot stand in one.
@@ -50,6 +50,7 @@ pub record IsNewClient (asked : SeenLaunch) (begun : Session) (read : Option Ass
   pub text : client.mon.text.items ≡ []
   pub lines : client.listed.lines.items ≡ []
   pub addresses : client.listed.addresses.items ≡ []
+  pub functions : client.listed.functions.items ≡ []
   pub told : client.told.count ≡ 0
   pub lasts : client.told.is_over ≡ false
 

@@ -7,7 +7,7 @@ use Rattle.dap_messages.specs.Answers.{value_set_body, written_body}
 use Rattle.dap_messages.specs.Messages.{Said, done}
 use Rattle.dap_messages.specs.declared.counting.Counting.{Counting}
 use Rattle.dap_messages.specs.declared.request.Scope.{Scope}
-use Rattle.dap_views.specs.Named.{value_shown, variable_named}
+use Rattle.dap_views.specs.Named.{meant, value_shown, variable_named}
 use Rattle.dap_views.specs.declared.named.Variable.{Variable}
 use Rattle.dap_views.specs.declared.named.Variable.TheVariants as variable
 use Rattle.dap_session.specs.Told.{unmoved_said}
@@ -47,13 +47,18 @@ byte_change address (Ok bytes) = byte_put address bytes
 byte_change address (Err why) = None
 
 -- The event that gives a variable the value that a text has.
-abbrev pub change_to : MonState → List ℕ → Variable → Option Event
-change_to mon value (variable.Register register) = register_change
+abbrev pub change_of : MonState → List ℕ → Variable → Option Event
+change_of mon value (variable.Register register) = register_change
     (setting_in mon.places mon.session.current.regs.pc register value)
-change_to mon value (variable.Flag flag) = flag_change mon.session.current flag
+change_of mon value (variable.Flag flag) = flag_change mon.session.current flag
     (bit_in mon.places value)
-change_to mon value (variable.Byte address) = byte_change address
+change_of mon value (variable.Byte address) = byte_change address
     (bytes_in mon.places value)
+
+-- What is shown behind the value that the variable has may stand in the text.
+abbrev pub change_to : MonState → List ℕ → Variable → Option Event
+change_to mon value variable
+    = change_of mon (meant mon.session.current variable value) variable
 
 abbrev pub change_by : MonState → List ℕ → Option Variable → Option Event
 change_by mon value (Some variable) = change_to mon value variable

@@ -3,7 +3,9 @@ pub mod Begun
 pub mod Changes
 pub mod Completions
 pub mod Console
+pub mod Logs
 pub mod Options
+pub mod Passes
 pub mod Refusals
 pub mod Stands
 pub mod Told

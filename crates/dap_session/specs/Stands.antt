@@ -1,5 +1,5 @@
 -- What a client is told of a halt. Source: Debug Adapter Protocol 1.65, "Stopped Event"; mos65.
-use Rattle.std.specs.Prelude.{ℕ, ◌≡◌, ◌==◌, ◌&&◌, not, Bool, if◌then◌else◌, List, [], ◌∷◌, ◌++◌, length, Option, None}
+use Rattle.std.specs.Prelude.{ℕ, ◌≡◌, ◌==◌, Bool, if◌then◌else◌, List, [], ◌∷◌, ◌++◌, length, Option, None}
 use Rattle.std.specs.List.{flat_map, list_any}
 use Rattle.dap_messages.specs.Bodies.{nothing}
 use Rattle.dap_messages.specs.Messages.{Said, done}
@@ -8,7 +8,7 @@ use Rattle.dap_session.specs.declared.wording.TheConstants.{GONE_TO}
 use Rattle.dap_session.specs.Told.{told_of}
 use Rattle.dap_messages.specs.declared.halt.Halt.{Halt}
 use Rattle.dap_messages.specs.declared.halt.Reason.{Reason}
-use Rattle.dap_messages.specs.declared.halt.Reason.TheVariants.{Breakpoint, Goto, InstructionBreakpoint}
+use Rattle.dap_messages.specs.declared.halt.Reason.TheVariants.{Breakpoint, FunctionBreakpoint, Goto, InstructionBreakpoint}
 use Rattle.dap_messages.specs.declared.listed.Listed.{Listed}
 use Rattle.dap_messages.specs.declared.listed.Placed.{Placed}
 use Rattle.model.specs.declared.event.EventFault.{EventFault}
@@ -18,17 +18,21 @@ use Rattle.serde_json.specs.Data.{Data}
 abbrev pub is_at : List Placed → ℕ → Bool
 is_at placed address = list_any (λ other. other.address == address) placed
 
--- A breakpoint that is listed by its address alone is told apart.
-abbrev pub reason_at : List Placed → List Placed → ℕ → Reason → Reason
-reason_at lines addresses pc Breakpoint = if is_at addresses pc && not (is_at lines pc)
-    then InstructionBreakpoint else Breakpoint
-reason_at lines addresses pc other = other
+-- Which breakpoint stands at an address: one that is listed by its name alone, or by its address
+-- alone, is told apart.
+abbrev pub break_reason : Listed → ℕ → Reason
+break_reason listed pc = if is_at listed.lines.items pc then Breakpoint
+    else if is_at listed.functions.items pc then FunctionBreakpoint
+    else if is_at listed.addresses.items pc then InstructionBreakpoint else Breakpoint
+
+abbrev pub reason_at : Listed → ℕ → Reason → Reason
+reason_at listed pc Breakpoint = break_reason listed pc
+reason_at listed pc other = other
 
 -- A halt as it is told, where these breakpoints are listed.
 abbrev pub halt_at : Listed → MonState → Halt → Halt
 halt_at listed mon halt = record halt {
-  reason = reason_at listed.lines.items listed.addresses.items mon.session.current.regs.pc
-      halt.reason;
+  reason = reason_at listed mon.session.current.regs.pc halt.reason;
 }
 
 -- ---- which breakpoints have stopped a run: those that are listed where it stands
@@ -40,7 +44,9 @@ abbrev pub ids_at : ℕ → List Placed → List ℕ
 ids_at pc placed = flat_map (id_if pc) placed
 
 abbrev pub hits_at : Listed → ℕ → Reason → List ℕ
-hits_at listed pc Breakpoint = ids_at pc listed.lines.items ++ ids_at pc listed.addresses.items
+hits_at listed pc Breakpoint
+    = (ids_at pc listed.lines.items ++ ids_at pc listed.addresses.items)
+    ++ ids_at pc listed.functions.items
 hits_at listed pc other = []
 
 -- What is told of a halt then.
@@ -68,16 +74,22 @@ IsToldHalt old halt new before after
 
 -- The reason that is told of a session is noted.
 abbrev pub NotesReason : Reason → Client → Client → Type 0
-NotesReason reason old new = new.told.reason ≡ reason_at old.listed.lines.items
-    old.listed.addresses.items new.mon.session.current.regs.pc reason
+NotesReason reason old new
+    = new.told.reason ≡ reason_at old.listed new.mon.session.current.regs.pc reason
 
--- A request is answered, and behind it is told that the machine stands, for this reason, in these
--- words, and where a step is refused, why.
+-- Behind what was said before is told that the machine stands, for this reason, in these words, and
+-- where a step is refused, why.
+abbrev pub TellsBehind : Reason → List ℕ → Option EventFault → Client → MonState → List Said
+    → List Said → Type 0
+TellsBehind reason words fault old mon before said = (halt : Halt) × (halt.reason ≡ reason)
+    × (halt.words.now ≡ words) × (halt.fault ≡ fault)
+    × (said ≡ before ++ told_at old.listed mon old.told.count halt)
+
+-- A request is answered, and that is told behind it.
 abbrev pub TellsStand : Reason → List ℕ → Option EventFault → Client → MonState → Data → List Said
     → Type 0
-TellsStand reason words fault old mon body said = (halt : Halt) × (halt.reason ≡ reason)
-    × (halt.words.now ≡ words) × (halt.fault ≡ fault)
-    × (said ≡ done body ∷ told_at old.listed mon old.told.count halt)
+TellsStand reason words fault old mon body said
+    = TellsBehind reason words fault old mon (done body ∷ []) said
 
 -- It stands at another line.
 abbrev pub TellsGone : Client → MonState → List Said → Type 0

@@ -2,13 +2,16 @@
 
 ghost use Rattle.std.specs.Prelude.{◌≡◌, IfErr, IfOk, Ok, OnOk, map as each, true};
 ghost use Rattle.dap_messages.specs.Messages.{said_of};
-ghost use Rattle.dap_session.specs.Answered.{AreAnswers, AreOpenAnswers, Begins, HasChangedBy};
-ghost use Rattle.dap_session.specs.Answered.{IsShown, KeepsMade};
-ghost use Rattle.dap_session.specs.Answered.{ListsAddresses, ListsBytes, ListsLines, Moves};
+ghost use Rattle.dap_session.specs.Answered.{AreAnswers, AreOpenAnswers, Begins, BeginsFirst};
+ghost use Rattle.dap_session.specs.Answered.{HasChangedBy, IsShown, KeepsMade};
+ghost use Rattle.dap_session.specs.Answered.{ListsAddresses, ListsBytes, ListsFunctions, ListsLines};
+ghost use Rattle.dap_session.specs.Answered.{Moves};
 ghost use Rattle.dap_session.specs.Answered.{SetsAgain, SetsAllAgain, SetsListed, begun_fault};
-ghost use Rattle.dap_session.specs.Answered.{begun_reason, begun_stand, begun_words, goes_on};
+ghost use Rattle.dap_session.specs.Answered.{begun_reason, begun_stand, begun_words, go_answer};
+ghost use Rattle.dap_session.specs.Answered.{goes_on};
 ghost use Rattle.dap_session.specs.Answered.{Restarts, Shows, is_first_frame, lets_run};
 ghost use Rattle.dap_session.specs.Console.{ShowsIfRefused};
+ghost use Rattle.dap_session.specs.Passes.{Makes};
 ghost use Rattle.dap_session.specs.Refusals.{IfRefused, MayRefuse, MayRefuseAt, MayRefuseChange};
 ghost use Rattle.dap_session.specs.Refusals.{cannot_show, is_known};
 ghost use Rattle.dap_session.specs.Stands.{KeepsProgram};
@@ -22,18 +25,19 @@ use crate::completion::completions;
 use crate::console::{evaluate, set_variable, with_terminated};
 use crate::fault::{Fault, or_memory, refused};
 use crate::launching::steps_of;
+use crate::passing::{Further, further_of, go, go_on};
 use crate::stands::{all_done, with_halt_at};
 use crate::telling::answered;
 use crate::wording::NOT_BEGUN;
 use dap_desk::make_move;
 use dap_messages::{
-    AddressList, Breakpoints, Change, Counting, DataBreakpoint, Halt, LineList, Listed, Message,
-    Move, Query, Reason, SessionRequest, breakpoints_body, continued, exception, nothing,
-    number_addresses, number_lines, scopes, stand_by, threads,
+    AddressList, Breakpoints, Change, Counting, DataBreakpoint, FunctionList, Halt, LineList,
+    Listed, Message, Move, Query, Reason, SessionRequest, breakpoints_body, continued, exception,
+    nothing, number_addresses, number_functions, number_lines, scopes, stand_by, threads,
 };
 use dap_views::{
     breakpoint_locations, data_shown, disassembled, frames_shown, goto_targets, is_frame,
-    memory_shown, set_addresses, set_data, set_lines, set_source, variables_shown,
+    memory_shown, set_addresses, set_data, set_functions, set_lines, set_source, variables_shown,
 };
 use mon_session::MonState;
 use serde_json::Value;
@@ -42,11 +46,20 @@ use std::mem;
 use std::rt::Files;
 
 /// Makes a move, and tells why the machine stands then.
+fn go_first(alloc: Global, client: &mut Client, way: Move) -> Result<Vec<Message>, AllocError>
+    ensures { IfOk result
+        (λ ms. Makes way go_answer client.old client.new (each said_of ms.items)) }
+{
+    go(alloc, client, way, answered(alloc, continued(alloc)))
+}
+
+/// Makes a move, which goes on past log points, and tells why the machine stands then.
 fn make(alloc: Global, client: &mut Client, way: Move) -> Result<Vec<Message>, AllocError>
     ensures { IfOk result (λ ms. Moves way client.old client.new (each said_of ms.items)) }
 {
-    let halt = make_move(&mut client.mon, steps_of(&client.launch), way);
-    with_halt_at(alloc, answered(alloc, continued(alloc)), client, halt)
+    let further = further_of(&client.mon, way);
+    let said = go_first(alloc, client, way)?;
+    go_on(alloc, client, further, said)
 }
 
 /// Runs to a stop, unless the machine is to stand before the first instruction, and returns why it
@@ -68,11 +81,20 @@ fn first_halt(client: &mut Client) -> Halt
 
 /// Runs to a stop, unless the machine is to stand before the first instruction, and tells why it
 /// stands.
-fn configured(alloc: Global, client: &mut Client) -> Result<Vec<Message>, AllocError>
-    ensures { IfOk result (λ ms. Begins client.old client.new (each said_of ms.items)) }
+fn begun(alloc: Global, client: &mut Client) -> Result<Vec<Message>, AllocError>
+    ensures { IfOk result (λ ms. BeginsFirst client.old client.new (each said_of ms.items)) }
 {
     let halt = first_halt(client);
     with_halt_at(alloc, all_done(alloc), client, halt)
+}
+
+/// Runs to a stop, past log points, unless the machine is to stand before the first instruction,
+/// and tells why it stands.
+fn configured(alloc: Global, client: &mut Client) -> Result<Vec<Message>, AllocError>
+    ensures { IfOk result (λ ms. Begins client.old client.new (each said_of ms.items)) }
+{
+    let said = begun(alloc, client)?;
+    go_on(alloc, client, Further::Again(Move::Go), said)
 }
 
 /// Sets the breakpoints that a client wants, and returns what is told of them.
@@ -102,6 +124,10 @@ fn set_listed<H: Files + AllocGlobal>(
         Breakpoints::Instruction(listed) => {
             let wanted = number_addresses(&mut client.listed, listed);
             set_addresses(alloc, &mut client.mon, &mut client.listed, counting, wanted)
+        }
+        Breakpoints::Function(listed) => {
+            let wanted = number_functions(&mut client.listed, listed);
+            set_functions(alloc, &mut client.mon, &mut client.listed, counting, wanted)
         }
         Breakpoints::Data(listed) => set_data(alloc, &mut client.mon, &mut client.listed, listed),
     }
@@ -155,6 +181,23 @@ fn addresses_again(
     let_go(set_addresses(alloc, &mut client.mon, &mut client.listed, counting, listed))
 }
 
+/// Sets the breakpoints at names that were listed last in an earlier session, if some were.
+fn functions_again(
+    alloc: Global,
+    client: &mut Client,
+    counting: Counting,
+    listed: Option<FunctionList>,
+) -> Result<(), AllocError>
+    ensures set { OnOk result (SetsAgain (ListsFunctions counting) listed client.old client.new) }
+    ensures kept { KeepsMade client.old.mon client.new.mon }
+    ensures launch { client.new.launch ≡ client.old.launch }
+{
+    let Some(listed) = listed else {
+        return Ok(());
+    };
+    let_go(set_functions(alloc, &mut client.mon, &mut client.listed, counting, listed))
+}
+
 /// Sets the watches that were listed last in an earlier session, if some were.
 fn bytes_again(
     alloc: Global,
@@ -186,14 +229,17 @@ fn set_all_again(
     let Listed {
         lines: _,
         addresses: _,
+        functions: _,
         last_lines,
         last_addresses,
+        last_functions,
         last_bytes,
         next,
     } = old;
     client.listed.next = next;
     lines_again(alloc, client, counting, last_lines)?;
     addresses_again(alloc, client, counting, last_addresses)?;
+    functions_again(alloc, client, counting, last_functions)?;
     bytes_again(alloc, client, last_bytes)
 }
 

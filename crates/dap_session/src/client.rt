@@ -167,6 +167,7 @@ fn client_on(
         session,
         assembly,
         written: _,
+        lost: _,
     } = loaded;
     match MonState::new(alloc, session, places, history_of(launch)) {
         Ok(mon) => match launch.copied(alloc) {

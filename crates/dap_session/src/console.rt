@@ -5,7 +5,7 @@ ghost use Rattle.std.specs.Prelude.{Some, map as each, string_bytes, true};
 ghost use Rattle.dap_messages.specs.Messages.{Said, done, said_of};
 ghost use Rattle.dap_messages.specs.Answers.{evaluated_body};
 ghost use Rattle.dap_session.specs.Changes.{HasChanged, TellsValue, byte_put, change_asked};
-ghost use Rattle.dap_session.specs.Changes.{change_to, value_said};
+ghost use Rattle.dap_session.specs.Changes.{change_of, change_to, value_said};
 ghost use Rattle.dap_session.specs.Console.{Evaluates, EvaluatesAs, Looks, ServesRead};
 ghost use Rattle.dap_session.specs.Console.{ShowsIfRefused, is_line, over};
 ghost use Rattle.dap_views.specs.Looks.{look_at};
@@ -21,7 +21,7 @@ use crate::fault::{Fault, or_memory, refused, refused_by};
 use crate::stands::with_halt_at;
 use crate::telling::{answered, with_event, with_unmoved};
 use dap_messages::{Counting, Message, Reason, Scope, evaluated, nothing, stand_by, value_set};
-use dap_views::{Variable, look_at, value_shown, variable_named};
+use dap_views::{Variable, look_at, meant, value_shown, variable_named};
 use model::Setting;
 use mon_dispatch::serve;
 use mon_line_parts::{Flaw, Topic};
@@ -279,11 +279,10 @@ fn byte_put(alloc: Global, address: u16, bytes: &[u8]) -> Result<Event, Fault>
 ///
 /// Errors: `Refused` if it has none that the variable can have.
 #[tactic(auto, using(crate::proofs::Stays::refused_so))]
-fn change_to(alloc: Global, mon: &MonState, variable: Variable, text: &str) -> Result<Event, Fault>
-    ensures event { IfOk result (λ event. change_to mon.now text.now variable ≡ Some event) }
-    ensures why { IfErr result (λ f. IfRefused f (change_to mon.now text.now variable ≡ None)) }
+fn change_of(alloc: Global, mon: &MonState, variable: Variable, text: &[u8]) -> Result<Event, Fault>
+    ensures event { IfOk result (λ event. change_of mon.now text.now variable ≡ Some event) }
+    ensures why { IfErr result (λ f. IfRefused f (change_of mon.now text.now variable ≡ None)) }
 {
-    let text = text.as_bytes();
     let places = &mon.places;
     let regs = mon.session.regs();
     match variable {
@@ -303,6 +302,19 @@ fn change_to(alloc: Global, mon: &MonState, variable: Variable, text: &str) -> R
             Err(why) => Err(unread(alloc, variable, why)),
         },
     }
+}
+
+/// Returns the event that gives a variable the value that a text has, in which what is shown behind
+/// the value that the variable has may stand too.
+///
+/// Errors: those of `change_of`.
+#[tactic(auto, using(crate::proofs::Stays::refused_so))]
+fn change_to(alloc: Global, mon: &MonState, variable: Variable, text: &str) -> Result<Event, Fault>
+    ensures event { IfOk result (λ event. change_to mon.now text.now variable ≡ Some event) }
+    ensures why { IfErr result (λ f. IfRefused f (change_to mon.now text.now variable ≡ None)) }
+{
+    let text = meant(alloc, mon, variable, text.as_bytes())?;
+    change_of(alloc, mon, variable, text)
 }
 
 /// Says which value a variable has, and that what the client shows may have changed.

@@ -3,8 +3,8 @@
 ghost use Rattle.std.specs.Prelude.{◌≡◌, ◌∷◌, ◌++◌, IfOk, List, OnOk, map as each};
 ghost use Rattle.dap_messages.specs.Messages.{Said, done, said_of};
 ghost use Rattle.dap_session.specs.Answered.{all_done};
-ghost use Rattle.dap_session.specs.Stands.{IsToldHalt, KeepsSession, hits_at, id_if, ids_at};
-ghost use Rattle.dap_session.specs.Stands.{is_at, reason_at};
+ghost use Rattle.dap_session.specs.Stands.{IsToldHalt, KeepsSession, break_reason, hits_at, id_if};
+ghost use Rattle.dap_session.specs.Stands.{ids_at, is_at, reason_at};
 ghost use Rattle.dap_session.specs.Told.{IsDone};
 ghost use Rattle.serde_json.specs.Data.{Data};
 
@@ -21,25 +21,34 @@ pub fn all_done(alloc: Global) -> Result<Vec<Message>, AllocError>
 }
 
 /// Returns whether one of some breakpoints stands at an address.
-fn is_at(placed: &[Placed], address: u16) -> bool
+pub fn is_at(placed: &[Placed], address: u16) -> bool
     ensures { result ≡ is_at placed.now address }
 {
     placed.iter().any(|other| other.address == address)
 }
 
-/// Returns why the machine stands. A breakpoint at an address that no line has is told apart.
+/// Returns which breakpoint stands at an address: one of a line before one at a name, and that
+/// before one that is listed by the address.
+fn break_reason(listed: &Listed, pc: u16) -> Reason
+    ensures { result ≡ break_reason listed.now pc }
+{
+    if is_at(listed.lines.as_slice(), pc) {
+        Reason::Breakpoint
+    } else if is_at(listed.functions.as_slice(), pc) {
+        Reason::FunctionBreakpoint
+    } else if is_at(listed.addresses.as_slice(), pc) {
+        Reason::InstructionBreakpoint
+    } else {
+        Reason::Breakpoint
+    }
+}
+
+/// Returns why the machine stands. Breakpoints at names and at addresses are told apart.
 fn reason_at(listed: &Listed, pc: u16, reason: Reason) -> Reason
-    ensures { result
-        ≡ reason_at listed.now.lines.items listed.now.addresses.items pc reason }
+    ensures { result ≡ reason_at listed.now pc reason }
 {
     match reason {
-        Reason::Breakpoint => {
-            if is_at(listed.addresses.as_slice(), pc) && !is_at(listed.lines.as_slice(), pc) {
-                Reason::InstructionBreakpoint
-            } else {
-                Reason::Breakpoint
-            }
-        }
+        Reason::Breakpoint => break_reason(listed, pc),
         reason => reason,
     }
 }
@@ -75,6 +84,7 @@ fn hits_at(alloc: Global, listed: &Listed, pc: u16, reason: Reason) -> Result<Ve
         Reason::Breakpoint => {
             push_ids(&mut ids, listed.lines.as_slice(), pc)?;
             push_ids(&mut ids, listed.addresses.as_slice(), pc)?;
+            push_ids(&mut ids, listed.functions.as_slice(), pc)?;
             Ok(ids)
         }
         _ => Ok(ids),

@@ -51,7 +51,7 @@ pub fn with_event(
 
 /// Returns messages with an event that has a text behind them, if memory did not run out for
 /// either.
-fn with_output(
+pub fn with_output(
     alloc: Global,
     messages: Result<Vec<Message>, AllocError>,
     category: &str,
@@ -142,8 +142,8 @@ fn with_stop(
             with_output(alloc, messages, "console", format!(in alloc; "{remark}\n"))
         }
         Reason::Step | Reason::Breakpoint | Reason::InstructionBreakpoint => messages,
-        Reason::DataBreakpoint | Reason::Exception | Reason::Goto | Reason::Pause => messages,
-        Reason::NoStop => messages,
+        Reason::FunctionBreakpoint | Reason::DataBreakpoint | Reason::Exception => messages,
+        Reason::Goto | Reason::Pause | Reason::NoStop => messages,
     };
     let body = Object::new(alloc)
         .flag("allThreadsStopped", true)

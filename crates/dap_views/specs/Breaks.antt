@@ -1,5 +1,6 @@
 -- What lists of breakpoints do to a state of `mon`, and what is answered. Source: Debug Adapter
--- Protocol 1.65, "SetBreakpoints Request", "SetInstructionBreakpoints Request"; mos65.
+-- Protocol 1.65, "SetBreakpoints Request", "SetInstructionBreakpoints Request",
+-- "SetFunctionBreakpoints Request"; mos65.
 use Rattle.std.specs.Prelude.{ℕ, ◌≡◌, ◌⊎◌, false, List, map, Option, Some}
 use Rattle.std.specs.Str.{bytes_eq}
 use Rattle.assembler.specs.Assembly.{AssemblyView}
@@ -7,12 +8,13 @@ use Rattle.dap_desk.specs.Breaks.{all_cleared, all_set, place_of}
 use Rattle.dap_messages.specs.Answers.{breakpoints_body}
 use Rattle.dap_messages.specs.declared.counting.Counting.{Counting}
 use Rattle.dap_messages.specs.declared.listed.AddressList.{AddressList}
+use Rattle.dap_messages.specs.declared.listed.FunctionList.{FunctionList}
 use Rattle.dap_messages.specs.declared.listed.LineList.{LineList}
 use Rattle.dap_messages.specs.declared.listed.Listed.{Listed}
 use Rattle.dap_messages.specs.declared.listed.Placed.{Placed}
 use Rattle.dap_messages.specs.declared.request.SourceBreakpoint.{SourceBreakpoint}
 use Rattle.dap_views.specs.Answered.{answer_elsewhere, answers_of, placed_of}
-use Rattle.dap_views.specs.Found.{AreStops, AreTold, Found, found_address, found_line}
+use Rattle.dap_views.specs.Found.{AreStops, AreTold, Found, found_address, found_line, found_name}
 use Rattle.dap_views.specs.declared.wanted.List.{List as WantedList}
 use Rattle.dap_views.specs.declared.wanted.Wanted.{Wanted}
 use Rattle.mon_session.specs.declared.mon_state.MonState.{MonState}
@@ -36,7 +38,7 @@ SetsList find counting first listed before after old new v = (told : List Wanted
     × (after ≡ placed_of first told)
     × (v ≡ breakpoints_body (answers_of new.session counting first told))
 
--- ---- breakpoints at lines, and at addresses
+-- ---- breakpoints at lines, at addresses, and at names
 
 abbrev pub SetsLines : Counting → Option AssemblyView → LineList → List Placed → List Placed
     → MonState → MonState → Data → Type 0
@@ -50,25 +52,36 @@ SetsAddresses counting listed before after old new v
     = SetsList (found_address old.places old.session.current.regs.pc) counting listed.first
     listed.list.items before after old new v
 
+abbrev pub SetsFunctions : Counting → FunctionList → List Placed → List Placed → MonState → MonState
+    → Data → Type 0
+SetsFunctions counting listed before after old new v
+    = SetsList (found_name old.places old.session.current.regs.pc) counting listed.first
+    listed.list.items before after old new v
+
 -- Nothing is changed, and each breakpoint of a list is said not to be set.
 abbrev pub SetsNone : List SourceBreakpoint → Listed → Listed → MonState → MonState → Data → Type 0
 SetsNone listed before after old new v = (after ≡ before) × (place_of new ≡ place_of old)
     × (v ≡ breakpoints_body (map answer_elsewhere listed))
 
--- What is held besides where breakpoints at lines stand: their list, and what was held for addresses
--- and watches, with the number of the next breakpoint.
+-- What is held besides where breakpoints at lines stand: their list, and what was held for addresses,
+-- names and watches, with the number of the next breakpoint.
 abbrev pub HoldsLines : LineList → Listed → Listed → Type 0
 HoldsLines listed old new = (new.last_lines ≡ Some listed)
-    × (new.last_addresses ≡ old.last_addresses) × (new.last_bytes ≡ old.last_bytes)
-    × (new.next ≡ old.next)
+    × (new.last_addresses ≡ old.last_addresses) × (new.last_functions ≡ old.last_functions)
+    × (new.last_bytes ≡ old.last_bytes) × (new.next ≡ old.next)
 
 abbrev pub HoldsAddresses : AddressList → Listed → Listed → Type 0
 HoldsAddresses listed old new = (new.last_addresses ≡ Some listed)
-    × (new.last_lines ≡ old.last_lines) × (new.last_bytes ≡ old.last_bytes)
-    × (new.next ≡ old.next)
+    × (new.last_lines ≡ old.last_lines) × (new.last_functions ≡ old.last_functions)
+    × (new.last_bytes ≡ old.last_bytes) × (new.next ≡ old.next)
 
--- Those of the source of the session, which has this path, are set, and the list is held, with that
--- for addresses and that for watches. None is set if the source is another: the path that is named
+abbrev pub HoldsFunctions : FunctionList → Listed → Listed → Type 0
+HoldsFunctions listed old new = (new.last_functions ≡ Some listed)
+    × (new.last_lines ≡ old.last_lines) × (new.last_addresses ≡ old.last_addresses)
+    × (new.last_bytes ≡ old.last_bytes) × (new.next ≡ old.next)
+
+-- Those of the source of the session, which has this path, are set, and the list is held, with those
+-- for addresses, names and watches. None is set if the source is another: the path that is named
 -- is another, and which other paths name the same file, no definition can say.
 abbrev pub SetsSource : Counting → List ℕ → Option AssemblyView → List ℕ → LineList → Listed
     → Listed → MonState → MonState → Data → Type 0

@@ -1,5 +1,5 @@
 -- Where the breakpoints of a list can stand. Source: Debug Adapter Protocol 1.65, "SetBreakpoints
--- Request", "SetInstructionBreakpoints Request"; that a line without bytes stands for the next that
+-- Request", "SetInstructionBreakpoints Request", "SetFunctionBreakpoints Request"; that a line without bytes stands for the next that
 -- has some, and what a condition is, mos65.
 use Rattle.std.specs.Prelude.{ℕ, ◌≡◌, List, [], ◌∷◌, ◌++◌, map, string_bytes, Option, Some, None, option_map, Result, Ok, Err}
 use Rattle.std.specs.List.{flat_map}
@@ -8,8 +8,10 @@ use Rattle.assembler.specs.Assembly.{AssemblyView}
 use Rattle.dap_messages.specs.Counting.{own_line}
 use Rattle.dap_messages.specs.declared.counting.Counting.{Counting}
 use Rattle.dap_messages.specs.declared.request.Condition.{Condition}
+use Rattle.dap_messages.specs.declared.request.FunctionBreakpoint.{FunctionBreakpoint}
 use Rattle.dap_messages.specs.declared.request.InstructionBreakpoint.{InstructionBreakpoint}
 use Rattle.dap_messages.specs.declared.request.SourceBreakpoint.{SourceBreakpoint}
+use Rattle.dap_views.specs.Looks.{place_named}
 use Rattle.dap_views.specs.Targets.{row_in}
 use Rattle.dap_views.specs.declared.wanted.List.{List as WantedList}
 use Rattle.dap_views.specs.declared.wanted.Wanted.{Wanted}
@@ -68,6 +70,11 @@ found_at places pc condition None = (None, None)
 
 abbrev pub found_address : PlacesView → ℕ → InstructionBreakpoint → Found
 found_address places pc wanted = found_at places pc wanted.condition wanted.address
+
+-- At a name, which is any place that `mon` reads.
+abbrev pub found_name : PlacesView → ℕ → FunctionBreakpoint → Found
+found_name places pc wanted = found_at places pc wanted.condition
+    (place_named places pc (string_bytes wanted.name))
 
 -- ---- a list
 

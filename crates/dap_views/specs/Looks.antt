@@ -1,11 +1,12 @@
 -- What is shown of a register or of a place: a place is an address as `mon` reads one. Source:
 -- mos65.
 use Rattle.std.specs.Prelude.{ℕ, false, if◌then◌else◌, List, codes, slice_index, Option, Some, None, option_map, Result, Ok, Err}
+use Rattle.std.specs.Option.{option_or}
 use Rattle.std.specs.Str.{bytes_eq}
 use Rattle.dap_messages.specs.Answers.{evaluated_body}
 use Rattle.dap_messages.specs.Texts.{address_text}
 use Rattle.dap_views.specs.Values.{looked_at_body}
-use Rattle.dap_views.specs.Variables.{byte_text}
+use Rattle.dap_views.specs.Variables.{byte_text, value_text}
 use Rattle.model.specs.Effect.{status}
 use Rattle.model.specs.State.{State}
 use Rattle.model.specs.declared.registers.Regs.{Regs}
@@ -25,7 +26,7 @@ register_byte regs name = if bytes_eq name (codes "A") then Some regs.a
 
 abbrev pub register_shown : Regs → List ℕ → Option (List ℕ)
 register_shown regs name = if bytes_eq name (codes "PC") then Some (address_text regs.pc)
-    else option_map byte_text (register_byte regs name)
+    else option_map value_text (register_byte regs name)
 
 -- ---- places
 
@@ -39,7 +40,7 @@ place_named places pc text = place_read (place_in places pc text)
 
 abbrev pub byte_at : List ℕ → Option ℕ → Option Data
 byte_at memory (Some address)
-    = Some (looked_at_body address (byte_text (slice_index memory address)))
+    = Some (looked_at_body address (value_text (slice_index memory address)))
 byte_at memory None = None
 
 abbrev pub place_shown : State → PlacesView → List ℕ → Option Data
@@ -54,3 +55,16 @@ register_or None place = place
 
 abbrev pub look_at : State → PlacesView → List ℕ → Option Data
 look_at s places text = register_or (register_shown s.regs text) (place_shown s places text)
+
+-- ---- the value alone
+
+abbrev pub place_byte : State → PlacesView → List ℕ → Option ℕ
+place_byte s places text
+    = option_map (slice_index s.bus.memory) (place_named places s.regs.pc text)
+
+abbrev pub looked_byte : State → PlacesView → List ℕ → Option ℕ
+looked_byte s places text = option_or (register_byte s.regs text) (place_byte s places text)
+
+abbrev pub looked_text : State → PlacesView → List ℕ → Option (List ℕ)
+looked_text s places text = if bytes_eq text (codes "PC") then Some (address_text s.regs.pc)
+    else option_map byte_text (looked_byte s places text)

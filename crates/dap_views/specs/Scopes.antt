@@ -1,13 +1,13 @@
 -- The variables of each scope. Source: Debug Adapter Protocol 1.65, "Variables Request"; what a
 -- scope has, mos65.
-use Rattle.std.specs.Prelude.{ℕ, zero, suc, ◌+◌, ◌-◌, List, [], ◌∷◌, codes, length, map as each, slice_index, Option, Some, None}
+use Rattle.std.specs.Prelude.{ℕ, zero, suc, ◌+◌, ◌-◌, ◌*◌, ◌%◌, List, [], ◌∷◌, codes, length, map as each, slice_index, Option, Some, None}
 use Rattle.std.specs.Str.Lossy.{utf8_lossy}
 use Rattle.dap_messages.specs.Texts.{address_text}
 use Rattle.dap_messages.specs.declared.request.Page.{Page}
 use Rattle.dap_messages.specs.declared.request.Scope.{Scope}
 use Rattle.dap_messages.specs.declared.request.Scope.TheVariants as scope
 use Rattle.dap_views.specs.Pages.{page_of}
-use Rattle.dap_views.specs.Variables.{byte_variable, flags_shown, number_variable, registers_shown, variables_body}
+use Rattle.dap_views.specs.Variables.{byte_variable, flags_shown, number_variable, plain_variable, registers_shown, variables_body}
 use Rattle.model.specs.Session.{Session}
 use Rattle.model.specs.State.{State}
 use Rattle.serde_json.specs.Data.{Data}
@@ -37,6 +37,19 @@ symbols_shown memory names = each
     (λ name. byte_variable (utf8_lossy name.text) name.address
     (slice_index memory name.address)) names
 
+-- ---- a word
+
+-- Its low byte comes first.
+abbrev pub word_at : List ℕ → ℕ → ℕ
+word_at memory address
+    = slice_index memory ((address + 1) % 65536) * 256 + slice_index memory address
+
+-- The word, and the byte that it points to. No name of a program is written as that of the word.
+abbrev pub word_shown : List ℕ → ℕ → List Data
+word_shown memory address
+    = plain_variable (codes "(word)") (address_text (word_at memory address))
+    ∷ cell memory (word_at memory address) ∷ []
+
 -- ---- scopes
 
 abbrev pub machine_shown : Session → List Data
@@ -51,6 +64,7 @@ scope_shown session names scope.Symbols = symbols_shown session.current.bus.memo
 scope_shown session names scope.Stack = stack_shown session.current
 scope_shown session names scope.ZeroPage = cells session.current.bus.memory 0 256
 scope_shown session names scope.Machine = machine_shown session
+scope_shown session names (scope.Word address) = word_shown session.current.bus.memory address
 
 -- No scope has no variables.
 abbrev pub listed : Session → List Named → Option Scope → List Data

@@ -40,11 +40,11 @@ mod watches;
 
 pub use frames::frames_shown;
 pub use laws::frames_are_those_of_where;
-pub use listed::{set_addresses, set_lines, set_source};
+pub use listed::{set_addresses, set_functions, set_lines, set_source};
 pub use locations::breakpoint_locations;
-pub use looks::look_at;
+pub use looks::{look_at, looked_text};
 pub use memory::memory_shown;
-pub use named::{Variable, value_shown, variable_named};
+pub use named::{Variable, meant, value_shown, variable_named};
 pub use rows::disassembled;
 pub use source::Source;
 pub use stack::is_frame;

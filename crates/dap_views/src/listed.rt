@@ -5,21 +5,22 @@ ghost use Rattle.dap_messages.specs.Counting.{shown_line};
 ghost use Rattle.dap_views.specs.Answered.{answer_elsewhere, answer_of, answers_of, placed_at};
 ghost use Rattle.dap_views.specs.Answered.{placed_of};
 ghost use Rattle.dap_views.specs.BreakValues.{breakpoint_set, breakpoint_unset};
-ghost use Rattle.dap_views.specs.Breaks.{Finds, HoldsAddresses, HoldsLines, SetsAddresses};
-ghost use Rattle.dap_views.specs.Breaks.{SetsLines, SetsSource};
-ghost use Rattle.dap_views.specs.Found.{HasFound, found_address, found_line};
+ghost use Rattle.dap_views.specs.Breaks.{Finds, HoldsAddresses, HoldsFunctions, HoldsLines};
+ghost use Rattle.dap_views.specs.Breaks.{SetsAddresses, SetsFunctions, SetsLines, SetsSource};
+ghost use Rattle.dap_views.specs.Found.{HasFound, found_address, found_line, found_name};
 ghost use Rattle.dap_desk.specs.Breaks.{KeepsEvents, all_cleared, all_set, place_of};
 ghost use Rattle.dap_messages.specs.Answers.{breakpoints_body};
 ghost use Rattle.serde_json.specs.View.{view};
 
+use crate::looks::place_named;
 use crate::source::Source;
 use crate::values::{data_unwatched, list_body};
 use crate::wanted::{List, Wanted, push_at, push_unset, row_in};
 use arguments::is_one_file;
 use dap_desk::{is_break, replace};
 use dap_messages::{
-    AddressList, Counting, InstructionBreakpoint, LineList, Listed, Placed, SourceBreakpoint,
-    next_number, reference,
+    AddressList, Counting, FunctionBreakpoint, FunctionList, InstructionBreakpoint, LineList,
+    Listed, Placed, SourceBreakpoint, next_number, reference,
 };
 use json_messages::{Object, ValueList};
 use mon_runs::Session;
@@ -30,6 +31,9 @@ use std::rt::Files;
 
 /// What is said where no line has bytes.
 const NO_BYTES: &str = "no line from here on has bytes";
+
+/// What is said of a breakpoint at a name that there is not.
+const NO_NAME: &str = "this names no place of the program";
 
 /// What is said of a breakpoint that the session has no room for.
 pub const NO_ROOM: &str = "256 breakpoints are set";
@@ -77,6 +81,25 @@ fn push_address(
     }
 }
 
+/// Appends a breakpoint that a client wants at a name, which is any place that `mon` reads.
+fn push_name(
+    alloc: Global,
+    list: &mut List,
+    mon: &MonState,
+    wanted: &FunctionBreakpoint,
+) -> Result<(), AllocError>
+    ensures { OnOk result (HasFound (found_name mon.now.places
+        mon.now.session.current.regs.pc wanted.now) list.old list.new) }
+{
+    match place_named(mon, wanted.name.as_str()) {
+        Some(address) => {
+            let line = mon.places.line_at(address);
+            push_at(alloc, list, mon, &wanted.condition, line, address)
+        }
+        None => push_unset(list, None, String::from_str(alloc, NO_NAME)),
+    }
+}
+
 /// Makes an empty list.
 fn new_list(alloc: Global) -> List
     ensures told { result.told.items ≡ [] }
@@ -118,6 +141,22 @@ fn addresses_wanted(
     let mut list = new_list(alloc);
     for wanted in all {
         push_address(alloc, &mut list, mon, wanted)?;
+    }
+    Ok(list)
+}
+
+/// Looks for the breakpoints at names that a client wants.
+fn names_wanted(
+    alloc: Global,
+    mon: &MonState,
+    all: &[FunctionBreakpoint],
+) -> Result<List, AllocError>
+    ensures { IfOk result
+        (Finds (found_name mon.now.places mon.now.session.current.regs.pc) all.now) }
+{
+    let mut list = new_list(alloc);
+    for wanted in all {
+        push_name(alloc, &mut list, mon, wanted)?;
     }
     Ok(list)
 }
@@ -271,6 +310,7 @@ pub fn set_lines(
         listed.new.lines.items mon.old mon.new (view v)) }
     ensures kept { KeepsEvents mon.old mon.new }
     ensures addresses { listed.new.addresses ≡ listed.old.addresses }
+    ensures functions { listed.new.functions ≡ listed.old.functions }
     ensures held { OnOk result (HoldsLines wanted listed.old listed.new) }
 {
     let first = wanted.first;
@@ -295,12 +335,38 @@ pub fn set_addresses(
         listed.old.addresses.items listed.new.addresses.items mon.old mon.new (view v)) }
     ensures kept { KeepsEvents mon.old mon.new }
     ensures lines { listed.new.lines ≡ listed.old.lines }
+    ensures functions { listed.new.functions ≡ listed.old.functions }
     ensures held { OnOk result (HoldsAddresses wanted listed.old listed.new) }
 {
     let first = wanted.first;
     let list = addresses_wanted(alloc, mon, wanted.list.as_slice())?;
     listed.last_addresses = Some(wanted);
     set_list(alloc, mon, &mut listed.addresses, counting, first, list)
+}
+
+/// Sets the breakpoints at names that a client wants, in place of those before, and returns what is
+/// answered.
+///
+/// Errors: `AllocError` if an allocation fails; the old ones are cleared then, and some of the new
+/// ones may be set.
+pub fn set_functions(
+    alloc: Global,
+    mon: &mut MonState,
+    listed: &mut Listed,
+    counting: Counting,
+    wanted: FunctionList,
+) -> Result<Value, AllocError>
+    ensures sets { IfOk result (λ v. SetsFunctions counting wanted
+        listed.old.functions.items listed.new.functions.items mon.old mon.new (view v)) }
+    ensures kept { KeepsEvents mon.old mon.new }
+    ensures lines { listed.new.lines ≡ listed.old.lines }
+    ensures addresses { listed.new.addresses ≡ listed.old.addresses }
+    ensures held { OnOk result (HoldsFunctions wanted listed.old listed.new) }
+{
+    let first = wanted.first;
+    let list = names_wanted(alloc, mon, wanted.list.as_slice())?;
+    listed.last_functions = Some(wanted);
+    set_list(alloc, mon, &mut listed.functions, counting, first, list)
 }
 
 /// Returns what is answered of breakpoints of another source than that of the session.
@@ -331,6 +397,7 @@ pub fn set_source<H: Files + AllocGlobal>(
         mon.old mon.new (view v)) }
     ensures kept { KeepsEvents mon.old mon.new }
     ensures addresses { listed.new.addresses ≡ listed.old.addresses }
+    ensures functions { listed.new.functions ≡ listed.old.functions }
 {
     let alloc = rt.alloc();
     if is_one_file(rt, path, source.path) {

@@ -2,12 +2,15 @@
 
 ghost use Rattle.std.specs.Prelude.{◌≡◌, ℕ, IfOk, List, Some, option_map, string_bytes};
 ghost use Rattle.dap_messages.specs.Answers.{evaluated_body};
-ghost use Rattle.dap_views.specs.Looks.{look_at, place_named, place_shown};
+ghost use Rattle.dap_views.specs.Looks.{look_at, looked_byte, looked_text, place_byte, place_named};
+ghost use Rattle.dap_views.specs.Looks.{place_shown, register_byte};
+ghost use Rattle.dap_views.specs.Variables.{byte_text};
 ghost use Rattle.serde_json.specs.View.{view};
 
-use crate::texts::byte_text;
+use crate::texts::{byte_text, value_text};
 use dap_messages::{address_text, evaluated, reference};
 use json_messages::Object;
+use model::Regs;
 use mon_lines::read_place;
 use mon_session::MonState;
 use serde_json::Value;
@@ -47,7 +50,7 @@ fn place_shown(alloc: Global, mon: &MonState, text: &str) -> Result<Option<Value
     };
     let value = Object::new(alloc)
         .text("memoryReference", reference(alloc, address))
-        .text("result", byte_text(alloc, mon.session.peek(address)))
+        .text("result", value_text(alloc, mon.session.peek(address)))
         .count("variablesReference", 0)
         .build()?;
     Ok(Some(value))
@@ -69,5 +72,77 @@ pub fn look_at(alloc: Global, mon: &MonState, text: &str) -> Result<Option<Value
         "P" => regs.flags.to_byte(false),
         _ => return place_shown(alloc, mon, text),
     };
-    register_shown(alloc, byte_text(alloc, byte))
+    register_shown(alloc, value_text(alloc, byte))
+}
+
+/// Returns the byte of the register that a text names, if it names one that has a byte.
+fn register_byte(regs: Regs, text: &str) -> Option<u8>
+    ensures { result ≡ register_byte regs text.now }
+{
+    if text == "A" {
+        Some(regs.a)
+    } else if text == "X" {
+        Some(regs.x)
+    } else if text == "Y" {
+        Some(regs.y)
+    } else if text == "S" {
+        Some(regs.s)
+    } else if text == "P" {
+        Some(regs.flags.to_byte(false))
+    } else {
+        None
+    }
+}
+
+/// Returns the byte at the place that a text names, if it names one.
+fn place_byte(mon: &MonState, text: &str) -> Option<u8>
+    ensures { result ≡ place_byte mon.now.session.current mon.now.places text.now }
+{
+    match place_named(mon, text) {
+        Some(address) => Some(mon.session.peek(address)),
+        None => None,
+    }
+}
+
+/// Returns the byte of the register that a text names, or the one at the place that it names.
+fn looked_byte(mon: &MonState, text: &str) -> Option<u8>
+    ensures { result ≡ looked_byte mon.now.session.current mon.now.places text.now }
+{
+    match register_byte(mon.session.regs(), text) {
+        Some(byte) => Some(byte),
+        None => place_byte(mon, text),
+    }
+}
+
+/// Returns a text that there is, if memory did not run out for it.
+fn some_text(text: Result<String, AllocError>) -> Result<Option<String>, AllocError>
+    ensures { (bytes : List ℕ) → IfOk text (λ s. string_bytes s ≡ bytes)
+        → IfOk result (λ found. option_map (λ s. string_bytes s) found ≡ Some bytes) }
+{
+    let text = text?;
+    Ok(Some(text))
+}
+
+/// Returns the byte of the register that a text names, or the one at the place that it names, in
+/// hexadecimal.
+fn looked_shown(alloc: Global, mon: &MonState, text: &str) -> Result<Option<String>, AllocError>
+    ensures { IfOk result (λ found. option_map (λ s. string_bytes s) found ≡ option_map byte_text
+        (looked_byte mon.now.session.current mon.now.places text.now)) }
+{
+    match looked_byte(mon, text) {
+        Some(byte) => some_text(byte_text(alloc, byte)),
+        None => Ok(None),
+    }
+}
+
+/// Returns the value of the register that a text names, or of the byte at the place that it names,
+/// in hexadecimal: `None` if it names neither.
+pub fn looked_text(alloc: Global, mon: &MonState, text: &str) -> Result<Option<String>, AllocError>
+    ensures { IfOk result (λ found. option_map (λ s. string_bytes s) found
+        ≡ looked_text mon.now.session.current mon.now.places text.now) }
+{
+    match text {
+        "PC" => some_text(address_text(alloc, mon.session.regs().pc)),
+        _ => looked_shown(alloc, mon, text),
+    }
 }

@@ -1,13 +1,16 @@
 //! A variable that a client names.
 
 ghost use Rattle.std.specs.Prelude.{◌≡◌, IfOk, MatchResult, None, Some, string_bytes};
-ghost use Rattle.dap_views.specs.Named.{flag_or_register, is_of_processor, value_shown};
-ghost use Rattle.dap_views.specs.Named.{variable_in, variable_named};
+ghost use Rattle.dap_views.specs.Named.{flag_or_register, is_of_processor, meant, register_value};
+ghost use Rattle.dap_views.specs.Named.{value_byte, value_shown, variable_in, variable_named};
+ghost use Rattle.dap_views.specs.Named.{without_behind};
+ghost use Rattle.dap_views.specs.Variables.{behind_text};
 ghost use Rattle.mon_lines.specs.Parts.{flag_of, register_of};
 
-use crate::texts::byte_text;
+use crate::texts::{behind_text, value_text};
 use crate::variables::{bit_text, register_text};
 use dap_messages::Scope;
+use model::Regs;
 use mon_line_parts::{Flaw, Topic};
 use mon_lines::{Register, Slip, flag_of, read_place, register_of};
 use mon_session::MonState;
@@ -29,7 +32,8 @@ fn is_of_processor(scope: Scope) -> bool
 {
     match scope {
         Scope::Registers | Scope::Flags => true,
-        Scope::Symbols | Scope::Stack | Scope::ZeroPage | Scope::Machine => false,
+        Scope::Symbols | Scope::Stack | Scope::ZeroPage => false,
+        Scope::Machine | Scope::Word(_) => false,
     }
 }
 
@@ -103,6 +107,67 @@ pub fn value_shown(alloc: Global, mon: &MonState, variable: Variable) -> Result<
     match variable {
         Variable::Register(register) => register_text(alloc, regs, register),
         Variable::Flag(flag) => bit_text(alloc, flag.of(regs.flags)),
-        Variable::Byte(address) => byte_text(alloc, mon.session.peek(address)),
+        Variable::Byte(address) => value_text(alloc, mon.session.peek(address)),
+    }
+}
+
+/// Returns the byte of a register, if it has one byte.
+fn register_value(regs: Regs, register: Register) -> Option<u8>
+    ensures { result ≡ register_value regs register }
+{
+    match register {
+        Register::Pc => None,
+        Register::A => Some(regs.a),
+        Register::X => Some(regs.x),
+        Register::Y => Some(regs.y),
+        Register::S => Some(regs.s),
+        Register::P => Some(regs.flags.to_byte(false)),
+    }
+}
+
+/// Returns the byte of a variable, if it has one.
+fn value_byte(mon: &MonState, variable: Variable) -> Option<u8>
+    ensures { result ≡ value_byte mon.now.session.current variable }
+{
+    match variable {
+        Variable::Register(register) => register_value(mon.session.regs(), register),
+        Variable::Flag(_) => None,
+        Variable::Byte(address) => Some(mon.session.peek(address)),
+    }
+}
+
+/// Returns a text without other bytes, if it ends with these.
+fn without_behind<'a>(text: &'a [u8], behind: &[u8]) -> &'a [u8]
+    ensures { result.now ≡ without_behind behind.now text.now }
+{
+    if text.ends_with(behind) {
+        &text[..text.len().saturating_sub(behind.len())]
+    } else {
+        text
+    }
+}
+
+/// Returns a text without what is shown behind the hexadecimal value of a byte.
+fn meant_at(alloc: Global, byte: u8, text: &[u8]) -> Result<&[u8], AllocError>
+    ensures { IfOk result (λ t. t.now ≡ without_behind (behind_text byte) text.now) }
+{
+    let behind = behind_text(alloc, byte)?;
+    Ok(without_behind(text, behind.as_slice()))
+}
+
+/// Returns the text that is meant where a variable is to have another value: without what is shown
+/// behind the hexadecimal value that it has now, since an editor sends what it shows once it was
+/// edited.
+pub fn meant<'a>(
+    alloc: Global,
+    mon: &MonState,
+    variable: Variable,
+    text: &'a [u8],
+) -> Result<&'a [u8], AllocError>
+    ensures { IfOk result (λ t. t.now ≡ meant mon.now.session.current variable text.now) }
+{
+    match value_byte(mon, variable) {
+        Some(byte) => meant_at(alloc, byte, text),
+        None => Ok(text),
     }
 }

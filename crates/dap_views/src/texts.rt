@@ -1,10 +1,10 @@
 //! Bytes as they are shown.
 
-ghost use Rattle.std.specs.Prelude.{◌≡◌, ℕ, IfOk, List, OnOk, string_bytes};
+ghost use Rattle.std.specs.Prelude.{◌≡◌, ◌++◌, ℕ, IfOk, List, OnOk, string_bytes};
 ghost use Rattle.std.specs.Str.Lossy.{utf8_lossy};
-ghost use Rattle.dap_views.specs.Variables.{byte_text};
+ghost use Rattle.dap_views.specs.Variables.{behind_text, byte_text, character_text, value_text};
 
-use formatting::digits_of;
+use formatting::{digits_of, push_byte, push_count, push_text};
 use std::alloc::{AllocError, Global};
 
 /// Returns bytes as a text, if memory did not run out for them.
@@ -26,4 +26,40 @@ pub fn byte_text(alloc: Global, byte: u8) -> Result<String, AllocError>
 {
     let [high, low] = digits_of(byte);
     String::from_utf8_lossy(alloc, &[b'$', high, low])
+}
+
+/// Appends the character of a byte, between quotes and behind a blank, if it can be seen.
+fn push_character(text: &mut Vec<u8>, byte: u8) -> Result<(), AllocError>
+    ensures { OnOk result (text.new.items ≡ text.old.items ++ character_text byte) }
+{
+    if byte >= 32 && byte <= 126 {
+        text.extend_from_slice(&[b' ', b'\'', byte, b'\''])
+    } else {
+        Ok(())
+    }
+}
+
+/// Returns what stands behind the hexadecimal value of a variable: a blank, the decimal value, and
+/// the character.
+pub fn behind_text(alloc: Global, byte: u8) -> Result<Vec<u8>, AllocError>
+    ensures { IfOk result (λ text. text.items ≡ behind_text byte) }
+{
+    let mut text = Vec::new(alloc);
+    push_text(&mut text, " ")?;
+    push_count(&mut text, u64::from(byte))?;
+    push_character(&mut text, byte)?;
+    Ok(text)
+}
+
+/// Returns the value of a variable: a `$` and two hex digits, the decimal value, and the character.
+pub fn value_text(alloc: Global, byte: u8) -> Result<String, AllocError>
+    ensures { IfOk result (λ text. string_bytes text ≡ value_text byte) }
+{
+    let mut text = Vec::new(alloc);
+    push_text(&mut text, "$")?;
+    push_byte(&mut text, byte)?;
+    push_text(&mut text, " ")?;
+    push_count(&mut text, u64::from(byte))?;
+    push_character(&mut text, byte)?;
+    String::from_utf8_lossy(alloc, text.as_slice())
 }

@@ -4,16 +4,17 @@ ghost use Rattle.std.specs.Prelude.{◌≡◌, ◌-◌, ℕ, [], IfOk, List, map
 ghost use Rattle.std.specs.Prelude.{string_bytes};
 ghost use Rattle.dap_messages.specs.declared.request.Page.{Page};
 ghost use Rattle.dap_views.specs.Pages.{IsPage};
-ghost use Rattle.dap_views.specs.Scopes.{cells, listed, machine_shown, scope_shown, symbols_shown};
-ghost use Rattle.dap_views.specs.Scopes.{variables_shown};
-ghost use Rattle.dap_views.specs.Variables.{bit_text, byte_variable, flag_variable, flags_shown};
-ghost use Rattle.dap_views.specs.Variables.{number_variable, plain_variable, register_text};
-ghost use Rattle.dap_views.specs.Variables.{register_variable, registers_shown, variable};
+ghost use Rattle.dap_views.specs.Scopes.{cell, cells, listed, machine_shown, scope_shown};
+ghost use Rattle.dap_views.specs.Scopes.{symbols_shown, variables_shown, word_at, word_shown};
+ghost use Rattle.dap_views.specs.Variables.{bit_text, byte_variable, byte_with, flag_variable};
+ghost use Rattle.dap_views.specs.Variables.{flags_shown, number_variable, plain_variable};
+ghost use Rattle.dap_views.specs.Variables.{register_text, register_variable, registers_shown};
+ghost use Rattle.dap_views.specs.Variables.{variable, word_number};
 ghost use Rattle.serde_json.specs.View.{view};
 ghost use Rattle.source_map.specs.Names.{named};
 
 use crate::paged::Paged;
-use crate::texts::byte_text;
+use crate::texts::value_text;
 use dap_messages::{Page, Scope, address_text, reference};
 use json_messages::Object;
 use model::{Flags, Regs};
@@ -30,11 +31,11 @@ pub fn register_text(alloc: Global, regs: Regs, register: Register) -> Result<St
 {
     match register {
         Register::Pc => address_text(alloc, regs.pc),
-        Register::A => byte_text(alloc, regs.a),
-        Register::X => byte_text(alloc, regs.x),
-        Register::Y => byte_text(alloc, regs.y),
-        Register::S => byte_text(alloc, regs.s),
-        Register::P => byte_text(alloc, regs.flags.to_byte(false)),
+        Register::A => value_text(alloc, regs.a),
+        Register::X => value_text(alloc, regs.x),
+        Register::Y => value_text(alloc, regs.y),
+        Register::S => value_text(alloc, regs.s),
+        Register::P => value_text(alloc, regs.flags.to_byte(false)),
     }
 }
 
@@ -83,17 +84,42 @@ fn plain_variable(
         .build()
 }
 
-/// Returns the byte at an address as a variable.
-fn byte_variable(alloc: Global, name: &str, address: u16, byte: u8) -> Result<Value, AllocError>
-    ensures { IfOk result (λ v. view v ≡ byte_variable name.now address byte) }
+/// Returns the number by which the word at an address is asked for, if it lies in the zero page:
+/// else 0.
+fn word_number(address: u16) -> u64
+    ensures { result ≡ word_number address }
+{
+    if address < 255 {
+        65536 + u64::from(address)
+    } else {
+        0
+    }
+}
+
+/// Returns the byte at an address as a variable, with the number by which its own are asked for.
+fn byte_with(
+    alloc: Global,
+    name: &str,
+    address: u16,
+    byte: u8,
+    number: u64,
+) -> Result<Value, AllocError>
+    ensures { IfOk result (λ v. view v ≡ byte_with name.now address byte number) }
 {
     Object::new(alloc)
         .word("evaluateName", name)
         .text("memoryReference", reference(alloc, address))
         .word("name", name)
-        .text("value", byte_text(alloc, byte))
-        .count("variablesReference", 0)
+        .text("value", value_text(alloc, byte))
+        .count("variablesReference", number)
         .build()
+}
+
+/// Returns the byte at an address as a variable.
+fn byte_variable(alloc: Global, name: &str, address: u16, byte: u8) -> Result<Value, AllocError>
+    ensures { IfOk result (λ v. view v ≡ byte_variable name.now address byte) }
+{
+    byte_with(alloc, name, address, byte, word_number(address))
 }
 
 /// Returns a register as a variable.
@@ -199,6 +225,33 @@ fn machine(alloc: Global, page: Paged, session: &Session) -> Paged
         .with(number_variable(alloc, "bytes put out", session.output_len() as u64))
 }
 
+/// Returns the word at an address. Its low byte comes first.
+fn word_at(session: &Session, address: u16) -> u16
+    ensures { result ≡ word_at session.now.current.bus.memory address }
+{
+    let low = session.peek(address);
+    let high = session.peek(address.wrapping_add(1));
+    u16::from(high) * 256 + u16::from(low)
+}
+
+/// Returns the byte at an address as a variable under its address.
+fn cell(alloc: Global, session: &Session, address: u16) -> Result<Value, AllocError>
+    ensures { IfOk result (λ v. view v ≡ cell session.now.current.bus.memory address) }
+{
+    let name = address_text(alloc, address);
+    byte_named(alloc, name, address, session.peek(address))
+}
+
+/// Returns a page of the word at an address, and of the byte that it points to. None was shown.
+fn word_shown(alloc: Global, page: Paged, session: &Session, address: u16) -> Paged
+    ensures { (asked : Page) → IsPage asked [] page → IsPage asked
+        (word_shown session.now.current.bus.memory address) result }
+{
+    let word = word_at(session, address);
+    page.with(plain_variable(alloc, "(word)", address_text(alloc, word)))
+        .with(cell(alloc, session, word))
+}
+
 /// Returns a page of the variables of a scope, of which none was shown. The bytes of the stack are
 /// those from that above the stack pointer on.
 fn scope_shown(alloc: Global, page: Paged, mon: &MonState, scope: Scope) -> Paged
@@ -213,6 +266,7 @@ fn scope_shown(alloc: Global, page: Paged, mon: &MonState, scope: Scope) -> Page
         Scope::Stack => cells(alloc, page, session, 257 + u16::from(session.regs().s), 512),
         Scope::ZeroPage => cells(alloc, page, session, 0, 256),
         Scope::Machine => machine(alloc, page, session),
+        Scope::Word(address) => word_shown(alloc, page, session, address),
     }
 }
 

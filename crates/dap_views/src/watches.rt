@@ -152,11 +152,13 @@ pub fn set_data(
     ensures kept { KeepsBreaks mon.old mon.new }
     ensures lines { listed.new.lines ≡ listed.old.lines }
     ensures addresses { listed.new.addresses ≡ listed.old.addresses }
+    ensures functions { listed.new.functions ≡ listed.old.functions }
     ensures answer { IfOk result
         (λ v. TellsWatches wanted.items mon.new.stops.watches.items (view v)) }
     ensures held { OnOk result (listed.new.last_bytes ≡ Some wanted) }
     ensures others { (listed.new.last_lines ≡ listed.old.last_lines)
         × (listed.new.last_addresses ≡ listed.old.last_addresses)
+        × (listed.new.last_functions ≡ listed.old.last_functions)
         × (listed.new.next ≡ listed.old.next) }
 {
     unset_all(&mut mon.session, mon.stops.changes.as_slice());

@@ -1,12 +1,12 @@
 -- Short debug files, and the rows of three addresses of files that ld65 wrote. Each is computed.
-use Rattle.std.proofs.Common.{◌≡◌, ℕ, List, [], ◌∷◌, ◌++◌, codes, Some, None, Result, Ok, Err, refl}
+use Rattle.std.proofs.Common.{◌≡◌, ℕ, List, [], ◌∷◌, ◌++◌, codes, Some, None, Result, Ok, Err, false, refl}
 use Rattle.model.specs.TextLines.{lines_from}
 use Rattle.debug_records.specs.Fields.{field_of, field_with, fields_within, next_field, said_by}
 use Rattle.debug_records.specs.Info.{Info, no_info, with_new}
 use Rattle.debug_records.specs.Numbers.{next_number, number_of, numbers_within}
 use Rattle.debug_records.specs.Reading.{debug_info, finished, lines_read, with_file, with_line, with_module, with_record, with_said, with_segment, with_span, with_text, with_uses, with_version}
-use Rattle.debug_records.specs.Records.{file_of, line_of, segment_of, span_of}
-use Rattle.debug_records.specs.Rows.{row_of, rows_at, rows_of, shown_at}
+use Rattle.debug_records.specs.Records.{Segment, file_of, line_of, segment_of, span_of}
+use Rattle.debug_records.specs.Rows.{begun_at, clear_rows, row_of, rows_at, rows_of, shown_at}
 use Rattle.debug_records.specs.declared.fault.DebugFault.{DebugFault}
 use Rattle.debug_records.specs.declared.fault.DebugFaultKind.{DebugFaultKind}
 use Rattle.debug_records.specs.declared.fault.DebugFaultKind.TheVariants as fault
@@ -61,6 +61,7 @@ row file line kind depth start end = record {
   depth = depth;
   start = start;
   end = end;
+  is_data = false;
 }
 
 abbrev while_line : List ℕ
@@ -91,15 +92,27 @@ rows = body ∷ called ∷ behind ∷ inner ∷ []
 pub at_first : rows_at rows 0xE025 ≡ body ∷ called ∷ inner ∷ []
 at_first = refl
 
-pub shown_first : shown_at no_info rows 0xE027 ≡ Some called
-unfolding shown_at
+pub shown_first : shown_at rows 0xE027 ≡ Some called
 shown_first = refl
+
+pub begun_first : begun_at rows 0xE025 ≡ Some inner
+begun_first = refl
 
 -- ---- a statement of C stands over its lines of assembler
 
 abbrev statement : Row
 statement = row 3 33 kind.C 0 0x80A3 0x80B3
 
-pub shown_statement : shown_at no_info (row 1 243 kind.Assembler 0 0x80AD 0x80B0 ∷ statement ∷ []) 0x80AD ≡ Some statement
-unfolding shown_at
+pub shown_statement : shown_at (row 1 243 kind.Assembler 0 0x80AD 0x80B0 ∷ statement ∷ []) 0x80AD ≡ Some statement
 shown_statement = refl
+
+-- ---- two banks, which run at one address: no row of theirs is shown
+
+abbrev bank : Segment
+bank = record { start = 0x8000; size = 0x100; output = None }
+
+pub in_banks : clear_rows (record no_info { segments = Some bank ∷ Some bank ∷ [] }) (row 0 1 kind.Assembler 0 0x8000 0x8002 ∷ []) ≡ []
+in_banks = refl
+
+pub in_one_bank : clear_rows (record no_info { segments = Some bank ∷ None ∷ [] }) (behind ∷ called ∷ []) ≡ behind ∷ called ∷ []
+in_one_bank = refl

@@ -1,5 +1,6 @@
 pub mod Digits
 pub mod Examples
+pub mod Extents
 pub mod LineLengths
 pub mod Passing
 pub mod Pushed

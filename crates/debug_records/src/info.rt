@@ -53,7 +53,7 @@ pub fn record_at<T: Copy>(table: &[Option<T>], number: u32) -> Option<T>
 }
 
 /// Gives a table places for so many records at least.
-fn grow<T: Copy>(table: &mut Vec<Option<T>>, count: usize) -> Result<(), AllocError>
+pub fn grow<T: Copy>(table: &mut Vec<Option<T>>, count: usize) -> Result<(), AllocError>
     ensures { OnOk result (table.new.items ≡ grown table.old.items count) }
 {
     if table.len() < count {

@@ -1,10 +1,10 @@
 //! A debug file of ld65 as records and rows: which bytes came from which line of which file.
 //!
 //! `read_debug_info` reads a text that `ld65 --dbgfile` wrote, or tells its first fault; `rows_of`
-//! makes a row for each span of each line, and `shown_at` picks the one that is shown for an
-//! address. `specs/Fields.antt` says what a line says, `specs/Records.antt` what each record has,
-//! `specs/Reading.antt` what a file denotes, and `specs/Rows.antt` what the rows are. Symbols and
-//! scopes are skipped.
+//! makes a row for each span of each line, `shown_at` picks the one that is shown for an address,
+//! and `table_of` does so for all addresses at once. `specs/Fields.antt` says what a line says,
+//! `specs/Records.antt` what each record has, `specs/Reading.antt` what a file denotes, and
+//! `specs/Rows.antt` what the rows are. Symbols and scopes are skipped.
 #![tactic(auto)]
 
 mod fault;
@@ -17,11 +17,13 @@ mod record_fields;
 mod reference;
 mod row;
 mod rows;
+mod table;
 mod text;
 
 pub use fault::{DebugError, DebugFault, DebugFaultKind};
-pub use info::{DebugInfo, Use, is_ambiguous};
+pub use info::{DebugInfo, Use, is_ambiguous, record_at};
 pub use record::{File, Line, LineKind, Output, Segment, Span};
-pub use row::Row;
-pub use rows::{rows_at, rows_of, shown_at};
+pub use row::{Row, Wanted};
+pub use rows::{clear_rows, rows_at, rows_of, shown_at, size_of};
+pub use table::table_of;
 pub use text::read_debug_info;

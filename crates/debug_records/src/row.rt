@@ -14,12 +14,15 @@ pub struct Row {
     pub depth: u32,
     pub start: u64,
     pub end: u64,
+    /// Whether the bytes are data, as far as the file says so.
+    pub is_data: bool,
 }
 
-/// Which rows are looked for.
+/// Which of the rows that have a byte is looked for.
 #[derive(Clone, Copy)]
-pub enum Sought {
-    C,
-    Assembler,
-    Any,
+pub enum Wanted {
+    /// The one that is shown.
+    Shown,
+    /// The narrowest one that begins there.
+    Begun,
 }

@@ -1,15 +1,15 @@
 //! Which bytes came from which line.
 
-ghost use Rattle.std.specs.Prelude.{◌≡◌, ◌++◌, IfOk, OnOk, Some};
+ghost use Rattle.std.specs.Prelude.{◌≡◌, ◌++◌, IfOk, None, OnOk, false, map, option_map};
 ghost use Rattle.std.specs.Option.{option_to_list};
-ghost use Rattle.debug_records.specs.Rows.{covers, is_narrower, is_parameter, is_shown, is_sought};
-ghost use Rattle.debug_records.specs.Rows.{narrower, narrowest_of, row_of, row_with, rows_at};
-ghost use Rattle.debug_records.specs.Rows.{rows_of, shown_at, size_of};
+ghost use Rattle.debug_records.specs.Rows.{best_of, better, clear_rows, covers, is_better, is_clear};
+ghost use Rattle.debug_records.specs.Rows.{is_narrower, is_parameter, is_shared, meets, passes, rank, row_of};
+ghost use Rattle.debug_records.specs.Rows.{row_with, rows_at, rows_of, shown_at, size_of, with_row};
 ghost use Rattle.debug_records.specs.Views.{info_view, segment_view};
 
 use crate::info::{DebugInfo, Use, is_ambiguous, record_at};
 use crate::record::{Line, LineKind, Segment, Span};
-use crate::row::{Row, Sought};
+use crate::row::{Row, Wanted};
 use std::alloc::{AllocError, Global};
 
 /// Returns whether a line is the text of a macro's parameter.
@@ -37,6 +37,7 @@ fn row_with(line: Line, span: Span, segment: Segment<'_>) -> Option<Row>
         depth: line.depth,
         start,
         end: start + span.size as u64,
+        is_data: span.is_data,
     })
 }
 
@@ -73,6 +74,56 @@ pub fn rows_of(alloc: Global, info: &DebugInfo<'_>) -> Result<Vec<Row>, AllocErr
     Ok(rows)
 }
 
+/// Returns whether a row and a segment have an address together.
+fn meets(row: Row, segment: Option<Segment<'_>>) -> bool
+    ensures { result ≡ meets row (option_map segment_view segment.entry) }
+{
+    match segment {
+        None => false,
+        Some(segment) => {
+            let start = segment.start as u64;
+            segment.size > 0 && row.start < start + segment.size as u64 && start < row.end
+        }
+    }
+}
+
+/// Returns whether a row has an address together with two segments.
+fn is_shared(row: Row, segments: &[Option<Segment<'_>>]) -> bool
+    ensures { result ≡ is_shared row false (map (option_map segment_view) segments.now) }
+{
+    let mut is_found = false;
+    for segment in segments {
+        if meets(row, *segment) {
+            if is_found {
+                return true;
+            }
+            is_found = true;
+        }
+    }
+    false
+}
+
+/// Returns whether a row is told apart from others: its file is one, and its bytes are those of one
+/// segment.
+fn is_clear(info: &DebugInfo<'_>, row: Row) -> bool
+    ensures { result ≡ is_clear (info_view info.now) row }
+{
+    !is_ambiguous(info, row.file) && !is_shared(row, info.segments.as_slice())
+}
+
+/// Returns the rows that are told apart from others. The only error is that an allocation failed.
+pub fn clear_rows(alloc: Global, info: &DebugInfo<'_>, rows: &[Row]) -> Result<Vec<Row>, AllocError>
+    ensures { IfOk result (λ clear. clear.items ≡ clear_rows (info_view info.now) rows.now) }
+{
+    let mut clear = Vec::new(alloc);
+    for row in rows {
+        if is_clear(info, *row) {
+            clear.push(*row)?;
+        }
+    }
+    Ok(clear)
+}
+
 /// Returns whether a row has the byte at an address.
 fn covers(address: u64, row: Row) -> bool
     ensures { result ≡ covers address row }
@@ -94,10 +145,22 @@ pub fn rows_at(alloc: Global, rows: &[Row], address: u64) -> Result<Vec<Row>, Al
 }
 
 /// Returns how many bytes a row has.
-fn size_of(row: Row) -> u64
+pub fn size_of(row: Row) -> u64
     ensures { result ≡ size_of row }
 {
     row.end.saturating_sub(row.start)
+}
+
+/// Returns which kinds of lines are shown before others: the lower number first.
+fn rank(kind: LineKind) -> u8
+    ensures { result ≡ rank kind }
+{
+    match kind {
+        LineKind::C => 0,
+        LineKind::Assembler => 1,
+        LineKind::Macro => 2,
+        LineKind::Parameter => 3,
+    }
 }
 
 /// Returns whether a row has fewer bytes than another, or as many and stands deeper.
@@ -107,60 +170,71 @@ fn is_narrower(row: Row, other: Row) -> bool
     size_of(row) < size_of(other) || size_of(row) == size_of(other) && other.depth < row.depth
 }
 
-/// Returns the narrower of two rows, and the first if neither is.
-fn narrower(best: Option<Row>, row: Row) -> Row
-    ensures { Some result ≡ narrower best row }
+/// Returns whether a row comes before another one.
+fn is_better(wanted: Wanted, row: Row, other: Row) -> bool
+    ensures { result ≡ is_better wanted row other }
+{
+    match wanted {
+        Wanted::Shown => {
+            rank(row.kind) < rank(other.kind)
+                || rank(row.kind) == rank(other.kind) && is_narrower(row, other)
+        }
+        Wanted::Begun => is_narrower(row, other),
+    }
+}
+
+/// Returns the better one of two rows, and the first if neither is.
+pub fn better(wanted: Wanted, best: Option<Row>, row: Row) -> Row
+    ensures { result ≡ better wanted best row }
 {
     match best {
         None => row,
-        Some(best) => { if is_narrower(row, best) { row } else { best } }
+        Some(best) => {
+            if is_better(wanted, row, best) {
+                row
+            } else {
+                best
+            }
+        }
     }
 }
 
-/// Returns whether rows of a kind are looked for.
-fn is_sought(sought: Sought, kind: LineKind) -> bool
-    ensures { result ≡ is_sought sought kind }
+/// Returns whether a row is among those that are looked for at an address.
+fn passes(wanted: Wanted, address: u64, row: Row) -> bool
+    ensures { result ≡ passes wanted address row }
 {
-    match (sought, kind) {
-        (Sought::C, LineKind::C) => true,
-        (Sought::Assembler, LineKind::Assembler) => true,
-        (Sought::Any, _) => true,
-        _ => false,
+    match wanted {
+        Wanted::Shown => covers(address, row),
+        Wanted::Begun => covers(address, row) && row.start == address,
     }
 }
 
-/// Returns whether a row may be shown for an address.
-fn is_shown(info: &DebugInfo<'_>, address: u64, sought: Sought, row: Row) -> bool
-    ensures { result ≡ is_shown (info_view info.now) address sought row }
+/// Returns the best row of an address so far, with one more.
+fn with_row(wanted: Wanted, address: u64, best: Option<Row>, row: Row) -> Option<Row>
+    ensures { result ≡ with_row wanted address best row }
 {
-    covers(address, row) && is_sought(sought, row.kind) && !is_ambiguous(info, row.file)
+    if passes(wanted, address, row) {
+        Some(better(wanted, best, row))
+    } else {
+        best
+    }
 }
 
-/// Returns the narrowest row that may be shown for an address.
-fn narrowest_of(info: &DebugInfo<'_>, rows: &[Row], address: u64, sought: Sought) -> Option<Row>
-    ensures { result ≡ narrowest_of (info_view info.now) rows.now address sought }
+/// Returns the best row of an address.
+fn best_of(wanted: Wanted, rows: &[Row], address: u64) -> Option<Row>
+    ensures { result ≡ best_of wanted address None rows.now }
 {
     let mut best = None;
     for row in rows {
-        if is_shown(info, address, sought, *row) {
-            best = Some(narrower(best, *row));
-        }
+        best = with_row(wanted, address, best, *row);
     }
     best
 }
 
 /// Returns the row that is shown for an address: the narrowest row of C; otherwise the line that
-/// the author wrote; otherwise the narrowest of all. Rows of a file that is the main one of two
-/// modules are not shown.
-#[tactic(auto, unfolding(crate::specs::Rows::shown_at))]
-pub fn shown_at(info: &DebugInfo<'_>, rows: &[Row], address: u64) -> Option<Row>
-    ensures { result ≡ shown_at (info_view info.now) rows.now address }
+/// the author wrote; otherwise the narrowest of all.
+pub fn shown_at(rows: &[Row], address: u64) -> Option<Row>
+    ensures { result ≡ shown_at rows.now address }
 {
-    if let Some(row) = narrowest_of(info, rows, address, Sought::C) {
-        return Some(row);
-    }
-    if let Some(row) = narrowest_of(info, rows, address, Sought::Assembler) {
-        return Some(row);
-    }
-    narrowest_of(info, rows, address, Sought::Any)
+    best_of(Wanted::Shown, rows, address)
 }

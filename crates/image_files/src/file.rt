@@ -5,7 +5,7 @@ ghost use Rattle.image_files.specs.Files.{EndsBytes, EndsImage, IsOfFile};
 
 use crate::bytes::image_of_bytes;
 use crate::refusal::{ImageRefusal, NoImage};
-use arguments::read_most;
+use arguments::read_given;
 use image_reader::Form;
 use memory_map::Image;
 use std::rt::Files;
@@ -13,14 +13,14 @@ use std::rt::Files;
 /// The most bytes of a file that is read as an image. Source: mos65.
 const LONGEST: u64 = 16_777_216;
 
-/// Returns the bytes of an image's file.
+/// Returns the bytes of an image's file, or of the standard input if the name is `-`.
 ///
 /// Errors: `NoImage` with `TooLong` if the file has more than 16,777,216 bytes; `Refused` if it
 /// cannot be read, or if an allocation fails.
 pub fn image_bytes<H: Files + AllocGlobal>(rt: &H, path: &str) -> Result<Vec<u8>, ImageRefusal>
     ensures { IfErr result EndsBytes }
 {
-    match read_most(rt, path, LONGEST + 1) {
+    match read_given(rt, path, LONGEST + 1) {
         Ok(bytes) if bytes.len() as u64 <= LONGEST => Ok(bytes),
         Ok(_) => Err(ImageRefusal::NoImage(NoImage::TooLong)),
         Err(refusal) => Err(ImageRefusal::Refused(refusal)),

@@ -1,6 +1,8 @@
 mod Assembling
 pub mod DigitLemmas
 pub mod Ends
+mod Joins
+pub mod Machines
 mod Starts
 pub mod Unloaded
 pub mod Unnamed

@@ -9,11 +9,11 @@ use Rattle.model.specs.Event.{start, reset_state}
 use Rattle.model.specs.Session.{Session, new_session}
 use Rattle.model.specs.State.{Map, input_waits, loaded_bus}
 
-starts_idle : (map : Map) (image : List (Option ℕ)) → input_waits (start map image).bus ≡ false
+pub starts_idle : (map : Map) (image : List (Option ℕ)) → input_waits (start map image).bus ≡ false
 unfolding start reset_state loaded_bus
 starts_idle map image = refl
 
-starts_silent : (map : Map) (image : List (Option ℕ)) → (start map image).bus.out ≡ []
+pub starts_silent : (map : Map) (image : List (Option ℕ)) → (start map image).bus.out ≡ []
 unfolding start reset_state loaded_bus
 starts_silent map image = refl
 

@@ -27,7 +27,7 @@ unnamed_by_memory file symbols heard fault status Unread Unwritten memory is tol
 
 -- ---- each has a status
 
-some_refusal : (r : Refusal) → 1 ≤ status_of r
+pub some_refusal : (r : Refusal) → 1 ≤ status_of r
 some_refusal refusal.Words = omega arith
 some_refusal (refusal.Map fault) = omega arith
 some_refusal (refusal.Source fault) = omega arith
@@ -38,7 +38,7 @@ some_refusal (refusal.Read why) = omega arith
 some_refusal refusal.Write = omega arith
 some_refusal (refusal.WriteFile why) = omega arith
 
-some_load : (f : LoadFault) → 1 ≤ status_of_load f
+pub some_load : (f : LoadFault) → 1 ≤ status_of_load f
 some_load load_fault.LooksLikeTape = omega arith
 some_load load_fault.LooksLikeHex = omega arith
 some_load load_fault.LooksLikeSRecords = omega arith
@@ -48,7 +48,7 @@ some_load (load_fault.Faults fault text) = omega arith
 some_load (load_fault.AtPort first last free) = omega arith
 some_load (load_fault.Refused why) = some_refusal why
 
-some_named : (f : NamedFault) → 1 ≤ status_of_named f
+pub some_named : (f : NamedFault) → 1 ≤ status_of_named f
 some_named (OfFile fault) = some_load fault
 some_named (OfNames why) = some_refusal why
 some_named HasSource = omega arith

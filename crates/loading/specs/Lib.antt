@@ -1,4 +1,5 @@
 pub mod Loads
+pub mod Machine
 pub mod Named
 pub mod Place
 pub mod Told

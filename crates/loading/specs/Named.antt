@@ -8,8 +8,19 @@ use Rattle.arguments.specs.declared.file_options.FileForm.TheVariants.{Source}
 use Rattle.loading.specs.Loads.{AreImageNames, EndsLoad, EndsNames, IsLoaded}
 use Rattle.loading.specs.Told.{Heard, Tells}
 use Rattle.loading.specs.declared.named.NamedFault.{NamedFault}
+use Rattle.model.specs.declared.instruction.Profile.{Profile}
+use Rattle.names_files.specs.NamesFile.{names_file}
 use Rattle.loading.specs.declared.named.NamedFault.TheVariants.{HasSource, OfFile, OfNames}
 use Rattle.loading.specs.declared.named.TheConstants.{HAS_NAMES}
+
+-- How many lines of some file of names gave no name.
+abbrev pub IsLost : Profile → ℕ → Type 0
+IsLost profile lost = (file : List ℕ) × (lost ≡ (names_file profile file).lost)
+
+-- None are lost where no file of names is named.
+abbrev pub MayLose : Profile → Option (List ℕ) → ℕ → Type 0
+MayLose profile None lost = lost ≡ 0
+MayLose profile (Some path) lost = IsLost profile lost
 
 -- Names stand for an image that has no source: there are no lines.
 abbrev pub named_image : List (Option ℕ) → AssemblyView → AssemblyView

@@ -13,6 +13,7 @@ ghost use Rattle.loading.specs.Loads.{AreImageNames};
 ghost use Rattle.loading.specs.Loads.{AreOfFile, EndsAsImage, EndsFile, EndsImageFile, EndsLoad, EndsNames};
 ghost use Rattle.loading.specs.Loads.{EndsSource};
 ghost use Rattle.loading.specs.Loads.{EndsSourceFile, IsBadMap, IsImageOf, IsLoaded};
+ghost use Rattle.loading.specs.Named.{IsLost};
 ghost use Rattle.model.specs.Event.{start};
 ghost use Rattle.model.specs.Session.{new_session};
 ghost use Rattle.model.specs.Source.{HasFault};
@@ -23,7 +24,8 @@ ghost use Rattle.model.specs.declared.bus_fault.BusFault.TheVariants.{BadMap};
 
 use accesses::Written;
 use arguments::{
-    FileForm, FileWords, LoadFault, ReadFault, Refusal, map_of, read_source, shown_name,
+    FileForm, FileWords, LoadFault, ReadFault, Refusal, map_of, read_given_source, read_source,
+    shown_name,
 };
 use assembler::{Assembly, assemble};
 use clean_source::clean_source;
@@ -45,6 +47,8 @@ pub struct Loaded {
     pub session: Session,
     pub assembly: Option<Assembly>,
     pub written: Written,
+    /// How many lines of a file of names gave no name.
+    pub lost: usize,
 }
 
 /// Returns the map of the words.
@@ -192,6 +196,7 @@ fn start_source(
         (λ loaded. loaded.session ≡ new_session history (start map assembly.image)) }
     ensures assembly { IfOk result (λ loaded. loaded.assembly ≡ Some assembly) }
     ensures bytes { IfOk result (λ loaded. loaded.written ≡ bytes_in assembly.image) }
+    ensures lost { IfOk result (λ loaded. loaded.lost ≡ 0) }
     ensures refused { IfErr result (λ fault. fault ≡ Refusal.OutOfMemory) }
 {
     let (session, written) = started(alloc, map, assembly.image(), history)?;
@@ -199,6 +204,7 @@ fn start_source(
         session,
         assembly: Some(assembly),
         written,
+        lost: 0,
     })
 }
 
@@ -214,9 +220,10 @@ fn load_source<H: Files + AllocGlobal>(
         × IsImageOf FileForm.Source map image loaded.assembly
         × (loaded.session ≡ new_session history (start map image))
         × (loaded.written ≡ bytes_in image)) }
+    ensures lost { IfOk result (λ loaded. loaded.lost ≡ 0) }
     ensures refused { IfErr result (EndsFile FileForm.Source map words.now.file.now) }
 {
-    let source = read_source(rt, words.file)?;
+    let source = read_given_source(rt, words.file)?;
     let assembly = assembled_source(rt.alloc(), words.file, source.as_slice(), &map)?;
     Ok(start_source(rt.alloc(), map, assembly, history)?)
 }
@@ -234,6 +241,7 @@ pub fn start_image(
         (λ loaded. loaded.session ≡ new_session history (start map image.now)) }
     ensures assembly { IfOk result (λ loaded. loaded.assembly ≡ None) }
     ensures bytes { IfOk result (λ loaded. loaded.written ≡ bytes_in image.now) }
+    ensures lost { IfOk result (λ loaded. loaded.lost ≡ 0) }
     ensures refused { IfErr result (λ fault. fault ≡ Refusal.OutOfMemory) }
 {
     let (session, written) = started(alloc, map, image, history)?;
@@ -241,11 +249,12 @@ pub fn start_image(
         session,
         assembly: None,
         written,
+        lost: 0,
     })
 }
 
 /// Returns the image of a file that is no source.
-fn image_in<H: Files + AllocGlobal>(
+pub fn image_in<H: Files + AllocGlobal>(
     rt: &H,
     path: &str,
     said: Option<Form>,
@@ -308,6 +317,7 @@ fn load_image<H: Files + AllocGlobal>(
         × (loaded.assembly ≡ None)
         × (loaded.session ≡ new_session history (start map image))
         × (loaded.written ≡ bytes_in image)) }
+    ensures lost { IfOk result (λ loaded. loaded.lost ≡ 0) }
     ensures refused { IfErr result (EndsAsImage said map) }
 {
     let image = image_on(rt, path, said, &map, rom)?;
@@ -329,6 +339,7 @@ fn load_form<H: Files + AllocGlobal>(
         × IsImageOf words.now.form map image loaded.assembly
         × (loaded.session ≡ new_session history (start map image))
         × (loaded.written ≡ bytes_in image)) }
+    ensures lost { IfOk result (λ loaded. loaded.lost ≡ 0) }
     ensures refused { IfErr result (EndsFile words.now.form map words.now.file.now) }
 {
     let said = said_of(words.form);
@@ -354,6 +365,7 @@ pub fn load<H: Files + AllocGlobal>(rt: &H, words: &FileWords<'_>) -> Result<Loa
     ensures silent { IfOk result (λ loaded. loaded.session.current.bus.out ≡ []) }
     ensures bad_map { is_map words.now.rom words.now.port ≡ false
         → result ≡ Err (Refused (Refusal.Map BadMap)) }
+    ensures lost { IfOk result (λ loaded. loaded.lost ≡ 0) }
     ensures refused { IfErr result (EndsLoad (file_view words.now)) }
 {
     load_with_history(rt, words, 0)
@@ -377,6 +389,7 @@ pub fn load_with_history<H: Files + AllocGlobal>(
         × (loaded.written ≡ bytes_in image)) }
     ensures bad_map { is_map words.now.rom words.now.port ≡ false
         → result ≡ Err (Refused (Refusal.Map BadMap)) }
+    ensures lost { IfOk result (λ loaded. loaded.lost ≡ 0) }
     ensures refused { IfErr result (EndsLoad (file_view words.now)) }
 {
     let map = map_of_words(words)?;
@@ -395,6 +408,8 @@ pub struct ImageNames {
     pub assembly: Assembly,
     /// Those that cannot stand in a source.
     pub others: Symbols,
+    /// How many lines gave no name.
+    pub lost: usize,
 }
 
 /// Returns what a file of names says as a source.
@@ -423,6 +438,7 @@ pub fn load_names<H: Files + AllocGlobal>(
     ensures assembled { IfOk result (λ names. IsAssembled (map_of (file_view words.now))
         names.assembly) }
     ensures named { IfOk result (λ names. AreOfFile words.now.profile names.assembly names.others) }
+    ensures lost { IfOk result (λ names. IsLost words.now.profile names.lost) }
     ensures refused { IfErr result (EndsNames (file_view words.now)) }
 {
     let map = map_of_words(words)?;
@@ -435,10 +451,15 @@ pub fn load_names<H: Files + AllocGlobal>(
         source,
         others,
         left_out: _,
+        lost,
         is_unknown: _,
     } = names;
     let assembly = assembled(rt.alloc(), source.as_slice(), &map)?;
-    Ok(ImageNames { assembly, others })
+    Ok(ImageNames {
+        assembly,
+        others,
+        lost,
+    })
 }
 
 /// Returns an assembly with more names.
@@ -454,7 +475,32 @@ fn with_others(alloc: Global, assembly: Assembly, others: &Symbols) -> Result<As
 }
 
 /// Returns the names of a file of names as `load_names` reads them, all as names of one assembly:
-/// those of its source, and behind them those that cannot stand in one.
+/// those of its source, and behind them those that cannot stand in one; and how many lines gave no
+/// name.
+///
+/// # Errors
+///
+/// Those of `load_names`.
+pub fn load_counted_names<H: Files + AllocGlobal>(
+    rt: &H,
+    words: &FileWords<'_>,
+    path: &str,
+) -> Result<(Assembly, usize), Refusal>
+    ensures named { IfOk result (λ p. AreImageNames (map_of (file_view words.now)) p.0) }
+    ensures lost { IfOk result (λ p. IsLost words.now.profile p.1) }
+    ensures refused { IfErr result (EndsNames (file_view words.now)) }
+{
+    let names = load_names(rt, words, path)?;
+    let ImageNames {
+        assembly,
+        others,
+        lost,
+    } = names;
+    let all = with_others(rt.alloc(), assembly, &others)?;
+    Ok((all, lost))
+}
+
+/// Returns the names of a file of names as `load_counted_names` does, without the count.
 ///
 /// # Errors
 ///
@@ -467,8 +513,8 @@ pub fn load_image_names<H: Files + AllocGlobal>(
     ensures named { IfOk result (AreImageNames (map_of (file_view words.now))) }
     ensures refused { IfErr result (EndsNames (file_view words.now)) }
 {
-    let names = load_names(rt, words, path)?;
-    let ImageNames { assembly, others } = names;
-    let all = with_others(rt.alloc(), assembly, &others)?;
-    Ok(all)
+    match load_counted_names(rt, words, path) {
+        Ok((names, _)) => Ok(names),
+        Err(refusal) => Err(refusal),
+    }
 }

@@ -7,7 +7,8 @@ ghost use Rattle.accesses.specs.Writing.{bytes_in};
 ghost use Rattle.arguments.specs.Asked.{file_view, map_of};
 ghost use Rattle.arguments.specs.declared.load_fault.LoadFault.TheVariants.{Refused};
 ghost use Rattle.loading.specs.Loads.{EndsLoad, IsLoaded};
-ghost use Rattle.loading.specs.Named.{EndsNamed, IsNamed, named_text, status_of_named};
+ghost use Rattle.loading.specs.Named.{EndsNamed, IsLost, IsNamed, MayLose, named_text};
+ghost use Rattle.loading.specs.Named.{status_of_named};
 ghost use Rattle.loading.specs.declared.named.NamedFault.TheVariants.{OfFile};
 ghost use Rattle.model.specs.Event.{start};
 ghost use Rattle.model.specs.Session.{new_session};
@@ -15,7 +16,7 @@ ghost use Rattle.model.specs.State.{input_waits, is_map};
 ghost use Rattle.model.specs.Writers.{AppendsFront};
 ghost use Rattle.model.specs.declared.bus_fault.BusFault.TheVariants.{BadMap};
 
-use crate::loaded::{Loaded, image_on, load, load_image_names, map_of_words, start_image};
+use crate::loaded::{Loaded, image_on, load, load_counted_names, map_of_words, start_image};
 use arguments::{FileForm, FileWords, LoadFault, Refusal, put_all, refuse_file};
 use image_files::said_of;
 use memory_map::Image;
@@ -96,15 +97,20 @@ fn load_with_names<H: Files + AllocGlobal>(
         × IsNamed (file_view words.now) (Some path.now) image loaded.assembly
         × (loaded.session ≡ new_session 0 (start (map_of (file_view words.now)) image))
         × (loaded.written ≡ bytes_in image)) }
+    ensures lost { IfOk result (λ loaded. IsLost words.now.profile loaded.lost) }
     ensures bad_map { is_map words.now.rom words.now.port ≡ false
         → result ≡ Err (OfFile (Refused (Refusal.Map BadMap))) }
     ensures refused { IfErr result (EndsNamed (file_view words.now) (Some path.now)) }
 {
     let (loaded, image) = load_image(rt, words)?;
-    match load_image_names(rt, words, path) {
-        Ok(names) => {
+    match load_counted_names(rt, words, path) {
+        Ok((names, lost)) => {
             let assembly = Some(names.with_image(rt.alloc(), image));
-            Ok(Loaded { assembly, ..loaded })
+            Ok(Loaded {
+                assembly,
+                lost,
+                ..loaded
+            })
         }
         Err(refusal) => Err(NamedFault::OfNames(refusal)),
     }
@@ -129,6 +135,8 @@ pub fn load_named<H: Files + AllocGlobal>(
         × (loaded.written ≡ bytes_in image)) }
     ensures idle { IfOk result (λ loaded. input_waits loaded.session.current.bus ≡ false) }
     ensures silent { IfOk result (λ loaded. loaded.session.current.bus.out ≡ []) }
+    ensures lost { IfOk result (λ loaded. MayLose words.now.profile
+        (option_map (λ s. s.now) symbols.entry) loaded.lost) }
     ensures bad_map { is_map words.now.rom words.now.port ≡ false
         → IfErr result (λ fault. status_of_named fault ≡ 2) × IfOk result (λ loaded. ⊥) }
     ensures refused { IfErr result (EndsNamed (file_view words.now)

@@ -1,12 +1,12 @@
-//! What is told of the warnings of a source that is loaded.
+//! What is told of the warnings of a source that is loaded, and of names that were left out.
 
-ghost use Rattle.std.specs.Prelude.{◌≡◌, length, option_map};
+ghost use Rattle.std.specs.Prelude.{◌≡◌, ◌++◌, length, option_map};
 ghost use Rattle.arguments.specs.Asked.{file_view, map_of};
-ghost use Rattle.loading.specs.Warned.{IsCount, TellsWarnings, many_text, warned_text};
+ghost use Rattle.loading.specs.Warned.{IsCount, TellsWarnings, lost_text, many_text, warned_text};
 ghost use Rattle.model.specs.Writers.{AppendsFront};
 
 use crate::loaded::map_of_words;
-use arguments::{FileWords, put_all};
+use arguments::{FileWords, put_all, put_two};
 use assembler::Assembly;
 use formatting::{Text, push_bytes, push_decimal};
 use memory_map::MapSpec;
@@ -19,6 +19,9 @@ const PROGRAM: &str = "mos65: ";
 
 /// The line that tells of one warning.
 const ONE_WARNING: &str = "mos65: 1 warning; check shows it\n";
+
+/// How the line begins that tells of names that were left out.
+const LEFT_OUT: &str = "mos65: names left out: ";
 
 /// How the line ends that tells of several.
 const MANY_WARNINGS: &str = " warnings; check shows them\n";
@@ -61,42 +64,80 @@ fn many_text(count: u64) -> Text
     text
 }
 
-/// Writes how many warnings there are, if there are some, or a beginning of that line if a write
-/// fails.
+/// Returns the line that tells how many warnings there are, if there are some.
 #[tactic(auto, unfolding(crate::specs::Warned::warned_text))]
-fn tell_count<E: Write>(count: usize, errors: &mut E)
-    ensures { AppendsFront (E.contents errors.old) (E.contents errors.new) (warned_text count) }
+fn warned_text(count: usize) -> Text
+    ensures { result.items ≡ warned_text count }
 {
+    let mut text = Text::new();
     if count == 0 {
-        return;
+        return text;
     }
-    if count == 1 {
-        put_all(&[ONE_WARNING.as_bytes()], errors);
-    } else {
-        put_all(&[many_text(count as u64).as_slice()], errors);
+    if count != 1 {
+        return many_text(count as u64);
     }
+    push_bytes(&mut text, ONE_WARNING.as_bytes());
+    text
 }
 
-/// Writes how many warnings a source has, if there is one and it has some, or a beginning of that
-/// line if a write fails. Where memory runs out nothing is written.
+/// Returns the line that tells how many lines of a file of names gave no name, if some did.
+#[tactic(auto, unfolding(crate::specs::Warned::lost_text))]
+fn lost_text(lost: usize) -> Text
+    ensures { result.items ≡ lost_text lost }
+{
+    let mut text = Text::new();
+    if lost == 0 {
+        return text;
+    }
+    push_bytes(&mut text, LEFT_OUT.as_bytes());
+    push_decimal(&mut text, lost as u64);
+    push_bytes(&mut text, b"\n");
+    text
+}
+
+/// Writes how many lines of a file of names gave no name, if some did, or a beginning of that line
+/// if a write fails.
+pub fn tell_lost<E: Write>(lost: usize, errors: &mut E)
+    ensures { AppendsFront (E.contents errors.old) (E.contents errors.new) (lost_text lost) }
+{
+    put_all(&[lost_text(lost).as_slice()], errors);
+}
+
+/// Writes how many warnings there are, if there are some, and how many lines gave no name, or a
+/// beginning of these lines if a write fails.
+fn tell_count<E: Write>(count: usize, lost: usize, errors: &mut E)
+    ensures { AppendsFront (E.contents errors.old) (E.contents errors.new)
+        (warned_text count ++ lost_text lost) }
+{
+    put_two(
+        warned_text(count).as_slice(),
+        lost_text(lost).as_slice(),
+        errors,
+    );
+}
+
+/// Writes how many warnings a source has, if there is one and it has some, and how many lines of a
+/// file of names gave no name, if some did; or a beginning of these lines if a write fails. Where
+/// memory runs out, nothing is said of warnings.
 #[tactic(auto, using(crate::proofs::WarningsTold::none_told))]
 pub fn tell_warnings<E: Write>(
     alloc: Global,
     words: &FileWords<'_>,
     assembly: Option<&Assembly>,
+    lost: usize,
     errors: &mut E,
 )
     ensures { TellsWarnings (map_of (file_view words.now))
-        (option_map (λ a. a.now) assembly.entry) (record {
+        (option_map (λ a. a.now) assembly.entry) lost (record {
           held = E.contents errors.old;
           now = E.contents errors.new;
         }) }
 {
     match assembly {
-        None => {}
+        None => tell_lost(lost, errors),
         Some(assembly) => {
             let count = warning_count(alloc, words, assembly);
-            tell_count(count, errors);
+            tell_count(count, lost, errors);
         }
     }
 }

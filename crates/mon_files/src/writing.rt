@@ -5,7 +5,7 @@ ghost use Rattle.mon_dispatch.specs.Lines.{Says};
 ghost use Rattle.mon_session.specs.Course.{ShowsOnly};
 
 use crate::wording::{NOT_UTF8, NOT_WRITTEN, OWN_FILE};
-use arguments::{Refusal, WriteFault, is_one_file, put_shown, write_file, write_reason};
+use arguments::{Refusal, WriteFault, is_one_file, name_of, put_shown, write_file, write_reason};
 use arguments_play::MonWords;
 use mon_session::MonState;
 use std::alloc::AllocError;
@@ -29,12 +29,31 @@ pub fn of_memory<T>(made: Result<T, AllocError>) -> Result<T, Refusal>
     made.map_err(|_| Refusal::OutOfMemory)
 }
 
+/// Returns whether a file is the one of a word that may be there.
+fn is_of_word<H: Files>(rt: &H, path: &str, word: Option<&str>) -> bool {
+    match word {
+        Some(word) => is_one_file(rt, path, name_of(word)),
+        None => false,
+    }
+}
+
+/// Returns whether a file is the one that an option names, if one is named.
+fn is_beside<H: Files>(rt: &H, path: &str, named: Option<&str>) -> bool {
+    match named {
+        Some(named) => is_one_file(rt, path, named),
+        None => false,
+    }
+}
+
 /// Returns whether a session has read a file.
 fn is_own<H: Files>(rt: &H, words: &MonWords<'_>, path: &str) -> bool {
-    match words.symbols {
-        Some(symbols) if is_one_file(rt, path, symbols) => true,
-        _ => is_one_file(rt, path, words.file.file),
-    }
+    let others = words.others;
+    is_one_file(rt, path, words.file.file)
+        || is_of_word(rt, path, others.second)
+        || is_of_word(rt, path, others.third)
+        || is_of_word(rt, path, others.fourth)
+        || is_beside(rt, path, words.symbols)
+        || is_beside(rt, path, words.debug_info)
 }
 
 /// Writes a text to a file, unless the session has read that file. A file that is there is replaced

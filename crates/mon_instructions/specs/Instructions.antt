@@ -6,8 +6,9 @@ use Rattle.model.specs.Text.{hex_address, hex_byte}
 use Rattle.model.specs.Token.{begins}
 use Rattle.model.specs.InstructionText.{TextRow, row_of}
 use Rattle.mon_line_parts.specs.Reading.{number_in}
-use Rattle.source_map.specs.Lines.{PlacesView, line_at}
+use Rattle.source_map.specs.Lines.{PlacesView, SourceView, row_at, site_words}
 use Rattle.source_map.specs.Names.{Named, name_at}
+use Rattle.source_map.specs.declared.rows.Row.{Row}
 use Rattle.formatting.specs.Padding.{padded}
 use Rattle.mon_instructions.specs.declared.wording.TheConstants.{NEXT}
 
@@ -103,14 +104,13 @@ instruction_columns state names address
     = instruction_front state address ++ instruction_text state names address
 
 -- A row with the file and the number of a line of the source, if there is one.
-unfoldable pub with_line : List ℕ → Option ℕ → List ℕ → List ℕ
-with_line file None row = row
-with_line file (Some line) row
-    = padded 34 row ++ codes "; " ++ file ++ codes ":" ++ decimal line
+unfoldable pub with_line : List SourceView → Option Row → List ℕ → List ℕ
+with_line sources None row = row
+with_line sources (Some site) row = padded 34 row ++ codes "; " ++ site_words sources site
 
 -- The row of the instruction at an address: address, bytes, text, and the line of the source.
 abbrev pub instruction_row : State → PlacesView → ℕ → List ℕ
-instruction_row state places address = with_line places.file (line_at places.lines address)
+instruction_row state places address = with_line places.sources (row_at places.lines address)
     (instruction_columns state places.names address)
 
 abbrev pub instruction_line : State → PlacesView → ℕ → List ℕ

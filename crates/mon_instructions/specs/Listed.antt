@@ -3,7 +3,7 @@ use Rattle.std.specs.Prelude.{ℕ, ◌+◌, ◌%◌, ◌==◌, ◌&&◌, ◌||�
 use Rattle.std.specs.List.{flat_map}
 use Rattle.model.specs.State.{State}
 use Rattle.model.specs.Text.{hex_byte}
-use Rattle.source_map.specs.Lines.{PlacesView, data_left, line_at, row_at}
+use Rattle.source_map.specs.Lines.{PlacesView, data_left, row_at}
 use Rattle.source_map.specs.Names.{Named}
 use Rattle.source_map.specs.declared.rows.Row.{Row}
 use Rattle.mon_instructions.specs.Instructions.{bytes_at, front_columns, instruction_at, instruction_columns, with_line}
@@ -59,5 +59,5 @@ columns_of len state names address = if len == 0 then instruction_columns state 
 
 -- The line of an address: an instruction or data, with the line of the source that begins there.
 unfoldable pub listed_line : State → PlacesView → ℕ → List ℕ
-listed_line state places address = with_line places.file (line_at places.lines address)
+listed_line state places address = with_line places.sources (row_at places.lines address)
     (columns_of (data_len state places.lines address) state places.names address) ++ codes "\n"

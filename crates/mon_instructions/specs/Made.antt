@@ -7,7 +7,7 @@ use Rattle.std.specs.Option.{option_map}
 use Rattle.std.specs.Str.{bytes_eq}
 use Rattle.formatting.specs.Padding.{padded}
 use Rattle.model.specs.State.{State}
-use Rattle.source_map.specs.Lines.{PlacesView, row_at, text_of}
+use Rattle.source_map.specs.Lines.{PlacesView, SourceView, row_at, text_of, texts_at}
 use Rattle.source_map.specs.declared.rows.Row.{Row}
 use Rattle.mon_instructions.specs.Instructions.{bytes_at, instruction_front, instruction_row}
 
@@ -37,21 +37,22 @@ abbrev pub has_bytes_of : State → Row → Bool
 has_bytes_of state row
     = bytes_eq (take (min row.count 3) (bytes_at state row.address)) (take (min row.count 3) row.bytes)
 
--- Whether a line is an instruction that memory has as it is written.
+-- Whether a line is one instruction that memory has as it is written.
 abbrev pub is_written : State → Row → Bool
-is_written state row = row.is_instruction && has_bytes_of state row
+is_written state row = row.is_instruction && row.is_whole_line && has_bytes_of state row
 
 -- The number and the text of a line.
-abbrev pub with_text : List (List ℕ) → Row → Option (ℕ × List ℕ)
-with_text texts row = option_map (λ text. (row.line, text)) (text_of texts row.line)
+abbrev pub with_text : List SourceView → Row → Option (ℕ × List ℕ)
+with_text sources row
+    = option_map (λ text. (row.line, text)) (text_of (texts_at sources row.file) row.line)
 
-abbrev pub if_written : State → List (List ℕ) → Option Row → Option (ℕ × List ℕ)
-if_written state texts None = None
-if_written state texts (Some row) = if is_written state row then with_text texts row else None
+abbrev pub if_written : State → List SourceView → Option Row → Option (ℕ × List ℕ)
+if_written state sources None = None
+if_written state sources (Some row) = if is_written state row then with_text sources row else None
 
 -- The first line that begins at an address, if memory has it as it is written.
 abbrev pub written_at : State → PlacesView → ℕ → Option (ℕ × List ℕ)
-written_at state places address = if_written state places.texts (row_at places.lines address)
+written_at state places address = if_written state places.sources (row_at places.lines address)
 
 -- ---- its row
 

@@ -4,7 +4,7 @@ ghost use Rattle.std.specs.Prelude.{◌≡◌, ◌≤◌, ◌++◌, OnOk, drop, 
 ghost use Rattle.std.specs.List.{flat_map, prefix_len};
 ghost use Rattle.std.specs.Option.{option_copied};
 ghost use Rattle.disasm.specs.Rows.{row_view};
-ghost use Rattle.source_map.specs.Lines.{line_at};
+ghost use Rattle.source_map.specs.Lines.{row_at};
 ghost use Rattle.mon_instructions.specs.Instructions.{behind_dollar, byte_column, bytes_at, digits_of};
 ghost use Rattle.mon_instructions.specs.Instructions.{ends_in_hash, front_columns, front_of, instruction_at};
 ghost use Rattle.mon_instructions.specs.Instructions.{instruction_columns, instruction_front, instruction_line};
@@ -17,7 +17,7 @@ ghost use Rattle.mon_instructions.specs.Instructions.{with_line};
 use crate::wording::NEXT;
 use debugger::Session;
 use disasm::{TextLine, line_in};
-use formatting::{push_address, push_blanks, push_byte, push_count, push_text};
+use formatting::{push_address, push_blanks, push_byte, push_text};
 use mon_line_parts::number_in;
 use source_map::Places;
 use std::alloc::AllocError;
@@ -248,15 +248,13 @@ pub fn push_line(
 ) -> Result<(), AllocError>
     requires { from ≤ length text.old.items }
     ensures { OnOk result (text.new.items ≡ take from text.old.items
-        ++ with_line places.now.file (line_at places.now.lines address)
+        ++ with_line places.now.sources (row_at places.now.lines address)
         (drop from text.old.items)) }
 {
-    if let Some(line) = places.line_at(address) {
+    if let Some(row) = places.row_at(address) {
         push_blanks(text, from, 34)?;
         push_text(text, "; ")?;
-        text.extend_from_slice(places.file())?;
-        push_text(text, ":")?;
-        push_count(text, line as u64)?;
+        places.push_site(text, row)?;
     }
     Ok(())
 }

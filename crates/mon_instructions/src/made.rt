@@ -20,18 +20,18 @@ pub fn has_bytes_of(session: &Session, row: Row) -> bool
     bytes_at(session, row.address)[..count] == row.bytes[..count]
 }
 
-/// Returns whether a line is an instruction that memory has as it is written.
+/// Returns whether a line is one instruction that memory has as it is written.
 fn is_written(session: &Session, row: Row) -> bool
     ensures { result ≡ is_written session.now.current row }
 {
-    row.is_instruction && has_bytes_of(session, row)
+    row.is_instruction && row.is_whole_line && has_bytes_of(session, row)
 }
 
 /// Returns the number and the text of a line, if its text is known.
 fn with_text(places: &Places, row: Row) -> Option<(u32, &[u8])>
-    ensures { line_view result ≡ with_text places.now.texts row }
+    ensures { line_view result ≡ with_text places.now.sources row }
 {
-    match places.text_of(row.line) {
+    match places.text_of(row.file, row.line) {
         Some(text) => Some((row.line, text)),
         None => None,
     }
@@ -43,7 +43,7 @@ fn if_written<'a>(
     places: &'a Places,
     row: Option<Row>,
 ) -> Option<(u32, &'a [u8])>
-    ensures { line_view result ≡ if_written session.now.current places.now.texts row }
+    ensures { line_view result ≡ if_written session.now.current places.now.sources row }
 {
     match row {
         Some(row) => {
@@ -128,8 +128,8 @@ fn push_row_or_source(
 }
 
 /// Appends the row of an instruction that is made: address, bytes, and the line of the source as it
-/// is written. Where no line begins, or memory no longer has the line's bytes, it is that of
-/// `push_open_row`. The row is not ended.
+/// is written. Where no line begins, the line has other bytes too, or memory no longer has its
+/// bytes, it is that of `push_open_row`. The row is not ended.
 ///
 /// Errors: `AllocError` if an allocation fails.
 pub fn push_made_row(

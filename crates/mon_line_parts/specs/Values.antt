@@ -55,11 +55,20 @@ address_word Word word = None
 address_word Bit word = None
 address_word Count word = None
 
--- The number of a word: of the program counter, of a name, of what is an address alone, of decimal
--- digits.
+-- Hex digits may stand behind `0x`, capitals or not.
+abbrev pub marked_number : List ℕ → Option ℕ
+marked_number [] = None
+marked_number (first ∷ []) = None
+marked_number (first ∷ mark ∷ digits)
+    = if first == byte "0" && (mark == byte "x" || mark == byte "X") then number_in 16 digits
+    else None
+
+-- The number of a word: of the program counter, of a name, of what is an address alone, of hex digits
+-- behind `0x`, of decimal digits.
 abbrev pub number_of : PlacesView → Kind → List ℕ → Option ℕ
 number_of places kind word = option_or (counter_word kind word)
-    (option_or (address_of places.names word) (option_or (address_word kind word) (number_in 10 word)))
+    (option_or (address_of places.names word)
+    (option_or (address_word kind word) (option_or (marked_number word) (number_in 10 word))))
 
 -- A number that was read, or what is missing.
 abbrev pub number_or : SeenFlaw → Option ℕ → List ℕ → Reads ℤ
@@ -88,12 +97,12 @@ named_number places kind lack text =
     else if is_empty (word_of text) then Err (why_none places kind text)
     else number_or (why_none places kind text) (number_of places kind (word_of text)) (after_word text)
 
--- The line of the source that stands where an address is meant.
-abbrev pub line_asked : PlacesView → Kind → List ℕ → Option ℕ
+-- The file and the line of the source that stand where an address is meant.
+abbrev pub line_asked : PlacesView → Kind → List ℕ → Option (ℕ × ℕ)
 line_asked places kind text = if is_place kind then own_line places text else None
 
-abbrev pub line_or : PlacesView → Option ℕ → List ℕ → Reads ℤ → Reads ℤ
-line_or places (Some line) text other = line_address places line (after_line text)
+abbrev pub line_or : PlacesView → Option (ℕ × ℕ) → List ℕ → Reads ℤ → Reads ℤ
+line_or places (Some line) text other = line_address places line.0 line.1 (after_line text)
 line_or places None text other = other
 
 -- A line of the source where an address is meant, or else a word.

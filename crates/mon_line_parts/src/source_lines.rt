@@ -1,17 +1,20 @@
 //! Lines of the source in the place of addresses: `:6`, or `hello.a65:6`.
+//!
+//! A line without a file is one of the source's first file.
 
-ghost use Rattle.std.specs.Prelude.{◌≡◌, ◌≤◌, Err, IfErr, IfOk, Ok, length};
+ghost use Rattle.std.specs.Prelude.{◌≡◌, ◌≤◌, Err, IfErr, IfOk, Ok, length, map};
 ghost use Rattle.std.specs.List.{prefix_len};
 ghost use Rattle.std.specs.Str.{bytes_eq};
 ghost use Rattle.mon_line_parts.specs.Reading.{flaw_view};
-ghost use Rattle.mon_line_parts.specs.SourceLines.{after_file, after_line, file_word, is_file_byte};
-ghost use Rattle.mon_line_parts.specs.SourceLines.{is_name_of, line_address, line_number, no_line_of};
-ghost use Rattle.mon_line_parts.specs.SourceLines.{own_line, tail};
+ghost use Rattle.mon_line_parts.specs.SourceLines.{after_file, after_line, file_asked, file_word};
+ghost use Rattle.mon_line_parts.specs.SourceLines.{first_file, is_file_byte, is_name_of, line_address};
+ghost use Rattle.mon_line_parts.specs.SourceLines.{line_in, line_number, no_line_of, own_line, tail};
+ghost use Rattle.source_map.specs.Lines.{source_view};
 
 use crate::numbers::number_in;
 use crate::scan::{after, after_word, is_empty, is_next, word_of};
 use crate::slip::Flaw;
-use source_map::Places;
+use source_map::{Places, SourceFile};
 
 /// Counts the bytes before the first blank or `:`.
 fn file_bytes(text: &[u8]) -> usize
@@ -78,36 +81,67 @@ fn is_name_of(path: &[u8], name: &[u8]) -> bool
         || (is_next(b'/', tail(name.len() + 1, path)) && is_text(tail(name.len(), path), name))
 }
 
-/// Returns the line of the source that a text names, if it names one: of its file, or of no file.
-#[tactic(auto, unfolding(crate::specs::SourceLines::own_line))]
-pub fn own_line(places: &Places, text: &[u8]) -> Option<u32>
-    ensures { result ≡ own_line places.now text.now }
+/// Returns the number of the first file that has a name.
+fn first_file(sources: &[SourceFile], name: &[u8]) -> Option<u32>
+    ensures { result ≡ first_file 0 (map source_view sources.now) name.now }
 {
-    let name = file_word(text);
-    if is_empty(name) || is_name_of(places.file(), name) {
-        line_number(text)
+    let mut number = 0u32;
+    for source in sources {
+        if is_name_of(source.name.as_slice(), name) {
+            return Some(number);
+        }
+        number = number.wrapping_add(1);
+    }
+    None
+}
+
+/// Returns the number of the file that a name means: the first file if there is no name.
+fn file_asked(places: &Places, name: &[u8]) -> Option<u32>
+    ensures { result ≡ file_asked places.now.sources name.now }
+{
+    if is_empty(name) {
+        Some(0)
     } else {
-        None
+        first_file(places.sources(), name)
     }
 }
 
-/// Returns the address of a line, or of the next one that has bytes.
+/// Returns a file with the number of a line, if there are both.
+fn line_in(file: Option<u32>, line: Option<u32>) -> Option<(u32, u32)>
+    ensures { result ≡ line_in file line }
+{
+    match (file, line) {
+        (Some(file), Some(line)) => Some((file, line)),
+        _ => None,
+    }
+}
+
+/// Returns the file and the line that a text names, if it names a line of the source.
+#[tactic(auto, unfolding(crate::specs::SourceLines::own_line))]
+pub fn own_line(places: &Places, text: &[u8]) -> Option<(u32, u32)>
+    ensures { result ≡ own_line places.now text.now }
+{
+    line_in(file_asked(places, file_word(text)), line_number(text))
+}
+
+/// Returns the address of a line of a file, or of the next one that has bytes.
 #[tactic(auto, unfolding(crate::specs::SourceLines::line_address))]
 pub fn line_address<'a>(
     places: &Places,
+    file: u32,
     line: u32,
     rest: &'a [u8],
 ) -> Result<(i64, &'a [u8]), Flaw<'a>>
     ensures ok { IfOk result
-        (λ p. line_address places.now line rest.now ≡ Ok (p.0, p.1.now)) }
+        (λ p. line_address places.now file line rest.now ≡ Ok (p.0, p.1.now)) }
     ensures err { IfErr result
-        (λ why. line_address places.now line rest.now ≡ Err (flaw_view why)) }
+        (λ why. line_address places.now file line rest.now ≡ Err (flaw_view why)) }
 {
     if !places.has_lines() {
         return Err(Flaw::NoSource);
     }
-    match places.row_from(line) {
-        Some(row) => Ok((row.address as i64, rest)),
+    match places.address_from(file, line) {
+        Some(address) => Ok((address as i64, rest)),
         None => Err(Flaw::NoBytes(line)),
     }
 }

@@ -9,7 +9,8 @@ ghost use Rattle.mon_line_parts.specs.Reading.{after_image_word, image_word};
 ghost use Rattle.mon_line_parts.specs.Values.{counter_word, quoted_of};
 ghost use Rattle.mon_line_parts.specs.Values.{image_address, image_number, is_place, line_asked};
 ghost use Rattle.mon_line_parts.specs.Values.{line_or, line_or_number, name_or_number, why_none};
-ghost use Rattle.mon_line_parts.specs.Values.{is_sign, lack_of, least_of, minus, most_of, named_number};
+ghost use Rattle.mon_line_parts.specs.Values.{is_sign, lack_of, least_of, marked_number, minus, most_of};
+ghost use Rattle.mon_line_parts.specs.Values.{named_number};
 ghost use Rattle.mon_line_parts.specs.Values.{number_of, number_or, piece_of, pieces_of, plus};
 ghost use Rattle.mon_line_parts.specs.Values.{some_bytes, some_count, sum_of, term_of, terms_of, with_piece, within};
 
@@ -116,8 +117,25 @@ fn address_word(kind: Kind, word: &[u8]) -> Option<u32>
     }
 }
 
-/// The number of a word: of the program counter, of a name, of what is an address alone, of decimal
-/// digits.
+/// The number of hex digits behind `0x`, capitals or not.
+fn marked_number(word: &[u8]) -> Option<u32>
+    ensures { result ≡ marked_number word.now }
+{
+    match word {
+        [] => None,
+        [_] => None,
+        [first, mark, digits @ ..] => {
+            if *first == b'0' && (*mark == b'x' || *mark == b'X') {
+                number_in(16, digits)
+            } else {
+                None
+            }
+        }
+    }
+}
+
+/// The number of a word: of the program counter, of a name, of what is an address alone, of hex
+/// digits behind `0x`, of decimal digits.
 fn number_of(places: &Places, kind: Kind, word: &[u8]) -> Option<u32>
     ensures { result ≡ number_of places.now kind word.now }
 {
@@ -129,6 +147,9 @@ fn number_of(places: &Places, kind: Kind, word: &[u8]) -> Option<u32>
     }
     if let Some(address) = address_word(kind, word) {
         return Some(address);
+    }
+    if let Some(number) = marked_number(word) {
+        return Some(number);
     }
     number_in(10, word)
 }
@@ -206,8 +227,8 @@ fn named_number<'a>(
     )
 }
 
-/// Returns the line of the source that stands where an address is meant, if one does.
-fn line_asked(places: &Places, kind: Kind, text: &[u8]) -> Option<u32>
+/// Returns the file and the line of the source that stand where an address is meant, if they do.
+fn line_asked(places: &Places, kind: Kind, text: &[u8]) -> Option<(u32, u32)>
     ensures { result ≡ line_asked places.now kind text.now }
 {
     if is_place(kind) {
@@ -230,7 +251,7 @@ fn line_or_number<'a>(
         (λ why. line_or_number places.now kind lack text.now ≡ Err (flaw_view why)) }
 {
     match line_asked(places, kind, text) {
-        Some(line) => line_address(places, line, after_line(text)),
+        Some((file, line)) => line_address(places, file, line, after_line(text)),
         None => named_number(places, kind, lack, text),
     }
 }

@@ -1,9 +1,10 @@
 -- The program around PC. Source: mos65.
-use Rattle.std.specs.Prelude.{ℕ, zero, suc, ◌+◌, ◌-◌, ◌/◌, ◌%◌, ◌==◌, Bool, if◌then◌else◌, List, [], ◌++◌, Option, None, Some, codes, decimal}
+use Rattle.std.specs.Prelude.{ℕ, zero, suc, ◌+◌, ◌-◌, ◌/◌, ◌%◌, ◌==◌, Bool, is_some, if◌then◌else◌, List, [], ◌++◌, Option, None, Some, codes, decimal}
 use Rattle.formatting.specs.Padding.{padded}
 use Rattle.model.specs.State.{State}
 use Rattle.mon_instructions.specs.Listed.{listed_len, listed_line}
-use Rattle.source_map.specs.Lines.{PlacesView, line_at, text_of}
+use Rattle.source_map.specs.Lines.{PlacesView, SourceView, row_at, text_of, texts_at}
+use Rattle.source_map.specs.declared.rows.Row.{Row}
 use Rattle.mon_screen.specs.declared.wording.TheConstants.{ELSEWHERE, HERE}
 
 -- Whether the program stands here.
@@ -49,14 +50,21 @@ next_address state places address
 
 -- ---- the program
 
--- In so many lines the source around the line that stands at PC. Where none does, the instructions
--- from PC on.
-abbrev pub around : ℕ → State → PlacesView → Option ℕ → List ℕ
-around count state places (Some here)
-    = several count (source_line places.texts here) next_number (first_number here count)
+-- A row, if the text of its line is known.
+abbrev pub told_row : List SourceView → Option Row → Option Row
+told_row sources None = None
+told_row sources (Some row) = if is_some (text_of (texts_at sources row.file) row.line)
+    then Some row else None
+
+-- In so many lines the source around the line of the row at PC. Where none is known, the
+-- instructions from PC on.
+abbrev pub around : ℕ → State → PlacesView → Option Row → List ℕ
+around count state places (Some row)
+    = several count (source_line (texts_at places.sources row.file) row.line) next_number
+    (first_number row.line count)
 around count state places None
     = several count (marked_line state places) (next_address state places) state.regs.pc
 
 abbrev pub around_text : ℕ → State → PlacesView → List ℕ
 around_text count state places
-    = around count state places (line_at places.lines state.regs.pc)
+    = around count state places (told_row places.sources (row_at places.lines state.regs.pc))

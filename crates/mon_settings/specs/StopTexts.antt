@@ -1,6 +1,7 @@
 -- What is said of breaks and watches. Source: mos65.
-use Rattle.std.specs.Prelude.{ℕ, ◌&&◌, nat_lt, not, Bool, false, if◌then◌else◌, List, [], ◌∷◌, ◌++◌, length, Option, None, Some, codes}
+use Rattle.std.specs.Prelude.{ℕ, ◌-◌, ◌==◌, ◌&&◌, nat_le, nat_lt, not, Bool, false, if◌then◌else◌, List, [], ◌∷◌, ◌++◌, length, take, get_or, Option, None, Some, codes}
 use Rattle.std.specs.List.{flat_map}
+use Rattle.std.specs.Str.{bytes_eq}
 use Rattle.mon_settings.specs.declared.watches.Unwatched.{Unwatched}
 use Rattle.mon_settings.specs.declared.watches.Unwatched.TheVariants.{Port, Full, Wide}
 use Rattle.mon_lines.specs.declared.command.Register.{Register}
@@ -11,10 +12,10 @@ use Rattle.mon_runs.specs.declared.watches.Watch.TheVariants as watching
 use Rattle.mon_instructions.specs.Places.{place_text}
 use Rattle.mon_texts.specs.Stops.{break_line, register_name, register_watch_line, watch_line}
 use Rattle.source_map.specs.Lines.{PlacesView, row_at}
-use Rattle.source_map.specs.Names.{Named}
+use Rattle.source_map.specs.Names.{Named, first_text, name_at}
 use Rattle.source_map.specs.declared.rows.Row.{Row}
 use Rattle.mon_session.specs.declared.wording.TheConstants.{BREAKS_FULL}
-use Rattle.mon_settings.specs.declared.wording.TheConstants.{DELETED, NOTHING_AT, NOTHING_SET, NOT_WATCHED, NO_INSTRUCTION_BEGINS, PORT_UNWATCHED, WATCHES_FULL, WATCH_TOO_WIDE}
+use Rattle.mon_settings.specs.declared.wording.TheConstants.{DELETED, NOTHING_AT, NOTHING_SET, NOT_WATCHED, NO_INSTRUCTION_BEGINS, PORT_UNWATCHED, SECOND_ADDRESS, WATCHES_FULL, WATCH_TOO_WIDE}
 
 -- ---- a break
 
@@ -27,20 +28,41 @@ abbrev pub is_instruction : Option Row → Bool
 is_instruction None = false
 is_instruction (Some row) = row.is_instruction
 
--- That no instruction of the source begins at an address, if the source has lines.
+-- That no instruction of the source begins at an address, if all lines of the program are known.
 abbrev pub none_begins : List Named → ℕ → List ℕ
 none_begins names address
     = NO_INSTRUCTION_BEGINS.now ++ place_text names address ++ codes "\n"
 
 unfoldable pub lines_text : PlacesView → ℕ → List ℕ
 lines_text places address
-    = if nat_lt 0 (length places.lines) && not (is_instruction (row_at places.lines address))
+    = if places.is_whole && nat_lt 0 (length places.lines)
+    && not (is_instruction (row_at places.lines address))
     then none_begins places.names address else []
+
+-- A name is a text with a colon and four bytes behind it, as `loop:E150`: a name that had another
+-- address before.
+abbrev pub is_again : List ℕ → Named → Bool
+is_again text name = if nat_le (length name.text) (length text) then false
+    else ((length name.text - length text) == 5) && (get_or name.text (length text) 0 == 58)
+    && bytes_eq (take (length text) name.text) text
+
+abbrev pub again_of : List Named → Option (List ℕ) → Option (List ℕ)
+again_of names None = None
+again_of names (Some text) = first_text (is_again text) names
+
+abbrev pub again_line : Option (List ℕ) → List ℕ
+again_line None = []
+again_line (Some other) = SECOND_ADDRESS.now ++ other ++ codes "\n"
+
+-- That the name of an address has a second one.
+unfoldable pub again_text : List Named → ℕ → List ℕ
+again_text names address = again_line (again_of names (name_at names address))
 
 -- What is said of a break that is set, or that cannot be.
 abbrev pub set_text : PlacesView → ℕ → List Test → ℕ → Bool → List ℕ
 set_text places address tests times is_set = if is_set
     then break_line places.names address tests times ++ lines_text places address
+    ++ again_text places.names address
     else BREAKS_FULL.now
 
 -- ---- a watch

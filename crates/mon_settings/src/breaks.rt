@@ -3,11 +3,12 @@
 ghost use Rattle.std.specs.Prelude.{◌≡◌, ◌++◌, IfOk, OnErr, OnOk, if◌then◌else◌};
 ghost use Rattle.model.specs.Breakpoints.{break_set};
 ghost use Rattle.mon_settings.specs.StopLines.{is_set, or_same, with_break};
-ghost use Rattle.mon_settings.specs.StopTexts.{break_text, is_instruction, lines_text, none_begins};
-ghost use Rattle.mon_settings.specs.StopTexts.{set_text};
+ghost use Rattle.mon_settings.specs.StopTexts.{again_text, break_text, is_instruction, lines_text};
+ghost use Rattle.mon_settings.specs.StopTexts.{none_begins, set_text};
 ghost use Rattle.source_map.specs.Lines.{row_at};
 ghost use Rattle.mon_session.specs.Course.{IsEither, KeepsStops, ShowsOnly, course_of};
 
+use crate::again::say_again;
 use crate::wording::NO_INSTRUCTION_BEGINS;
 use mon_instructions::push_place;
 use mon_runs::{Break, SessionFault};
@@ -57,14 +58,15 @@ fn say_none_begins(mon: &mut MonState, address: u16) -> Result<(), AllocError>
     mon.say("\n")
 }
 
-/// Says where no instruction of the source begins, if the source has lines.
+/// Says where no instruction of the source begins, if all lines of the program are known.
 #[tactic(auto, unfolding(crate::specs::StopTexts::lines_text))]
 fn say_lines(mon: &mut MonState, address: u16) -> Result<(), AllocError>
     ensures shows { ShowsOnly mon.old mon.new }
     ensures text { OnOk result
         (mon.new.text.items ≡ mon.old.text.items ++ lines_text mon.old.places address) }
 {
-    if mon.places.has_lines() && !begins_instruction(&mon.places, address) {
+    let places = &mon.places;
+    if places.is_whole() && places.has_lines() && !begins_instruction(places, address) {
         return say_none_begins(mon, address);
     }
     Ok(())
@@ -96,12 +98,14 @@ fn note_break(mon: &mut MonState, stop: Break) -> Result<(), AllocError>
     ensures places { mon.new.places ≡ mon.old.places }
     ensures displays { mon.new.displays ≡ mon.old.displays }
     ensures text { OnOk result (mon.new.text.items ≡ mon.old.text.items
-        ++ break_text mon.old.places.names stop ++ lines_text mon.old.places stop.address) }
+        ++ break_text mon.old.places.names stop ++ lines_text mon.old.places stop.address
+        ++ again_text mon.old.places.names stop.address) }
 {
     let address = stop.address;
     push_stop(&mut mon.text, &stop, &mon.places)?;
     mon.stops.note_break(stop)?;
-    say_lines(mon, address)
+    say_lines(mon, address)?;
+    say_again(mon, address)
 }
 
 /// Sets a break, in place of one that stands there, and shows it. Nothing is changed if the session

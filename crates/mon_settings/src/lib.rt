@@ -10,6 +10,7 @@
 //! `specs/ChangeTexts.antt`.
 #![tactic(auto)]
 
+mod again;
 mod asm;
 mod breaks;
 mod bytes;

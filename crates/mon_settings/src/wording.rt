@@ -4,6 +4,8 @@
 // Breaks and watches.
 pub const NO_INSTRUCTION_BEGINS: &str = "no instruction of the source begins at ";
 
+pub const SECOND_ADDRESS: &str = "the name has a second address: ";
+
 pub const PORT_UNWATCHED: &str =
     "no byte of memory stands at the console's port; watch it with read or write\n";
 

@@ -4,7 +4,7 @@ use Rattle.model.specs.State.{State}
 use Rattle.model.specs.Text.{hex_address}
 use Rattle.mon_instructions.specs.Places.{place_text}
 use Rattle.mon_runs.specs.Rests.{has_no_handler}
-use Rattle.source_map.specs.Lines.{PlacesView, data_left, line_at, line_words, row_at}
+use Rattle.source_map.specs.Lines.{PlacesView, data_left, line_words, row_at}
 use Rattle.source_map.specs.declared.rows.Row.{Row}
 use Rattle.mon_steps.specs.declared.wording.TheConstants.{BRK_AT, ENDED_IT, FROM, NOTHING_AT, NOTHING_STANDS, NO_SERVICE, RAN_INTO, WAYS_ON}
 
@@ -27,16 +27,17 @@ is_in_line lines address = reaches 0 (row_at lines address)
     || reaches 2 (row_at lines (before address 2))
     || nat_lt 0 (data_left lines address)
 
--- Whether lines of a source are known, and none has a byte at an address.
-abbrev pub is_stray : List Row → ℕ → Bool
-is_stray lines address = nat_lt 0 (length lines) && not (is_in_line lines address)
+-- Whether all lines of a program are known, and none has a byte at an address.
+abbrev pub is_stray : PlacesView → ℕ → Bool
+is_stray places address = places.is_whole && nat_lt 0 (length places.lines)
+    && not (is_in_line places.lines address)
 
 -- ---- what is said
 
 -- An address, with its name and the line that begins there: `020B sub+3, hunt.a65:8`.
 abbrev pub site_text : PlacesView → ℕ → List ℕ
 site_text places address
-    = place_text places.names address ++ line_words places.file (line_at places.lines address)
+    = place_text places.names address ++ line_words places.sources (row_at places.lines address)
 
 -- From where the program came, if that is known.
 abbrev pub from_text : PlacesView → Option ℕ → List ℕ
@@ -57,7 +58,7 @@ brk_text places pc = BRK_AT.now ++ site_text places pc ++ ENDED_IT.now
 
 -- What is said of a BRK at an address that has no handler.
 unfoldable pub unserved_text : PlacesView → Option ℕ → ℕ → List ℕ
-unserved_text places from pc = if is_stray places.lines pc then stray_text places from pc
+unserved_text places from pc = if is_stray places pc then stray_text places from pc
     else brk_text places pc
 
 -- ---- before further steps
@@ -68,7 +69,7 @@ nothing_text pc = NOTHING_AT.now ++ hex_address pc
 
 -- Why a program has ended before a BRK at an address.
 unfoldable pub over_cause : PlacesView → ℕ → List ℕ
-over_cause places pc = if is_stray places.lines pc then nothing_text pc else NO_SERVICE.now
+over_cause places pc = if is_stray places pc then nothing_text pc else NO_SERVICE.now
 
 -- That the program has ended before a BRK at an address, and what can be done then.
 abbrev pub over_words : PlacesView → ℕ → List ℕ

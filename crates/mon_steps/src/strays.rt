@@ -34,11 +34,11 @@ fn is_in_line(places: &Places, address: u16) -> bool
         || places.data_left(address) > 0
 }
 
-/// Returns whether lines of a source are known, and none has a byte at an address.
+/// Returns whether all lines of a program are known, and none has a byte at an address.
 fn is_stray(places: &Places, address: u16) -> bool
-    ensures { result ≡ is_stray places.now.lines address }
+    ensures { result ≡ is_stray places.now address }
 {
-    places.has_lines() && !is_in_line(places, address)
+    places.is_whole() && places.has_lines() && !is_in_line(places, address)
 }
 
 /// Appends an address, with its name and the line that begins there.

@@ -3,12 +3,15 @@
 #![tactic(auto)]
 
 mod command_line;
+mod pipe;
 mod routes;
 
 use crate::command_line::tell_whole;
+use crate::pipe::{Piped, Quiet, UNREAD};
 use crate::routes::{Route, route_of};
 use program::{process_words, program, unreadable_words, words_of};
 use standard_streams::{Retrying, take_closed};
+use std::cell::Cell;
 use std::io;
 use std::process::ExitCode;
 use word_asm::asm_files;
@@ -63,29 +66,20 @@ fn debug_on_image(rt: &HostRuntime, words: &[&str]) -> u8 {
 }
 
 /// Serves a word that runs a program with the standard input, and returns the exit status.
-fn play(rt: &HostRuntime, route: Route, words: &[&str]) -> u8 {
+fn play(rt: &HostRuntime, route: Route, words: &[&str], unread: &Cell<bool>) -> u8 {
+    let mut input = Retrying::new(rt.reader());
+    let mut output = Piped::new(io::writer(rt), unread);
+    let mut errors = Quiet::new(rt.stderr(), unread);
     match route {
-        Route::Mon => mon(
-            rt,
-            words,
-            &mut Retrying::new(rt.reader()),
-            &mut io::writer(rt),
-            &mut rt.stderr(),
-        ),
+        Route::Mon => mon(rt, words, &mut input, &mut output, &mut errors),
         Route::Run => run_program(
             rt,
             words,
-            &mut Retrying::new(rt.reader()),
-            &mut Interruptible::new(io::writer(rt), open_requests(rt)),
-            &mut rt.stderr(),
+            &mut input,
+            &mut Interruptible::new(output, open_requests(rt)),
+            &mut errors,
         ),
-        _ => trace_program(
-            rt,
-            words,
-            &mut Retrying::new(rt.reader()),
-            &mut io::writer(rt),
-            &mut rt.stderr(),
-        ),
+        _ => trace_program(rt, words, &mut input, &mut output, &mut errors),
     }
 }
 
@@ -120,32 +114,45 @@ fn serve_promised(rt: &HostRuntime, words: &[&str]) -> u8 {
     )
 }
 
-/// Does what words ask for, and returns the exit status.
+/// Does what words ask for, and returns the exit status of the word.
 ///
 /// Proved: which route words have (`route_of`), and what each call does, by the contract of the
 /// call. Tested: that a route leads to the call of its name. The process's streams are made here,
 /// and no clause can name what they hold.
-fn serve(rt: &HostRuntime, words: &[&str]) -> u8 {
+fn serve_route(rt: &HostRuntime, words: &[&str], unread: &Cell<bool>) -> u8 {
     let rest = if words.is_empty() { words } else { &words[1..] };
+    let mut output = Piped::new(io::writer(rt), unread);
+    let mut errors = Quiet::new(rt.stderr(), unread);
     match route_of(words) {
-        Route::Check => check(rt, rest, &mut io::writer(rt), &mut rt.stderr()),
-        Route::Info => tape_info(rt, rest, &mut io::writer(rt), &mut rt.stderr()),
-        Route::Cmp => tape_cmp(rt, rest, &mut io::writer(rt), &mut rt.stderr()),
-        Route::Mend => tape_mend(rt, rest, &mut io::writer(rt), &mut rt.stderr()),
-        Route::Convert => convert(rt, rest, &mut io::writer(rt), &mut rt.stderr()),
-        Route::Test => test(rt, rest, &mut io::writer(rt), &mut rt.stderr()),
-        Route::DisImage => dis_image(rt, rest, &mut io::writer(rt), &mut rt.stderr()),
-        Route::DisSource => dis_source(rt, rest, &mut io::writer(rt), &mut rt.stderr()),
-        Route::AsmFiles => asm_files(rt, rest, &mut io::writer(rt), &mut rt.stderr()),
+        Route::Check => check(rt, rest, &mut output, &mut errors),
+        Route::Info => tape_info(rt, rest, &mut output, &mut errors),
+        Route::Cmp => tape_cmp(rt, rest, &mut output, &mut errors),
+        Route::Mend => tape_mend(rt, rest, &mut output, &mut errors),
+        Route::Convert => convert(rt, rest, &mut output, &mut errors),
+        Route::Test => test(rt, rest, &mut output, &mut errors),
+        Route::DisImage => dis_image(rt, rest, &mut output, &mut errors),
+        Route::DisSource => dis_source(rt, rest, &mut output, &mut errors),
+        Route::AsmFiles => asm_files(rt, rest, &mut output, &mut errors),
         Route::StrictDebug => debug_strictly(rt, rest),
         Route::StrictImage => debug_strictly_on_image(rt, rest),
         Route::DebugImage => debug_on_image(rt, rest),
-        Route::Page => page(rt, rest, &mut io::writer(rt), &mut rt.stderr()),
-        route @ (Route::Mon | Route::Run | Route::Trace) => play(rt, route, rest),
+        Route::Page => page(rt, rest, &mut output, &mut errors),
+        route @ (Route::Mon | Route::Run | Route::Trace) => play(rt, route, rest, unread),
         route @ (Route::Lsp | Route::Dap) => serve_editor(rt, route, rest),
         Route::Program => serve_promised(rt, words),
-        Route::Whole => tell_whole(rt.alloc(), words, &mut io::writer(rt), &mut rt.stderr()),
+        Route::Whole => tell_whole(rt.alloc(), words, &mut output, &mut errors),
     }
+}
+
+/// Does what words ask for, and returns the exit status: that of the word, or 141 where nobody
+/// reads its output any more. The error stream then gets nothing of it.
+///
+/// `asm`, `dis` and `debug` as promised, `debug` with more options, and the words of editors say
+/// that the output cannot be written, with the status 4.
+fn serve(rt: &HostRuntime, words: &[&str]) -> u8 {
+    let unread = Cell::new(false);
+    let status = serve_route(rt, words, &unread);
+    if unread.get() { UNREAD } else { status }
 }
 
 /// Does what the process's words ask for, and returns the exit status.

@@ -1,5 +1,5 @@
 -- What a file of names says as a source. Source: mos65.
-use Rattle.std.specs.Prelude.{ℕ, ◌+◌, ◌==◌, ◌&&◌, ◌||◌, nat_le, nat_lt, not, Bool, true, false, if◌then◌else◌, ℤ, pos, negsuc, List, [], ◌∷◌, ◌++◌, codes, decimal, length, Option, Some, None}
+use Rattle.std.specs.Prelude.{ℕ, ◌+◌, ◌-◌, ◌==◌, ◌&&◌, ◌||◌, nat_le, nat_lt, not, Bool, true, false, if◌then◌else◌, ℤ, pos, negsuc, List, [], ◌∷◌, ◌++◌, codes, decimal, length, Option, Some, None}
 use Rattle.std.specs.List.{list_all}
 use Rattle.std.specs.Option.{option_or}
 use Rattle.std.specs.Ordering.{int_eq}
@@ -156,11 +156,13 @@ form_of file = if begins file (codes "version\tmajor=") then form.Debug
     else if begins file (codes "--- Symbol List") then form.Table else form.Plain
 
 -- A source that gives the names of a file; the names that cannot stand in it; what is said of lines
--- that were left out, or nothing; and whether no line is a name in a form that is known.
+-- that were left out, or nothing; how many lines gave no name, in the source or beside it; and whether
+-- no line is a name in a form that is known.
 pub record Names : Type 0 where
   pub source : List ℕ
   pub others : Definitions
   pub left_out : List ℕ
+  pub lost : ℕ
   pub is_unknown : Bool
 
 -- What is left out and not shown is two points.
@@ -187,12 +189,14 @@ table_names form taken = record {
   source = taken.source;
   others = taken.others;
   left_out = left_text taken;
+  lost = taken.left_out - length taken.others;
   is_unknown = is_unknown form taken;
 }
 
 -- A source gives its names as it stands.
 abbrev pub source_names : List ℕ → Names
-source_names file = record { source = file; others = []; left_out = []; is_unknown = false }
+source_names file
+    = record { source = file; others = []; left_out = []; lost = 0; is_unknown = false }
 
 -- A file with a line that stands in a source alone is one, and so is one that is too large.
 abbrev pub names_of : Form → List ℕ → Taken → Names

@@ -36,5 +36,6 @@ names_view names = record {
   source = names.source.items;
   others = names.others;
   left_out = names.left_out.items;
+  lost = names.lost;
   is_unknown = names.is_unknown;
 }

@@ -38,6 +38,8 @@ pub struct NamesFile {
     /// How many lines were left out, and their names, as in `4: LDA, one, _main, ..`; nothing if
     /// none was.
     pub left_out: Vec<u8>,
+    /// How many lines gave no name, in the source or beside it.
+    pub lost: usize,
     /// Whether no line is a name in a form that is known.
     pub is_unknown: bool,
 }
@@ -457,6 +459,7 @@ fn table_names(alloc: Global, form: Form, lines: Lines) -> Result<NamesFile, All
 {
     let is_unknown = is_unknown(form, &lines);
     let left_out = left_text(alloc, &lines)?;
+    let lost = lines.left_out.saturating_sub(lines.others.count());
     let Lines {
         source,
         names: _,
@@ -471,6 +474,7 @@ fn table_names(alloc: Global, form: Form, lines: Lines) -> Result<NamesFile, All
         source,
         others,
         left_out,
+        lost,
         is_unknown,
     })
 }
@@ -483,6 +487,7 @@ fn source_names(alloc: Global, file: &[u8]) -> Result<NamesFile, AllocError>
         source: Vec::from_slice(alloc, file)?,
         others: Symbols::new(alloc),
         left_out: Vec::new(alloc),
+        lost: 0,
         is_unknown: false,
     })
 }

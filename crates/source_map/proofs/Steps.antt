@@ -1,5 +1,6 @@
 -- Names and lines of an assembly, taken one after another.
-use Rattle.std.proofs.Common.{◌≡◌, ℕ, zero, suc, ◌+◌, List, [], ◌∷◌, ◌++◌, map, Option, Some, None, take, refl, ap, sym, ◌∙◌, add-one, append_assoc, append-nil}
+use Rattle.std.proofs.Common.{◌≡◌, ℕ, zero, suc, ◌+◌, List, [], ◌∷◌, ◌++◌, map, Option, Some, None, take, length, refl, ap, sym, ◌∙◌, add-one, arith, append_assoc, append-nil}
+use Rattle.model.specs.TextLines.{lines_from, lines_of}
 use Rattle.std.specs.Prelude.{slice_get}
 use Rattle.std.specs.List.{flat_map, zip}
 use Rattle.std.specs.Option.{option_to_list}
@@ -50,3 +51,18 @@ mapped_suc f (x ∷ xs) (suc i) = ap (λ ys. f x ∷ ys) (mapped_suc f xs i)
 -- what one more element gives, one for one
 pub one_more_mapped : {X Y : Type 0} (f : X → Y) (xs : List X) (i : ℕ) → map f (take i xs) ++ map f (option_to_list (slice_get xs i)) ≡ map f (take (i + 1) xs)
 one_more_mapped f xs i = rw add-one (mapped_suc f xs i)
+
+-- the lines of a text, one after another
+pub line_taken : (made new : List (List ℕ)) (text rest line : List ℕ) (whole : List (List ℕ)) → new ≡ made ++ line ∷ [] → lines_of text ≡ line ∷ lines_of rest
+    → made ++ lines_of text ≡ whole → new ++ lines_of rest ≡ whole
+line_taken made new text rest line whole n cut w =
+    ap (λ (t : List (List ℕ)). t ++ lines_of rest) n ∙ (append_assoc made (line ∷ []) (lines_of rest)
+    ∙ (sym (ap (λ (ls : List (List ℕ)). made ++ ls) cut) ∙ w))
+
+no_line : (text : List ℕ) → length text ≡ 0 → lines_of text ≡ []
+unfolding lines_from
+no_line [] h = refl
+no_line (b ∷ text) h = absurd (omega arith)
+
+pub no_line_left : (made : List (List ℕ)) (text : List ℕ) (whole : List (List ℕ)) → length text ≡ 0 → made ++ lines_of text ≡ whole → made ≡ whole
+no_line_left made text whole h w = sym (append-nil made) ∙ (sym (ap (λ (ls : List (List ℕ)). made ++ ls) (no_line text h)) ∙ w)

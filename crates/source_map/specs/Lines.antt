@@ -1,34 +1,53 @@
--- The lines of a source, and those that have bytes. Source: mos65.
-use Rattle.std.specs.Prelude.{ℕ, zero, suc, ◌+◌, ◌-◌, ◌%◌, ◌==◌, ◌&&◌, Bool, not, nat_le, nat_lt, if◌then◌else◌, List, [], ◌∷◌, ◌++◌, codes, decimal, find, map, Option, None, Some, slice_get, unwrap_or}
+-- Rows of bytes with the lines of a source that are shown for them, by address; where bytes of each
+-- line begin, by line; and the files of the source. Source: mos65.
+use Rattle.std.specs.Prelude.{ℕ, zero, suc, ◌+◌, ◌-◌, ◌%◌, ◌==◌, ◌&&◌, ◌||◌, Bool, true, false, not, nat_le, nat_lt, if◌then◌else◌, List, [], ◌∷◌, ◌++◌, codes, decimal, find, map, Option, None, Some, slice_get, unwrap_or}
 use Rattle.std.specs.List.{flat_map}
 use Rattle.std.specs.Option.{option_map}
 use Rattle.std.specs.Global.{Vec}
 use Rattle.model.specs.Image.{cell_at}
 use Rattle.assembler.specs.Assembly.{AssemblyView, source_lines}
 use Rattle.assembler.specs.Lines.{LineView}
+use Rattle.debug_records.specs.declared.record.LineKind.TheVariants.{Assembler}
 use Rattle.source_map.specs.Names.{Named, names_in}
 use Rattle.source_map.specs.declared.rows.Row.{Row}
+use Rattle.source_map.specs.declared.rows.Site.{Site}
+use Rattle.source_map.specs.declared.source_files.SourceFile.{SourceFile}
 
--- The byte of a source at an address and the two behind it, 0 where it has none. $0000 comes after
--- $FFFF.
+-- The byte of a program at an address, 0 where it has none.
+abbrev pub byte_in : List (Option ℕ) → ℕ → ℕ
+byte_in image address = unwrap_or (cell_at image address) 0
+
+-- The byte of a program at an address and the two behind it. $0000 comes after $FFFF.
 abbrev pub bytes_in : List (Option ℕ) → ℕ → List ℕ
-bytes_in image address = unwrap_or (cell_at image address) 0
-    ∷ unwrap_or (cell_at image ((address + 1) % 65536)) 0
-    ∷ unwrap_or (cell_at image ((address + 2) % 65536)) 0 ∷ []
+bytes_in image address = byte_in image address ∷ byte_in image ((address + 1) % 65536)
+    ∷ byte_in image ((address + 2) % 65536) ∷ []
+
+-- ---- an assembly
 
 -- The row of a line, if the line has bytes.
 abbrev pub row_of : List (Option ℕ) → LineView → List Row
 row_of image line = if nat_lt 0 line.count && nat_le line.address 65535 then record {
   address = line.address;
+  file = 0;
   line = line.number;
+  kind = Assembler;
+  depth = 0;
   count = line.count;
   bytes = bytes_in image line.address;
   is_instruction = line.is_instruction;
+  is_whole_line = true;
 } ∷ [] else []
 
 -- The rows of the lines that have bytes, in their order.
 abbrev pub rows_of : List (Option ℕ) → List LineView → List Row
 rows_of image lines = flat_map (row_of image) lines
+
+-- Where rows begin.
+abbrev pub site_of : Row → Site
+site_of row = record { file = row.file; line = row.line; address = row.address }
+
+abbrev pub sites_of : List Row → List Site
+sites_of rows = map site_of rows
 
 -- The texts of lines, each without its end.
 abbrev pub texts_of : List LineView → List (List ℕ)
@@ -38,59 +57,114 @@ texts_of lines = map (λ line. line.text) lines
 abbrev pub items_of : List (Vec ℕ) → List (List ℕ)
 items_of texts = map (λ text. text.items) texts
 
--- ---- names and lines
+-- ---- files
 
--- Names, the lines of a source that have bytes, the texts of all its lines, and the name of its
--- file.
-pub record PlacesView : Type 0 where
-  pub names : List Named
-  pub lines : List Row
+-- A file of a source: its name, and the texts of all its lines, each without its end.
+pub record SourceView : Type 0 where
+  pub name : List ℕ
   pub texts : List (List ℕ)
-  pub file : List ℕ
 
--- What stands where in a source.
-abbrev pub places_of : List ℕ → AssemblyView → PlacesView
-places_of file assembly = record {
-  names = names_in assembly;
-  lines = rows_of assembly.image (source_lines assembly);
-  texts = texts_of (source_lines assembly);
-  file = file;
-}
+abbrev pub source_view : SourceFile → SourceView
+source_view source = record { name = source.name.items; texts = items_of source.texts.items }
 
--- The row of the first line whose first byte stands at an address.
-abbrev pub row_at : List Row → ℕ → Option Row
-row_at lines address = find (λ row. row.address == address) lines
+abbrev pub name_of_file : Option SourceView → List ℕ
+name_of_file None = []
+name_of_file (Some source) = source.name
 
--- The first line whose first byte stands at an address.
-abbrev pub line_at : List Row → ℕ → Option ℕ
-line_at lines address = option_map (λ row. row.line) (row_at lines address)
+abbrev pub texts_of_file : Option SourceView → List (List ℕ)
+texts_of_file None = []
+texts_of_file (Some source) = source.texts
 
--- The row of the first line with bytes at a line or behind it. Lines are counted from 1.
-abbrev pub row_from : List Row → ℕ → Option Row
-row_from lines line = find (λ row. nat_le line row.line) lines
+-- The name and the texts of the file of a number: none if there is no such file.
+abbrev pub file_name : List SourceView → ℕ → List ℕ
+file_name sources file = name_of_file (slice_get sources file)
 
--- A line of a file in a text, if there is one: `, hunt.a65:8`.
-abbrev pub line_words : List ℕ → Option ℕ → List ℕ
-line_words file None = []
-line_words file (Some line) = codes ", " ++ (file ++ (codes ":" ++ decimal line))
+abbrev pub texts_at : List SourceView → ℕ → List (List ℕ)
+texts_at sources file = texts_of_file (slice_get sources file)
 
 -- The text of a line, counted from 1.
 abbrev pub text_of : List (List ℕ) → ℕ → Option (List ℕ)
 text_of texts zero = None
 text_of texts (suc index) = slice_get texts index
 
+-- ---- names and lines
+
+-- Names; what stands at addresses, with the lines that are shown for it; where bytes of each line
+-- begin; the files; and whether each byte of the program is one of a line.
+pub record PlacesView : Type 0 where
+  pub names : List Named
+  pub lines : List Row
+  pub sites : List Site
+  pub sources : List SourceView
+  pub is_whole : Bool
+
+-- What stands where in a program of which nothing is known.
+abbrev pub no_places : PlacesView
+no_places = record { names = []; lines = []; sites = []; sources = []; is_whole = false }
+
+-- What stands where in a source, which is one file.
+abbrev pub places_of : List ℕ → AssemblyView → PlacesView
+places_of file assembly = record {
+  names = names_in assembly;
+  lines = rows_of assembly.image (source_lines assembly);
+  sites = sites_of (rows_of assembly.image (source_lines assembly));
+  sources = record { name = file; texts = texts_of (source_lines assembly) } ∷ [];
+  is_whole = true;
+}
+
+-- ---- by address
+
+-- The first row whose first byte stands at an address.
+abbrev pub row_at : List Row → ℕ → Option Row
+row_at lines address = find (λ row. row.address == address) lines
+
+-- The line of the first row whose first byte stands at an address.
+abbrev pub line_at : List Row → ℕ → Option ℕ
+line_at lines address = option_map (λ row. row.line) (row_at lines address)
+
+-- A line with its file: `hunt.a65:8`.
+abbrev pub site_words : List SourceView → Row → List ℕ
+site_words sources row = file_name sources row.file ++ (codes ":" ++ decimal row.line)
+
+-- The same in a text, if there is one: `, hunt.a65:8`.
+abbrev pub line_words : List SourceView → Option Row → List ℕ
+line_words sources None = []
+line_words sources (Some row) = codes ", " ++ site_words sources row
+
+-- ---- by line
+
+-- Whether a site has a lower line than another one, or a lower address in the same line.
+abbrev pub is_before : Site → Option Site → Bool
+is_before site None = true
+is_before site (Some other) = nat_lt site.line other.line
+    || (site.line == other.line && nat_lt site.address other.address)
+
+abbrev pub with_site : ℕ → ℕ → Option Site → Site → Option Site
+with_site file line best site = if site.file == file && nat_le line site.line && is_before site best
+    then Some site else best
+
+-- Of the sites of a file at a line or behind it the one of the lowest line, and of these of the
+-- lowest address. Lines are counted from 1.
+abbrev pub site_from : ℕ → ℕ → Option Site → List Site → Option Site
+site_from file line best [] = best
+site_from file line best (site ∷ sites) = site_from file line (with_site file line best site) sites
+
+-- The address of a line of a file, or of the next one that has bytes.
+abbrev pub address_from : List Site → ℕ → ℕ → Option ℕ
+address_from sites file line = option_map (λ site. site.address) (site_from file line None sites)
+
 -- ---- data
 
--- How many bytes of a line are left from an address on: none if it does not stand there.
+-- How many bytes of a row are left from an address on: none if it does not stand there.
 abbrev pub left_in : ℕ → Row → ℕ
 left_in address row = if nat_le row.address address then row.count - (address - row.address) else 0
 
--- Whether a line is no instruction and has a byte at an address.
+-- Whether a row is no instruction and has a byte at an address.
 abbrev pub is_data_at : ℕ → Row → Bool
 is_data_at address row = not row.is_instruction && nat_lt 0 (left_in address row)
 
--- How many bytes the first line of data that stands at an address has from there on: none if no
--- such line does.
+-- How many bytes the first row of data that stands at an address has from there on: none if no
+-- such row does.
 abbrev pub data_left : List Row → ℕ → ℕ
 data_left [] address = 0
 data_left (row ∷ rows) address

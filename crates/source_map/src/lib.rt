@@ -1,13 +1,18 @@
 //! What stands where in a program: its names, and the lines of its source.
 //!
-//! They are taken from an assembly, which has the place of each line.
+//! They are taken from an assembly, which has the place of each line, or from the debug information
+//! of another tool (`specs/Debugged.antt`). Either way there is one table of rows by address, and
+//! one of sites by line (`specs/Lines.antt`).
 #![tactic(auto)]
 
+mod debugged;
 mod names;
 mod places;
 mod rows;
+mod source_files;
 mod texts;
 
 pub use names::{Name, Names, is_same_word};
 pub use places::Places;
-pub use rows::{Row, rows_of};
+pub use rows::{Row, Site, rows_of};
+pub use source_files::SourceFile;

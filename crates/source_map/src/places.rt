@@ -1,43 +1,56 @@
 //! The names and the lines of a program.
 
-ghost use Rattle.std.specs.Prelude.{◌≡◌, ◌++◌, [], ℕ, IfOk, OnErr, OnOk, length, nat_lt, slice_get, take};
+ghost use Rattle.std.specs.Prelude.{◌≡◌, ◌∷◌, ◌++◌, [], ℕ, IfOk, None, OnErr, OnOk, codes, decimal};
+ghost use Rattle.std.specs.Prelude.{length, map, nat_lt, take};
 ghost use Rattle.std.specs.Option.{option_copied};
-ghost use Rattle.source_map.specs.Lines.{data_left, is_data_at, items_of, left_in, line_at};
-ghost use Rattle.source_map.specs.Lines.{line_words, places_of, row_at, row_from, text_of};
+ghost use Rattle.debug_records.specs.Views.{info_view};
+ghost use Rattle.source_map.specs.Debugged.{debug_places};
+ghost use Rattle.source_map.specs.Lines.{address_from, data_left, file_name, is_before, is_data_at};
+ghost use Rattle.source_map.specs.Lines.{left_in, line_at, line_words, no_places, places_of, row_at};
+ghost use Rattle.source_map.specs.Lines.{site_from, site_words, source_view, text_of, texts_at};
+ghost use Rattle.source_map.specs.Lines.{with_site};
 ghost use Rattle.source_map.specs.Names.{named_numbers, names_in, names_of, other_names};
 
+use crate::debugged::{pieces_of, sites_in, told_rows};
 use crate::names::Names;
-use crate::rows::{Row, rows_of};
+use crate::rows::{Row, Site, rows_of, sites_of};
+use crate::source_files::{SourceFile, file_name, text_of};
 use crate::texts::texts_of;
 use assembler::Assembly;
+use debug_records::DebugInfo;
 use formatting::{push_count, push_text};
+use memory_map::Image;
+use model::Profile;
 use std::alloc::{AllocError, Global};
 use std::marker::Model;
 use symbols::Symbols;
 
-/// What stands where: names, and the lines of the source file, if the program has one.
+/// What stands where: names, and the lines of the source, if one is known.
 #[derive(Drop)]
 pub struct Places {
     names: Names,
     rows: Vec<Row>,
-    texts: Vec<Vec<u8>>,
-    file: Vec<u8>,
+    sites: Vec<Site>,
+    sources: Vec<SourceFile>,
+    is_whole: bool,
 }
 
 impl Model for Places {
-    ghost use Rattle.source_map.specs.Lines.{PlacesView, items_of};
+    ghost use Rattle.std.specs.Prelude.{map};
+    ghost use Rattle.source_map.specs.Lines.{PlacesView, source_view};
 
     ghost Value = { PlacesView };
 
     ghost view = { λ p. record {
       names = p.names;
       lines = p.rows.items;
-      texts = items_of p.texts.items;
-      file = p.file.items;
+      sites = p.sites.items;
+      sources = map source_view p.sources.items;
+      is_whole = p.is_whole;
     } };
 }
 
-/// Returns the row of the first of some lines whose first byte stands at an address.
+/// Returns the first of some rows whose first byte stands at an address.
 fn first_row_at(rows: &[Row], address: u16) -> Option<Row>
     ensures { result ≡ row_at rows.now address }
 {
@@ -49,32 +62,51 @@ fn first_row_at(rows: &[Row], address: u16) -> Option<Row>
     None
 }
 
-/// Returns the row of the first of some lines that is at a line or behind it.
-fn first_row_from(rows: &[Row], line: u32) -> Option<Row>
-    ensures { result ≡ row_from rows.now line }
+/// Returns whether a site has a lower line than another one, or a lower address in the same line.
+fn is_before(site: Site, other: Option<Site>) -> bool
+    ensures { result ≡ is_before site other }
 {
-    for row in rows {
-        if line <= row.line {
-            return Some(*row);
+    match other {
+        None => true,
+        Some(other) => {
+            site.line < other.line || site.line == other.line && site.address < other.address
         }
     }
-    None
 }
 
-/// Appends a line of a file, if there is one.
-fn push_line(text: &mut Vec<u8>, file: &[u8], line: Option<u32>) -> Result<(), AllocError>
-    ensures { OnOk result (text.new.items ≡ text.old.items ++ line_words file.now line) }
+/// Returns the better one of the site found so far and another, for a line of a file.
+fn with_site(file: u32, line: u32, best: Option<Site>, site: Site) -> Option<Site>
+    ensures { result ≡ with_site file line best site }
 {
-    let Some(line) = line else {
-        return Ok(());
-    };
-    push_text(text, ", ")?;
+    if site.file == file && line <= site.line && is_before(site, best) {
+        Some(site)
+    } else {
+        best
+    }
+}
+
+/// Returns the site of a line of a file, or of the next one that has bytes.
+fn site_from(sites: &[Site], file: u32, line: u32) -> Option<Site>
+    ensures { result ≡ site_from file line None sites.now }
+{
+    let mut best = None;
+    for site in sites {
+        best = with_site(file, line, best, *site);
+    }
+    best
+}
+
+/// Appends the name of a file and the number of a line: `FILE:LINE`.
+fn push_numbered(text: &mut Vec<u8>, file: &[u8], line: u32) -> Result<(), AllocError>
+    ensures { OnOk result
+        (text.new.items ≡ text.old.items ++ (file.now ++ (codes ":" ++ decimal line))) }
+{
     text.extend_from_slice(file)?;
     push_text(text, ":")?;
     push_count(text, line as u64)
 }
 
-/// Returns how many bytes of a line are left from an address on: 0 if it does not stand there.
+/// Returns how many bytes of a row are left from an address on: 0 if it does not stand there.
 fn left_in(row: Row, address: u16) -> u32
     ensures { result ≡ left_in address row }
 {
@@ -85,14 +117,14 @@ fn left_in(row: Row, address: u16) -> u32
     }
 }
 
-/// Returns whether a line is no instruction and has a byte at an address.
+/// Returns whether a row is no instruction and has a byte at an address.
 fn is_data_at(row: Row, address: u16) -> bool
     ensures { result ≡ is_data_at address row }
 {
     !row.is_instruction && left_in(row, address) > 0
 }
 
-/// Returns how many bytes the first line of data that stands at an address has from there on.
+/// Returns how many bytes the first row of data that stands at an address has from there on.
 fn data_left(rows: &[Row], address: u16) -> u32
     ensures { result ≡ data_left rows.now address }
 {
@@ -104,40 +136,69 @@ fn data_left(rows: &[Row], address: u16) -> u32
     0
 }
 
-/// Returns the text of an index.
-fn text_at(texts: &[Vec<u8>], index: usize) -> Option<&[u8]>
-    ensures { option_copied result ≡ slice_get (items_of texts.now) index }
-{
-    match texts.get(index) {
-        Some(text) => Some(text.as_slice()),
-        None => None,
-    }
-}
-
 impl Places {
-    /// Makes the places of a program without names and without lines.
+    /// Makes the places of a program of which nothing is known.
     pub fn new(alloc: Global) -> Places
-        ensures { result ≡ record { names = []; lines = []; texts = []; file = [] } }
+        ensures { result ≡ no_places }
     {
         Places {
             names: Names::new(alloc),
             rows: Vec::new(alloc),
-            texts: Vec::new(alloc),
-            file: Vec::new(alloc),
+            sites: Vec::new(alloc),
+            sources: Vec::new(alloc),
+            is_whole: false,
         }
     }
 
     /// Makes the places of an assembled source, which was read from the file of that name.
+    ///
+    /// Errors: `AllocError` if an allocation fails.
     pub fn of_source(alloc: Global, file: &[u8], assembly: &Assembly) -> Result<Places, AllocError>
         ensures { IfOk result (λ places. places ≡ places_of file.now assembly.now) }
     {
         let mut names = Names::new(alloc);
         names.append(alloc, assembly)?;
+        let rows = rows_of(alloc, assembly)?;
+        let sites = sites_of(alloc, rows.as_slice())?;
+        let source = SourceFile {
+            name: Vec::from_slice(alloc, file)?,
+            texts: texts_of(alloc, assembly)?,
+        };
+        let mut sources = Vec::new(alloc);
+        sources.push(source)?;
         Ok(Places {
             names,
-            rows: rows_of(alloc, assembly)?,
-            texts: texts_of(alloc, assembly)?,
-            file: Vec::from_slice(alloc, file)?,
+            rows,
+            sites,
+            sources,
+            is_whole: true,
+        })
+    }
+
+    /// Makes the places of a program by debug information, which has no names here. The image has
+    /// the bytes of the program where it runs; the files are those of the information, by number.
+    ///
+    /// Errors: `AllocError` if an allocation fails.
+    pub fn of_debug(
+        alloc: Global,
+        profile: Profile,
+        image: &Image,
+        info: &DebugInfo<'_>,
+        sources: Vec<SourceFile>,
+    ) -> Result<Places, AllocError>
+        ensures { IfOk result (λ places. places
+            ≡ debug_places (record { profile = profile; image = image.now }) (info_view info.now)
+            (map source_view sources.items)) }
+    {
+        let told = told_rows(alloc, info)?;
+        let rows = pieces_of(alloc, profile, image, told.as_slice())?;
+        let sites = sites_in(alloc, told.as_slice())?;
+        Ok(Places {
+            names: Names::new(alloc),
+            rows,
+            sites,
+            sources,
+            is_whole: false,
         })
     }
 
@@ -171,11 +232,25 @@ impl Places {
         &self.names
     }
 
-    /// Returns the name of the source's file: no byte if there is none.
+    /// Returns the name of the first file of the source: no byte if there is none.
     pub fn file(&self) -> &[u8]
-        ensures { result.now ≡ self.now.file }
+        ensures { result.now ≡ file_name self.now.sources 0 }
     {
-        self.file.as_slice()
+        self.file_name(0)
+    }
+
+    /// Returns the name of the file of a number: no byte if there is none.
+    pub fn file_name(&self, file: u32) -> &[u8]
+        ensures { result.now ≡ file_name self.now.sources file }
+    {
+        file_name(self.sources.as_slice(), file)
+    }
+
+    /// Returns the files of the source, by number.
+    pub fn sources(&self) -> &[SourceFile]
+        ensures { map source_view result.now ≡ self.now.sources }
+    {
+        self.sources.as_slice()
     }
 
     /// Returns whether lines of a source are known.
@@ -185,61 +260,79 @@ impl Places {
         !self.rows.is_empty()
     }
 
-    /// Returns the lines of the source that have bytes, in their order.
+    /// Returns whether each byte of the program is known to be one of a line.
+    pub fn is_whole(&self) -> bool
+        ensures { result ≡ self.now.is_whole }
+    {
+        self.is_whole
+    }
+
+    /// Returns the rows by address: in the order of the lines, or of the addresses.
     pub fn rows(&self) -> &[Row]
         ensures { result.now ≡ self.now.lines }
     {
         self.rows.as_slice()
     }
 
-    /// Returns the row of the first line of the source whose first byte stands at an address.
+    /// Returns the first row whose first byte stands at an address.
     pub fn row_at(&self, address: u16) -> Option<Row>
         ensures { result ≡ row_at self.now.lines address }
     {
         first_row_at(self.rows.as_slice(), address)
     }
 
-    /// Returns the first line of the source whose first byte stands at an address.
+    /// Returns the line of the first row whose first byte stands at an address.
     pub fn line_at(&self, address: u16) -> Option<u32>
         ensures { result ≡ line_at self.now.lines address }
     {
         Some(self.row_at(address)?.line)
     }
 
-    /// Returns the row of the first line with bytes at a line of the source or behind it, counted
-    /// from 1.
-    pub fn row_from(&self, line: u32) -> Option<Row>
-        ensures { result ≡ row_from self.now.lines line }
+    /// Returns the address of a line of a file, counted from 1, or of the next line with bytes: the
+    /// lowest one.
+    pub fn address_from(&self, file: u32, line: u32) -> Option<u16>
+        ensures { result ≡ address_from self.now.sites file line }
     {
-        first_row_from(self.rows.as_slice(), line)
+        Some(site_from(self.sites.as_slice(), file, line)?.address)
     }
 
-    /// Appends the first line of the source whose first byte stands at an address, if there is one:
+    /// Appends the line of a row with its file: `FILE:LINE`.
+    ///
+    /// Errors: `AllocError` if an allocation fails.
+    pub fn push_site(&self, text: &mut Vec<u8>, row: Row) -> Result<(), AllocError>
+        ensures { OnOk result
+            (text.new.items ≡ text.old.items ++ site_words self.now.sources row) }
+    {
+        push_numbered(text, self.file_name(row.file), row.line)
+    }
+
+    /// Appends the line of the first row whose first byte stands at an address, if there is one:
     /// `, FILE:LINE`.
     ///
     /// Errors: `AllocError` if an allocation fails.
     pub fn push_line_at(&self, text: &mut Vec<u8>, address: u16) -> Result<(), AllocError>
         ensures { OnOk result (text.new.items ≡ text.old.items
-            ++ line_words self.now.file (line_at self.now.lines address)) }
+            ++ line_words self.now.sources (row_at self.now.lines address)) }
     {
-        push_line(text, self.file(), self.line_at(address))
+        let Some(row) = self.row_at(address) else {
+            return Ok(());
+        };
+        push_text(text, ", ")?;
+        self.push_site(text, row)
     }
 
-    /// Returns how many bytes the first line of data that stands at an address has from there on: 0
-    /// if no such line does. Data is what is no instruction.
+    /// Returns how many bytes the first row of data that stands at an address has from there on: 0
+    /// if no such row does. Data is what is no instruction.
     pub fn data_left(&self, address: u16) -> u32
         ensures { result ≡ data_left self.now.lines address }
     {
         data_left(self.rows.as_slice(), address)
     }
 
-    /// Returns the text of a line of the source, counted from 1, without its end.
-    pub fn text_of(&self, line: u32) -> Option<&[u8]>
-        ensures { option_copied result ≡ text_of self.now.texts line }
+    /// Returns the text of a line of a file, counted from 1, without its end.
+    pub fn text_of(&self, file: u32, line: u32) -> Option<&[u8]>
+        ensures { option_copied result ≡ text_of (texts_at self.now.sources file) line }
     {
-        if line == 0 {
-            return None;
-        }
-        text_at(self.texts.as_slice(), line as usize - 1)
+        text_of(self.sources.as_slice(), file, line)
     }
 }

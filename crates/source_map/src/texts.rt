@@ -1,11 +1,13 @@
-//! The texts of the lines of a source, from its assembly.
+//! The texts of the lines of a source: from its assembly, or from the text of a file.
 
 ghost use Rattle.std.specs.Prelude.{◌≡◌, ◌∷◌, ◌++◌, [], IfOk, OnOk, map, slice_get};
 ghost use Rattle.std.specs.Option.{option_to_list};
 ghost use Rattle.assembler.specs.Assembly.{source_lines};
+ghost use Rattle.model.specs.TextLines.{lines_of};
 ghost use Rattle.source_map.specs.Lines.{items_of, texts_of};
 
 use assembler::Assembly;
+use line_parts::next_line;
 use std::alloc::{AllocError, Global};
 
 /// Appends a text.
@@ -42,6 +44,20 @@ pub fn texts_of(alloc: Global, assembly: &Assembly) -> Result<Vec<Vec<u8>>, Allo
     let mut texts = Vec::new(alloc);
     for index in 0..assembly.line_count() {
         push_text_at(alloc, &mut texts, assembly, index)?;
+    }
+    Ok(texts)
+}
+
+/// Returns the texts of the lines of a text, each without its end.
+pub fn lines_of(alloc: Global, text: &[u8]) -> Result<Vec<Vec<u8>>, AllocError>
+    ensures { IfOk result (λ texts. items_of texts.items ≡ lines_of text.now) }
+{
+    let mut texts = Vec::new(alloc);
+    let mut rest = text;
+    while !rest.is_empty() {
+        let (line, behind) = next_line(rest);
+        push_text(alloc, &mut texts, line)?;
+        rest = behind;
     }
     Ok(texts)
 }

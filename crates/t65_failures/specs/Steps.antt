@@ -10,7 +10,7 @@ use Rattle.model.specs.Session.{Session}
 use Rattle.model.specs.State.{State}
 use Rattle.model.specs.declared.registers.Regs.{Regs}
 use Rattle.model.specs.declared.session_fault.SessionFault.{SessionFault}
-use Rattle.source_map.specs.Lines.{PlacesView, line_at}
+use Rattle.source_map.specs.Lines.{PlacesView, file_name, line_at}
 use Rattle.t65_failures.specs.declared.wording.TheConstants.{A_IS, IRQ, LAST_STEPS, NMI, P_IS, S_IS, X_IS, Y_IS}
 use Rattle.t65_reader.specs.declared.row.Request.{Request}
 use Rattle.t65_reader.specs.declared.row.Signal.{Signal}
@@ -59,7 +59,7 @@ source_by file (Some line) = codes "  " ++ map visible file ++ codes ":" ++ deci
 
 -- The line of the source whose bytes stand at an address.
 abbrev pub source_text : PlacesView → ℕ → List ℕ
-source_text places address = source_by places.file (line_at places.lines address)
+source_text places address = source_by (file_name places.sources 0) (line_at places.lines address)
 
 -- A step from one state to another: the instruction that came next in the first, the registers in
 -- the second, and the line of the source.

@@ -3,7 +3,7 @@
 ghost use Rattle.std.specs.Prelude.{◌≡◌, IfErr};
 ghost use Rattle.tape_words.specs.Files.{EndsReadingText};
 
-use arguments::{FileRefusal, Refusal, read_most};
+use arguments::{FileRefusal, Refusal, read_given};
 use model::{TapeFault, TapeFaultKind};
 use std::rt::Files;
 
@@ -22,7 +22,7 @@ pub fn read_text<'a, H: Files + AllocGlobal>(
     ensures file { IfErr result (λ why. why.file.now ≡ path.entry.now) }
     ensures refused { IfErr result (λ why. EndsReadingText why.refusal) }
 {
-    match read_most(rt, path, LONGEST + 1) {
+    match read_given(rt, path, LONGEST + 1) {
         Ok(text) if text.len() as u64 <= LONGEST => Ok(text),
         Ok(_) => Err(FileRefusal {
             file: path,

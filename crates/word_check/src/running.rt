@@ -11,7 +11,7 @@ ghost use Rattle.word_check.specs.Found.{EndsFile, IsFound, has_slips};
 use crate::text::{CheckedText, checked_text};
 use crate::words::{CheckWords, read_words};
 use arguments::{
-    LoadFault, NotWritten, Refusal, map_of, read_source, refuse, refused_words, shown_name,
+    LoadFault, NotWritten, Refusal, map_of, read_given_source, refuse, refused_words, shown_name,
     write_text,
 };
 use bus::MapSpec;
@@ -109,7 +109,7 @@ fn checked<H: Files + AllocGlobal>(
     ensures found { IfOk result (IsFound (check_view words.now) file.now) }
     ensures refused { IfErr result EndsFile }
 {
-    let bytes = read_source(rt, file)?;
+    let bytes = read_given_source(rt, file)?;
     let source = cleaned_source(rt.alloc(), &bytes)?;
     let found = found_in(rt.alloc(), words, map, file, &source)?;
     unless_raw(words, file, &bytes, found)

@@ -105,7 +105,7 @@ MayRefuseIn asked (Some client) = MayRefuseAt asked client
 MayRefuseIn asked None = ⊤
 
 -- A launch that comes again, that gives a member a value that it cannot have, or that names no
--- program that can be loaded; `initialize` that comes again.
+-- program that can be loaded; `initialize` that comes again; `attach`, as no program runs elsewhere.
 abbrev pub MayRefuseBegun : Request → Option Client → Type 0
 MayRefuseBegun to.Disconnect client = ⊥
 MayRefuseBegun to.NoRequest client = ⊥

@@ -19,6 +19,9 @@ use dap_session::{
 use std::alloc::{AllocError, Global};
 use std::rt::Files;
 
+/// What is said of a request to attach.
+const NO_ATTACH: &str = "attach is not served: each program runs in the adapter, so launch it";
+
 /// An adapter: how its client counts, and the session, if one has begun.
 #[derive(Drop)]
 pub struct Adapter {
@@ -90,6 +93,7 @@ fn serve_begun<H: Files + AllocGlobal>(
         Request::Initialize(_) => Err(refused(rt.alloc(), "initialize comes once")),
         Request::Launch(asked) => launch(rt, client, &asked),
         Request::WrongLaunch(member) => Err(refused(rt.alloc(), member.words())),
+        Request::Attach => Err(refused(rt.alloc(), NO_ATTACH)),
         Request::Disconnect => or_memory(all_done(rt.alloc())),
         Request::InSession(asked) => match client {
             Some(client) => answer(rt, client, counting, asked),

@@ -105,6 +105,7 @@ fn names_in(
         source,
         others: _,
         left_out,
+        lost: _,
         is_unknown,
     } = file;
     if is_unknown {

@@ -9,7 +9,7 @@ use Rattle.arguments.specs.declared.refusal.Refusal.TheVariants.{OutOfMemory}
 use Rattle.arguments_play.specs.Mon.{MonAsked, mon_view}
 use Rattle.word_mon.specs.Files.{EndsReload, IsReloaded, Repeats, ServesAgain, is_memory}
 use Rattle.word_mon.specs.Notes.{SeenNote, notes_after, placed_in}
-use Rattle.word_mon.specs.Starts.{EndsNamed, StartsMon}
+use Rattle.word_mon.specs.Starts.{EndsDebugInfo, EndsNamed, StartsMon}
 use Rattle.word_mon.specs.declared.terminal.Terminal.{Terminal}
 use Rattle.mon_dispatch.specs.Lines.{Follows}
 use Rattle.mon_dispatch.specs.declared.lines.Outcome.{Outcome}
@@ -64,7 +64,14 @@ pub ends_reload : (symbols : Option (Bor (List ℕ))) (other : Bor (List ℕ)) (
     ⊎ EndsReload asked (unwrap_or symbols other).now (Refused fault)
 ends_reload symbols other asked fault is (inl memory) = inl (ap Refused memory)
 ends_reload None other asked fault is (inr ends) = absurd ends
-ends_reload (Some path) other asked fault is (inr ends) = inr (inr (fault, refl, is, ends))
+ends_reload (Some path) other asked fault is (inr ends) = inr (inr (inl (fault, refl, is, ends)))
+
+pub debug_ends_reload : (debug : Option (Bor (List ℕ))) (other : Bor (List ℕ)) (asked : MonAsked)
+    (fault : LoadFault) → asked.debug_info ≡ option_map (λ s. s.now) debug
+    → EndsDebugInfo (option_map (λ s. s.now) debug) fault
+    → (fault ≡ Refused OutOfMemory) ⊎ EndsReload asked (unwrap_or debug other).now fault
+debug_ends_reload None other asked fault is ends = absurd ends
+debug_ends_reload (Some path) other asked fault is ends = inr (inr (inr (is, ends)))
 
 -- memory did not run out
 pub ends_then : (asked : MonAsked) (path : List ℕ) (fault : LoadFault) → is_memory fault ≡ false

@@ -1,4 +1,5 @@
 pub mod Again
+pub mod Bytes
 pub mod Filed
 pub mod LinesServed
 pub mod Pieces

@@ -4,20 +4,34 @@ use Rattle.accesses.specs.Writing.{bytes_in}
 use Rattle.assembler.specs.Assembly.{AssemblyView, IsAssembled}
 use Rattle.loading.specs.declared.loaded.ImageNames.{ImageNames}
 use Rattle.arguments.specs.Asked.{FileAsked, map_of}
-use Rattle.loading.specs.Loads.{AreOfFile, IsLoaded}
+use Rattle.loading.specs.Loads.{AreOfFile}
+use Rattle.loading.specs.Machine.{AreLoaded}
 use Rattle.model.specs.Event.{start}
 use Rattle.model.specs.Session.{Session, new_session}
-use Rattle.word_mon.specs.Starts.{AreNamed, IsNewState, StartsMon, places_in, with_names}
+use Rattle.word_mon.specs.Starts.{AreNamed, ArePlaces, IsNewState, StartsMon, with_names}
+use Rattle.source_map.specs.Lines.{PlacesView}
 use Rattle.mon_session.specs.declared.mon_state.MonState.{MonState}
 use Rattle.arguments_play.specs.Mon.{MonAsked}
 
 -- The session of a new state is the one that was loaded.
 pub named_starts : (asked : MonAsked) (session : Session) (assembly : Option AssemblyView) (written loaded : List Bool) (mon : MonState)
-    → (image : List (Option ℕ)) × IsLoaded asked.file image assembly × (session ≡ new_session asked.history (start (map_of asked.file) image)) × (written ≡ bytes_in image)
-    → (names : Option ImageNames) × AreNamed asked.symbols asked.file names × IsNewState session asked.history (with_names names (places_in asked.file.file assembly)) mon
+    → (image : List (Option ℕ)) × AreLoaded asked.file asked.others image assembly × (session ≡ new_session asked.history (start (map_of asked.file) image)) × (written ≡ bytes_in image)
+    → (places : PlacesView) × ArePlaces asked.debug_info asked.file.file session assembly written places
+    × (names : Option ImageNames) × AreNamed asked.symbols asked.file names × IsNewState session asked.history (with_names names places) mon
     → loaded ≡ written → StartsMon asked mon loaded
 named_starts asked session assembly written loaded mon given new same =
-    (given.0, assembly, given.1, same ∙ given.3, new.0, new.1, subst (λ s. IsNewState s asked.history (with_names new.0 (places_in asked.file.file assembly)) mon) given.2 new.2)
+    let begun = new_session asked.history (start (map_of asked.file) given.0) in (
+      given.0,
+      assembly,
+      given.1,
+      same ∙ given.3,
+      new.0,
+      subst (λ w. ArePlaces asked.debug_info asked.file.file begun assembly w new.0) (sym same)
+          (subst (λ s. ArePlaces asked.debug_info asked.file.file s assembly written new.0) given.2 new.1),
+      new.2,
+      new.3,
+      subst (λ s. IsNewState s asked.history (with_names new.2 new.0) mon) given.2 new.4,
+    )
 
 -- A file of names that was read is the one that is named.
 pub named_with : (symbols : Option (Bor (List ℕ))) (path : Bor (List ℕ)) (file : FileAsked) (names : ImageNames) → symbols ≡ Some path → IsAssembled (map_of file) names.assembly

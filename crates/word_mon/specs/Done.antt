@@ -2,15 +2,18 @@
 use Rattle.std.specs.Prelude.{◌≡◌, ◌⊎◌, ⊤, ℕ, Bool, true, List, [], ◌++◌, Option, Some, None, Result, Ok, Err}
 use Rattle.std.specs.Io.KnownBytes.{Appends}
 use Rattle.arguments.specs.Asked.{FileAsked}
-use Rattle.arguments.specs.FaultLines.{fault_line, file_line}
-use Rattle.arguments.specs.Statuses.{status_of}
+use Rattle.arguments.specs.FaultLines.{fault_line, file_line, load_text}
+use Rattle.arguments.specs.Statuses.{status_of, status_of_load}
+use Rattle.arguments.specs.declared.load_fault.LoadFault.{LoadFault}
 use Rattle.arguments.specs.declared.refusal.ReadFault.TheVariants.{Other}
 use Rattle.arguments.specs.declared.refusal.Refusal.{Refusal}
 use Rattle.arguments.specs.declared.refusal.Refusal.TheVariants.{OutOfMemory, Read, Write}
 use Rattle.arguments_play.specs.Mon.{MonAsked, mon_view}
 use Rattle.clap.specs.Words.{Text}
+use Rattle.debug_files.specs.Loads.{EndsDebug}
 use Rattle.loading.specs.Loads.{EndsNames}
-use Rattle.loading.specs.Told.{Heard, IsUnloaded, Tells}
+use Rattle.loading.specs.Machine.{AreUnloaded}
+use Rattle.loading.specs.Told.{Heard, Tells}
 use Rattle.word_mon.specs.Attended.{AttendsInPart, IsAttended, IsAttendedSoFar}
 use Rattle.word_mon.specs.Greeting.{greeting_of}
 use Rattle.word_mon.specs.Screens.{drawn}
@@ -28,6 +31,17 @@ abbrev pub IsUnnamed : Option Text → FileAsked → Heard → ℕ → Type 0 �
 IsUnnamed None file heard status Alone = ⊥
 IsUnnamed (Some path) file heard status Alone = (fault : Refusal) × EndsNames file fault
     × (status ≡ status_of fault) × Tells heard (file_line path fault) × Alone
+
+-- The file of debug information was not loaded, the error stream got why, and the others were left
+-- alone, `Alone`.
+abbrev pub IsUndebugged : Option Text → Heard → ℕ → Type 0 → Type 0
+IsUndebugged None heard status Alone = ⊥
+IsUndebugged (Some path) heard status Alone = (fault : LoadFault) × EndsDebug fault
+    × (status ≡ status_of_load fault) × Tells heard (load_text fault path) × Alone
+
+abbrev pub IsUnstarted : MonAsked → Heard → ℕ → Type 0 → Type 0
+IsUnstarted asked heard status Alone = IsUnnamed asked.symbols asked.file heard status Alone
+    ⊎ IsUndebugged asked.debug_info heard status Alone
 
 -- Why a session ends before its input does.
 abbrev pub EndsSession : Refusal → Type 0
@@ -91,8 +105,9 @@ EndsAt prompts first given left held now heard status = (outcome : Result ⊤ Re
 -- the words ask for them, or if the input is typed; screens only if the words ask for them.
 abbrev pub IsDone : MonAsked → Option (List ℕ) → Option (List ℕ) → Option (List ℕ)
     → Option (List ℕ) → Heard → ℕ → Type 0 → Type 0
-IsDone asked given left old new heard status Alone = IsUnloaded asked.file heard status Alone
-    ⊎ (IsUnnamed asked.symbols asked.file heard status Alone
+IsDone asked given left old new heard status Alone
+    = AreUnloaded asked.file asked.others heard status Alone
+    ⊎ (IsUnstarted asked heard status Alone
     ⊎ ((terminal : Terminal) × StartsMon asked terminal.mon terminal.loaded
     × (terminal.notes.items ≡ []) × (terminal.answered.items ≡ [])
     × (mon_view terminal.words.now ≡ asked) × StartsView asked terminal.mon terminal.view

@@ -6,7 +6,9 @@ use Rattle.arguments.specs.declared.load_fault.LoadFault.TheVariants.{Refused}
 use Rattle.arguments.specs.declared.refusal.Refusal.{Refusal}
 use Rattle.arguments.specs.declared.refusal.Refusal.TheVariants.{OutOfMemory}
 use Rattle.arguments_play.specs.Mon.{MonAsked, mon_view}
-use Rattle.loading.specs.Loads.{EndsLoad, EndsNames}
+use Rattle.debug_files.specs.Loads.{EndsDebug}
+use Rattle.loading.specs.Loads.{EndsNames}
+use Rattle.loading.specs.Machine.{EndsFiles, IsOneOf}
 use Rattle.model.specs.Writers.{AppendsFront}
 use Rattle.word_mon.specs.Notes.{SeenNote, notes_after, placed_in}
 use Rattle.word_mon.specs.Screens.{Rests}
@@ -45,11 +47,14 @@ IsReloaded old new = (fresh : MonState) × StartsMon (mon_view old.words.now) fr
     × ServesAgain old.mon.text.items old.notes.items fresh new.mon new.notes.items
     × (new.view ≡ old.view) × (new.words ≡ old.words)
 
--- Why a file of a session is not loaded: its own file, or that of its names.
+-- Why a file of a session is not loaded: its own file, or one of several, that of its names, or
+-- that of its debug information.
 abbrev pub EndsReload : MonAsked → List ℕ → LoadFault → Type 0
-EndsReload asked path fault = ((path ≡ asked.file.file) × EndsLoad asked.file fault)
-    ⊎ ((refusal : Refusal) × (fault ≡ Refused refusal) × (asked.symbols ≡ Some path)
+EndsReload asked path fault = (IsOneOf asked.others.second asked.file path
+    × EndsFiles asked.file asked.others fault)
+    ⊎ (((refusal : Refusal) × (fault ≡ Refused refusal) × (asked.symbols ≡ Some path)
     × EndsNames asked.file refusal)
+    ⊎ ((asked.debug_info ≡ Some path) × EndsDebug fault))
 
 abbrev pub is_memory : LoadFault → Bool
 is_memory (Refused OutOfMemory) = true

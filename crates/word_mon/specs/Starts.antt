@@ -1,18 +1,26 @@
 -- How a session begins: the state, and what is known of its file. Source: mos65.
-use Rattle.std.specs.Prelude.{◌≡◌, ℕ, Bool, List, [], ◌++◌, Option, Some, None}
-use Rattle.accesses.specs.Writing.{bytes_in}
+use Rattle.std.specs.Prelude.{◌≡◌, ◌⊎◌, ◌<◌, ℕ, Bool, true, false, List, [], ◌++◌, Option, Some, None, slice_index}
+use Rattle.accesses.specs.Writing.{bytes_in, is_written}
 use Rattle.assembler.specs.Assembly.{AssemblyView, IsAssembled}
 use Rattle.arguments.specs.Asked.{FileAsked, map_of}
+use Rattle.arguments.specs.declared.load_fault.LoadFault.{LoadFault}
 use Rattle.arguments.specs.declared.refusal.Refusal.{Refusal}
+use Rattle.arguments.specs.declared.refusal.Refusal.TheVariants.{OutOfMemory}
 use Rattle.arguments_play.specs.Mon.{MonAsked}
 use Rattle.clap.specs.Words.{Text}
-use Rattle.loading.specs.Loads.{AreOfFile, EndsNames, IsLoaded}
+use Rattle.debug_files.specs.Loads.{AreDebugPlaces, EndsDebug}
+use Rattle.loading.specs.Loads.{AreOfFile, EndsNames}
+use Rattle.loading.specs.Machine.{AreLoaded}
 use Rattle.loading.specs.declared.loaded.ImageNames.{ImageNames}
 use Rattle.model.specs.Event.{start}
+use Rattle.model.specs.Image.{cell_at}
 use Rattle.model.specs.Session.{Session, new_session}
+use Rattle.model.specs.State.{State}
 use Rattle.mon_session.specs.declared.mon_state.MonState.{MonState}
-use Rattle.source_map.specs.Lines.{PlacesView, places_of}
+use Rattle.source_map.specs.Lines.{PlacesView, no_places, places_of}
 use Rattle.source_map.specs.Names.{names_in, other_names}
+use Rattle.word_mon.specs.declared.starting.StartFault.{StartFault}
+use Rattle.word_mon.specs.declared.starting.StartFault.TheVariants.{OfDebug, OfNames}
 
 -- Why a file of names is not assembled, if one is named.
 abbrev pub EndsNamed : Option Text → FileAsked → Refusal → Type 0
@@ -21,7 +29,7 @@ EndsNamed (Some path) file fault = EndsNames file fault
 
 -- The names and the lines of a file: of a source those of its assembly, of a tape none.
 abbrev pub places_in : Text → Option AssemblyView → PlacesView
-places_in file None = record { names = []; lines = []; texts = []; file = [] }
+places_in file None = no_places
 places_in file (Some assembly) = places_of file assembly
 
 -- With the names of a file of names, if there is one: those of its source, and those that cannot
@@ -39,6 +47,34 @@ AreNamed (Some path) file None = ⊥
 AreNamed (Some path) file (Some names) = IsAssembled (map_of file) names.assembly
     × AreOfFile file.profile names.assembly names.others
 
+-- The bytes of an image are those of a state's memory at the addresses that are marked.
+abbrev pub byte_where : Bool → ℕ → Option ℕ
+byte_where true byte = Some byte
+byte_where false byte = None
+
+pub record HasBytesOf (state : State) (marks : List Bool) (image : List (Option ℕ)) : Type 0 where
+  pub bytes : (address : ℕ) → address < 65536 → cell_at image address
+      ≡ byte_where (is_written marks address) (slice_index state.bus.memory address)
+
+-- What stands where: by the file of debug information that is named, with the bytes that were
+-- loaded; otherwise the names and the lines of a source.
+abbrev pub ArePlaces : Option Text → Text → Session → Option AssemblyView → List Bool → PlacesView
+    → Type 0
+ArePlaces None file session assembly loaded places = places ≡ places_in file assembly
+ArePlaces (Some path) file session assembly loaded places = (image : List (Option ℕ))
+    × HasBytesOf session.current loaded image
+    × AreDebugPlaces (record { profile = session.current.bus.map.profile; image = image }) places
+
+-- Why a session does not begin on what was loaded.
+abbrev pub EndsDebugInfo : Option Text → LoadFault → Type 0
+EndsDebugInfo None fault = ⊥
+EndsDebugInfo (Some path) fault = EndsDebug fault
+
+abbrev pub EndsStart : Option Text → Option Text → FileAsked → StartFault → Type 0
+EndsStart symbols debug file (OfNames refusal)
+    = (refusal ≡ OutOfMemory) ⊎ EndsNamed symbols file refusal
+EndsStart symbols debug file (OfDebug fault) = EndsDebugInfo debug fault
+
 -- A state of `mon` at which no line was served: no event has happened, and no break and no watch is
 -- set.
 pub record IsNewState (begun : Session) (history : ℕ) (known : PlacesView) (mon : MonState)
@@ -53,11 +89,14 @@ pub record IsNewState (begun : Session) (history : ℕ) (known : PlacesView) (mo
   pub text : mon.text.items ≡ []
 
 -- A state of `mon` with a session at the start of an image that the file can have, with the names
--- and lines of its source and the names of a file of names; and the addresses at which the image
--- has a byte.
+-- and lines of its source or of its debug information and the names of a file of names; and the
+-- addresses at which the image has a byte.
 abbrev pub StartsMon : MonAsked → MonState → List Bool → Type 0
 StartsMon asked mon loaded = (image : List (Option ℕ)) × (assembly : Option AssemblyView)
-    × IsLoaded asked.file image assembly × (loaded ≡ bytes_in image)
+    × AreLoaded asked.file asked.others image assembly × (loaded ≡ bytes_in image)
+    × (places : PlacesView)
+    × ArePlaces asked.debug_info asked.file.file
+    (new_session asked.history (start (map_of asked.file) image)) assembly loaded places
     × (names : Option ImageNames) × AreNamed asked.symbols asked.file names
     × IsNewState (new_session asked.history (start (map_of asked.file) image)) asked.history
-    (with_names names (places_in asked.file.file assembly)) mon
+    (with_names names places) mon

@@ -4,9 +4,10 @@ ghost use Rattle.std.specs.Prelude.{◌≡◌, ◌⊎◌, ◌++◌, [], ℕ, IfE
 ghost use Rattle.accesses.specs.Writing.{bytes_in};
 ghost use Rattle.arguments.specs.Asked.{file_view, map_of};
 ghost use Rattle.arguments.specs.FaultLines.{load_text};
+ghost use Rattle.arguments.specs.OtherFiles.{others_view};
 ghost use Rattle.arguments.specs.declared.load_fault.LoadFault.TheVariants.{Refused};
 ghost use Rattle.arguments_play.specs.Mon.{mon_view};
-ghost use Rattle.loading.specs.Loads.{IsLoaded};
+ghost use Rattle.loading.specs.Machine.{AreLoaded};
 ghost use Rattle.model.specs.Event.{start};
 ghost use Rattle.model.specs.Session.{new_session};
 ghost use Rattle.word_mon.specs.Done.{EndsAnswer};
@@ -20,11 +21,11 @@ ghost use Rattle.mon_lines.specs.Lines.{line_of};
 ghost use Rattle.mon_session.specs.Course.{ShowsOnly};
 
 use crate::notes::{Note, note_line, placed_in};
-use crate::starting::{Started, start};
+use crate::starting::{StartFault, Started, start};
 use crate::terminal::{Terminal, of_memory};
 use crate::wording::LOADED_AGAIN;
 use arguments::{LoadFault, Refusal};
-use loading::{Loaded, load_with_history};
+use loading::{FileFault, Loaded, load_files};
 use mon_dispatch::follow;
 use mon_files::say_name;
 use mon_lines::ReadLine;
@@ -168,15 +169,16 @@ fn keep_session(terminal: &mut Terminal<'_>, fault: LoadFault, file: &str) -> Re
     Ok(())
 }
 
-/// Begins the session again from its file, which was loaded. The names of a file of names are read
-/// again.
+/// Begins the session again from its file, which was loaded. The names of a file of names and the
+/// debug information are read again.
 fn begin_anew<H: Files + AllocGlobal>(
     rt: &H,
     terminal: &mut Terminal<'_>,
     loaded: Loaded,
 ) -> Result<(), Refusal>
     requires { (image : List (Option ℕ))
-        × IsLoaded (file_view terminal.old.words.now.file) image loaded.assembly
+        × AreLoaded (file_view terminal.old.words.now.file)
+        (others_view terminal.old.words.now.others) image loaded.assembly
         × (loaded.session ≡ new_session terminal.old.words.now.history
         (start (map_of (file_view terminal.old.words.now.file)) image))
         × (loaded.written ≡ bytes_in image) }
@@ -189,16 +191,20 @@ fn begin_anew<H: Files + AllocGlobal>(
             of_memory(take_over(rt.alloc(), terminal, started))?;
             Ok(())
         }
-        Err(refusal) => {
+        Err(StartFault::OfNames(refusal)) => {
             let file = words.symbols.unwrap_or(words.file.file);
             keep_session(terminal, LoadFault::Refused(refusal), file)
+        }
+        Err(StartFault::OfDebug(fault)) => {
+            let file = words.debug_info.unwrap_or(words.file.file);
+            keep_session(terminal, fault, file)
         }
     }
 }
 
-/// Loads the file of a session again, by the same words, and serves the lines that have placed what
-/// stands once more. If the file or that of its names cannot be loaded, says why, and keeps the
-/// session as it is.
+/// Loads the file of a session again, or its files, by the same words, and serves the lines that
+/// have placed what stands once more. If a file or that of its names cannot be loaded, says why,
+/// and keeps the session as it is.
 ///
 /// # Errors
 ///
@@ -208,8 +214,8 @@ pub fn reload<H: Files + AllocGlobal>(rt: &H, terminal: &mut Terminal<'_>) -> Re
     ensures refused { IfErr result EndsAnswer }
 {
     let words = terminal.words;
-    match load_with_history(rt, &words.file, words.history) {
+    match load_files(rt, &words.file, words.others, words.history) {
         Ok(loaded) => begin_anew(rt, terminal, loaded),
-        Err(fault) => keep_session(terminal, fault, words.file.file),
+        Err(FileFault { file, fault }) => keep_session(terminal, fault, file),
     }
 }

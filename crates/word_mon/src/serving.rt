@@ -8,7 +8,8 @@ ghost use Rattle.arguments.specs.Asked.{file_view, map_of};
 ghost use Rattle.arguments.specs.Words.{Fits, Refuses, texts};
 ghost use Rattle.arguments.specs.declared.refusal.ReadFault.TheVariants.{Other};
 ghost use Rattle.arguments_play.specs.Mon.{MonAsked, asked, mon, mon_view};
-ghost use Rattle.loading.specs.Loads.{IsLoaded};
+ghost use Rattle.arguments.specs.OtherFiles.{others_view};
+ghost use Rattle.loading.specs.Machine.{AreLoaded};
 ghost use Rattle.model.specs.Event.{start};
 ghost use Rattle.model.specs.Session.{new_session};
 ghost use Rattle.model.specs.State.{is_map};
@@ -19,11 +20,11 @@ ghost use Rattle.word_mon.specs.Screens.{Rests};
 use crate::greeting::greet;
 use crate::lines::attend;
 use crate::screens::{first_view, is_typed};
-use crate::starting::{Started, start};
+use crate::starting::{StartFault, Started, start};
 use crate::terminal::{Terminal, draw, of_memory};
 use arguments::{Refusal, refuse, refuse_file, refused_words};
 use arguments_play::{MonWords, read_mon_words};
-use loading::{Loaded, load_with_history};
+use loading::{Loaded, load_files};
 use std::alloc::Global;
 use std::io::{IsTerminal, Read, Write};
 use std::rt::{Env, Files};
@@ -107,7 +108,8 @@ fn mon_loaded<'a, H: Env + Files + AllocGlobal, R: Read + IsTerminal, O: Write, 
     errors: &mut E,
 ) -> u8
     requires { (image : List (Option ℕ))
-        × IsLoaded (file_view words.now.file) image loaded.assembly
+        × AreLoaded (file_view words.now.file) (others_view words.now.others) image
+        loaded.assembly
         × (loaded.session
         ≡ new_session words.now.history (start (map_of (file_view words.now.file)) image))
         × (loaded.written ≡ bytes_in image) }
@@ -135,9 +137,13 @@ fn mon_loaded<'a, H: Env + Files + AllocGlobal, R: Read + IsTerminal, O: Write, 
             };
             served(rt, &mut terminal, prompts, input, output, errors)
         }
-        Err(refusal) => {
+        Err(StartFault::OfNames(refusal)) => {
             let file = words.symbols.unwrap_or(words.file.file);
             refuse_file(refusal, file, errors)
+        }
+        Err(StartFault::OfDebug(fault)) => {
+            let file = words.debug_info.unwrap_or(words.file.file);
+            fault.tell(file, errors)
         }
     }
 }
@@ -158,9 +164,9 @@ fn mon_words<'a, H: Env + Files + AllocGlobal, R: Read + IsTerminal, O: Write, E
     ensures bad_map { is_map words.now.file.rom words.now.file.port ≡ false → result ≡ 2 }
     ensures quiet { result ≡ 0 → errors.new ≡ errors.old }
 {
-    match load_with_history(rt, &words.file, words.history) {
+    match load_files(rt, &words.file, words.others, words.history) {
         Ok(loaded) => mon_loaded(rt, words, loaded, input, output, errors),
-        Err(fault) => fault.tell(words.file.file, errors),
+        Err(why) => why.tell(errors),
     }
 }
 

@@ -1,17 +1,27 @@
 //! How a session begins on what was loaded.
 
-ghost use Rattle.std.specs.Prelude.{◌≡◌, ◌⊎◌, IfErr, IfOk, Option, OnOk, Some};
+ghost use Rattle.std.specs.Prelude.{◌≡◌, ◌⊎◌, IfErr, IfOk, Option, OnOk, Some, if◌then◌else◌};
+ghost use Rattle.std.specs.Prelude.{slice_index, slice_set};
+ghost use Rattle.accesses.specs.Writing.{is_written};
+ghost use Rattle.model.specs.Image.{empty_image};
+ghost use Rattle.source_map.specs.Lines.{PlacesView};
 ghost use Rattle.arguments.specs.Asked.{file_view};
 ghost use Rattle.arguments_play.specs.Mon.{mon_view};
 ghost use Rattle.loading.specs.declared.loaded.ImageNames.{ImageNames};
-ghost use Rattle.word_mon.specs.Starts.{AreNamed, EndsNamed, IsNewState, places_in, with_names};
+ghost use Rattle.word_mon.specs.Starts.{AreNamed, ArePlaces, EndsNamed, EndsStart, HasBytesOf};
+ghost use Rattle.word_mon.specs.Starts.{IsNewState, places_in, with_names};
+ghost use Rattle.word_mon.specs.declared.starting.StartFault.TheVariants.{OfDebug, OfNames};
 
 use crate::terminal::of_memory;
-use arguments::Refusal;
+use accesses::Written;
+use arguments::{LoadFault, Refusal};
 use arguments_play::MonWords;
 use assembler::Assembly;
+use debug_files::load_places;
 use loading::{ImageNames, Loaded, load_names};
+use memory_map::Image;
 use mon_files::Known;
+use mon_runs::Session;
 use mon_session::MonState;
 use source_map::Places;
 use std::alloc::{AllocError, Global};
@@ -23,6 +33,31 @@ pub struct Started {
     pub mon: MonState,
     /// The addresses at which the file has a byte, and what a page shows besides.
     pub loaded: Known,
+}
+
+/// Why a session does not begin on what was loaded.
+#[derive(Drop)]
+pub enum StartFault {
+    /// Memory ran out, or the file of names is not read.
+    OfNames(Refusal),
+    /// The file of debug information is not read.
+    OfDebug(LoadFault),
+}
+
+impl From<Refusal> for StartFault {
+    ghost from_gives = { λ refusal fault. fault ≡ OfNames refusal };
+
+    fn from(refusal: Refusal) -> StartFault {
+        StartFault::OfNames(refusal)
+    }
+}
+
+impl From<LoadFault> for StartFault {
+    ghost from_gives = { λ unloaded fault. fault ≡ OfDebug unloaded };
+
+    fn from(fault: LoadFault) -> StartFault {
+        StartFault::OfDebug(fault)
+    }
 }
 
 /// Returns the places of what was loaded.
@@ -71,9 +106,78 @@ fn of_source(names: Option<ImageNames>) -> Option<Assembly> {
             ImageNames {
                 assembly,
                 others: _,
+                lost: _,
             },
         ) => Some(assembly),
         None => None,
+    }
+}
+
+/// Makes an image without bytes.
+fn no_bytes(alloc: Global) -> Result<Image, Refusal>
+    ensures image { IfOk result (λ image. image ≡ empty_image) }
+    ensures refused { IfErr result (λ fault. fault ≡ Refusal.OutOfMemory) }
+{
+    Image::new(alloc).map_err(|_| Refusal::OutOfMemory)
+}
+
+/// Puts the byte of a session at an address, if the file has one there.
+fn put_byte(image: &mut Image, session: &Session, loaded: &Written, address: u16)
+    ensures { image.new ≡ if is_written loaded.now address
+        then slice_set image.old address
+        (Some (slice_index session.now.current.bus.memory address))
+        else image.old }
+{
+    if loaded.contains(address) {
+        image.put(address, session.peek(address));
+    }
+}
+
+/// Returns the bytes of a session at the addresses where its file has one.
+fn bytes_of(alloc: Global, session: &Session, loaded: &Written) -> Result<Image, Refusal>
+    ensures image { IfOk result (λ image. HasBytesOf session.now.current loaded.now image) }
+    ensures refused { IfErr result (λ fault. fault ≡ Refusal.OutOfMemory) }
+{
+    let mut image = no_bytes(alloc)?;
+    for place in 0..65536u32 {
+        put_byte(&mut image, session, loaded, place as u16);
+    }
+    Ok(image)
+}
+
+/// Returns the places of an image by the file of its debug information.
+fn debug_places<H: Files + AllocGlobal>(
+    rt: &H,
+    words: &MonWords<'_>,
+    path: &str,
+    loaded: &Loaded,
+) -> Result<Places, StartFault>
+    ensures places { IfOk result (λ places. ArePlaces (Some path.now) words.now.file.file.now
+        loaded.now.session loaded.now.assembly loaded.now.written places) }
+    ensures refused { IfErr result (EndsStart (mon_view words.now).symbols (Some path.now)
+        (file_view words.now.file)) }
+{
+    let session = &loaded.session;
+    let image = bytes_of(rt.alloc(), session, &loaded.written)?;
+    let profile = session.profile();
+    Ok(load_places(rt, path, words.source_root, profile, &image)?)
+}
+
+/// Returns the places of what was loaded: by its debug information, if such a file is named.
+fn known_places<H: Files + AllocGlobal>(
+    rt: &H,
+    words: &MonWords<'_>,
+    loaded: &Loaded,
+) -> Result<Places, StartFault>
+    ensures places { IfOk result (λ places. ArePlaces (mon_view words.now).debug_info
+        words.now.file.file.now loaded.now.session loaded.now.assembly loaded.now.written
+        places) }
+    ensures refused { IfErr result (EndsStart (mon_view words.now).symbols
+        (mon_view words.now).debug_info (file_view words.now.file)) }
+{
+    match words.debug_info {
+        None => Ok(places_of(rt.alloc(), words.file.file, &loaded.assembly)?),
+        Some(path) => debug_places(rt, words, path, loaded),
     }
 }
 
@@ -81,26 +185,30 @@ fn of_source(names: Option<ImageNames>) -> Option<Assembly> {
 ///
 /// # Errors
 ///
-/// Those of `loading::load_names`; `OutOfMemory` if an allocation fails.
+/// `OfDebug` with the fault of `debug_files::load_places`; `OfNames` with that of
+/// `loading::load_names`, or with `OutOfMemory` if an allocation fails.
 pub fn start<H: Files + AllocGlobal>(
     rt: &H,
     words: &MonWords<'_>,
     loaded: Loaded,
-) -> Result<Started, Refusal>
-    ensures made { IfOk result (λ started. (names : Option ImageNames)
+) -> Result<Started, StartFault>
+    ensures made { IfOk result (λ started. (places : PlacesView)
+        × ArePlaces (mon_view words.now).debug_info words.now.file.file.now loaded.session
+        loaded.assembly loaded.written places
+        × (names : Option ImageNames)
         × AreNamed (mon_view words.now).symbols (file_view words.now.file) names
-        × IsNewState loaded.session words.now.history
-        (with_names names (places_in words.now.file.file.now loaded.assembly)) started.mon) }
+        × IsNewState loaded.session words.now.history (with_names names places) started.mon) }
     ensures loaded { IfOk result (λ started. started.loaded ≡ loaded.written) }
-    ensures refused { IfErr result (λ fault. (fault ≡ Refusal.OutOfMemory)
-        ⊎ EndsNamed (mon_view words.now).symbols (file_view words.now.file) fault) }
+    ensures refused { IfErr result (EndsStart (mon_view words.now).symbols
+        (mon_view words.now).debug_info (file_view words.now.file)) }
 {
+    let mut places = known_places(rt, words, &loaded)?;
     let Loaded {
         session,
         assembly,
         written,
+        lost: _,
     } = loaded;
-    let mut places = places_of(rt.alloc(), words.file.file, &assembly)?;
     let names = add_names(rt, words, &mut places)?;
     let mon = of_memory(MonState::new(rt.alloc(), session, places, words.history))?;
     Ok(Started {

@@ -7,7 +7,9 @@ use Rattle.console.specs.Playing.{Outcome, begun, played}
 use Rattle.console.specs.declared.ending.Ending.{Ending}
 use Rattle.console.specs.declared.ending.Played.{Played}
 use Rattle.loading.specs.Loads.{IsLoaded}
+use Rattle.loading.specs.Named.{MayLose}
 use Rattle.loading.specs.Place.{names_of}
+use Rattle.loading.specs.Warned.{lost_text}
 use Rattle.loading.specs.Told.{Heard, Tells}
 use Rattle.model.specs.Event.{start}
 use Rattle.model.specs.Session.{Session, new_session}
@@ -50,30 +52,35 @@ pub done_unnamed : (a : PageAsked) (s : Session) (w : List Bool) (assembly : Opt
 done_unnamed a s w assembly image heard status loaded begins bytes refused = done_by a s w assembly image heard status loaded begins bytes (inl refused)
 
 -- A file that was loaded, and names that were read.
-done_named : (a : PageAsked) (s : Session) (w : List Bool) (assembly names told : Option AssemblyView) (image : List (Option ℕ)) (place : Result (Option ℕ) ℕ) (heard : Heard) (status : ℕ) → IsLoaded a.file image assembly
+done_named : (a : PageAsked) (s : Session) (w : List Bool) (assembly names told : Option AssemblyView) (image : List (Option ℕ)) (place : Result (Option ℕ) ℕ) (lost : ℕ) (heard : Heard) (between : Option (List ℕ)) (status : ℕ) → IsLoaded a.file image assembly
     → s ≡ new_session 0 (start (map_of a.file) image) → w ≡ bytes_in image
-    → AreNamed a.symbols a.file names → told ≡ names → place ≡ place_in (names_of assembly) (names_of told) a.until
-    → ShownIfFound a assembly place (start_in a.is_free s w) heard status → IsDone a heard status
-done_named a s w assembly names told image place heard status loaded begins bytes named same is shown =
+    → AreNamed a.symbols a.file names → MayLose a.file.profile a.symbols lost → Tells (record { held = heard.held; now = between }) (lost_text lost)
+    → told ≡ names → place ≡ place_in (names_of assembly) (names_of told) a.until
+    → ShownIfFound a assembly place (start_in a.is_free s w) (record { held = between; now = heard.now }) status → IsDone a heard status
+done_named a s w assembly names told image place lost heard between status loaded begins bytes named may left same is shown =
     let S : Start = start_in a.is_free s w in
-    let found = subst (λ r. ShownIfFound a assembly r S heard status) is shown in
-    done_by a s w assembly image heard status loaded begins bytes (inr (names, named, subst (λ x. ShownIfFound a assembly (place_in (names_of assembly) (names_of x) a.until) S heard status) same found))
+    let H : Heard = record { held = between; now = heard.now } in
+    let found = subst (λ r. ShownIfFound a assembly r S H status) is shown in
+    done_by a s w assembly image heard status loaded begins bytes
+    (inr (names, named, lost, may, between, left, subst (λ x. ShownIfFound a assembly (place_in (names_of assembly) (names_of x) a.until) S H status) same found))
 
 -- A place that was not found.
-pub done_unplaced : (a : PageAsked) (s : Session) (w : List Bool) (assembly names told : Option AssemblyView) (image : List (Option ℕ)) (heard : Heard) (status : ℕ) → IsLoaded a.file image assembly
+pub done_unplaced : (a : PageAsked) (s : Session) (w : List Bool) (assembly names told : Option AssemblyView) (image : List (Option ℕ)) (lost : ℕ) (heard : Heard) (between : Option (List ℕ)) (status : ℕ) → IsLoaded a.file image assembly
     → s ≡ new_session 0 (start (map_of a.file) image) → w ≡ bytes_in image
-    → AreNamed a.symbols a.file names → told ≡ names → Err status ≡ place_in (names_of assembly) (names_of told) a.until
-    → Tells heard (unplaced_line a.until) → IsDone a heard status
-done_unplaced a s w assembly names told image heard status loaded begins bytes named same is line =
-    done_named a s w assembly names told image (Err status) heard status loaded begins bytes named same is (refl, line)
+    → AreNamed a.symbols a.file names → MayLose a.file.profile a.symbols lost → Tells (record { held = heard.held; now = between }) (lost_text lost)
+    → told ≡ names → Err status ≡ place_in (names_of assembly) (names_of told) a.until
+    → Tells (record { held = between; now = heard.now }) (unplaced_line a.until) → IsDone a heard status
+done_unplaced a s w assembly names told image lost heard between status loaded begins bytes named may left same is line =
+    done_named a s w assembly names told image (Err status) lost heard between status loaded begins bytes named may left same is (refl, line)
 
 -- A place that was found, of which nothing was told.
-pub done_placed : {E : Type 0} (contents : E → Option (List ℕ)) (a : PageAsked) (s : Session) (w : List Bool) (assembly names told : Option AssemblyView) (image : List (Option ℕ)) (until : Option ℕ)
-    (first middle last : E) (status : ℕ) → IsLoaded a.file image assembly
+pub done_placed : {E : Type 0} (contents : E → Option (List ℕ)) (a : PageAsked) (s : Session) (w : List Bool) (assembly names told : Option AssemblyView) (image : List (Option ℕ)) (until : Option ℕ) (lost : ℕ)
+    (begun_at first middle last : E) (status : ℕ) → IsLoaded a.file image assembly
     → s ≡ new_session 0 (start (map_of a.file) image) → w ≡ bytes_in image
-    → AreNamed a.symbols a.file names → told ≡ names → Ok until ≡ place_in (names_of assembly) (names_of told) a.until → middle ≡ first
+    → AreNamed a.symbols a.file names → MayLose a.file.profile a.symbols lost → Tells (record { held = contents begun_at; now = contents first }) (lost_text lost)
+    → told ≡ names → Ok until ≡ place_in (names_of assembly) (names_of told) a.until → middle ≡ first
     → IsShown a assembly until (start_in a.is_free s w) (record { held = contents middle; now = contents last }) status
-    → IsDone a (record { held = contents first; now = contents last }) status
-done_placed contents a s w assembly names told image until first middle last status loaded begins bytes named same is quiet shown =
-    done_named a s w assembly names told image (Ok until) (record { held = contents first; now = contents last }) status loaded begins bytes named same is
+    → IsDone a (record { held = contents begun_at; now = contents last }) status
+done_placed contents a s w assembly names told image until lost begun_at first middle last status loaded begins bytes named may left same is quiet shown =
+    done_named a s w assembly names told image (Ok until) lost (record { held = contents begun_at; now = contents last }) (contents first) status loaded begins bytes named may left same is
     (subst (λ e. IsShown a assembly until (start_in a.is_free s w) (record { held = contents e; now = contents last }) status) quiet shown)

@@ -13,6 +13,8 @@ use Rattle.console.specs.Playing.{Outcome, begun, played}
 use Rattle.console.specs.Written.{RanAs}
 use Rattle.console.specs.declared.ending.Played.{Played}
 use Rattle.loading.specs.Loads.{AreImageNames, IsLoaded}
+use Rattle.loading.specs.Named.{MayLose}
+use Rattle.loading.specs.Warned.{lost_text}
 use Rattle.loading.specs.Place.{names_of, place_of}
 use Rattle.loading.specs.Told.{Heard, IsUnloaded, Tells}
 use Rattle.model.specs.Event.{start}
@@ -119,13 +121,15 @@ found_or None rest = rest
 abbrev pub place_in : Definitions → Definitions → Option (List ℕ) → Result (Option ℕ) ℕ
 place_in source names word = found_or (place_besides source names word) (place_asked source word)
 
--- The names were read, and the place of the words was looked for among them and in the source; or
--- there is no whole page.
+-- The names were read, the error stream got how many lines gave none, and the place of the words was
+-- looked for among them and in the source; or there is no whole page.
 abbrev pub ShownIfNamed : PageAsked → Option AssemblyView → Start → Heard → ℕ → Type 0
 ShownIfNamed a assembly s heard status = IsRefused heard status
     ⊎ ((names : Option AssemblyView) × AreNamed a.symbols a.file names
-    × ShownIfFound a assembly (place_in (names_of assembly) (names_of names) a.until) s heard
-    status)
+    × (lost : ℕ) × MayLose a.file.profile a.symbols lost × (between : Option (List ℕ))
+    × Tells (record { held = heard.held; now = between }) (lost_text lost)
+    × ShownIfFound a assembly (place_in (names_of assembly) (names_of names) a.until) s
+    (record { held = between; now = heard.now }) status)
 
 -- A session at the start of an image, with the image's bytes written.
 abbrev pub start_of : PageAsked → List (Option ℕ) → Start

@@ -4,6 +4,7 @@ ghost use Rattle.std.specs.Prelude.{◌≡◌, ◌⊎◌, ℕ, List, IfErr, IfOk
 ghost use Rattle.std.specs.Prelude.{OnErr, OnOk, option_map};
 ghost use Rattle.accesses.specs.Writing.{or_everywhere};
 ghost use Rattle.arguments.specs.Words.{Fits, Refuses, texts};
+ghost use Rattle.loading.specs.Named.{MayLose};
 ghost use Rattle.loading.specs.Place.{names_of};
 ghost use Rattle.model.specs.State.{is_map};
 ghost use Rattle.model.specs.Writers.{AppendsFront};
@@ -20,7 +21,7 @@ use accesses::Written;
 use arguments::{FileRefusal, NewFile, Refusal, create, read_most, refused_words};
 use assembler::Assembly;
 use console::Played;
-use loading::{Loaded, load, load_image_names, place_of};
+use loading::{Loaded, load, load_counted_names, place_of, tell_lost};
 use page_writer::{
     Note, Opening, Program, SendFault, Texts, facts_of, push_opening, source_of, viewer, write_page,
 };
@@ -39,19 +40,21 @@ struct Said {
     source: Vec<u8>,
 }
 
-/// Returns the names of the file of names, if one is named.
+/// Returns the names of the file of names, if one is named, and how many lines gave no name.
 fn names_asked<'a, H: Files + AllocGlobal>(
     rt: &H,
     words: &PageWords<'a>,
-) -> Result<Option<Assembly>, FileRefusal<'a>>
-    ensures named { IfOk result (λ names. AreNamed (page_view words.now).symbols
-        (page_view words.now).file names) }
+) -> Result<(Option<Assembly>, usize), FileRefusal<'a>>
+    ensures named { IfOk result (λ p. AreNamed (page_view words.now).symbols
+        (page_view words.now).file p.0) }
+    ensures lost { IfOk result
+        (λ p. MayLose words.now.file.profile (page_view words.now).symbols p.1) }
     ensures refused { IfErr result (λ why. EndsFile why.refusal) }
 {
     match words.symbols {
-        None => Ok(None),
-        Some(file) => match load_image_names(rt, &words.file, file) {
-            Ok(names) => Ok(Some(names)),
+        None => Ok((None, 0)),
+        Some(file) => match load_counted_names(rt, &words.file, file) {
+            Ok((names, lost)) => Ok((Some(names), lost)),
             Err(refusal) => Err(FileRefusal { file, refusal }),
         },
     }
@@ -356,10 +359,11 @@ fn show_words<H: Files + AllocGlobal, E: Write>(rt: &H, words: &PageWords<'_>, e
         Ok(loaded) => loaded,
         Err(fault) => return fault.tell(words.file.file, errors),
     };
-    let names = match names_asked(rt, words) {
+    let (names, lost) = match names_asked(rt, words) {
         Ok(names) => names,
         Err(why) => return why.tell(errors),
     };
+    tell_lost(lost, errors);
     let until = match place_in(&loaded, names.as_ref(), words.until, errors) {
         Ok(until) => until,
         Err(status) => return status,

@@ -9,7 +9,8 @@ use Rattle.console.specs.declared.ending.Ending.{Ending}
 use Rattle.console.specs.declared.ending.PlayFault.{PlayFault}
 use Rattle.assembler.specs.Assembly.{AssemblyView}
 use Rattle.arguments.specs.Asked.{map_of}
-use Rattle.loading.specs.Named.{IsNamed, IsUnnamed}
+use Rattle.loading.specs.Machine.{IsMachine, IsUnmade}
+use Rattle.loading.specs.Named.{MayLose}
 use Rattle.loading.specs.Place.{names_of}
 use Rattle.loading.specs.Told.{Heard, Tells}
 use Rattle.loading.specs.Warned.{TellsWarnings}
@@ -135,16 +136,16 @@ start_of a image = record {
 
 -- A file was loaded: from the start of an image that it can have, on the map of the words and with
 -- the names of the image's source, or of the file of names, a session ran. Before that the error
--- stream got how many warnings the source has.
+-- stream got how many warnings the source has, and how many lines of the file of names gave none.
 abbrev pub RanFile : RunAsked → Streams → Bool → Heard → ℕ → Type 0 → Type 0
 RanFile a streams interrupted heard status Alone = (image : List (Option ℕ))
-    × (assembly : Option AssemblyView) × IsNamed a.file a.symbols image assembly
-    × (between : Option (List ℕ))
-    × TellsWarnings (map_of a.file) assembly (heard_of heard.held between)
+    × (assembly : Option AssemblyView) × IsMachine a.file a.others a.symbols image assembly
+    × (between : Option (List ℕ)) × (lost : ℕ) × MayLose a.file.profile a.symbols lost
+    × TellsWarnings (map_of a.file) assembly lost (heard_of heard.held between)
     × RanIfFound a assembly (place_asked (names_of assembly) a.until) (start_of a image)
     streams interrupted (heard_of between heard.now) status Alone
 
 -- What was done for words. `interrupted` says whether the writer was interrupted.
 abbrev pub IsDone : RunAsked → Streams → Bool → Heard → ℕ → Type 0 → Type 0
 IsDone a streams interrupted heard status Alone
-    = IsUnnamed a.file a.symbols heard status Alone ⊎ RanFile a streams interrupted heard status Alone
+    = IsUnmade a.file a.others a.symbols heard status Alone ⊎ RanFile a streams interrupted heard status Alone

@@ -9,7 +9,7 @@ use Rattle.model.specs.Text.{hex_address, hex_byte}
 use Rattle.model.specs.declared.event.EventFault.{EventFault}
 use Rattle.model.specs.declared.event.EventFault.TheVariants.{ConsoleFull, Undocumented}
 use Rattle.word_run.specs.declared.wording.TheConstants.{AFTER, AFTER_CYCLES, BREAK_AT, CONSOLE_FULL, CYCLES, CYCLES_END, FROM, INTERRUPTED, NO_INSTRUCTION, NO_PLACE, NO_RESET, NO_VECTOR, PROGRAM, RAN_INTO, STEP, STEPS, STOPPED, UNWRITTEN}
-use Rattle.source_map.specs.Lines.{PlacesView, line_at, line_words, places_of}
+use Rattle.source_map.specs.Lines.{PlacesView, line_words, places_of, row_at}
 use Rattle.source_map.specs.Names.{Near, name_near}
 
 abbrev pub step_word : ℕ → List ℕ
@@ -49,7 +49,7 @@ name_words (Some (name, distance)) = codes " " ++ (name ++ distance_text distanc
 -- What the source says of an address, as ` next+4, first.a65:6`.
 abbrev pub site_text : PlacesView → ℕ → List ℕ
 site_text places address = name_words (name_near places.names address)
-    ++ line_words places.file (line_at places.lines address)
+    ++ line_words places.sources (row_at places.lines address)
 
 -- What is said of an address: nothing without a source, nor where memory runs out.
 abbrev pub IsSite : List ℕ → Option AssemblyView → ℕ → List ℕ → Type 0

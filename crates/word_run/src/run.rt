@@ -18,7 +18,7 @@ use arguments_play::{RunWords, read_run_words};
 use assembler::Assembly;
 use console::{Played, play};
 use debugger::Session;
-use loading::{Loaded, load_named, tell_warnings};
+use loading::{Loaded, load_machine, tell_warnings};
 use std::alloc::Global;
 use std::io::{Read, Write};
 use std::rt::Files;
@@ -143,12 +143,12 @@ fn run_words<H: Files + AllocGlobal, R: Read, W: Write, S: Read, E: Write>(
     ensures quiet { words.now.tells_cycles ≡ false → result ≡ 0
         → OnlyWarned (E.contents errors.old) (E.contents errors.new) }
 {
-    let loaded = match load_named(rt, &words.file, words.symbols) {
+    let loaded = match load_machine(rt, &words.file, words.others, words.symbols) {
         Ok(loaded) => loaded,
         Err(fault) => return fault.tell(words.file.file, words.symbols, errors),
     };
     let source = loaded.assembly.as_ref();
-    tell_warnings(rt.alloc(), &words.file, source, errors);
+    tell_warnings(rt.alloc(), &words.file, source, loaded.lost, errors);
     let until = match place_named(&loaded, words.until, errors) {
         Ok(until) => until,
         Err(status) => return status,
@@ -157,6 +157,7 @@ fn run_words<H: Files + AllocGlobal, R: Read, W: Write, S: Read, E: Write>(
         mut session,
         assembly,
         written,
+        lost: _,
     } = loaded;
     let written = written.or_everywhere(words.is_free);
     run_to(
@@ -183,8 +184,9 @@ fn run_words<H: Files + AllocGlobal, R: Read, W: Write, S: Read, E: Write>(
 ///   are wrong. 3: memory ran out. 4: reading or writing failed. 130: the run was interrupted.
 ///
 /// The program's output goes to `output`. Before it runs, a line on `errors` says how many warnings
-/// its source has, if it has some. For each status but those of the first line a line on `errors`
-/// says why; that a line cannot be written changes no status.
+/// its source has, if it has some, and one how many lines of a file of names gave no name. For each
+/// status but those of the first line a line on `errors` says why; that a line cannot be written
+/// changes no status.
 pub fn run_program<H: Files + AllocGlobal, R: Read, W: Write, S: Read, E: Write>(
     rt: &H,
     words: &[&str],
@@ -209,8 +211,8 @@ pub fn run_program<H: Files + AllocGlobal, R: Read, W: Write, S: Read, E: Write>
     ensures bad_map { (a : RunAsked) → asked (texts words.entry.now) ≡ Some a
         → Fits run (texts words.entry.now)
         → is_map a.file.rom a.file.port ≡ false → (result ≡ 2) ⊎ (result ≡ 3) }
-    // Nothing but how many warnings there are is written on the error stream with the status 0,
-    // unless cycles are asked for.
+    // Nothing but how many warnings there are, and how many names were left out, is written on the
+    // error stream with the status 0, unless cycles are asked for.
     ensures quiet { ((a : RunAsked) → asked (texts words.entry.now) ≡ Some a
         → a.tells_cycles ≡ false) → result ≡ 0
         → OnlyWarned (E.contents errors.old) (E.contents errors.new) }

@@ -26,4 +26,4 @@ of_source form text = []
 abbrev pub record_of : Prepared → Option Counts → List ℕ
 record_of prepared None = []
 record_of prepared (Some counts) = of_source prepared.form
-    (record_text prepared.places.file prepared.assembly counts)
+    (record_text (file_name prepared.places.sources 0) prepared.assembly counts)

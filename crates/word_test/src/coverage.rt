@@ -67,7 +67,7 @@ fn counts_begun(alloc: Global, is_asked: bool) -> Result<Option<Tally>, AllocErr
 /// Returns the record of a suite's source.
 fn source_record(alloc: Global, prepared: &Prepared, counts: &Tally) -> Result<Vec<u8>, AllocError>
     ensures { IfOk result (λ text. text.items
-        ≡ record_text prepared.now.places.file prepared.now.assembly counts.now) }
+        ≡ record_text (file_name prepared.now.places.sources 0) prepared.now.assembly counts.now) }
 {
     let mut text = Vec::new(alloc);
     let path = prepared.places.file();

@@ -12,8 +12,10 @@ use Rattle.console.specs.declared.ending.Ending.TheVariants.{Until}
 use Rattle.console.specs.declared.ending.Played.{Played}
 use Rattle.console.specs.declared.turn.Player.{Player}
 use Rattle.arguments.specs.Asked.{map_of}
-use Rattle.loading.specs.Named.{IsNamed, IsUnnamed}
+use Rattle.loading.specs.Machine.{IsMachine, IsUnmade}
+use Rattle.loading.specs.Named.{MayLose}
 use Rattle.loading.specs.Place.{names_of}
+use Rattle.loading.specs.Warned.{lost_text}
 use Rattle.loading.specs.declared.loaded.Loaded.{Loaded}
 use Rattle.model.specs.Event.{start}
 use Rattle.model.specs.Session.{Session, new_session}
@@ -300,10 +302,14 @@ begin_of a image assembly = record {
 
 -- What was done for words: nothing was loaded, the error stream got why, and the others were left
 -- alone; or from the start of an image that the file can have, on the map of the words and with the
--- names of the image's source, or of the file of names, a session was traced.
+-- names of the image's source, or of the file of names, a session was traced. Before that the error
+-- stream got how many lines of the file of names gave none.
 abbrev pub IsDone : TraceAsked → Streams → Heard → ℕ → Type 0 → Type 0
-IsDone a streams heard status Alone = IsUnnamed a.file a.symbols heard status Alone
+IsDone a streams heard status Alone = IsUnmade a.file a.others a.symbols heard status Alone
     ⊎ ((image : List (Option ℕ)) × (assembly : Option AssemblyView)
-    × IsNamed a.file a.symbols image assembly × TracedIfFound a (begin_of a image assembly)
-    (place_asked (names_of assembly) a.from) (place_asked (names_of assembly) a.to)
-    streams heard status Alone)
+    × IsMachine a.file a.others a.symbols image assembly
+    × (lost : ℕ) × MayLose a.file.profile a.symbols lost × (between : Option (List ℕ))
+    × Tells (record { held = heard.held; now = between }) (lost_text lost)
+    × TracedIfFound a (begin_of a image assembly) (place_asked (names_of assembly) a.from)
+    (place_asked (names_of assembly) a.to) streams
+    (record { held = between; now = heard.now }) status Alone)

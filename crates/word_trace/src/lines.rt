@@ -5,14 +5,22 @@ ghost use Rattle.arguments_play.specs.Trace.{trace_view};
 ghost use Rattle.word_trace.specs.Traces.{IsApart, IsOfStreams};
 
 use accesses::Tally;
-use arguments::{Refusal, check_outputs, write_file};
+use arguments::{Refusal, check_outputs, name_of, write_file};
 use arguments_play::TraceWords;
 use assembler::Assembly;
 use std::alloc::{AllocError, Global};
 use std::rt::Files;
 use trace_rows::push_record;
 
-/// Checks that the file for lcov, if one is asked for, is neither the file to run nor the file of
+/// Returns the name of another file of the machine, if there is one.
+fn name_in(word: Option<&str>) -> Option<&str> {
+    match word {
+        None => None,
+        Some(word) => Some(name_of(word)),
+    }
+}
+
+/// Checks that the file for lcov, if one is asked for, is neither a file to run nor the file of
 /// names.
 ///
 /// Errors: `WriteFile` with `SameFile` where it is one of them, `OutOfMemory` if an allocation
@@ -23,6 +31,16 @@ pub fn check_lines<H: Files + AllocGlobal>(rt: &H, words: &TraceWords<'_>) -> Re
     ensures fault { IfErr result IsOfStreams }
 {
     check_outputs(rt, &[Some(words.file.file), words.symbols], &[words.lcov])?;
+    let others = words.others;
+    check_outputs(
+        rt,
+        &[
+            name_in(others.second),
+            name_in(others.third),
+            name_in(others.fourth),
+        ],
+        &[words.lcov],
+    )?;
     Ok(())
 }
 

@@ -34,7 +34,7 @@ use arguments::{Refusal, put_two, refuse, refuse_file, refused_words};
 use arguments_play::{TraceWords, read_trace_words};
 use console::{Ending, Played, Player, begin, ending_after};
 use debugger::Session;
-use loading::{Loaded, load_named};
+use loading::{Loaded, load_machine, tell_lost};
 use std::alloc::Global;
 use std::io::{Read, Write};
 use std::rt::Files;
@@ -528,7 +528,8 @@ fn trace_loaded<H: Files + AllocGlobal, R: Read, O: Write, E: Write>(
     trace_told(rt, words, loaded, span, input, output, errors)
 }
 
-/// Loads the file of the words and traces it, and returns the exit status.
+/// Loads the file of the words, tells how many names were left out, traces it, and returns the exit
+/// status.
 fn trace_words<H: Files + AllocGlobal, R: Read, O: Write, E: Write>(
     rt: &H,
     words: &TraceWords<'_>,
@@ -542,8 +543,11 @@ fn trace_words<H: Files + AllocGlobal, R: Read, O: Write, E: Write>(
         result ((input.new ≡ input.old) × (output.new ≡ output.old)) }
     ensures bad_map { is_map words.now.file.rom words.now.file.port ≡ false → result ≡ 2 }
 {
-    match load_named(rt, &words.file, words.symbols) {
-        Ok(mut loaded) => trace_loaded(rt, words, &mut loaded, input, output, errors),
+    match load_machine(rt, &words.file, words.others, words.symbols) {
+        Ok(mut loaded) => {
+            tell_lost(loaded.lost, errors);
+            trace_loaded(rt, words, &mut loaded, input, output, errors)
+        }
         Err(fault) => fault.tell(words.file.file, words.symbols, errors),
     }
 }
@@ -564,7 +568,8 @@ pub fn trace_program<H: Files + AllocGlobal, R: Read, O: Write, E: Write>(
     // Words that fit the command line, with right values: their file was loaded and traced by the
     // definition of a trace, and what that notes was written; or it was not and the streams are
     // unchanged, as the status says. Where a stream or memory failed, a beginning of what such a
-    // trace notes was written. The error stream gets the program's output, and why it ended.
+    // trace notes was written. The error stream gets how many names were left out, the program's
+    // output, and why it ended.
     ensures done { (a : TraceAsked) → asked (texts words.entry.now) ≡ Some a
         → Fits trace (texts words.entry.now) → IsDone a
         (streams_of (R.remaining input.old) (R.remaining input.new) (O.contents output.old)

@@ -37,7 +37,7 @@
     body))
 (defun shows (place value words)
   (let ((body (asked "evaluate" (list :expression place :context "hover"))))
-    (want (and (hash-table-p body) (equal (gethash "result" body) value)) words)))
+    (want (and (hash-table-p body) (equal (car (split-string (gethash "result" body) " ")) value)) words)))
 (defun sets (scope name value)
   "Sets a variable as it is set in dap-mode's list of variables, on a row of that list."
   (with-temp-buffer

@@ -1,34 +1,7 @@
-use Rattle.std.proofs.Common.{◌≡◌, ◌∙◌, ◌∷◌, ap, map, subst, sym}
+use Rattle.std.proofs.Common.{map}
 use Rattle.std.proofs.lemmas.Result.{IfOk-weaker}
-use Rattle.dap_desk.specs.Moves.{KeepsWatches, stand_of}
-use Rattle.dap_messages.specs.Bodies.{nothing}
-use Rattle.dap_messages.specs.Messages.{done, said_of}
-use Rattle.dap_messages.specs.declared.listed.Told.{Told}
-use Rattle.dap_messages.specs.declared.listed.Listed.{Listed}
-use Rattle.dap_session.specs.Stands.{reason_at, told_at}
-use Rattle.mon_session.specs.declared.mon_state.MonState.{MonState}
+use Rattle.dap_messages.specs.Messages.{said_of}
 use Rattle.dap_session.proofs.answering.configured.Goals as goal
 
 pub returns : goal.returns
-returns c =
-    let old = c.args.client.now in
-    let halt = c.first_halt-halt.result in
-    let first = c.first_halt-halt.ensures in
-    let kept = c.with_halt_at.ensures.kept in
-    IfOk-weaker c.with_halt_at.result _ _
-    (λ ms told. (
-      ap stand_of kept.0 ∙ first.stand,
-      subst (λ (d : MonState). KeepsWatches old.mon d) (sym kept.0) first.watches,
-      (kept.1.0 ∙ first.program.0, kept.1.1 ∙ first.program.1, kept.1.2 ∙ first.program.2),
-      (
-        halt,
-        first.reason,
-        first.words,
-        first.fault,
-        subst (λ (l : Listed). map said_of ms.items ≡ done nothing ∷ told_at l c.with_halt_at.new.client.mon old.told.count halt) first.program.2
-            (subst (λ (t : Told). map said_of ms.items ≡ done nothing ∷ told_at c.first_halt-halt.new.client.listed c.with_halt_at.new.client.mon t.count halt) first.told
-            (subst (λ (d : MonState). map said_of ms.items ≡ done nothing ∷ told_at c.first_halt-halt.new.client.listed d c.first_halt-halt.new.client.told.count halt) (sym kept.0) told.0)),
-      ),
-      told.2 ∙ (λ i. reason_at (first.program.2 i).lines.items (first.program.2 i).addresses.items ((sym kept.0) i).session.current.regs.pc (first.reason i)),
-    ))
-    (c.with_halt_at.ensures.told _ c.all_done.ensures)
+returns c = IfOk-weaker c.go_on.result _ _ (λ ms passes. (c.begun.new.client, map said_of c.in_ok-said.said.items, c.in_ok-said.ensures, passes)) c.go_on.ensures

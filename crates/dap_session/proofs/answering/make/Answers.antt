@@ -1,31 +1,19 @@
-use Rattle.std.proofs.Common.{◌≡◌, ◌∙◌, ℕ, ◌∷◌, Option, ap, map, subst, sym}
+use Rattle.std.proofs.Common.{map, subst}
 use Rattle.std.proofs.lemmas.Result.{IfOk-weaker}
-use Rattle.dap_desk.specs.Moves.{KeepsWatches, moved, moved_fault, moved_reason, moved_words, stand_of}
-use Rattle.dap_messages.specs.Bodies.{continued}
-use Rattle.dap_messages.specs.Messages.{done, said_of}
-use Rattle.dap_session.specs.Stands.{reason_at, told_at}
-use Rattle.mon_session.specs.declared.mon_state.MonState.{MonState}
+use Rattle.dap_messages.specs.Messages.{said_of}
+use Rattle.dap_session.specs.Passes.{PassesLogs}
+use Rattle.dap_session.specs.declared.passing.Further.{Further}
 use Rattle.dap_session.proofs.answering.make.Goals as goal
 
 pub returns : goal.returns
 returns c =
-    let old = c.args.client.now in
-    let move = c.make_move-halt.ensures in
-    let halt = c.make_move-halt.result in
-    let kept = c.with_halt_at.ensures.kept in
-    let reason = move.reason ∙ ap (λ (n : Option ℕ). moved_reason n c.args.way old.mon) c.steps_of.ensures in
-    IfOk-weaker c.with_halt_at.result _ _
-    (λ ms told. (
-      ap stand_of kept.0 ∙ move.stand ∙ ap (λ (n : Option ℕ). moved n c.args.way old.mon) c.steps_of.ensures,
-      subst (λ (d : MonState). KeepsWatches old.mon d) (sym kept.0) move.watches,
-      kept.1,
-      (
-        halt,
-        reason,
-        move.words ∙ ap (λ (n : Option ℕ). moved_words n c.args.way old.mon) c.steps_of.ensures,
-        move.fault ∙ ap (λ (n : Option ℕ). moved_fault n c.args.way old.mon) c.steps_of.ensures,
-        subst (λ (d : MonState). map said_of ms.items ≡ done continued ∷ told_at old.listed d old.told.count halt) (sym kept.0) told.0,
-      ),
-      told.2 ∙ (λ i. reason_at old.listed.lines.items old.listed.addresses.items ((sym kept.0) i).session.current.regs.pc (reason i)),
+    let first = c.go_first.new.client in
+    let so_far = map said_of c.in_ok-said.said.items in
+    IfOk-weaker c.go_on.result _ _
+    (λ ms passes. (
+      first,
+      so_far,
+      c.in_ok-said.ensures,
+      subst (λ (f : Further). PassesLogs f first so_far c.go_on.new.client (map said_of ms.items)) c.further_of-further.ensures passes,
     ))
-    (c.with_halt_at.ensures.told _ (c.answered.ensures _ c.continued.ensures))
+    c.go_on.ensures

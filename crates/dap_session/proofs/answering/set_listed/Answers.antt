@@ -1,11 +1,12 @@
 use Rattle.std.proofs.Common.{◌≡◌, IfOk, subst}
 use Rattle.std.proofs.lemmas.Result.{IfOk-weaker}
-use Rattle.dap_messages.specs.Listed.{addresses_of, lines_of}
+use Rattle.dap_messages.specs.Listed.{addresses_of, functions_of, lines_of}
 use Rattle.dap_messages.specs.declared.listed.AddressList.{AddressList}
+use Rattle.dap_messages.specs.declared.listed.FunctionList.{FunctionList}
 use Rattle.dap_messages.specs.declared.listed.LineList.{LineList}
 use Rattle.dap_messages.specs.declared.listed.Listed.{Listed}
 use Rattle.dap_session.proofs.Done.{with_both, with_held}
-use Rattle.dap_session.specs.Answered.{ListsAddresses, SetsSourceOf}
+use Rattle.dap_session.specs.Answered.{ListsAddresses, ListsFunctions, SetsSourceOf}
 use Rattle.serde_json.specs.View.{view}
 use Rattle.dap_session.proofs.answering.set_listed.Goals as goal
 
@@ -31,7 +32,17 @@ returns-in-Instruction g c =
     rw c.in-Instruction.is (subst (λ (held : Listed). IfOk c.set_addresses.result (λ v. ListsAddresses c.args.counting (addresses_of old.listed c.in-Instruction.listed) (record old { listed = held }) new (view v))) numbered.next
     (subst (λ (l : AddressList). IfOk c.set_addresses.result (λ v. ListsAddresses c.args.counting l (record old { listed = c.number_addresses-wanted.new.listed }) new (view v))) numbered.list sets))
 
+pub returns-in-Function : goal.returns-in-Function
+returns-in-Function g c =
+    let set = c.set_functions.ensures in
+    let old = c.args.client.now in
+    let new = record old { mon = c.set_functions.new.mon; listed = c.set_functions.new.listed } in
+    let sets = with_held c.set_functions.result _ _ (λ v h held. (h, set.kept, held)) set.sets set.held in
+    let numbered = c.number_functions-wanted.ensures in
+    rw c.in-Function.is (subst (λ (held : Listed). IfOk c.set_functions.result (λ v. ListsFunctions c.args.counting (functions_of old.listed c.in-Function.listed) (record old { listed = held }) new (view v))) numbered.next
+    (subst (λ (l : FunctionList). IfOk c.set_functions.result (λ v. ListsFunctions c.args.counting l (record old { listed = c.number_functions-wanted.new.listed }) new (view v))) numbered.list sets))
+
 pub returns-in-Data : goal.returns-in-Data
 returns-in-Data g c =
     let set = c.set_data.ensures in
-    rw c.in-Data.is (with_both c.set_data.result _ _ (λ v told sets held. (sets, set.kept, told, (held, set.others.0, set.others.1, set.others.2))) set.answer set.sets set.held)
+    rw c.in-Data.is (with_both c.set_data.result _ _ (λ v told sets held. (sets, set.kept, told, (held, set.others.0, set.others.1, set.others.2, set.others.3))) set.answer set.sets set.held)

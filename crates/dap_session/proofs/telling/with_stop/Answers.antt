@@ -5,17 +5,13 @@ use Rattle.dap_messages.specs.declared.halt.Reason.{Reason}
 use Rattle.dap_session.specs.Told.{remark_said}
 use Rattle.dap_views.specs.Values.{stopped_body}
 use Rattle.dap_session.proofs.telling.with_stop.Goals as goal
-use Rattle.dap_session.proofs.telling.with_stop.Goals.{in-Entry, in-Step, in-DataBreakpoint, in-NoStop}
+use Rattle.dap_session.proofs.telling.with_stop.Goals.{in-Entry, in-Step, in-FunctionBreakpoint, in-Goto}
 
--- a fact at each of three reasons, and of four
+-- a fact at each of three reasons
 three : (P : Reason → Type 0) (reason a b d : Reason) → P a → P b → P d → (reason ≡ a) ⊎ ((reason ≡ b) ⊎ (reason ≡ d)) → P reason
 three P reason a b d is_a is_b is_d (inl e) = subst P (sym e) is_a
 three P reason a b d is_a is_b is_d (inr (inl e)) = subst P (sym e) is_b
 three P reason a b d is_a is_b is_d (inr (inr e)) = subst P (sym e) is_d
-
-four : (P : Reason → Type 0) (reason a b d f : Reason) → P a → P b → P d → P f → (reason ≡ a) ⊎ ((reason ≡ b) ⊎ ((reason ≡ d) ⊎ (reason ≡ f))) → P reason
-four P reason a b d f is_a is_b is_d is_f (inl e) = subst P (sym e) is_a
-four P reason a b d f is_a is_b is_d is_f (inr others) = three P reason b d f is_b is_d is_f others
 
 pub returns : goal.returns
 returns c = λ before is.
@@ -28,7 +24,7 @@ returns c = λ before is.
     let remarked : IfOk c.match-halt.remarked (λ ms. map said_of ms.items ≡ behind) = elim c.match-halt.branch [
       | in-Entry w ↦ rw w.remarked-is (rw w.in-Entry.is (w.with_output-remarked.ensures before _ is w.format.ensures.ok))
       | in-Step w ↦ rw w.remarked-is (three P _ _ _ _ same same same w.in-Step.is)
-      | in-DataBreakpoint w ↦ rw w.remarked-is (four P _ _ _ _ _ same same same same w.in-DataBreakpoint.is)
-      | in-NoStop w ↦ rw w.remarked-is (rw w.in-NoStop.is same)
+      | in-FunctionBreakpoint w ↦ rw w.remarked-is (three P _ _ _ _ same same same w.in-FunctionBreakpoint.is)
+      | in-Goto w ↦ rw w.remarked-is (three P _ _ _ _ same same same w.in-Goto.is)
     ] in
     subst (λ (r : List ℕ). IfOk c.with_event.result (λ ms. map said_of ms.items ≡ behind ++ event (codes "stopped") (stopped_body r words hits) ∷ [])) c.word-2.ensures (c.with_event.ensures _ _ remarked body)

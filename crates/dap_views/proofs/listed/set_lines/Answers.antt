@@ -13,4 +13,4 @@ returns-clause-sets c =
     sets_list find c.args.source.now.counting c.args.wanted.first c.args.wanted.list.items c.args.listed.now.lines.items c.set_list.new.held.items c.args.mon.now c.set_list.new.mon c.in_ok-list.list c.set_list.result found c.set_list.ensures.held c.set_list.ensures.place c.set_list.ensures.answer
 
 pub returns-clause-held : goal.returns-clause-held
-returns-clause-held c = IfOk-weaker c.set_list.result _ _ (λ v h. (refl, refl, refl, refl)) c.set_list.ensures.answer
+returns-clause-held c = IfOk-weaker c.set_list.result _ _ (λ v h. (refl, refl, refl, refl, refl)) c.set_list.ensures.answer

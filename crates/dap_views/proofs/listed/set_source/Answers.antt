@@ -11,6 +11,7 @@ returns-then-is_one_file g c = record {
   sets = sets_source c.args.source.now.counting c.args.source.now.path.now (option_map (λ a. a.now) c.args.source.now.assembly) c.args.path.now c.args.wanted c.args.listed.now c.set_lines.new.listed c.args.mon.now c.set_lines.new.mon c.set_lines.result c.set_lines.ensures.sets c.set_lines.ensures.held;
   kept = c.set_lines.ensures.kept;
   addresses = c.set_lines.ensures.addresses;
+  functions = c.set_lines.ensures.functions;
 }
 
 pub returns-clause-sets : goal.returns-clause-sets

@@ -1,6 +1,7 @@
+use Rattle.std.proofs.Common.{ap, ℕ}
+use Rattle.dap_views.proofs.Shown.{shown_as}
+use Rattle.dap_views.specs.Variables.{byte_with}
 use Rattle.dap_views.proofs.variables.byte_variable.Goals as goal
 
 pub returns : goal.returns
-returns c =
-    let named = c.word-2.ensures _ (c.text.ensures _ _ (c.word.ensures _ c.new.ensures) c.reference.ensures) in
-    c.build.ensures _ (c.count.ensures _ (c.text-2.ensures _ _ named c.byte_text.ensures))
+returns c = shown_as _ _ _ (ap (λ (number : ℕ). byte_with c.args.name.now c.args.address c.args.byte number) c.word_number.ensures) c.byte_with.ensures

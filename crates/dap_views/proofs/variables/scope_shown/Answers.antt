@@ -28,3 +28,6 @@ returns-in-ZeroPage c = rw c.in-ZeroPage.is c.cells-in-ZeroPage.ensures
 
 pub returns-in-Machine : goal.returns-in-Machine
 returns-in-Machine c = rw c.in-Machine.is c.machine.ensures
+
+pub returns-in-Word : goal.returns-in-Word
+returns-in-Word c = rw c.in-Word.is c.word_shown.ensures

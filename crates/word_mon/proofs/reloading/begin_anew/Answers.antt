@@ -1,6 +1,6 @@
 use Rattle.std.proofs.Common.{inl, inr, refl}
 use Rattle.arguments_play.specs.Mon.{mon_view}
-use Rattle.word_mon.proofs.Again.{ends_reload, on_ok_map}
+use Rattle.word_mon.proofs.Again.{debug_ends_reload, ends_reload, on_ok_map}
 use Rattle.word_mon.proofs.Starts.{named_starts}
 use Rattle.word_mon.proofs.reloading.begin_anew.Goals as goal
 
@@ -12,10 +12,18 @@ take_over-requires g c =
 pub keep_session-requires : goal.keep_session-requires
 keep_session-requires g c =
     let words = c.args.terminal.now.words.now in
-    rw c.unwrap_or-file.ensures (ends_reload words.symbols words.file.file (mon_view words) c.in-Err.refusal refl c.in-Err.ensures.refused)
+    rw c.unwrap_or-file.ensures (ends_reload words.symbols words.file.file (mon_view words) c.in-Err-OfNames.refusal refl c.in-Err-OfNames.ensures.refused)
+
+pub keep_session-2-requires : goal.keep_session-2-requires
+keep_session-2-requires g c =
+    let words = c.args.terminal.now.words.now in
+    rw c.unwrap_or-file-2.ensures (debug_ends_reload words.debug_info words.file.file (mon_view words) c.in-Err-OfDebug.fault refl c.in-Err-OfDebug.ensures.refused)
 
 pub returns-in_ok-of_memory-in-Ok-clause-reloaded : goal.returns-in_ok-of_memory-in-Ok-clause-reloaded
 returns-in_ok-of_memory-in-Ok-clause-reloaded g c = inl (rw c.in_ok-of_memory-in-Ok.ensures.made at c.take_over.ensures)
 
-pub returns-in-Err-clause-reloaded : goal.returns-in-Err-clause-reloaded
-returns-in-Err-clause-reloaded g c = on_ok_map c.keep_session.result _ _ inr c.keep_session.ensures.kept
+pub returns-in-Err-OfNames-clause-reloaded : goal.returns-in-Err-OfNames-clause-reloaded
+returns-in-Err-OfNames-clause-reloaded g c = on_ok_map c.keep_session.result _ _ inr c.keep_session.ensures.kept
+
+pub returns-in-Err-OfDebug-clause-reloaded : goal.returns-in-Err-OfDebug-clause-reloaded
+returns-in-Err-OfDebug-clause-reloaded g c = on_ok_map c.keep_session-2.result _ _ inr c.keep_session-2.ensures.kept

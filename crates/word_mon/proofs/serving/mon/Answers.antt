@@ -3,7 +3,7 @@ use Rattle.arguments.proofs.Refusing.{not_refused, refuses}
 use Rattle.arguments.specs.Words.{IsStatusOf, texts}
 use Rattle.arguments.proofs.Parsed.{not_both, one_asked}
 use Rattle.arguments_play.specs.Mon.{MonAsked, asked, mon, mon_view}
-use Rattle.loading.proofs.Unloaded.{unloaded_by_memory}
+use Rattle.loading.proofs.Machines.{unloaded_files_by_memory}
 use Rattle.word_mon.specs.Done.{IsDone}
 use Rattle.word_mon.proofs.serving.mon.Goals as goal
 
@@ -30,7 +30,7 @@ returns-in-Err-clause-refused g c =
 -- The words were right, so memory ran out.
 pub returns-in-Err-clause-done : goal.returns-in-Err-clause-done
 returns-in-Err-clause-done g c a h fits =
-    inl (unloaded_by_memory a.file (record {
+    inl (unloaded_files_by_memory a.file a.others (record {
       held = g.E.Write.contents c.args.errors.now;
       now = g.E.Write.contents c.refused_words.new.errors;
     }) c.in-Err.fault c.refused_words.result (c.args.input.now ≡ c.args.input.now) (c.refused_words.new.output ≡ c.args.output.now) (c.in-Err.ensures.served a fits h)

@@ -1,7 +1,8 @@
-use Rattle.std.proofs.Common.{◌≡◌, inr, refl}
+use Rattle.std.proofs.Common.{◌≡◌, inl, inr, refl}
 use Rattle.arguments.specs.Asked.{file_view}
+use Rattle.arguments.specs.OtherFiles.{others_view}
 use Rattle.arguments_play.specs.Mon.{mon_view}
-use Rattle.word_mon.proofs.Ends.{ends_named}
+use Rattle.word_mon.proofs.Ends.{ends_debug, ends_named}
 use Rattle.word_mon.proofs.Starts.{named_starts}
 use Rattle.word_mon.proofs.serving.mon_loaded.Goals as goal
 
@@ -25,10 +26,18 @@ returns-in-Ok-clause-done g c = inr (inr (
   c.served.ensures.ended,
 ))
 
-pub returns-in-Err-clause-done : goal.returns-in-Err-clause-done
-returns-in-Err-clause-done g c =
-    ends_named c.args.words.now.symbols c.args.words.now.file.file (file_view c.args.words.now.file) (record {
+pub returns-in-Err-OfNames-clause-done : goal.returns-in-Err-OfNames-clause-done
+returns-in-Err-OfNames-clause-done g c =
+    ends_named c.args.words.now.symbols c.args.words.now.file.file (file_view c.args.words.now.file) (others_view c.args.words.now.others) (record {
       held = g.E.Write.contents c.args.errors.now;
       now = g.E.Write.contents c.refuse_file.new.errors;
-    }) c.in-Err.refusal c.refuse_file.result ((c.args.input.now ≡ c.args.input.now) × (c.args.output.now ≡ c.args.output.now)) _
-    c.in-Err.ensures.refused c.refuse_file.ensures.status (rw c.unwrap_or-file.ensures at c.refuse_file.ensures.told) (refl, refl)
+    }) c.in-Err-OfNames.refusal c.refuse_file.result ((c.args.input.now ≡ c.args.input.now) × (c.args.output.now ≡ c.args.output.now)) _ _
+    c.in-Err-OfNames.ensures.refused c.refuse_file.ensures.status (rw c.unwrap_or-file.ensures at c.refuse_file.ensures.told) (refl, refl)
+
+pub returns-in-Err-OfDebug-clause-done : goal.returns-in-Err-OfDebug-clause-done
+returns-in-Err-OfDebug-clause-done g c =
+    inr (inl (inr (ends_debug c.args.words.now.debug_info c.args.words.now.file.file (record {
+      held = g.E.Write.contents c.args.errors.now;
+      now = g.E.Write.contents c.tell.new.errors;
+    }) c.in-Err-OfDebug.fault c.tell.result ((c.args.input.now ≡ c.args.input.now) × (c.args.output.now ≡ c.args.output.now))
+    c.in-Err-OfDebug.ensures.refused c.tell.ensures.status (rw c.unwrap_or-file-2.ensures at c.tell.ensures.told) (refl, refl))))

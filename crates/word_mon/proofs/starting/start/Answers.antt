@@ -6,6 +6,8 @@ pub returns-clause-made : goal.returns-clause-made
 returns-clause-made g c =
     let made = c.in_ok-mon.ensures.made in
     let named = c.in_ok-names.ensures.named in (
+      c.in_ok-places.places,
+      c.in_ok-places.ensures.places,
       named.0,
       named.1,
       record {
@@ -16,6 +18,6 @@ returns-clause-made g c =
         changes = rw made at c.new.ensures.changes;
         displays = rw made at c.new.ensures.displays;
         text = rw made at c.new.ensures.text;
-        places = (rw made at c.new.ensures.places) ∙ (named.2 ∙ ap (with_names named.0) c.in_ok-places.ensures.places);
+        places = (rw made at c.new.ensures.places) ∙ named.2;
       },
     )

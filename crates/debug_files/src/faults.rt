@@ -1,0 +1,80 @@
+//! What is told of a debug file that has a fault.
+
+ghost use Rattle.std.specs.Prelude.{◌≡◌};
+ghost use Rattle.debug_files.specs.Told.{IsToldAs, name_of, number_of, place_of};
+
+use arguments::{LoadFault, Refusal};
+use debug_records::{DebugError, DebugFault, DebugFaultKind};
+use formatting::{Text, push_bytes, push_decimal};
+
+/// Returns where a fault is.
+#[tactic(auto, unfolding(crate::specs::Told::place_of))]
+fn place_of(fault: DebugFault) -> Text
+    ensures { result.items ≡ place_of fault }
+{
+    let mut text = Text::new();
+    push_bytes(&mut text, b"DEBUG line ");
+    push_decimal(&mut text, fault.line as u64);
+    push_bytes(&mut text, b" column ");
+    push_decimal(&mut text, fault.column as u64);
+    push_bytes(&mut text, b" ");
+    text
+}
+
+/// Returns the name of a fault.
+fn name_of(kind: DebugFaultKind) -> &'static str
+    ensures { result.now ≡ name_of kind }
+{
+    match kind {
+        DebugFaultKind::NoTab => "NoTab",
+        DebugFaultKind::NoField => "NoField",
+        DebugFaultKind::OpenText => "OpenText",
+        DebugFaultKind::NameTwice => "NameTwice",
+        DebugFaultKind::NoNumber => "NoNumber",
+        DebugFaultKind::NoText => "NoText",
+        DebugFaultKind::NoKind => "NoKind",
+        DebugFaultKind::Missing => "Missing",
+        DebugFaultKind::NoVersion => "NoVersion",
+        DebugFaultKind::OtherVersion => "OtherVersion",
+        DebugFaultKind::IdTwice => "IdTwice",
+        DebugFaultKind::TooMany => "TooMany",
+        DebugFaultKind::NoRecord => "NoRecord",
+        DebugFaultKind::TooLarge => "TooLarge",
+    }
+}
+
+/// Returns the number of a fault.
+fn number_of(kind: DebugFaultKind) -> u8
+    ensures { result ≡ number_of kind }
+{
+    match kind {
+        DebugFaultKind::NoTab => 1,
+        DebugFaultKind::NoField => 2,
+        DebugFaultKind::OpenText => 3,
+        DebugFaultKind::NameTwice => 4,
+        DebugFaultKind::NoNumber => 5,
+        DebugFaultKind::NoText => 6,
+        DebugFaultKind::NoKind => 7,
+        DebugFaultKind::Missing => 8,
+        DebugFaultKind::NoVersion => 9,
+        DebugFaultKind::OtherVersion => 10,
+        DebugFaultKind::IdTwice => 11,
+        DebugFaultKind::TooMany => 12,
+        DebugFaultKind::NoRecord => 13,
+        DebugFaultKind::TooLarge => 14,
+    }
+}
+
+/// Returns why a debug file is not loaded.
+pub fn told(error: DebugError) -> LoadFault
+    ensures { IsToldAs error result }
+{
+    match error {
+        DebugError::OutOfMemory => LoadFault::Refused(Refusal::OutOfMemory),
+        DebugError::Fault(fault) => LoadFault::NoImage {
+            place: place_of(fault),
+            what: name_of(fault.kind),
+            number: Some(number_of(fault.kind)),
+        },
+    }
+}

@@ -1,0 +1,102 @@
+//! The sources that a debug file names.
+
+ghost use Rattle.std.specs.Prelude.{◌≡◌, ◌∷◌, ◌++◌, [], IfErr, IfOk, Ok, OnOk, map, option_map};
+ghost use Rattle.debug_files.specs.Loads.{named, names_in};
+ghost use Rattle.debug_records.specs.Views.{file_view};
+ghost use Rattle.source_map.specs.Lines.{source_view};
+
+use crate::paths::source_path;
+use arguments::{Refusal, read_most};
+use debug_records::File;
+use source_map::SourceFile;
+use std::alloc::{AllocError, Global};
+use std::rt::Files;
+
+/// The most bytes of a source that is shown.
+const LONGEST: u64 = 16_777_216;
+
+/// Returns what an allocation gives as what a file does.
+pub fn of_memory<T>(made: Result<T, AllocError>) -> Result<T, Refusal>
+    ensures made { IfOk result (λ value. made ≡ Ok value) }
+    ensures refused { IfErr result (λ fault. fault ≡ Refusal.OutOfMemory) }
+{
+    made.map_err(|_| Refusal::OutOfMemory)
+}
+
+/// Returns the text of a source, or none if it cannot be read.
+///
+/// Errors: `OutOfMemory` if an allocation fails.
+fn text_of<H: Files + AllocGlobal>(
+    rt: &H,
+    file: &str,
+    root: Option<&str>,
+    name: &[u8],
+) -> Result<Vec<u8>, Refusal>
+    ensures { IfErr result (λ fault. fault ≡ Refusal.OutOfMemory) }
+{
+    let root = match root {
+        Some(root) => Some(root.as_bytes()),
+        None => None,
+    };
+    let path = of_memory(source_path(rt.alloc(), file.as_bytes(), root, name))?;
+    let Ok(path) = String::from_utf8(path) else {
+        return Ok(Vec::new(rt.alloc()));
+    };
+    match read_most(rt, path.as_str(), LONGEST) {
+        Ok(text) => Ok(text),
+        Err(Refusal::OutOfMemory) => Err(Refusal::OutOfMemory),
+        Err(_) => Ok(Vec::new(rt.alloc())),
+    }
+}
+
+/// Returns a source with its text: no name and no text if there is no file of the number.
+///
+/// Errors: `OutOfMemory` if an allocation fails.
+fn source_of<H: Files + AllocGlobal>(
+    rt: &H,
+    file: &str,
+    root: Option<&str>,
+    source: Option<File<'_>>,
+) -> Result<SourceFile, Refusal>
+    ensures named { IfOk result
+        (λ made. (source_view made).name ≡ named (option_map file_view source.entry)) }
+    ensures refused { IfErr result (λ fault. fault ≡ Refusal.OutOfMemory) }
+{
+    match source {
+        None => of_memory(SourceFile::of_text(rt.alloc(), b"", b"")),
+        Some(source) => {
+            let text = text_of(rt, file, root, source.name)?;
+            of_memory(SourceFile::of_text(rt.alloc(), source.name, text.as_slice()))
+        }
+    }
+}
+
+/// Returns the sources that a debug file names, by their numbers, each with its text, as far as it
+/// can be read.
+///
+/// Errors: `OutOfMemory` if an allocation fails.
+pub fn sources_of<H: Files + AllocGlobal>(
+    rt: &H,
+    file: &str,
+    root: Option<&str>,
+    files: &[Option<File<'_>>],
+) -> Result<Vec<SourceFile>, Refusal>
+    ensures named { IfOk result (λ sources. names_in (map source_view sources.items)
+        ≡ map named (map (option_map file_view) files.now)) }
+    ensures refused { IfErr result (λ fault. fault ≡ Refusal.OutOfMemory) }
+{
+    let mut sources = Vec::new(rt.alloc());
+    for source in files {
+        let made = source_of(rt, file, root, *source)?;
+        of_memory(pushed(&mut sources, made))?;
+    }
+    Ok(sources)
+}
+
+/// Appends a source.
+fn pushed(sources: &mut Vec<SourceFile>, source: SourceFile) -> Result<(), AllocError>
+    ensures { OnOk result (sources.new.items ≡ sources.old.items ++ source ∷ []) }
+{
+    sources.push(source)?;
+    Ok(())
+}

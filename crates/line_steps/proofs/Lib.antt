@@ -1,0 +1,4 @@
+pub mod Steps
+pub mod Firsts
+pub mod Ways
+pub mod Examples
