@@ -1,4 +1,0 @@
-pub mod Steps
-pub mod Firsts
-pub mod Ways
-pub mod Examples

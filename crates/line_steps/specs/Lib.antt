@@ -1,4 +1,0 @@
-pub mod Places
-pub mod Goals
-pub mod Forwards
-pub mod Back
