@@ -75,8 +75,8 @@ call_false true false h = let no : false ≡ true = h refl in cc
 
 within : (s : Session) (k j : ℕ) → j < k → is_call (state_on s j) ≡ true → has_returned s j k ≡ false → is_within_call s k ≡ true
 unfolding is_within_call
-within s k j before is open =
-    any_some k (λ j. is_call (state_on s j) && not (has_returned s j k)) j before (call_true (is_call (state_on s j)) (has_returned s j k) is open)
+within s k j before is unreturned =
+    any_some k (λ j. is_call (state_on s j) && not (has_returned s j k)) j before (call_true (is_call (state_on s j)) (has_returned s j k) is unreturned)
 
 not_within : (s : Session) (k : ℕ) → ((j : ℕ) → j < k → is_call (state_on s j) ≡ true → has_returned s j k ≡ true) → is_within_call s k ≡ false
 unfolding is_within_call
@@ -102,7 +102,7 @@ pub record IsOutermost (s : Session) (k stack : ℕ) : Type 0 where
   pub before : from < k
   pub call : is_call (state_on s from) ≡ true
   pub at : stack_on s from ≡ stack
-  pub open : has_returned s from k ≡ false
+  pub unreturned : has_returned s from k ≡ false
   pub first : is_within_call s from ≡ false
 
 abbrev pub IsCall : Session → ℕ → Option ℕ → Type 0
@@ -114,7 +114,7 @@ call_none s = not_within s 0 (λ j before. absurd (omega (arith, before)))
 
 pub call_is : (s : Session) (k : ℕ) (call : Option ℕ) → IsCall s k call → is_some call ≡ is_within_call s k
 call_is s k None none = sym none
-call_is s k (Some stack) is = sym (within s k is.from is.before is.call is.open)
+call_is s k (Some stack) is = sym (within s k is.from is.before is.call is.unreturned)
 
 -- the call goes on, or returns with the step
 lower : (a b : ℕ) → nat_lt a b ≡ true → a < b
@@ -129,12 +129,12 @@ goes_on s k stack is below = record {
   before = omega (arith, is.before);
   call = is.call;
   at = is.at;
-  open = not_returned s is.from (k + 1) (λ i later within. elim (cases_lt k i) [
+  unreturned = not_returned s is.from (k + 1) (λ i later within. elim (cases_lt k i) [
     | inl next ↦
         let same : i ≡ k + 1 = omega (arith, next, within) in
         let there : stack_on s i ≡ stack_on s (k + 1) = ap (λ (n : ℕ). stack_on s n) same in
         omega (arith, there, below, is.at)
-    | inr before ↦ open_at s is.from k i is.open later before
+    | inr before ↦ open_at s is.from k i is.unreturned later before
   ]);
   first = is.first;
 }
@@ -149,7 +149,7 @@ ends s k stack is above = not_within s (k + 1) (λ j before call. elim (cases_or
   | inr (inr later) ↦
       elim (cases_lt j (k + 1)) [
         | inl less ↦
-            let below : stack_on s j < stack_on s is.from = open_at s is.from k j is.open later (omega (arith, less)) in
+            let below : stack_on s j < stack_on s is.from = open_at s is.from k j is.unreturned later (omega (arith, less)) in
             returned s j (k + 1) (k + 1) before (omega arith) (omega (arith, below, is.at, above))
         | inr most ↦ absurd (omega (arith, before, most))
       ]
@@ -180,7 +180,7 @@ made s k none call below = record {
   before = omega arith;
   call = call;
   at = refl;
-  open = not_returned s k (k + 1) (λ i later within.
+  unreturned = not_returned s k (k + 1) (λ i later within.
       let same : i ≡ k + 1 = omega (arith, later, within) in
       let there : stack_on s i ≡ stack_on s (k + 1) = ap (λ (n : ℕ). stack_on s n) same in
       omega (arith, there, below));

@@ -11,6 +11,7 @@ use Rattle.line_steps.specs.Calls.{call_begun, call_open, state_on}
 use Rattle.line_steps.specs.Forwards.{is_limit, is_line_on, steps_to_line}
 use Rattle.line_steps.specs.Lines.{begun, is_other}
 use Rattle.line_steps.specs.declared.lines.FileLine.{FileLine}
+use Rattle.line_steps.specs.declared.lines.LineStart.{LineStart}
 use Rattle.line_steps.proofs.Calling.{IsCall, call_is, call_more}
 use Rattle.line_steps.proofs.Counted.{NoneTo, first_beyond, first_last, first_next}
 use Rattle.line_steps.proofs.Steps.{IsOn, ends_all, ends_met, ends_refused, ends_stopped}
@@ -25,7 +26,7 @@ call_on s u v k call before after is made made_more begins opens =
     subst (IsCall s (k + 1)) (sym second) (call_more s k call is)
 
 -- whether it is at such a line
-pub line_is : (lines : List (Option FileLine)) (from : Option FileLine) (s t : Session) (k : ℕ) (call : Option ℕ)
+pub line_is : (lines : List LineStart) (from : Option FileLine) (s t : Session) (k : ℕ) (call : Option ℕ)
     → t ≡ after_steps k s → IsCall s k call
     → (is_other from (begun lines t.current) && not (is_some call)) ≡ is_line_on lines from s k
 line_is lines from s t k call made is =
@@ -46,7 +47,7 @@ no_end line true h = refl
 no_end true false h = cc
 no_end false false h = cc
 
-module _ (lines : List (Option FileLine)) (from : Option FileLine) (s u : Session) (done limit : ℕ) (e : RunEnd) where
+module _ (lines : List LineStart) (from : Option FileLine) (s u : Session) (done limit : ℕ) (e : RunEnd) where
   pub ends_here : IsOn s u done → e ≡ run_end 1 u → done < limit → 0 < e.did
       → NoneTo (λ (k : ℕ). is_line_on lines from s k) done
       → (is_line_on lines from s (done + 1) || not (is_limit e.why)) ≡ true
@@ -66,7 +67,7 @@ module _ (lines : List (Option FileLine)) (from : Option FileLine) (s u : Sessio
       ends_refused s u done (steps_to_line lines from limit s) e on is
       (first_beyond limit (is_line_on lines from s) done none within) zero
 
-pub ends_last : (lines : List (Option FileLine)) (from : Option FileLine) (s u : Session) (done limit : ℕ) → IsOn s u done
+pub ends_last : (lines : List LineStart) (from : Option FileLine) (s u : Session) (done limit : ℕ) → IsOn s u done
     → NoneTo (λ (k : ℕ). is_line_on lines from s k) done → done ≡ limit
     → end_at limit Limit ≡ run_end (steps_to_line lines from limit s) s
 ends_last lines from s u done limit on none all =

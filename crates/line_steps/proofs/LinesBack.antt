@@ -5,7 +5,7 @@ use Rattle.model.specs.State.{State}
 use Rattle.model.specs.Session.{Session}
 use Rattle.line_steps.specs.Back.{highest_with, is_line_back, is_return, state_back}
 use Rattle.line_steps.specs.Lines.{begun}
-use Rattle.line_steps.specs.declared.lines.FileLine.{FileLine}
+use Rattle.line_steps.specs.declared.lines.LineStart.{LineStart}
 use Rattle.line_steps.proofs.Returns.{IsHighest, highest_more, left_is}
 
 -- the highest stack pointer that returns have left, one event more
@@ -17,7 +17,7 @@ highest_on s t u k highest stack more is was there before at return h =
     subst (IsHighest s (k + 1)) (sym (h ∙ (λ i. highest_with (event i) (low i) highest))) (highest_more s k highest was)
 
 -- whether it is at such a line
-pub line_is : (lines : List (Option FileLine)) (s : Session) (t : State) (k highest : ℕ) → t ≡ state_back s k → IsHighest s k highest
+pub line_is : (lines : List LineStart) (s : Session) (t : State) (k highest : ℕ) → t ≡ state_back s k → IsHighest s k highest
     → (is_some (begun lines t) && not (nat_lt t.regs.s highest)) ≡ is_line_back lines s k
 line_is lines s t k highest there is =
     let left = left_is s k highest is in

@@ -7,7 +7,7 @@ use Rattle.model.specs.Back.{states, without_last}
 use Rattle.line_steps.specs.Calls.{opcode_of}
 use Rattle.line_steps.specs.Lines.{begun}
 use Rattle.line_steps.specs.Numbers.{any_below, first_or_last}
-use Rattle.line_steps.specs.declared.lines.FileLine.{FileLine}
+use Rattle.line_steps.specs.declared.lines.LineStart.{LineStart}
 
 -- The state that a session held k events before its current one, and its stack pointer.
 abbrev pub state_back : Session → ℕ → State
@@ -30,11 +30,11 @@ is_left s k = any_below k (λ j. is_return (state_back s (suc j)) (state_back s 
     && nat_lt (stack_back s k) (stack_back s j))
 
 -- Whether a line begins at the state k events back, and the state is within no such call.
-abbrev pub is_line_back : List (Option FileLine) → Session → ℕ → Bool
+abbrev pub is_line_back : List LineStart → Session → ℕ → Bool
 is_line_back lines s k = is_some (begun lines (state_back s k)) && not (is_left s k)
 
 -- How many events lead back to the last such state: all that are held, if there is none.
-abbrev pub events_to_line : List (Option FileLine) → Session → ℕ
+abbrev pub events_to_line : List LineStart → Session → ℕ
 events_to_line lines s = first_or_last (length s.earlier) (is_line_back lines s)
 
 -- The session with so many events undone, one by one.

@@ -6,7 +6,7 @@ ghost use Rattle.model.specs.State.{State};
 ghost use Rattle.line_steps.specs.Back.{events_to_line, gone_back, highest_with, is_return};
 ghost use Rattle.line_steps.specs.Lines.{begun};
 
-use crate::lines::{FileLine, begun};
+use crate::lines::{LineStart, begun};
 use debugger::Session;
 
 /// The opcode of RTS.
@@ -46,7 +46,7 @@ fn highest_with(is_return: bool, stack: u8, highest: u8) -> u8
 
 /// Returns whether a line begins at the current state, and its stack pointer is not below the
 /// highest one that later returns have left.
-fn is_line(session: &Session, lines: &[Option<FileLine>], highest: u8) -> bool
+fn is_line(session: &Session, lines: &[LineStart], highest: u8) -> bool
     ensures { result ≡ (is_some (begun lines.now session.now.current)
         && not (nat_lt session.now.current.regs.s highest)) }
 {
@@ -56,7 +56,7 @@ fn is_line(session: &Session, lines: &[Option<FileLine>], highest: u8) -> bool
 /// Undoes as many events as lead to the last earlier state held at which a line begins, and that is
 /// within no call that has returned since; all that are held if there is none. Returns how many
 /// those are. Does not allocate.
-pub fn back_by_line(session: &mut Session, lines: &[Option<FileLine>]) -> u32
+pub fn back_by_line(session: &mut Session, lines: &[LineStart]) -> u32
     ensures undone { session.new ≡ gone_back result session.old }
     ensures count { result ≡ events_to_line lines.now session.old }
 {

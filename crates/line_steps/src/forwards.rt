@@ -6,7 +6,7 @@ ghost use Rattle.line_steps.specs.Forwards.{is_limit, steps_to_line};
 ghost use Rattle.line_steps.specs.Lines.{begun, is_other};
 
 use crate::calls::{call_begun, call_open};
-use crate::lines::{FileLine, begun, is_other};
+use crate::lines::{FileLine, LineStart, begun, is_other};
 use debugger::{RunEnd, Session, Why};
 
 /// Returns whether a run ends because as many steps were made as it was to make.
@@ -33,7 +33,7 @@ fn step_once(session: &mut Session) -> RunEnd
 /// run is within no call, or the step ended a run of the session for this reason.
 fn is_end(
     session: &Session,
-    lines: &[Option<FileLine>],
+    lines: &[LineStart],
     from: Option<FileLine>,
     call: Option<u8>,
     why: Why,
@@ -49,7 +49,7 @@ fn is_end(
 /// session does: at its watches and breakpoints, and at a step that is refused. Does not allocate.
 pub fn run_by_line(
     session: &mut Session,
-    lines: &[Option<FileLine>],
+    lines: &[LineStart],
     from: Option<FileLine>,
     limit: u32,
 ) -> RunEnd

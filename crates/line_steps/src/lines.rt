@@ -1,6 +1,6 @@
 //! Lines that begin where states are.
 
-ghost use Rattle.std.specs.Prelude.{◌≡◌};
+ghost use Rattle.std.specs.Prelude.{◌≡◌, ◌==◌, find};
 ghost use Rattle.line_steps.specs.Lines.{begun, is_other};
 
 use debugger::Session;
@@ -14,15 +14,31 @@ pub struct FileLine {
     pub line: u32,
 }
 
-/// Returns the line that begins at the current state, if one does. `lines` has for each address the
-/// line whose bytes begin there; past its end none does.
-pub fn begun(session: &Session, lines: &[Option<FileLine>]) -> Option<FileLine>
+/// An address at which a line begins.
+#[derive(Clone, Copy)]
+pub struct LineStart {
+    pub address: u16,
+    pub line: FileLine,
+}
+
+/// Returns the first of some line starts that is at an address.
+fn start_at(lines: &[LineStart], address: u16) -> Option<LineStart>
+    ensures { result ≡ find (λ start. start.address == address) lines.now }
+{
+    for start in lines {
+        if start.address == address {
+            return Some(*start);
+        }
+    }
+    None
+}
+
+/// Returns the line that begins at the current state, if one does. Of lines that begin at one
+/// address the first counts.
+pub fn begun(session: &Session, lines: &[LineStart]) -> Option<FileLine>
     ensures { result ≡ begun lines.now session.now.current }
 {
-    match lines.get(session.regs().pc as usize) {
-        Some(line) => *line,
-        None => None,
-    }
+    Some(start_at(lines, session.regs().pc)?.line)
 }
 
 /// Returns whether a line begins that is not a certain one.
