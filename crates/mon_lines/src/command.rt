@@ -100,6 +100,10 @@ pub enum Command<'a> {
     Step(u32),
     Over,
     Out,
+    /// To another line of the source.
+    Line,
+    /// Back to where a line of the source begins.
+    LineBack,
     Until(u16),
     /// As many steps at most, if a number is given.
     Go(Option<u32>),

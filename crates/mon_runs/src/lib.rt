@@ -37,6 +37,7 @@ pub use ended::{EndWhy, Ended};
 pub use mon_lines::WatchKind;
 pub use recall::{back_to_stop, make_again};
 pub use rests::has_no_handler;
-pub use runs::{go, out, over, run, until};
+pub use line_steps::{FileLine, LineStart, back_by_line};
+pub use runs::{go, line, out, over, run, until};
 pub use stops::Stops;
 pub use watches::Watch;

@@ -7,6 +7,7 @@ ghost use Rattle.mon_runs.specs.Ends.{breaks_after, is_end, is_to};
 ghost use Rattle.mon_runs.specs.Looked.{after_stretch, changed_between, end_between, goal_met};
 ghost use Rattle.mon_runs.specs.Looked.{if_changed, if_met, if_read, seen_between};
 ghost use Rattle.mon_runs.specs.Looked.{if_stored, looked_run, pushed_at, pushed_to, rest_of};
+ghost use Rattle.mon_runs.specs.LineRuns.{line_run};
 ghost use Rattle.mon_runs.specs.Looked.{sight_of};
 ghost use Rattle.mon_runs.specs.Looked.{watched, watched_from, why_of_step};
 
@@ -16,6 +17,7 @@ use crate::rests::rest_since;
 use crate::stops::Stops;
 use accesses::{Access, access_here};
 use debugger::{Regs, Session, Why};
+use line_steps::{FileLine, LineStart, begun, call_begun, call_open, is_other};
 use mon_lines::WatchKind;
 
 /// The goal of a run of single steps.
@@ -284,6 +286,52 @@ pub fn lead(
                 did,
                 why,
                 from: Some(made.from),
+            };
+        }
+    }
+    Ended {
+        did,
+        why: EndWhy::Many,
+        from: None,
+    }
+}
+
+/// Makes up to `limit` steps, each of which is looked at, until one leads to a state at which a
+/// line begins other than `line`, and that is within no call of the run, or ends the run.
+pub fn lead_to_line(
+    session: &mut Session,
+    stops: &mut Stops,
+    lines: &[LineStart],
+    line: Option<FileLine>,
+    limit: u32,
+) -> Ended
+    requires { limit ≤ 2 ^ 29 }
+    ensures steps { session.new ≡ after_steps result.did session.old }
+    ensures run { line_run lines.now line limit stops.old.watches.items
+        (session.old, stops.old.breaks.items)
+        ≡ (result, (session.new, stops.new.breaks.items)) }
+    ensures watches { stops.new.watches ≡ stops.old.watches }
+    ensures changes { stops.new.changes ≡ stops.old.changes }
+{
+    let mut did = 0u64;
+    let mut call = None;
+    for _ in 0..limit {
+        let made_at = call_begun(call, session);
+        let made = make_step(session, stops, Goal::Rest, None);
+        did += made.did as u64;
+        if let Some(why) = made.why {
+            return Ended {
+                did,
+                why,
+                from: Some(made.from),
+            };
+        }
+        call = call_open(made_at, session);
+        if call.is_none() && is_other(line, begun(session, lines)) {
+            return Ended {
+                did,
+                why: EndWhy::Met,
+                from: None,
             };
         }
     }

@@ -8,14 +8,16 @@ ghost use Rattle.model.specs.Run.{after_steps};
 ghost use Rattle.mon_runs.specs.Goals.{without_break};
 ghost use Rattle.mon_runs.specs.PastBreaks.{count_run, go_run, if_all, most_steps, out_run, over_run};
 ghost use Rattle.mon_runs.specs.PastBreaks.{until_run};
+ghost use Rattle.mon_runs.specs.LineRuns.{line_run};
 ghost use Rattle.mon_runs.specs.Looked.{looked_run};
 ghost use Rattle.mon_runs.specs.Runs.{HasMadeStates};
 
 use crate::ended::{EndWhy, Ended};
-use crate::looked::{Goal, lead};
+use crate::looked::{Goal, lead, lead_to_line};
 use crate::stops::Stops;
 use crate::stretches::run_on;
 use debugger::{Session, SessionFault, Why};
+use line_steps::{FileLine, LineStart};
 
 /// The opcode of JSR.
 const JSR: u8 = 0x20;
@@ -73,6 +75,24 @@ pub fn out(session: &mut Session, stops: &mut Stops) -> Ended
 {
     let stack = session.regs().s;
     lead_on(session, stops, Goal::Left { stack }, None)
+}
+
+/// Steps to the first state at which a line begins other than `line`, and that is within no call of
+/// the run. Ends early as `over` does.
+pub fn line(
+    session: &mut Session,
+    stops: &mut Stops,
+    lines: &[LineStart],
+    line: Option<FileLine>,
+) -> Ended
+    ensures steps { session.new ≡ after_steps result.did session.old }
+    ensures run { line_run lines.now line most_steps stops.old.watches.items
+        (session.old, stops.old.breaks.items)
+        ≡ (result, (session.new, stops.new.breaks.items)) }
+    ensures watches { stops.new.watches ≡ stops.old.watches }
+    ensures changes { stops.new.changes ≡ stops.old.changes }
+{
+    lead_to_line(session, stops, lines, line, MOST_STEPS)
 }
 
 /// Runs to a watch, a breakpoint, a step that is rejected, or to where the program rests, for at
