@@ -7,7 +7,7 @@ function reasonTold({why, address, status, opcode}) {
   const at = address === undefined ? "" : here.session.placeOf(address);
   const words = {
     stuck: `The program has ended: at ${at}, it jumps to itself.`,
-    brk: `BRK ended the program at ${at}: nothing stands at its vector $FFFE.`,
+    brk: `BRK ended the program at ${at}: it has no handler at $FFFE.`,
     unwritten: `The program ran into ${at}, which nothing wrote${here.session.cameFrom()}.`,
     waits: "The program waits for input: type a line below the console, and press Enter.",
     break: `Breakpoint at ${at}.`,
@@ -30,7 +30,7 @@ function endTold({why, status}) {
   if (why == "refused") return refused[status] || "the next step is rejected";
   return {
     stuck: "a jump to itself", waits: "the program waits for input, and there is no more",
-    brk: "BRK, and nothing stands at FFFE", unwritten: "nothing was ever written here",
+    brk: "BRK, which has no handler at FFFE", unwritten: "nothing was ever written here",
   }[why] || "here the page was written";
 }
 

@@ -48,6 +48,8 @@ const KEYS = [
   ["V", "the visit before", () => toVisit(chosenLine(), -1)],
   ["w", "back to the write of the chosen byte before this moment", () => toWrite(-1)],
   ["W", "on to its next write", () => toWrite(1)],
+  ["L", "the chosen byte into the list of names, or out of it", keepByte],
+  ["M", "copy this moment as text: registers, line, page of memory", copyMoment],
   ["a", "back to the step that set A", () => toSet("A")],
   ["x", "the same for X", () => toSet("X")],
   ["y", "for Y", () => toSet("Y")],

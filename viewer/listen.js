@@ -77,7 +77,8 @@ function listenToMemory() {
   };
   $("grid").onkeydown = pressInGrid;
   $("cell").onclick = event => {
-    const {by, w} = event.target.dataset;
+    const {by, w, keep} = event.target.dataset;
+    if (keep) keepByte();
     if (by) toUse(now.byte, w == "1", +by);
   };
   $("map").onclick = clickMap;

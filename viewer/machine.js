@@ -153,7 +153,8 @@ function drawCalls() {
 function callTold(call, pushed) {
   const from = call.up ? lineOrAddress(now.run.PC[call.start - 1]) : "";
   const origin = !call.up ? "reset" : (call.irq ? "interrupt at " : "from ") + from;
-  return `<button data-go="${Math.max(0, call.start - 1)}" title="Go to the call">` +
+  const told = "Go to the call. Pushed: what is on the stack since";
+  return `<button data-go="${Math.max(0, call.start - 1)}" title="${told}">` +
     `<b class="${call.irq ? "I" : ""}">${escaped(placeOf(call.at))}</b>` +
     `${pushed.length ? "pushed " : ""}${pushed.join(" ")}<span>${origin}</span></button>`;
 }

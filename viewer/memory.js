@@ -161,7 +161,13 @@ function drawCell() {
                    ["◂ read", 0, -1], ["read ▸", 0, 1]];
   const html = ([text, w, by]) => `<button data-w="${w}" data-by="${by}">${text}</button>`;
   put("cell", `${head} ${value} ${escaped(glyph(value))} · ${written}, ${read}` +
-    `<br>${writerTold(writes)}<div>${buttons.map(html).join("")}</div>`);
+    `<br>${writerTold(writes)}<div>${buttons.map(html).join("")}${keepButton(byte)}</div>`);
+}
+
+function keepButton(byte) {
+  const isKept = written.kept.has(byte);
+  if (!isKept && isNamed(byte)) return "";
+  return `<button data-keep="1">${isKept ? "out of" : "into"} the list</button>`;
 }
 
 function writerTold(writes) {

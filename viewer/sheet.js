@@ -1,6 +1,7 @@
 "use strict";
-// The steps of a run as a table, for paper: what each did, and the registers after it.
-const {writeSheet} = (() => {
+// The steps of a run as a table, for paper: what each did, and the registers after it; and a moment
+// as text.
+const {writeSheet, momentText, copyMoment} = (() => {
 
 const MOST = 100;                         // steps of a sheet
 const SHEET = ["Step", "Line", "Instruction", "What it did", "A", "X", "Y", "S", "Flags", "Cycles"];
@@ -33,6 +34,27 @@ function writeSheet() {
   put("sheet", `<caption>${caption}</caption><thead><tr>${heads}</tr></thead>${rows.join("")}`);
 }
 
-return {writeSheet};
+// The moment that is shown: registers, what comes next, and the page of memory.
+function momentText() {
+  const {run, cur, memory} = now, pc = run.PC[cur], source = now.info.source?.[now.lineAt[pc]];
+  const regs = [..."AXYS"].map(name => `${name}=${hex(run[name][cur])}`).join(" ");
+  const next = source?.trim() ?? disassembled(pc)[0];
+  const rows = addresses.slice(0, 16).map(row => {
+    const at = sight.page * 256 + row * 16, bytes = [...memory.slice(at, at + 16)];
+    return `${hex(at, 4)}  ${bytes.map(byte => hex(byte)).join(" ")}`;
+  });
+  const state = `${regs}  ${flagsAt(cur)}  PC=${hex(pc, 4)}  ${run.C[cur]} cycles`;
+  return [`${now.info.title}, step ${cur} of ${run.n}`, state, `${lineOrAddress(pc)}: ${next}`,
+    ...rows, ""].join("\n");
+}
+
+function copyMoment() {
+  const tell = words => $("found").textContent = $("say").textContent = words;
+  const board = globalThis.navigator?.clipboard;
+  if (!board) return tell("not copied");
+  board.writeText(momentText()).then(() => tell("copied"), () => tell("not copied"));
+}
+
+return {writeSheet, momentText, copyMoment};
 })();
-if (typeof module !== "undefined") module.exports = {writeSheet};
+if (typeof module !== "undefined") module.exports = {writeSheet, momentText, copyMoment};

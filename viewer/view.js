@@ -87,8 +87,6 @@ function readRun() {
   $("slider").max = now.run.n;
   $("cycles").style.minWidth = grouped(now.run.C[now.run.n]).length + 7 + "ch";
   $("calls").style.flexBasis = Math.min(now.run.depth + 1, 4) * 1.45 + "rem";
-  $("names").style.flexBasis = Math.min(written.names.length, 5) * 1.45 + "rem";
-  $("named").hidden = !written.names.length;
 }
 
 function changed(to = now.cur) {
@@ -120,6 +118,7 @@ function show(shown) {
   const last = Math.max(now.run.n, 1);
   Object.assign(time, {from: 0, to: last, n: last, still: null});
   Object.assign(out, {count: -1, isSettled: isSame && out.isSettled});
+  if (!isSame) written.kept.clear();
   readNames();
   readRun();
   if (!isSame) chooseAnew();

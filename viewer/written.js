@@ -1,8 +1,11 @@
 "use strict";
-// The names of bytes that the run writes, each with up to eight bytes.
-const {written, readWritten, drawNames} = (() => {
+// The names of bytes that the run writes, each with up to eight bytes, and the bytes that the
+// reader has put into the list.
+const {written, readWritten, isNamed, keepByte, drawNames} = (() => {
 
-const written = {names: []};
+const written = {names: [], kept: new Set()};
+
+const isNamed = address => written.names.some(it => it.at == address);
 
 function readWritten() {
   const isPort = at => at >= now.info.port && at <= now.info.port + 3;
@@ -13,7 +16,21 @@ function readWritten() {
     }
     return {at, name, length};
   });
-  written.names = made.filter(it => it.length && !isPort(it.at)).sort((a, b) => a.at - b.at);
+  written.names = made.filter(it => it.length && !isPort(it.at));
+  for (const at of written.kept) {
+    if (!isNamed(at)) written.names.push({at, name: nameOf(at) || address4(at), length: 1});
+  }
+  written.names.sort((a, b) => a.at - b.at);
+  $("names").style.flexBasis = Math.min(written.names.length, 5) * 1.45 + "rem";
+  $("named").hidden = !written.names.length;
+}
+
+// Puts the chosen byte into the list, or takes it out again. A name that the run writes stays.
+function keepByte() {
+  if (now.byte < 0) return;
+  if (!written.kept.delete(now.byte)) written.kept.add(now.byte);
+  readWritten();
+  draw();
 }
 
 function drawNames() {
@@ -36,6 +53,8 @@ function drawNames() {
   }).join(""));
 }
 
-return {written, readWritten, drawNames};
+return {written, readWritten, isNamed, keepByte, drawNames};
 })();
-if (typeof module !== "undefined") module.exports = {written, readWritten, drawNames};
+if (typeof module !== "undefined") {
+  module.exports = {written, readWritten, isNamed, keepByte, drawNames};
+}

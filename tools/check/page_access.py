@@ -177,6 +177,35 @@ def look_at_names(browser, compare, name, run, at):
     browser.js(text)
 
 
+def look_at_list(browser, compare, name):
+    """`L` puts the chosen byte into the list of names, and takes it out again."""
+    listed = "[...document.querySelectorAll('#names button')].map(e => +e.dataset.a)"
+    browser.js("document.activeElement.blur(), viewer.choose(-1)")
+    before = browser.js(listed)
+    at = next(at for at in range(0x2FE, 0x3FF) if at not in before)
+    browser.js(f"viewer.choose({at})")
+    for wanted in (sorted([*before, at]), before):
+        browser.key("L")
+        compare(f"{name} listed bytes", browser.js(listed), wanted)
+    browser.js("viewer.choose(-1)")
+
+
+def look_at_copy(browser, compare, name, at):
+    """`M` copies the moment: the step, registers, and the page of memory."""
+    browser.js("Object.defineProperty(navigator, 'clipboard', {configurable: true, value:"
+               " {writeText: text => (globalThis.copied = text, Promise.resolve())}}),"
+               f"viewer.go({at}), viewer.showPage(1)")
+    browser.key("M")
+    text, shown, memory = browser.js("[globalThis.copied, document.querySelector('#cycles')"
+                                     ".textContent.replace(/\\D/g, ''), [...viewer.memory]]")
+    lines = text.split("\n")
+    rows = [f"{at:04X}  {' '.join(f'{byte:02X}' for byte in memory[at:at + 16])}"
+            for at in range(0x100, 0x200, 16)]
+    compare(f"{name} copied memory", lines[3:], [*rows, ""])
+    compare(f"{name} copied step", f", step {at} of " in lines[0], True)
+    compare(f"{name} copied cycles", lines[1].split()[-2:], [shown, "cycles"])
+
+
 def look_at_contrast(browser, compare, name, last):
     """No text is too like what is behind it, in the light and in the dark."""
     for light in ("dark", "light"):

@@ -198,7 +198,7 @@ function windowOf(path) {
     requestAnimationFrame: act => setTimeout(() => act(performance.now()), 1),
     cancelAnimationFrame: clearTimeout, MouseEvent: PageEvent, Event: PageEvent,
     setTimeout, clearTimeout, performance, queueMicrotask, TextDecoder, TextEncoder, atob, btoa,
-    console, Intl,
+    console, Intl, navigator: {},
     get localStorage() { throw new Error("there is none"); },
   };
   let hash = "";

@@ -1,6 +1,6 @@
 -- What the words of a file and its map ask for, by the values that clap's definition of a parse finds
 -- among them. Source: mos65.
-use Rattle.std.specs.Prelude.{ℕ, Bool, false, ◌||◌, Option, Some, None, codes, option_map}
+use Rattle.std.specs.Prelude.{ℕ, Bool, false, ◌||◌, Option, Some, None, codes, is_some, option_map}
 use Rattle.std.specs.Str.{bytes_eq}
 use Rattle.arguments.specs.FileNames.{form_for, name_of}
 use Rattle.arguments.specs.Values.{form_asked, port_asked, profile_asked, rom_asked}
@@ -21,16 +21,23 @@ pub record FileAsked : Type 0 where
   pub port : ℕ
   pub rom : Option (ℕ × ℕ)
   pub profile : Profile
+  pub omits_fill : Bool
 
 -- The map that the file is loaded on, if its port and its ROM make one.
 abbrev pub map_of : FileAsked → Map
 map_of file = record { profile = file.profile; rom = file.rom; port = file.port }
 
-abbrev pub file_of : Option Text → Option FileForm → Option ℕ → Option (Option (ℕ × ℕ))
+abbrev pub file_of : Bool → Option Text → Option FileForm → Option ℕ → Option (Option (ℕ × ℕ))
     → Option Profile → Option FileAsked
-file_of (Some file) (Some form) (Some port) (Some rom) (Some profile) = Some
-    (record { file = file; form = form; port = port; rom = rom; profile = profile })
-file_of file form port rom profile = None
+file_of omits (Some file) (Some form) (Some port) (Some rom) (Some profile) = Some (record {
+  file = file;
+  form = form;
+  port = port;
+  rom = rom;
+  profile = profile;
+  omits_fill = omits;
+})
+file_of omits file form port rom profile = None
 
 -- `--image`, or `--tape`, its other name.
 abbrev pub says_image : (Text → Option Text) → Bool
@@ -46,11 +53,13 @@ form_in None said = None
 form_in (Some word) None = None
 form_in (Some word) (Some said) = form_for word said
 
--- What the values of the names ask for, where each is one that its name can have.
+-- What the values of the names ask for, where each is one that its name can have. Fill at the port
+-- is left out of an image only where a port is given.
 abbrev pub file_asked : (Text → Option Text) → Option FileAsked
-file_asked value = file_of (option_map name_of (value (codes "FILE")))
-    (form_in (value (codes "FILE")) (form_by value)) (port_asked (value (codes "port")))
-    (rom_asked (value (codes "rom"))) (profile_asked (value (codes "profile")))
+file_asked value = file_of (is_some (value (codes "port")))
+    (option_map name_of (value (codes "FILE"))) (form_in (value (codes "FILE")) (form_by value))
+    (port_asked (value (codes "port"))) (rom_asked (value (codes "rom")))
+    (profile_asked (value (codes "profile")))
 
 -- What was read from the words of a file, as what they ask for.
 abbrev pub file_view : FileWords → FileAsked
@@ -60,4 +69,5 @@ file_view w = record {
   port = w.port;
   rom = w.rom;
   profile = w.profile;
+  omits_fill = w.omits_fill;
 }

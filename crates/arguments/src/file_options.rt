@@ -43,6 +43,8 @@ pub struct FileWords<'a> {
     pub rom: Option<(u16, u16)>,
     /// The processor.
     pub profile: Profile,
+    /// Whether an image is loaded without four bytes of one value at the port.
+    pub omits_fill: bool,
 }
 
 /// Returns a command with an argument added, if no allocation failed before.
@@ -99,7 +101,8 @@ pub fn file_words<'a>(matches: &ArgMatches<'a>) -> Option<FileWords<'a>>
         is_given(matches, "prg"),
     )?;
     let form = form_for(word, said)?;
-    let port = port_asked(matches.get_str("port"))?;
+    let given = matches.get_str("port");
+    let port = port_asked(given)?;
     let rom = rom_asked(matches.get_str("rom"))?;
     let profile = profile_asked(matches.get_str("profile"))?;
     Some(FileWords {
@@ -108,5 +111,6 @@ pub fn file_words<'a>(matches: &ArgMatches<'a>) -> Option<FileWords<'a>>
         port,
         rom,
         profile,
+        omits_fill: given.is_some(),
     })
 }

@@ -10,7 +10,7 @@ use mon_runs::{EndWhy, Session, Why};
 use mon_steps::wording::{NO_HANDLER, NO_STOP, RETURNED, STUCK, WAITS};
 
 /// What is said at the oldest state that is held.
-pub const OLDEST: &str = "the oldest state that is held: nothing before it can be undone";
+pub const OLDEST: &str = "the oldest state that is kept: nothing before it can be undone";
 
 /// Returns why steps have ended, or a run to a stop.
 pub fn end_halt(why: EndWhy, to_stop: bool) -> Halt

@@ -58,7 +58,7 @@ pub record IsNewClient (asked : SeenLaunch) (begun : Session) (read : Option Ass
 -- and the names of the file of names that the launch names.
 abbrev pub IsBegun : FileAsked → SeenLaunch → Client → Type 0
 IsBegun file launch client = (image : List (Option ℕ)) × (assembly : Option AssemblyView)
-    × IsLoaded file image assembly × (known : PlacesView)
+    × (fill : Option ℕ) × IsLoaded file fill image assembly × (known : PlacesView)
     × AddsNames launch.symbols file (places_in file.file assembly) known
     × IsNewClient launch (new_session (history_of launch) (start (map_of file) image)) assembly
     known client

@@ -32,7 +32,7 @@ is_line mon text = is_ok (read_at mon text).asked
 abbrev pub over : Said
 over = event (codes "terminated") nothing
 
--- ---- a register or a place
+-- ---- what is looked at
 
 -- What it shows is answered.
 abbrev pub Looks : MonState → List ℕ → List Said → Type 0

@@ -1,5 +1,5 @@
 -- What a launch asks for, in the words of the options of `mon`. Source: mos65.
-use Rattle.std.specs.Prelude.{ℕ, nat_lt, if◌then◌else◌, List, [], Option, Some, None, option_map, unwrap_or}
+use Rattle.std.specs.Prelude.{ℕ, false, nat_lt, if◌then◌else◌, List, [], Option, Some, None, option_map, unwrap_or}
 use Rattle.arguments.specs.Asked.{FileAsked, file_of, form_in}
 use Rattle.arguments.specs.FileNames.{name_of}
 use Rattle.arguments.specs.Values.{form_asked, port_asked, profile_asked, rom_asked}
@@ -7,9 +7,10 @@ use Rattle.dap_messages.specs.Seen.{SeenLaunch}
 
 -- ---- the file, and the map that it is loaded on
 
--- A file is named, with at most one form, and each option has a value that it can have.
+-- A file is named, with at most one form, and each option has a value that it can have. No fill is
+-- left out.
 abbrev pub file_at : SeenLaunch → Option FileAsked
-file_at launch = file_of (option_map name_of launch.program)
+file_at launch = file_of false (option_map name_of launch.program)
     (form_in launch.program (form_asked launch.tape launch.bin launch.prg))
     (port_asked launch.port) (rom_asked launch.rom) (profile_asked launch.profile)
 

@@ -57,8 +57,8 @@ abbrev pub IsNoWriting : Option ℕ → List ℕ → Bool → MonState → Type 
 IsNoWriting place text is_partial mon = (place ≡ None)
     ⊎ ((is_ok (decode_of standard text) ≡ false) ⊎ CannotWrite place text is_partial mon)
 
--- Something to look at that is neither a register nor a place. A text of the console that can be read
--- as a line is not.
+-- Something to look at that names nothing. A text of the console that can be read as a line is not
+-- looked at.
 abbrev pub IsNoLook : List ℕ → Bool → MonState → Type 0
 IsNoLook text is_console mon = ((is_console && is_line mon text) ≡ false)
     × (look_at mon.session.current mon.places text ≡ None)

@@ -78,27 +78,16 @@ fn places_of(alloc: Global, file: &str, assembly: &Option<Assembly>) -> Result<P
     }
 }
 
-/// The most bytes of a line that says why a file is not loaded, but for the file's name.
-const LONGEST_LINE: usize = 256;
-
 /// Returns why a file is not loaded: all faults of a source, or a line.
 fn unloaded(alloc: Global, fault: LoadFault, file: &str) -> Fault {
-    match fault {
-        LoadFault::Refused(Refusal::OutOfMemory) => Fault::OutOfMemory,
-        LoadFault::Faults { text, .. } => refused_by(alloc, &text),
-        fault => {
-            let mut text = Vec::new(alloc);
-            match text.reserve(file.len().saturating_add(LONGEST_LINE)) {
-                Ok(()) => {
-                    let _ = fault.tell(file, &mut text);
-                    refused_by(alloc, &text)
-                }
-                Err(_) => {
-                    drop(fault);
-                    Fault::OutOfMemory
-                }
-            }
-        }
+    if matches!(&fault, LoadFault::Refused(Refusal::OutOfMemory)) {
+        drop(fault);
+        return Fault::OutOfMemory;
+    }
+    let mut text = Vec::new(alloc);
+    match fault.push(file, &mut text) {
+        Ok(()) => refused_by(alloc, &text),
+        Err(_) => Fault::OutOfMemory,
     }
 }
 
@@ -168,6 +157,7 @@ fn client_on(
         assembly,
         written: _,
         lost: _,
+        fill: _,
     } = loaded;
     match MonState::new(alloc, session, places, history_of(launch)) {
         Ok(mon) => match launch.copied(alloc) {

@@ -149,11 +149,12 @@ fn console(
 fn no_look(alloc: Global, slip: Option<Slip<'_>>) -> Fault {
     match slip {
         Some(slip) => refused_for(alloc, slip),
-        None => refused(alloc, "this is neither a register nor a place"),
+        None => refused(alloc, "this is no register, flag or place"),
     }
 }
 
-/// Shows a register or the byte at a place. A text of the console has a slip, as a line.
+/// Shows what a text names: a register, a flag, the cycles or the byte at a place. A text of the
+/// console has a slip, as a line.
 ///
 /// Errors: `Refused` if something else is to be shown.
 #[tactic(auto, using(crate::proofs::Stays::refused_so))]
@@ -174,10 +175,10 @@ fn look(
     }
 }
 
-/// Serves a text of the console as a line, or, if it can be read as none, shows the register or the
-/// byte at the place that it names.
+/// Serves a text of the console as a line, or, if it can be read as none, shows what it names: a
+/// register, a flag, the cycles or the byte at a place.
 ///
-/// Errors: `Refused` if it is no line and names neither.
+/// Errors: `Refused` if it is no line and names nothing.
 #[tactic(auto, using(crate::proofs::Stays::shows_same, crate::proofs::Stays::refused_so))]
 fn evaluate_line(
     alloc: Global,
@@ -198,7 +199,8 @@ fn evaluate_line(
     }
 }
 
-/// Serves a text of the console as a line, or shows a register or the byte at a place.
+/// Serves a text of the console as a line, or shows a register, a flag, the cycles or the byte at a
+/// place.
 ///
 /// Errors: `Refused` if something else is to be shown.
 #[tactic(auto, using(crate::proofs::Stays::shows_same, crate::proofs::Stays::refused_so))]

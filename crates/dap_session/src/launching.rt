@@ -75,5 +75,6 @@ pub fn file_words(alloc: Global, launch: &Launch) -> Result<FileWords<'_>, Fault
         port,
         rom,
         profile,
+        omits_fill: false,
     })
 }

@@ -208,8 +208,8 @@ fn is_back(further: Further) -> bool
 }
 
 /// Appends the value of the expression that a text begins with, up to a brace, and returns the text
-/// behind. What is neither a register nor a place stays as it is written, and so does a text in
-/// which no brace ends the expression.
+/// behind. An expression that names nothing stays as it is written, and so does a text in which no
+/// brace ends it.
 fn push_value<'a>(
     alloc: Global,
     mon: &MonState,

@@ -2,7 +2,7 @@
 //!
 //! `stack` finds the frames of the stack, by what `pushed` takes to have pushed something; `frames`
 //! shows them. `variables` shows the variables of a scope, `memory` bytes, `rows` instructions,
-//! `looks` a register or a place. `named` finds the variable that a client names. `paged` is a page
+//! `looks` what a text names. `named` finds the variable that a client names. `paged` is a page
 //! of a list. `texts` makes texts of bytes, `source` is the source that a client sees. These change
 //! nothing. `laws` has what holds of all frames.
 //!

@@ -1,32 +1,50 @@
-//! A register, or the byte at a place.
+//! A register, a flag, the cycles, or the byte at a place.
 
-ghost use Rattle.std.specs.Prelude.{◌≡◌, ℕ, IfOk, List, Some, option_map, string_bytes};
-ghost use Rattle.dap_messages.specs.Answers.{evaluated_body};
-ghost use Rattle.dap_views.specs.Looks.{look_at, looked_byte, looked_text, place_byte, place_named};
-ghost use Rattle.dap_views.specs.Looks.{place_shown, register_byte};
-ghost use Rattle.dap_views.specs.Variables.{byte_text};
+ghost use Rattle.std.specs.Prelude.{◌≡◌, ℕ, IfOk, List, option_map, string_bytes};
+ghost use Rattle.dap_views.specs.Looks.{address_looked, byte_or_shown, capital_register, look_address};
+ghost use Rattle.dap_views.specs.Looks.{look_at, look_body, look_named, look_shown, look_text};
+ghost use Rattle.dap_views.specs.Looks.{look_words, looked_text, named_otherwise, own_variable};
+ghost use Rattle.dap_views.specs.Looks.{place_named};
+ghost use Rattle.dap_views.specs.Named.{value_byte, value_shown};
 ghost use Rattle.serde_json.specs.View.{view};
 
-use crate::texts::{byte_text, value_text};
-use dap_messages::{address_text, evaluated, reference};
+use crate::named::{Variable, flag_or_register, value_byte, value_shown};
+use crate::texts::{byte_text, number_text};
+use dap_messages::reference;
 use json_messages::Object;
-use model::Regs;
-use mon_lines::read_place;
+use mon_line_parts::is_same_word;
+use mon_lines::{Register, read_place};
 use mon_session::MonState;
 use serde_json::Value;
 use std::alloc::{AllocError, Global};
 
-/// Returns what a register is answered by, if memory did not run out for its value.
-fn register_shown(
-    alloc: Global,
-    text: Result<String, AllocError>,
-) -> Result<Option<Value>, AllocError>
-    ensures { (bytes : List ℕ) → IfOk text (λ s. string_bytes s ≡ bytes)
-        → IfOk result (λ found. option_map view found ≡ Some (evaluated_body bytes)) }
+/// What is looked at.
+#[derive(Clone, Copy)]
+pub enum Look {
+    Variable(Variable),
+    /// How many cycles were made.
+    Cycles,
+}
+
+/// Returns the register that a text names in capitals, if it names one.
+fn capital_register(text: &str) -> Option<Register>
+    ensures { result ≡ capital_register text.now }
 {
-    let text = text?;
-    let value = evaluated(alloc, text.as_str())?;
-    Ok(Some(value))
+    if text == "PC" {
+        Some(Register::Pc)
+    } else if text == "A" {
+        Some(Register::A)
+    } else if text == "X" {
+        Some(Register::X)
+    } else if text == "Y" {
+        Some(Register::Y)
+    } else if text == "S" {
+        Some(Register::S)
+    } else if text == "P" {
+        Some(Register::P)
+    } else {
+        None
+    }
 }
 
 /// Returns the address of the place that a text names, if it names one.
@@ -40,109 +58,157 @@ pub fn place_named(mon: &MonState, text: &str) -> Option<u16>
     }
 }
 
-/// Returns the byte at the place that a text names, if it names one.
-fn place_shown(alloc: Global, mon: &MonState, text: &str) -> Result<Option<Value>, AllocError>
-    ensures { IfOk result (λ found. option_map view found
-        ≡ place_shown mon.now.session.current mon.now.places text.now) }
+/// Returns the address of the place that is looked at where a text names one. The word `PC`, in
+/// capitals or not, names a place only if the program has a name that is written so.
+fn address_looked(mon: &MonState, text: &str) -> Option<u16>
+    ensures { result
+        ≡ address_looked mon.now.places mon.now.session.current.regs.pc text.now }
 {
-    let Some(address) = place_named(mon, text) else {
-        return Ok(None);
-    };
-    let value = Object::new(alloc)
-        .text("memoryReference", reference(alloc, address))
-        .text("result", value_text(alloc, mon.session.peek(address)))
-        .count("variablesReference", 0)
-        .build()?;
-    Ok(Some(value))
+    if is_same_word(text.as_bytes(), b"PC") {
+        mon.places.names().address_of(text.as_bytes())
+    } else {
+        place_named(mon, text)
+    }
 }
 
-/// Returns the register that a text names, or the byte at the place that it names: `None` if it
-/// names neither. The status register has B clear.
-pub fn look_at(alloc: Global, mon: &MonState, text: &str) -> Result<Option<Value>, AllocError>
-    ensures { IfOk result (λ found. option_map view found
-        ≡ look_at mon.now.session.current mon.now.places text.now) }
+/// Returns the register or the flag that a text names, in capitals or not, if it names one.
+fn own_variable(text: &str) -> Option<Variable>
+    ensures { result ≡ own_variable text.now }
 {
-    let regs = mon.session.regs();
-    let byte = match text {
-        "PC" => return register_shown(alloc, address_text(alloc, regs.pc)),
-        "A" => regs.a,
-        "X" => regs.x,
-        "Y" => regs.y,
-        "S" => regs.s,
-        "P" => regs.flags.to_byte(false),
-        _ => return place_shown(alloc, mon, text),
-    };
-    register_shown(alloc, value_text(alloc, byte))
+    if is_same_word(text.as_bytes(), b"PC") {
+        return Some(Variable::Register(Register::Pc));
+    }
+    match flag_or_register(text.as_bytes()) {
+        Ok(variable) => Some(variable),
+        Err(_) => None,
+    }
 }
 
-/// Returns the byte of the register that a text names, if it names one that has a byte.
-fn register_byte(regs: Regs, text: &str) -> Option<u8>
-    ensures { result ≡ register_byte regs text.now }
+/// Returns what a text names that names no place: a register or a flag, or the cycles.
+fn named_otherwise(text: &str) -> Option<Look>
+    ensures { result ≡ named_otherwise (own_variable text.now) text.now }
 {
-    if text == "A" {
-        Some(regs.a)
-    } else if text == "X" {
-        Some(regs.x)
-    } else if text == "Y" {
-        Some(regs.y)
-    } else if text == "S" {
-        Some(regs.s)
-    } else if text == "P" {
-        Some(regs.flags.to_byte(false))
+    if let Some(variable) = own_variable(text) {
+        return Some(Look::Variable(variable));
+    }
+    if text == "cycles" {
+        Some(Look::Cycles)
     } else {
         None
     }
 }
 
-/// Returns the byte at the place that a text names, if it names one.
-fn place_byte(mon: &MonState, text: &str) -> Option<u8>
-    ensures { result ≡ place_byte mon.now.session.current mon.now.places text.now }
+/// Returns what a text names: a register in capitals, or a place, or else a register or a flag in
+/// any letters, or the cycles.
+fn look_named(mon: &MonState, text: &str) -> Option<Look>
+    ensures { result ≡ look_named mon.now.places mon.now.session.current.regs.pc text.now }
 {
-    match place_named(mon, text) {
-        Some(address) => Some(mon.session.peek(address)),
-        None => None,
+    if let Some(register) = capital_register(text) {
+        return Some(Look::Variable(Variable::Register(register)));
+    }
+    match address_looked(mon, text) {
+        Some(address) => Some(Look::Variable(Variable::Byte(address))),
+        None => named_otherwise(text),
     }
 }
 
-/// Returns the byte of the register that a text names, or the one at the place that it names.
-fn looked_byte(mon: &MonState, text: &str) -> Option<u8>
-    ensures { result ≡ looked_byte mon.now.session.current mon.now.places text.now }
+/// Returns the address of what is looked at, if it is a byte of memory.
+fn look_address(look: Look) -> Option<u16>
+    ensures { result ≡ look_address look }
 {
-    match register_byte(mon.session.regs(), text) {
-        Some(byte) => Some(byte),
-        None => place_byte(mon, text),
+    match look {
+        Look::Variable(Variable::Byte(address)) => Some(address),
+        Look::Variable(Variable::Register(_)) => None,
+        Look::Variable(Variable::Flag(_)) => None,
+        Look::Cycles => None,
     }
 }
 
-/// Returns a text that there is, if memory did not run out for it.
-fn some_text(text: Result<String, AllocError>) -> Result<Option<String>, AllocError>
-    ensures { (bytes : List ℕ) → IfOk text (λ s. string_bytes s ≡ bytes)
-        → IfOk result (λ found. option_map (λ s. string_bytes s) found ≡ Some bytes) }
+/// Returns the value of what is looked at, as it is shown among the variables of its scope.
+fn look_words(alloc: Global, mon: &MonState, look: Look) -> Result<String, AllocError>
+    ensures { IfOk result
+        (λ words. string_bytes words ≡ look_words mon.now.session.current look) }
 {
-    let text = text?;
-    Ok(Some(text))
-}
-
-/// Returns the byte of the register that a text names, or the one at the place that it names, in
-/// hexadecimal.
-fn looked_shown(alloc: Global, mon: &MonState, text: &str) -> Result<Option<String>, AllocError>
-    ensures { IfOk result (λ found. option_map (λ s. string_bytes s) found ≡ option_map byte_text
-        (looked_byte mon.now.session.current mon.now.places text.now)) }
-{
-    match looked_byte(mon, text) {
-        Some(byte) => some_text(byte_text(alloc, byte)),
-        None => Ok(None),
+    match look {
+        Look::Variable(variable) => value_shown(alloc, mon, variable),
+        Look::Cycles => number_text(alloc, mon.session.cycles()),
     }
 }
 
-/// Returns the value of the register that a text names, or of the byte at the place that it names,
-/// in hexadecimal: `None` if it names neither.
+/// Returns what a look is answered by, if memory did not run out for its value. A byte of memory
+/// has a reference to its address.
+fn look_body(
+    alloc: Global,
+    address: Option<u16>,
+    words: Result<String, AllocError>,
+) -> Result<Value, AllocError>
+    ensures { (bytes : List ℕ) → IfOk words (λ s. string_bytes s ≡ bytes)
+        → IfOk result (λ v. view v ≡ look_body address bytes) }
+{
+    match address {
+        Some(address) => Object::new(alloc)
+            .text("memoryReference", reference(alloc, address))
+            .text("result", words)
+            .count("variablesReference", 0)
+            .build(),
+        None => Object::new(alloc)
+            .text("result", words)
+            .count("variablesReference", 0)
+            .build(),
+    }
+}
+
+/// Returns what a look is answered by.
+fn look_shown(alloc: Global, mon: &MonState, look: Look) -> Result<Value, AllocError>
+    ensures { IfOk result (λ v. view v ≡ look_shown mon.now.session.current look) }
+{
+    look_body(alloc, look_address(look), look_words(alloc, mon, look))
+}
+
+/// Returns what a text names, as it is shown where a client looks at it: `None` if it names
+/// nothing. The status register has B clear.
+pub fn look_at(alloc: Global, mon: &MonState, text: &str) -> Result<Option<Value>, AllocError>
+    ensures { IfOk result (λ found. option_map view found
+        ≡ look_at mon.now.session.current mon.now.places text.now) }
+{
+    let Some(look) = look_named(mon, text) else {
+        return Ok(None);
+    };
+    let value = look_shown(alloc, mon, look)?;
+    Ok(Some(value))
+}
+
+/// Returns the value of a variable: in hexadecimal alone, if it is a byte.
+fn variable_text(alloc: Global, mon: &MonState, variable: Variable) -> Result<String, AllocError>
+    ensures { IfOk result (λ text. string_bytes text
+        ≡ byte_or_shown (value_byte mon.now.session.current variable)
+        (value_shown mon.now.session.current variable)) }
+{
+    match value_byte(mon, variable) {
+        Some(byte) => byte_text(alloc, byte),
+        None => value_shown(alloc, mon, variable),
+    }
+}
+
+/// Returns the value of what is looked at: in hexadecimal alone, if it is a byte.
+fn look_text(alloc: Global, mon: &MonState, look: Look) -> Result<String, AllocError>
+    ensures { IfOk result (λ text. string_bytes text ≡ look_text mon.now.session.current look) }
+{
+    match look {
+        Look::Variable(variable) => variable_text(alloc, mon, variable),
+        Look::Cycles => number_text(alloc, mon.session.cycles()),
+    }
+}
+
+/// Returns the value of what a text names, in hexadecimal alone if it is a byte: `None` if it names
+/// nothing.
 pub fn looked_text(alloc: Global, mon: &MonState, text: &str) -> Result<Option<String>, AllocError>
     ensures { IfOk result (λ found. option_map (λ s. string_bytes s) found
         ≡ looked_text mon.now.session.current mon.now.places text.now) }
 {
-    match text {
-        "PC" => some_text(address_text(alloc, mon.session.regs().pc)),
-        _ => looked_shown(alloc, mon, text),
-    }
+    let Some(look) = look_named(mon, text) else {
+        return Ok(None);
+    };
+    let value = look_text(alloc, mon, look)?;
+    Ok(Some(value))
 }

@@ -38,7 +38,7 @@ fn is_of_processor(scope: Scope) -> bool
 }
 
 /// Returns the flag or the register of a name.
-fn flag_or_register(name: &[u8]) -> Result<Variable, Slip<'_>>
+pub fn flag_or_register(name: &[u8]) -> Result<Variable, Slip<'_>>
     ensures { MatchResult result
         (λ variable. flag_or_register (flag_of name.now) (register_of name.now)
         ≡ Some variable)
@@ -126,7 +126,7 @@ fn register_value(regs: Regs, register: Register) -> Option<u8>
 }
 
 /// Returns the byte of a variable, if it has one.
-fn value_byte(mon: &MonState, variable: Variable) -> Option<u8>
+pub fn value_byte(mon: &MonState, variable: Variable) -> Option<u8>
     ensures { result ≡ value_byte mon.now.session.current variable }
 {
     match variable {

@@ -1,6 +1,6 @@
 //! Bytes as they are shown.
 
-ghost use Rattle.std.specs.Prelude.{◌≡◌, ◌++◌, ℕ, IfOk, List, OnOk, string_bytes};
+ghost use Rattle.std.specs.Prelude.{◌≡◌, ◌++◌, ℕ, decimal, IfOk, List, OnOk, string_bytes};
 ghost use Rattle.std.specs.Str.Lossy.{utf8_lossy};
 ghost use Rattle.dap_views.specs.Variables.{behind_text, byte_text, character_text, value_text};
 
@@ -62,4 +62,11 @@ pub fn value_text(alloc: Global, byte: u8) -> Result<String, AllocError>
     push_count(&mut text, u64::from(byte))?;
     push_character(&mut text, byte)?;
     String::from_utf8_lossy(alloc, text.as_slice())
+}
+
+/// Returns a number in decimal.
+pub fn number_text(alloc: Global, number: u64) -> Result<String, AllocError>
+    ensures { IfOk result (λ text. string_bytes text ≡ decimal number) }
+{
+    format!(in alloc; "{number}")
 }

@@ -14,7 +14,7 @@ ghost use Rattle.serde_json.specs.View.{view};
 ghost use Rattle.source_map.specs.Names.{named};
 
 use crate::paged::Paged;
-use crate::texts::value_text;
+use crate::texts::{number_text, value_text};
 use dap_messages::{Page, Scope, address_text, reference};
 use json_messages::Object;
 use model::{Flags, Regs};
@@ -145,7 +145,7 @@ fn flag_variable(alloc: Global, name: &str, is_set: bool) -> Result<Value, Alloc
 fn number_variable(alloc: Global, name: &str, number: u64) -> Result<Value, AllocError>
     ensures { IfOk result (λ v. view v ≡ number_variable name.now number) }
 {
-    plain_variable(alloc, name, format!(in alloc; "{number}"))
+    plain_variable(alloc, name, number_text(alloc, number))
 }
 
 /// Returns a page of the registers, of which none was shown.

@@ -3,6 +3,7 @@ pub mod Bytes
 pub mod Told
 pub mod Ends
 pub mod Files
+pub mod Fill
 pub mod FreeBase
 pub mod Looks
 pub mod Options

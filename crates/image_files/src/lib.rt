@@ -5,12 +5,14 @@
 //! `ImageRefusal` says why it is no image. `refuse_image` refuses a text that is given as a source,
 //! and begins with a record of an image. `with_image_options` adds the options that say the form.
 //! `form` tells it by the first record. `free_base` finds where a port would meet no bytes of it.
-//! `write_form` writes an image in a form, and `union_of` joins two.
+//! `fill_at` finds fill there, and `without_port` leaves it out. `write_form` writes an image in a
+//! form, and `union_of` joins two.
 #![tactic(auto)]
 
 mod bytes;
 mod ends;
 mod file;
+mod fill;
 mod form;
 mod looks;
 mod options;
@@ -23,6 +25,7 @@ mod written;
 pub use bytes::{form_by, image_of_bytes};
 pub use ends::ends_of;
 pub use file::{image_bytes, image_of_file};
+pub use fill::{fill_at, without_port};
 pub use form::OtherText;
 pub use looks::{looks_raw, refuse_image};
 pub use options::{fill_asked, form_said, forms_said, said_of, with_image_options};

@@ -50,7 +50,7 @@ fn joined_cell(one: Option<u8>, other: Option<u8>) -> Option<u8>
 }
 
 /// Puts what a cell is at an address, if it has a byte.
-fn put_cell(both: &mut Image, address: u16, cell: Option<u8>)
+pub fn put_cell(both: &mut Image, address: u16, cell: Option<u8>)
     ensures { both.new ≡ with_cell both.old address cell }
 {
     if let Some(byte) = cell {

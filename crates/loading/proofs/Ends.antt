@@ -1,5 +1,5 @@
 -- Why a file is not loaded.
-use Rattle.std.proofs.Common.{◌≡◌, ◌∙◌, ℕ, true, List, Option, Some, None, ◌⊎◌, inl, inr, Result, Ok, Err, IfErr, IfOk, refl, sym, ap, subst}
+use Rattle.std.proofs.Common.{◌≡◌, ◌∙◌, ℕ, Bool, true, List, Option, Some, None, ◌⊎◌, inl, inr, Result, Ok, Err, IfErr, IfOk, refl, sym, ap, subst}
 use Rattle.std.specs.Result.{IsErrAnd}
 use Rattle.std.specs.declared.alloc.Global.{Global}
 use Rattle.std.specs.declared.vec.Vec.{Vec}
@@ -19,7 +19,7 @@ use Rattle.image_files.specs.Files.{EndsImage, IsOfFile}
 use Rattle.image_files.specs.Looks.{EndsLooks}
 use Rattle.image_files.specs.Options.{said_of}
 use Rattle.image_reader.specs.declared.form.Form.{Form}
-use Rattle.loading.specs.Loads.{EndsAsImage, EndsFile, EndsImageFile, EndsLoad, EndsSource, EndsSourceFile, IsImageOf, IsLoaded}
+use Rattle.loading.specs.Loads.{EndsAsImage, EndsFile, EndsFileOf, EndsImageFile, EndsLoad, EndsSource, EndsSourceFile, IsImageOf, IsLoaded, IsSparedFile}
 use Rattle.model.specs.AllFaults.{faults_of}
 use Rattle.model.specs.Source.{HasFault}
 use Rattle.model.specs.State.{Map, is_map}
@@ -85,67 +85,67 @@ looks_end bus_map file source (Refused (WriteFile f)) ends = absurd ends
 
 -- ---- a file that is no source
 
-pub as_ends : (said : Option Form) (bus_map : Map) (fault : LoadFault) → EndsImageFile said fault → EndsAsImage said bus_map fault
-as_ends said bus_map LooksLikeTape ends = ends
-as_ends said bus_map LooksLikeHex ends = ends
-as_ends said bus_map LooksLikeSRecords ends = ends
-as_ends said bus_map LooksLikeRaw ends = ends
-as_ends said bus_map (NoImage place what number) ends = ends
-as_ends said bus_map (Faults fault text) ends = ends
-as_ends said bus_map (Refused refusal) ends = ends
-as_ends said bus_map (AtPort first last free) (why.NoImage no_image, ends, is) = absurd is
-as_ends said bus_map (AtPort first last free) (why.Refused refusal, ends, is) = absurd (no is)
+pub as_ends : (said : Option Form) (omits : Bool) (bus_map : Map) (fault : LoadFault) → EndsImageFile said fault → EndsAsImage said omits bus_map fault
+as_ends said omits bus_map LooksLikeTape ends = ends
+as_ends said omits bus_map LooksLikeHex ends = ends
+as_ends said omits bus_map LooksLikeSRecords ends = ends
+as_ends said omits bus_map LooksLikeRaw ends = ends
+as_ends said omits bus_map (NoImage place what number) ends = ends
+as_ends said omits bus_map (Faults fault text) ends = ends
+as_ends said omits bus_map (Refused refusal) ends = ends
+as_ends said omits bus_map (AtPort first last free) (why.NoImage no_image, ends, is) = absurd is
+as_ends said omits bus_map (AtPort first last free) (why.Refused refusal, ends, is) = absurd (no is)
   where
     no : AtPort first last free ≡ Refused refusal → ⊥
     no e = cc
 
-memory_as_image : (said : Option Form) (bus_map : Map) (refusal : Refusal) → refusal ≡ OutOfMemory → EndsAsImage said bus_map (Refused refusal)
-memory_as_image said bus_map refusal is = (why.Refused refusal, subst (λ r. EndsImage said (why.Refused r)) (sym is) tt, refl)
+memory_as_image : (said : Option Form) (omits : Bool) (bus_map : Map) (refusal : Refusal) → refusal ≡ OutOfMemory → EndsAsImage said omits bus_map (Refused refusal)
+memory_as_image said omits bus_map refusal is = (why.Refused refusal, subst (λ r. EndsImage said (why.Refused r)) (sym is) tt, refl)
 
-pub memory_image_residual : {X : Type 0} (said : Option Form) (bus_map : Map) (refusal : Refusal) (result : Result X LoadFault) → refusal ≡ OutOfMemory → IsErrAnd result (λ f. f ≡ Refused refusal) → IfErr result (EndsAsImage said bus_map)
-memory_image_residual said bus_map refusal (Ok x) memory is = absurd is
-memory_image_residual said bus_map refusal (Err fault) memory is = subst (EndsAsImage said bus_map) (sym is) (memory_as_image said bus_map refusal memory)
+pub memory_image_residual : {X : Type 0} (said : Option Form) (omits : Bool) (bus_map : Map) (refusal : Refusal) (result : Result X LoadFault) → refusal ≡ OutOfMemory → IsErrAnd result (λ f. f ≡ Refused refusal) → IfErr result (EndsAsImage said omits bus_map)
+memory_image_residual said omits bus_map refusal (Ok x) memory is = absurd is
+memory_image_residual said omits bus_map refusal (Err fault) memory is = subst (EndsAsImage said omits bus_map) (sym is) (memory_as_image said omits bus_map refusal memory)
 
-as_image : (f : FileForm) (bus_map : Map) (file : List ℕ) (fault : LoadFault) → (f ≡ form.Source → ⊥) → EndsAsImage (said_of f) bus_map fault → EndsFile f bus_map file fault
-as_image form.Source bus_map file fault apart ends = absurd (apart refl)
-as_image form.Records bus_map file fault apart ends = ends
-as_image (form.Raw address) bus_map file fault apart ends = ends
-as_image form.Prg bus_map file fault apart ends = ends
+as_image : (f : FileForm) (omits : Bool) (bus_map : Map) (file : List ℕ) (fault : LoadFault) → (f ≡ form.Source → ⊥) → EndsAsImage (said_of f) omits bus_map fault → EndsFileOf f omits bus_map file fault
+as_image form.Source omits bus_map file fault apart ends = absurd (apart refl)
+as_image form.Records omits bus_map file fault apart ends = ends
+as_image (form.Raw address) omits bus_map file fault apart ends = ends
+as_image form.Prg omits bus_map file fault apart ends = ends
 
-image_as : (f : FileForm) (bus_map : Map) (image : List (Option ℕ)) (held : Option AssemblyView) → (f ≡ form.Source → ⊥) → held ≡ None → IsOfFile (said_of f) image → IsImageOf f bus_map image held
-image_as form.Source bus_map image held apart is of_file = absurd (apart refl)
-image_as form.Records bus_map image held apart is of_file = subst (IsImageOf form.Records bus_map image) (sym is) of_file
-image_as (form.Raw address) bus_map image held apart is of_file = subst (IsImageOf (form.Raw address) bus_map image) (sym is) of_file
-image_as form.Prg bus_map image held apart is of_file = subst (IsImageOf form.Prg bus_map image) (sym is) of_file
+image_as : (f : FileForm) (omits : Bool) (bus_map : Map) (fill : Option ℕ) (image : List (Option ℕ)) (held : Option AssemblyView) → (f ≡ form.Source → ⊥) → held ≡ None → IsSparedFile (said_of f) omits bus_map fill image → IsImageOf f omits bus_map fill image held
+image_as form.Source omits bus_map fill image held apart is of_file = absurd (apart refl)
+image_as form.Records omits bus_map fill image held apart is of_file = subst (IsImageOf form.Records omits bus_map fill image) (sym is) of_file
+image_as (form.Raw address) omits bus_map fill image held apart is of_file = subst (IsImageOf (form.Raw address) omits bus_map fill image) (sym is) of_file
+image_as form.Prg omits bus_map fill image held apart is of_file = subst (IsImageOf form.Prg omits bus_map fill image) (sym is) of_file
 
-pub refused_as : {X : Type 0} (f : FileForm) (bus_map : Map) (file : List ℕ) (result : Result X LoadFault) → (f ≡ form.Source → ⊥) → IfErr result (EndsAsImage (said_of f) bus_map) → IfErr result (EndsFile f bus_map file)
-refused_as f bus_map file (Ok x) apart ends = tt
-refused_as f bus_map file (Err fault) apart ends = as_image f bus_map file fault apart ends
+pub refused_as : {X : Type 0} (f : FileForm) (omits : Bool) (bus_map : Map) (file : List ℕ) (result : Result X LoadFault) → (f ≡ form.Source → ⊥) → IfErr result (EndsAsImage (said_of f) omits bus_map) → IfErr result (EndsFileOf f omits bus_map file)
+refused_as f omits bus_map file (Ok x) apart ends = tt
+refused_as f omits bus_map file (Err fault) apart ends = as_image f omits bus_map file fault apart ends
 
-pub started_as : {X E : Type 0} (f : FileForm) (bus_map : Map) (held : X → Option AssemblyView) (A B : X → List (Option ℕ) → Type 0) (result : Result X E) → (f ≡ form.Source → ⊥)
-    → IfOk result (λ x. (image : List (Option ℕ)) × IsOfFile (said_of f) image × (held x ≡ None) × A x image × B x image)
-    → IfOk result (λ x. (image : List (Option ℕ)) × IsImageOf f bus_map image (held x) × A x image × B x image)
-started_as f bus_map held A B (Ok x) apart s = (s.0, image_as f bus_map s.0 (held x) apart s.2 s.1, s.3, s.4)
-started_as f bus_map held A B (Err e) apart s = tt
+pub started_as : {X E : Type 0} (f : FileForm) (omits : Bool) (bus_map : Map) (fill : X → Option ℕ) (held : X → Option AssemblyView) (A B : X → List (Option ℕ) → Type 0) (result : Result X E) → (f ≡ form.Source → ⊥)
+    → IfOk result (λ x. (image : List (Option ℕ)) × IsSparedFile (said_of f) omits bus_map (fill x) image × (held x ≡ None) × A x image × B x image)
+    → IfOk result (λ x. (image : List (Option ℕ)) × IsImageOf f omits bus_map (fill x) image (held x) × A x image × B x image)
+started_as f omits bus_map fill held A B (Ok x) apart s = (s.0, image_as f omits bus_map (fill x) s.0 (held x) apart s.2 s.1, s.3, s.4)
+started_as f omits bus_map fill held A B (Err e) apart s = tt
 
 -- ---- memory may run out for any words
 
-memory_by : (f : FileForm) (bus_map : Map) (file : List ℕ) → EndsFile f bus_map file (Refused OutOfMemory)
-memory_by form.Source bus_map file = tt
-memory_by form.Records bus_map file = (why.Refused OutOfMemory, tt, refl)
-memory_by (form.Raw address) bus_map file = (why.Refused OutOfMemory, tt, refl)
-memory_by form.Prg bus_map file = (why.Refused OutOfMemory, tt, refl)
+memory_by : (f : FileForm) (omits : Bool) (bus_map : Map) (file : List ℕ) → EndsFileOf f omits bus_map file (Refused OutOfMemory)
+memory_by form.Source omits bus_map file = tt
+memory_by form.Records omits bus_map file = (why.Refused OutOfMemory, tt, refl)
+memory_by (form.Raw address) omits bus_map file = (why.Refused OutOfMemory, tt, refl)
+memory_by form.Prg omits bus_map file = (why.Refused OutOfMemory, tt, refl)
 
 pub memory_ends : (asked : FileAsked) → EndsLoad asked (Refused OutOfMemory)
-memory_ends asked = inr (memory_by asked.form (map_of asked) asked.file)
+memory_ends asked = inr (memory_by asked.form asked.omits_fill (map_of asked) asked.file)
 
 -- ---- an image with the names of a file
 
-pub image_loaded : (asked : FileAsked) (image : List (Option ℕ)) → is_map asked.rom asked.port ≡ true → (asked.form ≡ form.Source → ⊥) → IsOfFile (said_of asked.form) image → IsLoaded asked image None
-image_loaded asked image map apart of_file = (map, image_as asked.form (map_of asked) image None apart refl of_file)
+pub image_loaded : (asked : FileAsked) (fill : Option ℕ) (image : List (Option ℕ)) → is_map asked.rom asked.port ≡ true → (asked.form ≡ form.Source → ⊥) → IsSparedFile (said_of asked.form) asked.omits_fill (map_of asked) fill image → IsLoaded asked fill image None
+image_loaded asked fill image map apart of_file = (map, image_as asked.form asked.omits_fill (map_of asked) fill image None apart refl of_file)
 
-pub image_ends : (asked : FileAsked) (fault : LoadFault) → (asked.form ≡ form.Source → ⊥) → EndsAsImage (said_of asked.form) (map_of asked) fault → EndsLoad asked fault
-image_ends asked fault apart ends = inr (as_image asked.form (map_of asked) asked.file fault apart ends)
+pub image_ends : (asked : FileAsked) (fault : LoadFault) → (asked.form ≡ form.Source → ⊥) → EndsAsImage (said_of asked.form) asked.omits_fill (map_of asked) fault → EndsLoad asked fault
+image_ends asked fault apart ends = inr (as_image asked.form asked.omits_fill (map_of asked) asked.file fault apart ends)
 
 pub memory_residual : {X : Type 0} (asked : FileAsked) (refusal : Refusal) (result : Result X LoadFault) → refusal ≡ OutOfMemory → IsErrAnd result (λ f. f ≡ Refused refusal) → IfErr result (EndsLoad asked)
 memory_residual asked refusal (Ok x) memory is = absurd is

@@ -9,6 +9,7 @@ use Rattle.arguments.specs.declared.load_fault.LoadFault.TheVariants.{AtPort, Re
 use Rattle.arguments.specs.declared.refusal.Refusal.{Refusal}
 use Rattle.arguments.specs.declared.refusal.Refusal.TheVariants.{OutOfMemory}
 use Rattle.image_files.specs.Files.{IsOfFile}
+use Rattle.image_files.specs.Fill.{fill_at}
 use Rattle.image_files.specs.FreeBase.{IsFreeBase}
 use Rattle.image_files.specs.Union.{IsFirstClash, IsUnion}
 use Rattle.image_files.specs.declared.refusal.ImageRefusal.TheVariants as why
@@ -60,9 +61,9 @@ pub map_ends : (asked : FileAsked) (others : Others) (refusal : Refusal) (fault 
 map_ends asked others refusal fault bad is = subst (EndsSeveral asked others) (sym is) (inl bad)
 
 pub port_ends : (asked : FileAsked) (others : Others) (bus_map : Map) (image : Cells) (first last : ℕ) (free : Option ℕ)
-    → bus_map ≡ map_of asked → first ≡ bus_map.port → last ≡ bus_map.port + 3 → IsJoined asked others image → has_port_byte bus_map image ≡ true
+    → bus_map ≡ map_of asked → first ≡ bus_map.port → last ≡ bus_map.port + 3 → IsJoined asked others image → has_port_byte bus_map image ≡ true → fill_at asked.omits_fill bus_map image ≡ None
     → IsFreeBase asked.rom image free → EndsSeveral asked others (AtPort first last free)
-port_ends asked others bus_map image first last free map low high joined met is_free =
+port_ends asked others bus_map image first last free map low high joined met kept is_free =
     let at : AtPort first last free ≡ AtPort asked.port (asked.port + 3) free
     = ap (λ n. AtPort n last free) (low ∙ ap (λ (m : Map). m.port) map) ∙ ap (λ n. AtPort asked.port n free) (high ∙ ap (λ (m : Map). m.port + 3) map) in
-    inr (inr (image, free, at, joined, subst (λ (m : Map). has_port_byte m image ≡ true) map met, is_free))
+    inr (inr (image, free, at, joined, subst (λ (m : Map). has_port_byte m image ≡ true) map met, subst (λ (m : Map). fill_at asked.omits_fill m image ≡ None) map kept, is_free))

@@ -18,7 +18,7 @@ use Rattle.loading.proofs.Ends.{memory_ends}
 use Rattle.loading.proofs.Joins.{memory_runs_out}
 use Rattle.loading.proofs.Unnamed.{some_load, some_named, some_refusal, unnamed_by_memory}
 use Rattle.loading.specs.Loads.{EndsLoad, IsLoaded}
-use Rattle.loading.specs.Machine.{AreLoaded, AreUnloaded, EndsFiles, EndsOf, EndsSeveral, HasNames, IsJoined, IsMachine, IsMachineOf, IsOneOf, IsUnmade, status_of_machine}
+use Rattle.loading.specs.Machine.{AreLoaded, AreUnloaded, EndsFiles, EndsOf, EndsSeveral, HasNames, IsMachine, IsMachineOf, IsOneOf, IsSparedJoin, IsUnmade, status_of_machine}
 use Rattle.loading.specs.Named.{IsNamed}
 use Rattle.loading.specs.Told.{Heard}
 use Rattle.loading.specs.declared.loaded.Loaded.{Loaded}
@@ -38,37 +38,37 @@ Text = List ℕ
 -- ---- what is loaded
 
 abbrev IsAloneStart : FileAsked → Option Text → Loaded → Type 0
-IsAloneStart asked symbols loaded = (image : Cells) × IsNamed asked symbols image loaded.assembly
+IsAloneStart asked symbols loaded = (image : Cells) × IsNamed asked symbols loaded.fill image loaded.assembly
     × (loaded.session ≡ new_session 0 (start (map_of asked) image)) × (loaded.written ≡ bytes_in image)
 
 abbrev IsSeveralStart : FileAsked → Others → Option Text → Loaded → Type 0
-IsSeveralStart asked others symbols loaded = (image : Cells) × (is_map asked.rom asked.port ≡ true) × IsJoined asked others image × HasNames asked symbols image loaded.assembly
+IsSeveralStart asked others symbols loaded = (image : Cells) × (is_map asked.rom asked.port ≡ true) × IsSparedJoin asked others loaded.fill image × HasNames asked symbols image loaded.assembly
     × (loaded.session ≡ new_session 0 (start (map_of asked) image)) × (loaded.written ≡ bytes_in image)
 
 abbrev IsMachineStart : FileAsked → Others → Option Text → Loaded → Type 0
-IsMachineStart asked others symbols loaded = (image : Cells) × IsMachine asked others symbols image loaded.assembly
+IsMachineStart asked others symbols loaded = (image : Cells) × IsMachine asked others symbols loaded.fill image loaded.assembly
     × (loaded.session ≡ new_session 0 (start (map_of asked) image)) × (loaded.written ≡ bytes_in image)
 
-alone_is : (asked : FileAsked) (o : OtherFiles) (symbols : Option Text) (image : Cells) (assembly : Option AssemblyView) → o.second ≡ None → IsNamed asked symbols image assembly
-    → IsMachine asked (others_view o) symbols image assembly
-alone_is asked o symbols image assembly none named =
-    subst (λ (second : Option (Bor Text)). IsMachineOf (option_map (λ s. s.now) second) asked (others_view o) symbols image assembly) (sym none) named
+alone_is : (asked : FileAsked) (o : OtherFiles) (symbols : Option Text) (fill : Option ℕ) (image : Cells) (assembly : Option AssemblyView) → o.second ≡ None → IsNamed asked symbols fill image assembly
+    → IsMachine asked (others_view o) symbols fill image assembly
+alone_is asked o symbols fill image assembly none named =
+    subst (λ (second : Option (Bor Text)). IsMachineOf (option_map (λ s. s.now) second) asked (others_view o) symbols fill image assembly) (sym none) named
 
-several_are : (asked : FileAsked) (o : OtherFiles) (second : Bor Text) (symbols : Option Text) (image : Cells) (assembly : Option AssemblyView) → o.second ≡ Some second → is_map asked.rom asked.port ≡ true
-    → IsJoined asked (others_view o) image → HasNames asked symbols image assembly → IsMachine asked (others_view o) symbols image assembly
-several_are asked o second symbols image assembly some map joined names =
-    subst (λ (other : Option (Bor Text)). IsMachineOf (option_map (λ s. s.now) other) asked (others_view o) symbols image assembly) (sym some) (map, joined, names)
+several_are : (asked : FileAsked) (o : OtherFiles) (second : Bor Text) (symbols : Option Text) (fill : Option ℕ) (image : Cells) (assembly : Option AssemblyView) → o.second ≡ Some second → is_map asked.rom asked.port ≡ true
+    → IsSparedJoin asked (others_view o) fill image → HasNames asked symbols image assembly → IsMachine asked (others_view o) symbols fill image assembly
+several_are asked o second symbols fill image assembly some map joined names =
+    subst (λ (other : Option (Bor Text)). IsMachineOf (option_map (λ s. s.now) other) asked (others_view o) symbols fill image assembly) (sym some) (map, joined, names)
 
 pub alone_started : {E : Type 0} (asked : FileAsked) (o : OtherFiles) (symbols : Option Text) (result : Result Loaded E) → o.second ≡ None
     → IfOk result (IsAloneStart asked symbols)
     → IfOk result (IsMachineStart asked (others_view o) symbols)
-alone_started asked o symbols (Ok loaded) none s = (s.0, alone_is asked o symbols s.0 loaded.assembly none s.1, s.2, s.3)
+alone_started asked o symbols (Ok loaded) none s = (s.0, alone_is asked o symbols loaded.fill s.0 loaded.assembly none s.1, s.2, s.3)
 alone_started asked o symbols (Err fault) none s = tt
 
 pub several_started : {E : Type 0} (asked : FileAsked) (o : OtherFiles) (second : Bor Text) (symbols : Option Text) (result : Result Loaded E) → o.second ≡ Some second
     → IfOk result (IsSeveralStart asked (others_view o) symbols)
     → IfOk result (IsMachineStart asked (others_view o) symbols)
-several_started asked o second symbols (Ok loaded) some s = (s.0, several_are asked o second symbols s.0 loaded.assembly some s.1 s.2 s.3, s.4, s.5)
+several_started asked o second symbols (Ok loaded) some s = (s.0, several_are asked o second symbols loaded.fill s.0 loaded.assembly some s.1 s.2 s.3, s.4, s.5)
 several_started asked o second symbols (Err fault) some s = tt
 
 pub machine_idle : {E : Type 0} (asked : FileAsked) (others : Others) (symbols : Option Text) (result : Result Loaded E)
@@ -123,19 +123,19 @@ never_made f status is zero = omega (arith, is, zero, some_machine f)
 
 -- ---- files that are loaded into a session with some history, and why they are not
 
-alone_loaded : (asked : FileAsked) (o : OtherFiles) (image : Cells) (assembly : Option AssemblyView) → o.second ≡ None → IsLoaded asked image assembly → AreLoaded asked (others_view o) image assembly
-alone_loaded asked o image assembly none loaded = alone_is asked o None image assembly none loaded
+alone_loaded : (asked : FileAsked) (o : OtherFiles) (fill : Option ℕ) (image : Cells) (assembly : Option AssemblyView) → o.second ≡ None → IsLoaded asked fill image assembly → AreLoaded asked (others_view o) fill image assembly
+alone_loaded asked o fill image assembly none loaded = alone_is asked o None fill image assembly none loaded
 
 pub alone_begun : {E : Type 0} (asked : FileAsked) (o : OtherFiles) (A B : Cells → Loaded → Type 0) (result : Result Loaded E) → o.second ≡ None
-    → IfOk result (λ loaded. (image : Cells) × IsLoaded asked image loaded.assembly × A image loaded × B image loaded)
-    → IfOk result (λ loaded. (image : Cells) × AreLoaded asked (others_view o) image loaded.assembly × A image loaded × B image loaded)
-alone_begun asked o A B (Ok loaded) none s = (s.0, alone_loaded asked o s.0 loaded.assembly none s.1, s.2, s.3)
+    → IfOk result (λ loaded. (image : Cells) × IsLoaded asked loaded.fill image loaded.assembly × A image loaded × B image loaded)
+    → IfOk result (λ loaded. (image : Cells) × AreLoaded asked (others_view o) loaded.fill image loaded.assembly × A image loaded × B image loaded)
+alone_begun asked o A B (Ok loaded) none s = (s.0, alone_loaded asked o loaded.fill s.0 loaded.assembly none s.1, s.2, s.3)
 alone_begun asked o A B (Err fault) none s = tt
 
 pub several_begun : {E : Type 0} (asked : FileAsked) (o : OtherFiles) (second : Bor Text) (A B : Cells → Loaded → Type 0) (result : Result Loaded E) → o.second ≡ Some second
-    → IfOk result (λ loaded. (image : Cells) × (is_map asked.rom asked.port ≡ true) × IsJoined asked (others_view o) image × HasNames asked None image loaded.assembly × A image loaded × B image loaded)
-    → IfOk result (λ loaded. (image : Cells) × AreLoaded asked (others_view o) image loaded.assembly × A image loaded × B image loaded)
-several_begun asked o second A B (Ok loaded) some s = (s.0, several_are asked o second None s.0 loaded.assembly some s.1 s.2 s.3, s.4, s.5)
+    → IfOk result (λ loaded. (image : Cells) × (is_map asked.rom asked.port ≡ true) × IsSparedJoin asked (others_view o) loaded.fill image × HasNames asked None image loaded.assembly × A image loaded × B image loaded)
+    → IfOk result (λ loaded. (image : Cells) × AreLoaded asked (others_view o) loaded.fill image loaded.assembly × A image loaded × B image loaded)
+several_begun asked o second A B (Ok loaded) some s = (s.0, several_are asked o second None loaded.fill s.0 loaded.assembly some s.1 s.2 s.3, s.4, s.5)
 several_begun asked o second A B (Err fault) some s = tt
 
 pub alone_ends : {X : Type 0} (asked : FileAsked) (o : OtherFiles) (result : Result X FileFault) → o.second ≡ None → IfErr result (λ f. EndsLoad asked f.fault) → IfErr result (λ f. EndsFiles asked (others_view o) f.fault)

@@ -1,6 +1,6 @@
 -- Which image and assembly a file is loaded with, and why it is not loaded. No clause can say
 -- whether memory is there, nor what is in a file. Source: mos65.
-use Rattle.std.specs.Prelude.{◌≡◌, ◌+◌, ◌⊎◌, ⊤, ℕ, true, false, List, Option, None, Some}
+use Rattle.std.specs.Prelude.{◌≡◌, ◌+◌, ◌⊎◌, ⊤, ℕ, Bool, true, false, List, Option, None, Some}
 use Rattle.arguments.specs.Shown.{shown_name}
 use Rattle.assembler.specs.Assembly.{AssemblyView, IsAssembled, with_others}
 use Rattle.arguments.specs.Asked.{FileAsked, map_of}
@@ -12,6 +12,7 @@ use Rattle.arguments.specs.declared.refusal.Refusal.{Refusal}
 use Rattle.arguments.specs.declared.refusal.Refusal.TheVariants as refusal
 use Rattle.fault_notes.specs.Blocks.{IsToldText}
 use Rattle.image_files.specs.Files.{EndsImage, IsOfFile}
+use Rattle.image_files.specs.Fill.{IsSpared, fill_at}
 use Rattle.image_files.specs.FreeBase.{IsFreeBase}
 use Rattle.image_files.specs.Looks.{EndsLooks, looks_raw}
 use Rattle.image_files.specs.Options.{said_of}
@@ -45,11 +46,13 @@ EndsSource bus_map (refusal.Read why) = ⊤
 EndsSource bus_map fault = ⊥
 
 -- An image has a byte at the port, whose first and last address are these, and `free` is the base
--- that would be free.
-abbrev pub MeetsPort : Option Form → Map → ℕ → ℕ → Option ℕ → Type 0
-MeetsPort said bus_map first last free = (first ≡ bus_map.port) × (last ≡ bus_map.port + 3)
+-- that would be free. It is no fill that is left out.
+abbrev pub MeetsPort : Option Form → Bool → Map → ℕ → ℕ → Option ℕ → Type 0
+MeetsPort said omits bus_map first last free
+    = (first ≡ bus_map.port) × (last ≡ bus_map.port + 3)
     × ((image : List (Option ℕ)) × IsOfFile said image
-    × (has_port_byte bus_map image ≡ true) × IsFreeBase bus_map.rom image free)
+    × (has_port_byte bus_map image ≡ true) × (fill_at omits bus_map image ≡ None)
+    × IsFreeBase bus_map.rom image free)
 
 -- What some file of names gives: its source, and the names that cannot stand in one.
 abbrev pub AreOfFile : Profile → AssemblyView → Definitions → Type 0
@@ -94,14 +97,19 @@ abbrev pub EndsImageFile : Option Form → LoadFault → Type 0
 EndsImageFile said fault = (why : ImageRefusal) × EndsImage said why × IsUnloaded why fault
 
 -- Why a file is not loaded as an image: it may have bytes at the port.
-abbrev pub EndsAsImage : Option Form → Map → LoadFault → Type 0
-EndsAsImage said bus_map (AtPort first last free) = MeetsPort said bus_map first last free
-EndsAsImage said bus_map fault = EndsImageFile said fault
+abbrev pub EndsAsImage : Option Form → Bool → Map → LoadFault → Type 0
+EndsAsImage said omits bus_map (AtPort first last free)
+    = MeetsPort said omits bus_map first last free
+EndsAsImage said omits bus_map fault = EndsImageFile said fault
 
 -- Why a file is not loaded on a map.
+abbrev pub EndsFileOf : FileForm → Bool → Map → List ℕ → LoadFault → Type 0
+EndsFileOf Source omits bus_map file fault = EndsAsSource bus_map file fault
+EndsFileOf form omits bus_map file fault = EndsAsImage (said_of form) omits bus_map fault
+
+-- The same where no fill is left out.
 abbrev pub EndsFile : FileForm → Map → List ℕ → LoadFault → Type 0
-EndsFile Source bus_map file fault = EndsAsSource bus_map file fault
-EndsFile form bus_map file fault = EndsAsImage (said_of form) bus_map fault
+EndsFile form bus_map file fault = EndsFileOf form false bus_map file fault
 
 abbrev pub EndsOnMap : Map → LoadFault → Type 0
 EndsOnMap bus_map (Refused fault) = IsBadMap bus_map fault
@@ -110,17 +118,26 @@ EndsOnMap bus_map fault = ⊥
 -- Why a file is not loaded.
 abbrev pub EndsLoad : FileAsked → LoadFault → Type 0
 EndsLoad asked fault = EndsOnMap (map_of asked) fault
-    ⊎ EndsFile asked.form (map_of asked) asked.file fault
+    ⊎ EndsFileOf asked.form asked.omits_fill (map_of asked) asked.file fault
 
--- An image is that of some source's assembly; or it is that of some file, and has no assembly.
-abbrev pub IsImageOf : FileForm → Map → List (Option ℕ) → Option AssemblyView → Type 0
-IsImageOf Source bus_map image None = ⊥
-IsImageOf Source bus_map image (Some a) = IsAssembled bus_map a × (image ≡ a.image)
-IsImageOf form bus_map image None = IsOfFile (said_of form) image
-IsImageOf form bus_map image (Some a) = ⊥
+-- An image is that of some file, without the fill at the port whose base is given.
+abbrev pub IsSparedFile : Option Form → Bool → Map → Option ℕ → List (Option ℕ) → Type 0
+IsSparedFile said omits bus_map fill image = (whole : List (Option ℕ)) × IsOfFile said whole
+    × IsSpared omits bus_map whole fill image
+
+-- An image is that of some source's assembly; or it is that of some file, without fill at the port
+-- where that is left out, and has no assembly.
+abbrev pub IsImageOf : FileForm → Bool → Map → Option ℕ → List (Option ℕ) → Option AssemblyView
+    → Type 0
+IsImageOf Source omits bus_map fill image None = ⊥
+IsImageOf Source omits bus_map fill image (Some a)
+    = IsAssembled bus_map a × (image ≡ a.image) × (fill ≡ None)
+IsImageOf form omits bus_map fill image None
+    = IsSparedFile (said_of form) omits bus_map fill image
+IsImageOf form omits bus_map fill image (Some a) = ⊥
 
 -- What is loaded: the port and the ROM make a map, and the image is one that a file can have, with
--- the assembly of a source.
-abbrev pub IsLoaded : FileAsked → List (Option ℕ) → Option AssemblyView → Type 0
-IsLoaded asked image assembly = (is_map asked.rom asked.port ≡ true)
-    × IsImageOf asked.form (map_of asked) image assembly
+-- the assembly of a source. `fill` is the base of the port whose fill is left out, if some is.
+abbrev pub IsLoaded : FileAsked → Option ℕ → List (Option ℕ) → Option AssemblyView → Type 0
+IsLoaded asked fill image assembly = (is_map asked.rom asked.port ≡ true)
+    × IsImageOf asked.form asked.omits_fill (map_of asked) fill image assembly

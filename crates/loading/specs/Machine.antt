@@ -11,6 +11,7 @@ use Rattle.arguments.specs.declared.load_fault.LoadFault.{LoadFault}
 use Rattle.arguments.specs.declared.load_fault.LoadFault.TheVariants.{AtPort, NoImage}
 use Rattle.assembler.specs.Assembly.{AssemblyView}
 use Rattle.image_files.specs.Files.{IsOfFile}
+use Rattle.image_files.specs.Fill.{IsSpared, fill_at}
 use Rattle.image_files.specs.FreeBase.{IsFreeBase}
 use Rattle.image_files.specs.Options.{said_of}
 use Rattle.image_files.specs.Union.{IsFirstClash, IsUnion}
@@ -52,26 +53,34 @@ HasNames asked (Some path) image None = ⊥
 HasNames asked (Some path) image (Some a)
     = (names : AssemblyView) × AreImageNames (map_of asked) names × (a ≡ named_image image names)
 
--- One file is loaded as it is alone. Several are images, and make one machine.
-abbrev pub IsMachineOf : Option (List ℕ) → FileAsked → Others → Option (List ℕ)
+-- The image of all files, without the fill at the port whose base is given.
+abbrev pub IsSparedJoin : FileAsked → Others → Option ℕ → List (Option ℕ) → Type 0
+IsSparedJoin asked others fill image = (whole : List (Option ℕ)) × IsJoined asked others whole
+    × IsSpared asked.omits_fill (map_of asked) whole fill image
+
+-- One file is loaded as it is alone. Several are images, and make one machine. `fill` is the base
+-- of the port whose fill is left out of the image, if some is.
+abbrev pub IsMachineOf : Option (List ℕ) → FileAsked → Others → Option (List ℕ) → Option ℕ
     → List (Option ℕ) → Option AssemblyView → Type 0
-IsMachineOf None asked others symbols image assembly = IsNamed asked symbols image assembly
-IsMachineOf (Some second) asked others symbols image assembly
-    = (is_map asked.rom asked.port ≡ true) × IsJoined asked others image
+IsMachineOf None asked others symbols fill image assembly
+    = IsNamed asked symbols fill image assembly
+IsMachineOf (Some second) asked others symbols fill image assembly
+    = (is_map asked.rom asked.port ≡ true) × IsSparedJoin asked others fill image
     × HasNames asked symbols image assembly
 
-abbrev pub IsMachine : FileAsked → Others → Option (List ℕ) → List (Option ℕ)
+abbrev pub IsMachine : FileAsked → Others → Option (List ℕ) → Option ℕ → List (Option ℕ)
     → Option AssemblyView → Type 0
-IsMachine asked others symbols image assembly
-    = IsMachineOf others.second asked others symbols image assembly
+IsMachine asked others symbols fill image assembly
+    = IsMachineOf others.second asked others symbols fill image assembly
 
 -- ---- why nothing is loaded
 
--- The image of all files has a byte at the port.
+-- The image of all files has a byte at the port, which is no fill that is left out.
 abbrev pub MeetsJoined : FileAsked → Others → LoadFault → Type 0
 MeetsJoined asked others fault = (image : List (Option ℕ)) × (free : Option ℕ)
     × (fault ≡ AtPort asked.port (asked.port + 3) free) × IsJoined asked others image
-    × (has_port_byte (map_of asked) image ≡ true) × IsFreeBase asked.rom image free
+    × (has_port_byte (map_of asked) image ≡ true)
+    × (fill_at asked.omits_fill (map_of asked) image ≡ None) × IsFreeBase asked.rom image free
 
 -- Where the images of two files have two bytes.
 abbrev pub clash_place : ℕ → List ℕ
@@ -141,5 +150,6 @@ AreUnloaded asked others heard status Untouched = (file : List ℕ) × (fault : 
     × Tells heard (load_text fault file) × Untouched
 
 -- A session may begin on files: on the image of one of a source or of a file, or of several.
-abbrev pub AreLoaded : FileAsked → Others → List (Option ℕ) → Option AssemblyView → Type 0
-AreLoaded asked others image assembly = IsMachine asked others None image assembly
+abbrev pub AreLoaded : FileAsked → Others → Option ℕ → List (Option ℕ) → Option AssemblyView
+    → Type 0
+AreLoaded asked others fill image assembly = IsMachine asked others None fill image assembly

@@ -29,10 +29,11 @@ named_image image names
 
 -- Without a file of names, what is loaded is that of the file. With one, the file is an image
 -- without a source, and the names are those of some file of names.
-abbrev pub IsNamed : FileAsked → Option (List ℕ) → List (Option ℕ) → Option AssemblyView → Type 0
-IsNamed asked None image assembly = IsLoaded asked image assembly
-IsNamed asked (Some path) image None = ⊥
-IsNamed asked (Some path) image (Some a) = IsLoaded asked image None
+abbrev pub IsNamed : FileAsked → Option (List ℕ) → Option ℕ → List (Option ℕ)
+    → Option AssemblyView → Type 0
+IsNamed asked None fill image assembly = IsLoaded asked fill image assembly
+IsNamed asked (Some path) fill image None = ⊥
+IsNamed asked (Some path) fill image (Some a) = IsLoaded asked fill image None
     × ((names : AssemblyView) × AreImageNames (map_of asked) names × (a ≡ named_image image names))
 
 -- Why nothing is loaded: the file is not, the file of names is not read, or the file is a source,

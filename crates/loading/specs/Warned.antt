@@ -1,9 +1,10 @@
--- What is told of the warnings of a source that is loaded, and of names that were left out. Source:
--- mos65.
-use Rattle.std.specs.Prelude.{◌≡◌, ◌⊎◌, ℕ, ◌==◌, if◌then◌else◌, List, [], ◌∷◌, ◌++◌, decimal, length, Option, Some, None}
+-- What is told of the warnings of a source that is loaded, of names that were left out, and of fill
+-- at the port. Source: mos65.
+use Rattle.std.specs.Prelude.{◌≡◌, ◌⊎◌, ℕ, Bool, false, ◌==◌, if◌then◌else◌, List, [], ◌∷◌, ◌++◌, decimal, length, Option, Some, None}
 use Rattle.assembler.specs.Assembly.{AssemblyView}
 use Rattle.loading.specs.Told.{Heard, Tells}
-use Rattle.loading.specs.declared.warned.TheConstants.{LEFT_OUT, MANY_WARNINGS, ONE_WARNING, PROGRAM}
+use Rattle.loading.specs.declared.warned.TheConstants.{ARE_LEFT_OUT, FILL, LEFT_OUT, MANY_WARNINGS, ONE_WARNING, PROGRAM}
+use Rattle.model.specs.Listing.{address_text}
 use Rattle.model.specs.State.{Map}
 use Rattle.warnings.specs.Warnings.{warnings_of}
 
@@ -23,14 +24,25 @@ warned_text count = if count == 0 then [] else if count == 1 then ONE_WARNING.no
 unfoldable pub lost_text : ℕ → List ℕ
 lost_text lost = if lost == 0 then [] else LEFT_OUT.now ++ decimal lost ++ 10 ∷ []
 
--- The error stream got how many warnings the source has, if there is a source and it has some; and how
--- many lines of a file of names gave no name, if some did.
-abbrev pub TellsWarnings : Map → Option AssemblyView → ℕ → Heard → Type 0
-TellsWarnings bus_map None lost heard = Tells heard (lost_text lost)
-TellsWarnings bus_map (Some a) lost heard = (count : ℕ) × IsCount bus_map a.source count
-    × Tells heard (warned_text count ++ lost_text lost)
+-- The line that tells that an image was loaded without the fill at the port of a base, or nothing.
+abbrev pub fill_text : Option ℕ → List ℕ
+fill_text None = []
+fill_text (Some base) = FILL.now ++ address_text base ++ ARE_LEFT_OUT.now
 
--- The error stream got nothing, or how many warnings there are, and how many lines gave no name.
-abbrev pub OnlyWarned : Option (List ℕ) → Option (List ℕ) → Type 0
-OnlyWarned held now = (count : ℕ) × (lost : ℕ)
-    × Tells (record { held = held; now = now }) (warned_text count ++ lost_text lost)
+-- The lines that tell what was left out.
+abbrev pub left_text : ℕ → Option ℕ → List ℕ
+left_text lost fill = lost_text lost ++ fill_text fill
+
+-- The error stream got how many warnings the source has, if there is a source and it has some; how
+-- many lines of a file of names gave no name, if some did; and that fill was left out, if some was.
+abbrev pub TellsWarnings : Map → Option AssemblyView → ℕ → Option ℕ → Heard → Type 0
+TellsWarnings bus_map None lost fill heard = Tells heard (left_text lost fill)
+TellsWarnings bus_map (Some a) lost fill heard = (count : ℕ) × IsCount bus_map a.source count
+    × Tells heard (warned_text count ++ left_text lost fill)
+
+-- The error stream got nothing, or how many warnings there are, how many lines gave no name, and
+-- that fill was left out, where words leave it out.
+abbrev pub OnlyWarned : Bool → Option (List ℕ) → Option (List ℕ) → Type 0
+OnlyWarned omits held now = (count : ℕ) × (lost : ℕ) × (fill : Option ℕ)
+    × (omits ≡ false → fill ≡ None)
+    × Tells (record { held = held; now = now }) (warned_text count ++ left_text lost fill)

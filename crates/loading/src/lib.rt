@@ -5,9 +5,10 @@
 //! why not (`specs/Loads.antt`): of a source with faults it tells all of them, as `faults_of` does
 //! for every word. Which file it is, no clause can say. `load_named` gives an image that has no
 //! source the names of a file (`specs/Named.antt`), and `load_machine` several images as one
-//! machine (`specs/Machine.antt`). `tell_warnings` tells how many warnings a
-//! source has (`specs/Warned.antt`). `place_of` finds the address of a name, of hex digits or of a
-//! sum (`specs/Place.antt`).
+//! machine (`specs/Machine.antt`). Where the words say so, fill at the port is left out of an image
+//! (`image_files/specs/Fill.antt`). `tell_warnings` tells how many warnings a source has, and what
+//! was left out (`specs/Warned.antt`). `place_of` finds the address of a name, of hex digits or of
+//! a sum (`specs/Place.antt`).
 #![tactic(auto)]
 
 mod digits;
@@ -24,4 +25,4 @@ pub use loaded::{
 pub use machine::{FileFault, MachineFault, load_files, load_machine};
 pub use named::{NamedFault, load_named};
 pub use place::place_of;
-pub use warned::{tell_lost, tell_warnings};
+pub use warned::{tell_left_out, tell_warnings};

@@ -9,10 +9,12 @@ ghost use Rattle.arguments.specs.declared.load_fault.LoadFault.TheVariants.{Refu
 ghost use Rattle.assembler.specs.Assembly.{IsAssembled, out_of_memory, with_others};
 ghost use Rattle.clean_source.specs.Cleaned.{cleaned};
 ghost use Rattle.image_files.specs.Files.{IsOfFile};
+ghost use Rattle.image_files.specs.Fill.{IsWithoutPort, fill_at};
 ghost use Rattle.loading.specs.Loads.{AreImageNames};
-ghost use Rattle.loading.specs.Loads.{AreOfFile, EndsAsImage, EndsFile, EndsImageFile, EndsLoad, EndsNames};
+ghost use Rattle.loading.specs.Loads.{AreOfFile, EndsAsImage, EndsFile, EndsFileOf};
+ghost use Rattle.loading.specs.Loads.{EndsImageFile, EndsLoad, EndsNames};
 ghost use Rattle.loading.specs.Loads.{EndsSource};
-ghost use Rattle.loading.specs.Loads.{EndsSourceFile, IsBadMap, IsImageOf, IsLoaded};
+ghost use Rattle.loading.specs.Loads.{EndsSourceFile, IsBadMap, IsImageOf, IsLoaded, IsSparedFile};
 ghost use Rattle.loading.specs.Named.{IsLost};
 ghost use Rattle.model.specs.Event.{start};
 ghost use Rattle.model.specs.Session.{new_session};
@@ -31,7 +33,9 @@ use assembler::{Assembly, assemble};
 use clean_source::clean_source;
 use debugger::Session;
 use fault_notes::told_faults;
-use image_files::{ImageRefusal, free_base, image_of_file, looks_raw, refuse_image, said_of};
+use image_files::{
+    ImageRefusal, fill_at, free_base, image_of_file, looks_raw, refuse_image, said_of, without_port,
+};
 use image_reader::Form;
 use memory_map::{Image, MapSpec};
 use model::{AsmFault, AsmFaultKind, Profile};
@@ -49,6 +53,16 @@ pub struct Loaded {
     pub written: Written,
     /// How many lines of a file of names gave no name.
     pub lost: usize,
+    /// The base of the port whose fill was left out of the image.
+    pub fill: Option<u32>,
+}
+
+/// An image as it is loaded.
+#[derive(Drop)]
+pub struct Spared {
+    pub image: Image,
+    /// The base of the port whose fill was left out of it.
+    pub fill: Option<u32>,
 }
 
 /// Returns the map of the words.
@@ -197,6 +211,7 @@ fn start_source(
     ensures assembly { IfOk result (λ loaded. loaded.assembly ≡ Some assembly) }
     ensures bytes { IfOk result (λ loaded. loaded.written ≡ bytes_in assembly.image) }
     ensures lost { IfOk result (λ loaded. loaded.lost ≡ 0) }
+    ensures whole { IfOk result (λ loaded. loaded.fill ≡ None) }
     ensures refused { IfErr result (λ fault. fault ≡ Refusal.OutOfMemory) }
 {
     let (session, written) = started(alloc, map, assembly.image(), history)?;
@@ -205,6 +220,7 @@ fn start_source(
         assembly: Some(assembly),
         written,
         lost: 0,
+        fill: None,
     })
 }
 
@@ -217,7 +233,7 @@ fn load_source<H: Files + AllocGlobal>(
 ) -> Result<Loaded, LoadFault>
     requires { history ≤ 65536 }
     ensures started { IfOk result (λ loaded. (image : List (Option ℕ))
-        × IsImageOf FileForm.Source map image loaded.assembly
+        × IsImageOf FileForm.Source words.now.omits_fill map loaded.fill image loaded.assembly
         × (loaded.session ≡ new_session history (start map image))
         × (loaded.written ≡ bytes_in image)) }
     ensures lost { IfOk result (λ loaded. loaded.lost ≡ 0) }
@@ -232,24 +248,26 @@ fn load_source<H: Files + AllocGlobal>(
 pub fn start_image(
     alloc: Global,
     map: MapSpec,
-    image: &Image,
+    spared: &Spared,
     history: u32,
 ) -> Result<Loaded, Refusal>
     requires history { history ≤ 65536 }
-    requires spared { has_port_byte map image.now ≡ false }
+    requires spared { has_port_byte map spared.now.image ≡ false }
     ensures started { IfOk result
-        (λ loaded. loaded.session ≡ new_session history (start map image.now)) }
+        (λ loaded. loaded.session ≡ new_session history (start map spared.now.image)) }
     ensures assembly { IfOk result (λ loaded. loaded.assembly ≡ None) }
-    ensures bytes { IfOk result (λ loaded. loaded.written ≡ bytes_in image.now) }
+    ensures bytes { IfOk result (λ loaded. loaded.written ≡ bytes_in spared.now.image) }
     ensures lost { IfOk result (λ loaded. loaded.lost ≡ 0) }
+    ensures fill { IfOk result (λ loaded. loaded.fill ≡ spared.now.fill) }
     ensures refused { IfErr result (λ fault. fault ≡ Refusal.OutOfMemory) }
 {
-    let (session, written) = started(alloc, map, image, history)?;
+    let (session, written) = started(alloc, map, &spared.image, history)?;
     Ok(Loaded {
         session,
         assembly: None,
         written,
         lost: 0,
+        fill: spared.fill,
     })
 }
 
@@ -266,11 +284,18 @@ pub fn image_in<H: Files + AllocGlobal>(
 }
 
 /// Returns why an image is not loaded that has bytes at the port of a map.
-fn at_port(map: &MapSpec, rom: Option<(u16, u16)>, said: Option<Form>, image: &Image) -> LoadFault
+fn at_port(
+    map: &MapSpec,
+    rom: Option<(u16, u16)>,
+    said: Option<Form>,
+    omits: bool,
+    image: &Image,
+) -> LoadFault
     requires rom { map.now.rom ≡ rom }
     requires file { IsOfFile said image.now }
     requires met { has_port_byte map.now image.now ≡ true }
-    ensures { EndsAsImage said map.now result }
+    requires kept { fill_at omits map.now image.now ≡ None }
+    ensures { EndsAsImage said omits map.now result }
 {
     LoadFault::AtPort {
         first: map.port(),
@@ -279,25 +304,54 @@ fn at_port(map: &MapSpec, rom: Option<(u16, u16)>, said: Option<Form>, image: &I
     }
 }
 
-/// Returns the image of a file that is no source, if it has no byte at the port of a map.
-#[tactic(auto, using(crate::proofs::Ends::as_ends))]
+/// Returns an image without its fill at the port of a map.
+///
+/// Errors: `OutOfMemory` if an allocation fails.
+pub fn without_fill(
+    alloc: Global,
+    map: &MapSpec,
+    image: &Image,
+    base: u32,
+) -> Result<Spared, Refusal>
+    ensures fill { IfOk result (λ s. s.fill ≡ Some base) }
+    ensures without { IfOk result (λ s. IsWithoutPort map.now image.now s.image) }
+    ensures spared { IfOk result (λ s. has_port_byte map.now s.image ≡ false) }
+    ensures refused { IfErr result (λ fault. fault ≡ Refusal.OutOfMemory) }
+{
+    match without_port(alloc, map, image) {
+        Ok(image) => Ok(Spared {
+            image,
+            fill: Some(base),
+        }),
+        Err(_) => Err(Refusal::OutOfMemory),
+    }
+}
+
+/// Returns the image of a file that is no source, if it has no byte at the port of a map but fill
+/// that is left out.
+#[tactic(auto, using(crate::proofs::Ends::as_ends, crate::proofs::Spared::file_kept, crate::proofs::Spared::file_left))]
 pub fn image_on<H: Files + AllocGlobal>(
     rt: &H,
     path: &str,
     said: Option<Form>,
     map: &MapSpec,
     rom: Option<(u16, u16)>,
-) -> Result<Image, LoadFault>
+    omits: bool,
+) -> Result<Spared, LoadFault>
     requires { map.now.rom ≡ rom }
-    ensures found { IfOk result (IsOfFile said) }
-    ensures spared { IfOk result (λ image. has_port_byte map.now image ≡ false) }
-    ensures refused { IfErr result (EndsAsImage said map.now) }
+    ensures found { IfOk result (λ s. IsSparedFile said omits map.now s.fill s.image) }
+    ensures spared { IfOk result (λ s. has_port_byte map.now s.image ≡ false) }
+    ensures refused { IfErr result (EndsAsImage said omits map.now) }
 {
     let image = image_in(rt, path, said)?;
-    if map.meets(&image) {
-        Err(at_port(map, rom, said, &image))
-    } else {
-        Ok(image)
+    match fill_at(omits, map, &image) {
+        Some(base) => Ok(without_fill(rt.alloc(), map, &image, base)?),
+        None => {
+            if map.meets(&image) {
+                return Err(at_port(map, rom, said, omits, &image));
+            }
+            Ok(Spared { image, fill: None })
+        }
     }
 }
 
@@ -309,19 +363,21 @@ fn load_image<H: Files + AllocGlobal>(
     said: Option<Form>,
     map: MapSpec,
     rom: Option<(u16, u16)>,
+    omits: bool,
     history: u32,
 ) -> Result<Loaded, LoadFault>
     requires history { history ≤ 65536 }
     requires rom { map.rom ≡ rom }
-    ensures started { IfOk result (λ loaded. (image : List (Option ℕ)) × IsOfFile said image
+    ensures started { IfOk result (λ loaded. (image : List (Option ℕ))
+        × IsSparedFile said omits map loaded.fill image
         × (loaded.assembly ≡ None)
         × (loaded.session ≡ new_session history (start map image))
         × (loaded.written ≡ bytes_in image)) }
     ensures lost { IfOk result (λ loaded. loaded.lost ≡ 0) }
-    ensures refused { IfErr result (EndsAsImage said map) }
+    ensures refused { IfErr result (EndsAsImage said omits map) }
 {
-    let image = image_on(rt, path, said, &map, rom)?;
-    Ok(start_image(rt.alloc(), map, &image, history)?)
+    let spared = image_on(rt, path, said, &map, rom, omits)?;
+    Ok(start_image(rt.alloc(), map, &spared, history)?)
 }
 
 /// Returns a session that holds at most `history` earlier states, on the image of a file that the
@@ -336,14 +392,16 @@ fn load_form<H: Files + AllocGlobal>(
     requires rom { map.rom ≡ words.now.rom }
     requires form { words.now.form ≢ FileForm.Source }
     ensures started { IfOk result (λ loaded. (image : List (Option ℕ))
-        × IsImageOf words.now.form map image loaded.assembly
+        × IsImageOf words.now.form words.now.omits_fill map loaded.fill image loaded.assembly
         × (loaded.session ≡ new_session history (start map image))
         × (loaded.written ≡ bytes_in image)) }
     ensures lost { IfOk result (λ loaded. loaded.lost ≡ 0) }
-    ensures refused { IfErr result (EndsFile words.now.form map words.now.file.now) }
+    ensures refused { IfErr result
+        (EndsFileOf words.now.form words.now.omits_fill map words.now.file.now) }
 {
     let said = said_of(words.form);
-    load_image(rt, words.file, said, map, words.rom, history)
+    let omits = words.omits_fill;
+    load_image(rt, words.file, said, map, words.rom, omits, history)
 }
 
 /// Loads the file of the words: returns a session that starts with its image and holds no earlier
@@ -355,10 +413,11 @@ fn load_form<H: Files + AllocGlobal>(
 /// read; `LooksLikeTape`, `LooksLikeHex`, `LooksLikeSRecords` or `LooksLikeRaw` if the file is
 /// given as a source and begins as such an image; `Faults` with all faults of a source; `Tape` with
 /// the fault of a tape; `NoImage` with why any other file is no image; `AtPort` if an image has a
-/// byte at the port. `OutOfMemory` if an allocation fails.
+/// byte at the port, unless that is fill that the words leave out. `OutOfMemory` if an allocation
+/// fails.
 pub fn load<H: Files + AllocGlobal>(rt: &H, words: &FileWords<'_>) -> Result<Loaded, LoadFault>
     ensures started { IfOk result (λ loaded. (image : List (Option ℕ))
-        × IsLoaded (file_view words.now) image loaded.assembly
+        × IsLoaded (file_view words.now) loaded.fill image loaded.assembly
         × (loaded.session ≡ new_session 0 (start (map_of (file_view words.now)) image))
         × (loaded.written ≡ bytes_in image)) }
     ensures idle { IfOk result (λ loaded. input_waits loaded.session.current.bus ≡ false) }
@@ -384,7 +443,7 @@ pub fn load_with_history<H: Files + AllocGlobal>(
 ) -> Result<Loaded, LoadFault>
     requires { history ≤ 65536 }
     ensures started { IfOk result (λ loaded. (image : List (Option ℕ))
-        × IsLoaded (file_view words.now) image loaded.assembly
+        × IsLoaded (file_view words.now) loaded.fill image loaded.assembly
         × (loaded.session ≡ new_session history (start (map_of (file_view words.now)) image))
         × (loaded.written ≡ bytes_in image)) }
     ensures bad_map { is_map words.now.rom words.now.port ≡ false

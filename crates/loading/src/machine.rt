@@ -8,11 +8,13 @@ ghost use Rattle.arguments.specs.FaultLines.{load_text};
 ghost use Rattle.arguments.specs.OtherFiles.{others_view};
 ghost use Rattle.arguments.specs.Statuses.{status_of_load};
 ghost use Rattle.image_files.specs.Files.{IsOfFile};
+ghost use Rattle.image_files.specs.Fill.{fill_at};
 ghost use Rattle.image_files.specs.Options.{said_of};
 ghost use Rattle.image_files.specs.Union.{IsFirstClash};
 ghost use Rattle.loading.specs.Loads.{EndsImageFile, EndsLoad, IsLoaded};
 ghost use Rattle.loading.specs.Machine.{AreLoaded, EndsFiles, EndsJoining, EndsMachine, EndsSeveral};
-ghost use Rattle.loading.specs.Machine.{HasNames, IsClash, IsJoined, IsMachine, IsOneOf, IsWith};
+ghost use Rattle.loading.specs.Machine.{HasNames, IsClash, IsJoined, IsMachine, IsOneOf};
+ghost use Rattle.loading.specs.Machine.{IsSparedJoin, IsWith};
 ghost use Rattle.loading.specs.Machine.{clash_place, form_of_other, machine_text, status_of_machine};
 ghost use Rattle.loading.specs.Named.{IsLost, IsNamed, MayLose};
 ghost use Rattle.model.specs.Event.{start};
@@ -21,14 +23,15 @@ ghost use Rattle.model.specs.State.{has_port_byte, input_waits, is_map};
 ghost use Rattle.model.specs.Writers.{AppendsFront};
 
 use crate::loaded::{
-    Loaded, image_in, load_counted_names, load_with_history, map_of_words, start_image,
+    Loaded, Spared, image_in, load_counted_names, load_with_history, map_of_words, start_image,
+    without_fill,
 };
 use crate::named::{NamedFault, load_named};
 use arguments::{
     FileForm, FileWords, LoadFault, OtherFiles, Refusal, form_beside, name_of, refuse_file,
 };
 use formatting::{Text, push_bytes, push_hex_address};
-use image_files::{first_clash, free_base, said_of, union_of};
+use image_files::{fill_at, first_clash, free_base, said_of, union_of};
 use memory_map::{Image, MapSpec};
 use std::alloc::Global;
 use std::io::Write;
@@ -253,6 +256,7 @@ fn at_port(map: &MapSpec, words: &FileWords<'_>, others: OtherFiles<'_>, image: 
     requires map { map.now ≡ map_of (file_view words.now) }
     requires joined { IsJoined (file_view words.now) (others_view others) image.now }
     requires met { has_port_byte map.now image.now ≡ true }
+    requires kept { fill_at words.now.omits_fill map.now image.now ≡ None }
     ensures { EndsSeveral (file_view words.now) (others_view others.entry) result }
 {
     LoadFault::AtPort {
@@ -262,17 +266,19 @@ fn at_port(map: &MapSpec, words: &FileWords<'_>, others: OtherFiles<'_>, image: 
     }
 }
 
-/// Returns the image of all files, if it has no byte at the port of the map.
-#[tactic(auto, using(crate::proofs::Joins::joining_ends))]
+/// Returns the image of all files, if it has no byte at the port of the map but fill that is left
+/// out.
+#[tactic(auto, using(crate::proofs::Joins::joining_ends, crate::proofs::Joins::memory_runs_out, crate::proofs::Spared::join_kept, crate::proofs::Spared::join_left))]
 fn image_on<'a, H: Files + AllocGlobal>(
     rt: &H,
     map: &MapSpec,
     words: &FileWords<'a>,
     others: OtherFiles<'a>,
-) -> Result<Image, FileFault<'a>>
+) -> Result<Spared, FileFault<'a>>
     requires { map.now ≡ map_of (file_view words.now) }
-    ensures joined { IfOk result (IsJoined (file_view words.now) (others_view others.entry)) }
-    ensures spared { IfOk result (λ image. has_port_byte map.now image ≡ false) }
+    ensures joined { IfOk result
+        (λ s. IsSparedJoin (file_view words.now) (others_view others.entry) s.fill s.image) }
+    ensures spared { IfOk result (λ s. has_port_byte map.now s.image ≡ false) }
     ensures refused { IfErr result
         (λ why. EndsSeveral (file_view words.now) (others_view others.entry) why.fault) }
 {
@@ -280,13 +286,19 @@ fn image_on<'a, H: Files + AllocGlobal>(
         Ok(joined) => joined,
         Err(why) => return Err(why),
     };
+    if let Some(base) = fill_at(words.omits_fill, map, &joined.image) {
+        return match without_fill(rt.alloc(), map, &joined.image, base) {
+            Ok(spared) => Ok(spared),
+            Err(refusal) => Err(of_words(words, refusal)),
+        };
+    }
     if map.meets(&joined.image) {
         let file = joined.at_port.unwrap_or(words.file);
         let fault = at_port(map, words, others, &joined.image);
         return Err(FileFault { file, fault });
     }
     let Joined { image, at_port: _ } = joined;
-    Ok(image)
+    Ok(Spared { image, fill: None })
 }
 
 /// Returns what is told of a refusal that is of no file.
@@ -309,8 +321,8 @@ fn load_joined<'a, H: Files + AllocGlobal>(
 ) -> Result<(Loaded, Image), FileFault<'a>>
     requires history { history ≤ 65536 }
     ensures is_map { IfOk result (λ _. is_map words.now.rom words.now.port ≡ true) }
-    ensures joined { IfOk result
-        (λ made. IsJoined (file_view words.now) (others_view others.entry) made.1) }
+    ensures joined { IfOk result (λ made. IsSparedJoin (file_view words.now)
+        (others_view others.entry) made.0.fill made.1) }
     ensures assembly { IfOk result (λ made. made.0.assembly ≡ None) }
     ensures session { IfOk result (λ made. made.0.session
         ≡ new_session history (start (map_of (file_view words.now)) made.1)) }
@@ -325,12 +337,15 @@ fn load_joined<'a, H: Files + AllocGlobal>(
         Ok(map) => map,
         Err(refusal) => return Err(of_words(words, refusal)),
     };
-    let image = match image_on(rt, &map, words, others) {
-        Ok(image) => image,
+    let spared = match image_on(rt, &map, words, others) {
+        Ok(spared) => spared,
         Err(why) => return Err(why),
     };
-    match start_image(rt.alloc(), map, &image, history) {
-        Ok(loaded) => Ok((loaded, image)),
+    match start_image(rt.alloc(), map, &spared, history) {
+        Ok(loaded) => {
+            let Spared { image, fill: _ } = spared;
+            Ok((loaded, image))
+        }
         Err(refusal) => Err(of_words(words, refusal)),
     }
 }
@@ -344,7 +359,7 @@ fn several_named<'a, H: Files + AllocGlobal>(
 ) -> Result<Loaded, MachineFault<'a>>
     ensures started { IfOk result (λ loaded. (image : List (Option ℕ))
         × (is_map words.now.rom words.now.port ≡ true)
-        × IsJoined (file_view words.now) (others_view others.entry) image
+        × IsSparedJoin (file_view words.now) (others_view others.entry) loaded.fill image
         × HasNames (file_view words.now) (Some path.now) image loaded.assembly
         × (loaded.session ≡ new_session 0 (start (map_of (file_view words.now)) image))
         × (loaded.written ≡ bytes_in image)) }
@@ -381,7 +396,7 @@ fn several_alone<'a, H: Files + AllocGlobal>(
     requires history { history ≤ 65536 }
     ensures started { IfOk result (λ loaded. (image : List (Option ℕ))
         × (is_map words.now.rom words.now.port ≡ true)
-        × IsJoined (file_view words.now) (others_view others.entry) image
+        × IsSparedJoin (file_view words.now) (others_view others.entry) loaded.fill image
         × HasNames (file_view words.now) None image loaded.assembly
         × (loaded.session ≡ new_session history (start (map_of (file_view words.now)) image))
         × (loaded.written ≡ bytes_in image)) }
@@ -406,7 +421,7 @@ fn load_several<'a, H: Files + AllocGlobal>(
 ) -> Result<Loaded, MachineFault<'a>>
     ensures started { IfOk result (λ loaded. (image : List (Option ℕ))
         × (is_map words.now.rom words.now.port ≡ true)
-        × IsJoined (file_view words.now) (others_view others.entry) image
+        × IsSparedJoin (file_view words.now) (others_view others.entry) loaded.fill image
         × HasNames (file_view words.now) (option_map (λ s. s.now) symbols.entry) image
         loaded.assembly
         × (loaded.session ≡ new_session 0 (start (map_of (file_view words.now)) image))
@@ -435,7 +450,7 @@ fn load_alone<'a, H: Files + AllocGlobal>(
     symbols: Option<&str>,
 ) -> Result<Loaded, MachineFault<'a>>
     ensures started { IfOk result (λ loaded. (image : List (Option ℕ))
-        × IsNamed (file_view words.now) (option_map (λ s. s.now) symbols.entry) image
+        × IsNamed (file_view words.now) (option_map (λ s. s.now) symbols.entry) loaded.fill image
         loaded.assembly
         × (loaded.session ≡ new_session 0 (start (map_of (file_view words.now)) image))
         × (loaded.written ≡ bytes_in image)) }
@@ -460,7 +475,8 @@ fn load_alone<'a, H: Files + AllocGlobal>(
 /// Of one file, `Alone` with the fault of `load_named`. Of several, in this order: `OfFile` if the
 /// port and the ROM do not make a map; file by file, `OfFile` if it is no image or cannot be read,
 /// or has another byte at an address than a file before it, with the lowest such address; `OfFile`
-/// with `AtPort` if one has a byte at the port; `OfNames` with the fault of `load_image_names`.
+/// with `AtPort` if one has a byte at the port, unless that is fill that the words leave out;
+/// `OfNames` with the fault of `load_image_names`.
 /// `OutOfMemory` if an allocation fails.
 pub fn load_machine<'a, H: Files + AllocGlobal>(
     rt: &H,
@@ -470,7 +486,7 @@ pub fn load_machine<'a, H: Files + AllocGlobal>(
 ) -> Result<Loaded, MachineFault<'a>>
     ensures started { IfOk result (λ loaded. (image : List (Option ℕ))
         × IsMachine (file_view words.now) (others_view others.entry)
-        (option_map (λ s. s.now) symbols.entry) image loaded.assembly
+        (option_map (λ s. s.now) symbols.entry) loaded.fill image loaded.assembly
         × (loaded.session ≡ new_session 0 (start (map_of (file_view words.now)) image))
         × (loaded.written ≡ bytes_in image)) }
     ensures idle { IfOk result (λ loaded. input_waits loaded.session.current.bus ≡ false) }
@@ -496,7 +512,7 @@ fn alone_with_history<'a, H: Files + AllocGlobal>(
 ) -> Result<Loaded, FileFault<'a>>
     requires { history ≤ 65536 }
     ensures started { IfOk result (λ loaded. (image : List (Option ℕ))
-        × IsLoaded (file_view words.now) image loaded.assembly
+        × IsLoaded (file_view words.now) loaded.fill image loaded.assembly
         × (loaded.session ≡ new_session history (start (map_of (file_view words.now)) image))
         × (loaded.written ≡ bytes_in image)) }
     ensures bad_map { is_map words.now.rom words.now.port ≡ false
@@ -527,7 +543,8 @@ pub fn load_files<'a, H: Files + AllocGlobal>(
 ) -> Result<Loaded, FileFault<'a>>
     requires { history ≤ 65536 }
     ensures started { IfOk result (λ loaded. (image : List (Option ℕ))
-        × AreLoaded (file_view words.now) (others_view others.entry) image loaded.assembly
+        × AreLoaded (file_view words.now) (others_view others.entry) loaded.fill image
+        loaded.assembly
         × (loaded.session ≡ new_session history (start (map_of (file_view words.now)) image))
         × (loaded.written ≡ bytes_in image)) }
     ensures bad_map { is_map words.now.rom words.now.port ≡ false

@@ -16,7 +16,9 @@ ghost use Rattle.model.specs.State.{input_waits, is_map};
 ghost use Rattle.model.specs.Writers.{AppendsFront};
 ghost use Rattle.model.specs.declared.bus_fault.BusFault.TheVariants.{BadMap};
 
-use crate::loaded::{Loaded, image_on, load, load_counted_names, map_of_words, start_image};
+use crate::loaded::{
+    Loaded, Spared, image_on, load, load_counted_names, map_of_words, start_image,
+};
 use arguments::{FileForm, FileWords, LoadFault, Refusal, put_all, refuse_file};
 use image_files::said_of;
 use memory_map::Image;
@@ -72,7 +74,7 @@ fn load_image<H: Files + AllocGlobal>(
     words: &FileWords<'_>,
 ) -> Result<(Loaded, Image), LoadFault>
     requires form { words.now.form ≢ FileForm.Source }
-    ensures loaded { IfOk result (λ made. IsLoaded (file_view words.now) made.1 None
+    ensures loaded { IfOk result (λ made. IsLoaded (file_view words.now) made.0.fill made.1 None
         × (made.0.assembly ≡ None)
         × (made.0.session ≡ new_session 0 (start (map_of (file_view words.now)) made.1))
         × (made.0.written ≡ bytes_in made.1)) }
@@ -81,8 +83,10 @@ fn load_image<H: Files + AllocGlobal>(
     ensures refused { IfErr result (EndsLoad (file_view words.now)) }
 {
     let map = map_of_words(words)?;
-    let image = image_on(rt, words.file, said_of(words.form), &map, words.rom)?;
-    let loaded = start_image(rt.alloc(), map, &image, 0)?;
+    let said = said_of(words.form);
+    let spared = image_on(rt, words.file, said, &map, words.rom, words.omits_fill)?;
+    let loaded = start_image(rt.alloc(), map, &spared, 0)?;
+    let Spared { image, fill: _ } = spared;
     Ok((loaded, image))
 }
 
@@ -94,7 +98,7 @@ fn load_with_names<H: Files + AllocGlobal>(
 ) -> Result<Loaded, NamedFault>
     requires form { words.now.form ≢ FileForm.Source }
     ensures started { IfOk result (λ loaded. (image : List (Option ℕ))
-        × IsNamed (file_view words.now) (Some path.now) image loaded.assembly
+        × IsNamed (file_view words.now) (Some path.now) loaded.fill image loaded.assembly
         × (loaded.session ≡ new_session 0 (start (map_of (file_view words.now)) image))
         × (loaded.written ≡ bytes_in image)) }
     ensures lost { IfOk result (λ loaded. IsLost words.now.profile loaded.lost) }
@@ -129,7 +133,7 @@ pub fn load_named<H: Files + AllocGlobal>(
     symbols: Option<&str>,
 ) -> Result<Loaded, NamedFault>
     ensures started { IfOk result (λ loaded. (image : List (Option ℕ))
-        × IsNamed (file_view words.now) (option_map (λ s. s.now) symbols.entry) image
+        × IsNamed (file_view words.now) (option_map (λ s. s.now) symbols.entry) loaded.fill image
         loaded.assembly
         × (loaded.session ≡ new_session 0 (start (map_of (file_view words.now)) image))
         × (loaded.written ≡ bytes_in image)) }

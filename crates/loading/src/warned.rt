@@ -1,14 +1,16 @@
-//! What is told of the warnings of a source that is loaded, and of names that were left out.
+//! What is told of the warnings of a source that is loaded, of names that were left out, and of
+//! fill at the port.
 
 ghost use Rattle.std.specs.Prelude.{◌≡◌, ◌++◌, length, option_map};
 ghost use Rattle.arguments.specs.Asked.{file_view, map_of};
-ghost use Rattle.loading.specs.Warned.{IsCount, TellsWarnings, lost_text, many_text, warned_text};
+ghost use Rattle.loading.specs.Warned.{IsCount, TellsWarnings, fill_text, left_text, lost_text};
+ghost use Rattle.loading.specs.Warned.{many_text, warned_text};
 ghost use Rattle.model.specs.Writers.{AppendsFront};
 
 use crate::loaded::map_of_words;
-use arguments::{FileWords, put_all, put_two};
+use arguments::{FileWords, put_three, put_two};
 use assembler::Assembly;
-use formatting::{Text, push_bytes, push_decimal};
+use formatting::{Text, address_text, push_bytes, push_decimal};
 use memory_map::MapSpec;
 use std::alloc::Global;
 use std::io::Write;
@@ -23,7 +25,13 @@ const ONE_WARNING: &str = "mos65: 1 warning; check shows it\n";
 /// How the line begins that tells of names that were left out.
 const LEFT_OUT: &str = "mos65: names left out: ";
 
-/// How the line ends that tells of several.
+/// How the line begins that tells of fill at the port.
+const FILL: &str = "mos65: 4 bytes of fill at the port ";
+
+/// How it ends.
+const ARE_LEFT_OUT: &str = " are left out\n";
+
+/// How the line ends that tells of several warnings.
 const MANY_WARNINGS: &str = " warnings; check shows them\n";
 
 /// Returns how many warnings there are.
@@ -95,29 +103,50 @@ fn lost_text(lost: usize) -> Text
     text
 }
 
-/// Writes how many lines of a file of names gave no name, if some did, or a beginning of that line
-/// if a write fails.
-pub fn tell_lost<E: Write>(lost: usize, errors: &mut E)
-    ensures { AppendsFront (E.contents errors.old) (E.contents errors.new) (lost_text lost) }
+/// Returns the line that tells that an image was loaded without the fill at the port of a base, if
+/// some was left out.
+fn fill_text(fill: Option<u32>) -> Text
+    ensures { result.items ≡ fill_text fill }
 {
-    put_all(&[lost_text(lost).as_slice()], errors);
+    let mut text = Text::new();
+    if let Some(base) = fill {
+        push_bytes(&mut text, FILL.as_bytes());
+        push_bytes(&mut text, &address_text(base));
+        push_bytes(&mut text, ARE_LEFT_OUT.as_bytes());
+    }
+    text
 }
 
-/// Writes how many warnings there are, if there are some, and how many lines gave no name, or a
-/// beginning of these lines if a write fails.
-fn tell_count<E: Write>(count: usize, lost: usize, errors: &mut E)
-    ensures { AppendsFront (E.contents errors.old) (E.contents errors.new)
-        (warned_text count ++ lost_text lost) }
+/// Writes how many lines of a file of names gave no name, if some did, and that an image was loaded
+/// without the fill at the port of a base, if some was left out; or a beginning of these lines if a
+/// write fails.
+pub fn tell_left_out<E: Write>(lost: usize, fill: Option<u32>, errors: &mut E)
+    ensures { AppendsFront (E.contents errors.old) (E.contents errors.new) (left_text lost fill) }
 {
     put_two(
-        warned_text(count).as_slice(),
         lost_text(lost).as_slice(),
+        fill_text(fill).as_slice(),
         errors,
     );
 }
 
-/// Writes how many warnings a source has, if there is one and it has some, and how many lines of a
-/// file of names gave no name, if some did; or a beginning of these lines if a write fails. Where
+/// Writes how many warnings there are, if there are some, how many lines gave no name, and that
+/// fill was left out, or a beginning of these lines if a write fails.
+fn tell_count<E: Write>(count: usize, lost: usize, fill: Option<u32>, errors: &mut E)
+    ensures { AppendsFront (E.contents errors.old) (E.contents errors.new)
+        (warned_text count ++ left_text lost fill) }
+{
+    put_three(
+        warned_text(count).as_slice(),
+        lost_text(lost).as_slice(),
+        fill_text(fill).as_slice(),
+        errors,
+    );
+}
+
+/// Writes how many warnings a source has, if there is one and it has some; how many lines of a file
+/// of names gave no name, if some did; and that an image was loaded without the fill at the port of
+/// a base, if some was left out. If a write fails, it writes a beginning of these lines. Where
 /// memory runs out, nothing is said of warnings.
 #[tactic(auto, using(crate::proofs::WarningsTold::none_told))]
 pub fn tell_warnings<E: Write>(
@@ -125,19 +154,20 @@ pub fn tell_warnings<E: Write>(
     words: &FileWords<'_>,
     assembly: Option<&Assembly>,
     lost: usize,
+    fill: Option<u32>,
     errors: &mut E,
 )
     ensures { TellsWarnings (map_of (file_view words.now))
-        (option_map (λ a. a.now) assembly.entry) lost (record {
+        (option_map (λ a. a.now) assembly.entry) lost fill (record {
           held = E.contents errors.old;
           now = E.contents errors.new;
         }) }
 {
     match assembly {
-        None => tell_lost(lost, errors),
+        None => tell_left_out(lost, fill, errors),
         Some(assembly) => {
             let count = warning_count(alloc, words, assembly);
-            tell_count(count, lost, errors);
+            tell_count(count, lost, fill, errors);
         }
     }
 }

@@ -36,7 +36,7 @@ pub const HELP: [(&str, &str, &str); 36] = [
         "goes back to the last break or change at a watch",
         "rback",
     ),
-    ("redo [N]", "makes N undone steps again, or all", "redo"),
+    ("redo [N]", "redoes N undone steps, or all", "redo"),
     ("where", "shows the calls on the stack; also bt", "where"),
     ("history [N]", "shows the last N steps, or 10", "history 5"),
     (
@@ -134,7 +134,7 @@ pub const HELP: [(&str, &str, &str); 36] = [
     ),
     (
         "page FILE",
-        "writes the steps that are held as a page for a browser",
+        "writes the kept steps as a page for a browser",
         "page run.html",
     ),
 ];

@@ -12,7 +12,7 @@ pub const UNWRITTEN: &str = "nothing was ever written here";
 
 pub const NO_RESET: &str = "nothing stands at FFFC";
 
-pub const NO_VECTOR: &str = "BRK, and nothing stands at FFFE";
+pub const NO_VECTOR: &str = "BRK, which has no handler at FFFE";
 
 pub const CONSOLE_FULL: &str = "the console is full";
 

@@ -17,7 +17,7 @@ use Rattle.t65_reader.specs.declared.row.Signal.{Signal}
 use Rattle.t65_reader.specs.declared.row.Signal.TheVariants.{Irq, Nmi}
 use Rattle.t65_runner.specs.Requests.{after_arrival, arrival_events}
 use Rattle.t65_failures.specs.Texts.{named_byte}
-use Rattle.t65_values.specs.Visible.{visible}
+use Rattle.t65_values.specs.Visible.{visible_text}
 
 -- ---- a step
 
@@ -55,7 +55,7 @@ regs_text regs = named_byte A_IS.now regs.a ++ named_byte X_IS.now regs.x
 -- A line of the source's file, if there is one.
 abbrev pub source_by : List ℕ → Option ℕ → List ℕ
 source_by file None = []
-source_by file (Some line) = codes "  " ++ map visible file ++ codes ":" ++ decimal line
+source_by file (Some line) = codes "  " ++ visible_text file ++ codes ":" ++ decimal line
 
 -- The line of the source whose bytes stand at an address.
 abbrev pub source_text : PlacesView → ℕ → List ℕ

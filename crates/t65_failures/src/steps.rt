@@ -13,7 +13,7 @@ ghost use Rattle.t65_failures.specs.Texts.{named_byte};
 ghost use Rattle.t65_runner.specs.Requests.{after_arrival};
 ghost use Rattle.t65_failures.specs.declared.wording.TheConstants as the_text;
 
-use crate::texts::{push_bytes, push_named_byte};
+use crate::texts::push_named_byte;
 use crate::wording::{A_IS, IRQ, LAST_STEPS, NMI, P_IS, S_IS, X_IS, Y_IS};
 use debugger::Session;
 use disasm::row_text_in;
@@ -22,6 +22,7 @@ use source_map::Places;
 use std::alloc::AllocError;
 use t65_reader::{Request, Signal};
 use t65_runner::{CallEnd, arrive};
+use t65_values::push_visible_text;
 
 /// The most steps that are told.
 const TOLD: u32 = 20;
@@ -124,7 +125,7 @@ fn push_source_line(text: &mut String, places: &Places, address: u16) -> Result<
     match places.line_at(address) {
         Some(line) => {
             text.push_str("  ")?;
-            push_bytes(text, places.file())?;
+            push_visible_text(text, places.file())?;
             write!(text, ":{line}")
         }
         None => Ok(()),

@@ -1,26 +1,13 @@
 //! Places, values and rows as text.
 
-ghost use Rattle.std.specs.Prelude.{◌≡◌, ◌++◌, ◌∷◌, [], OnOk, map, string_bytes};
+ghost use Rattle.std.specs.Prelude.{◌≡◌, ◌++◌, OnOk, string_bytes};
 ghost use Rattle.t65_failures.specs.Texts.{named_address, named_byte, named_count};
 ghost use Rattle.t65_failures.specs.Texts.{number_text, place_text, register_name, relation_text};
 ghost use Rattle.t65_failures.specs.Texts.{value_text};
-ghost use Rattle.t65_values.specs.Visible.{visible};
 
 use crate::wording::{CYCLES, INPUT, OUTPUT_BYTE, OUTPUT_COUNT};
 use std::alloc::AllocError;
 use t65_reader::{Range, Register, Relation, Target};
-use t65_values::push_visible;
-
-/// Appends bytes, with a `?` for each that is no visible character of ASCII.
-pub fn push_bytes(text: &mut String, bytes: &[u8]) -> Result<(), AllocError>
-    ensures { OnOk result (string_bytes text.new
-        ≡ string_bytes text.old ++ map visible bytes.now) }
-{
-    for byte in bytes {
-        push_visible(text, *byte)?;
-    }
-    Ok(())
-}
 
 fn register_name(register: Register) -> &'static str
     ensures { result.now ≡ register_name register }

@@ -1,11 +1,12 @@
--- TAP, and the report for JUnit. Source: mos65, for the formats TAP 13 and JUnit's XML.
+-- TAP, and the report for JUnit. Source: mos65, for the formats TAP 13, whose text is UTF-8, and
+-- JUnit's XML: XML 1.0, 2.2 for the characters that it has, and 2.4 for those that are escaped.
 use Rattle.std.specs.Prelude.{ℕ, ◌-◌, ◌==◌, ◌&&◌, ◌||◌, Bool, true, false, not, if◌then◌else◌, List, [], ◌∷◌, ◌++◌, Option, None, Some, codes, decimal, drop, length, take}
 use Rattle.std.specs.Char.{is_ascii_whitespace}
 use Rattle.std.specs.Option.{is_some}
 use Rattle.std.specs.Str.Lines.{lines}
 use Rattle.std.specs.List.{flat_map, prefix_len, suffix_len}
 use Rattle.t65_reports.specs.declared.wording.TheConstants.{AT_LINE, CASE, CASE_END, CASE_FAILS, CASE_PASSES, FAILS, FAILURES, FAULT_NAME, IN_FILE, LINE, PASSES, QUOTE, SUITE, TAG_END, TESTS}
-use Rattle.t65_values.specs.Visible.{visible}
+use Rattle.t65_values.specs.Visible.{characters, visible_character}
 use Rattle.t65_reports.specs.declared.reports.Quoted.{Quoted}
 use Rattle.t65_reports.specs.declared.reports.Quoted.TheVariants.{Outside, Inside, Escaped}
 use Rattle.t65_reports.specs.declared.reports.Score.{Score}
@@ -43,12 +44,13 @@ row_of line = without_end_blanks (without_front_blanks (before_comment Outside l
 -- ---- TAP
 
 -- A `\` stands before `#` and `\`.
-abbrev pub tap_byte : ℕ → List ℕ
-tap_byte b = if (b == 35) || (b == 92) then 92 ∷ (visible b ∷ []) else visible b ∷ []
+abbrev pub tap_character : ℕ → List ℕ
+tap_character c = if (c == 35) || (c == 92) then 92 ∷ visible_character c
+    else visible_character c
 
 -- A name, and why a file cannot be tested.
 abbrev pub tap_name : List ℕ → List ℕ
-tap_name name = flat_map tap_byte name
+tap_name name = flat_map tap_character (characters name)
 
 abbrev pub tap_text : List ℕ → List ℕ
 tap_text text = tap_name (row_of text)
@@ -101,20 +103,21 @@ plan_text count = codes "1.." ++ decimal count ++ codes "\n"
 
 -- ---- JUnit
 
--- A byte as XML has it in values.
-abbrev pub value_byte : ℕ → List ℕ
-value_byte b = if b == 38 then codes "&amp;" else if b == 60 then codes "&lt;"
-    else if b == 62 then codes "&gt;" else if b == 34 then codes "&quot;" else visible b ∷ []
+-- A character as XML has it in values.
+abbrev pub value_character : ℕ → List ℕ
+value_character c = if c == 38 then codes "&amp;" else if c == 60 then codes "&lt;"
+    else if c == 62 then codes "&gt;" else if c == 34 then codes "&quot;"
+    else visible_character c
 
 abbrev pub xml_value : List ℕ → List ℕ
-xml_value text = flat_map value_byte text
+xml_value text = flat_map value_character (characters text)
 
 -- Between tags lines end where they do.
-abbrev pub xml_byte : ℕ → List ℕ
-xml_byte b = if b == 10 then 10 ∷ [] else value_byte b
+abbrev pub xml_character : ℕ → List ℕ
+xml_character c = if c == 10 then 10 ∷ [] else value_character c
 
 abbrev pub xml : List ℕ → List ℕ
-xml text = flat_map xml_byte text
+xml text = flat_map xml_character (characters text)
 
 abbrev pub first_line : List ℕ → List ℕ
 first_line text = take (prefix_len (λ b. not (b == 10)) text) text

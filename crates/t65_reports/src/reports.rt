@@ -1,7 +1,7 @@
 //! TAP and JUnit: a test's text is made when it has ended.
 
 ghost use Rattle.std.specs.Prelude.{◌≡◌, ◌==◌, ◌++◌};
-ghost use Rattle.std.specs.Prelude.{not, string_bytes, IfOk, OnOk};
+ghost use Rattle.std.specs.Prelude.{not, chars, flat_map, string_bytes, IfOk, OnOk};
 ghost use Rattle.std.specs.List.{prefix_len};
 ghost use Rattle.std.specs.Option.{option_map};
 ghost use Rattle.t65_reports.specs.Reports.{before_comment, begins_comment, behind, case_end};
@@ -9,17 +9,17 @@ ghost use Rattle.t65_reports.specs.Reports.{case_fails, case_front};
 ghost use Rattle.t65_reports.specs.Reports.{fault_front, first_line, junit_case};
 ghost use Rattle.t65_reports.specs.Reports.{junit_fault, line_text, numbers_text, place_text};
 ghost use Rattle.t65_reports.specs.Reports.{plan_text, row_of, score_text};
-ghost use Rattle.t65_reports.specs.Reports.{suite_head, summary_text, tap_byte, tap_case};
+ghost use Rattle.t65_reports.specs.Reports.{suite_head, summary_text, tap_case, tap_character};
 ghost use Rattle.t65_reports.specs.Reports.{tap_comment, tap_detail, tap_fault, tap_name, tap_row};
-ghost use Rattle.t65_reports.specs.Reports.{tap_text, tap_title, value_byte, xml, xml_byte};
-ghost use Rattle.t65_reports.specs.Reports.{xml_value};
+ghost use Rattle.t65_reports.specs.Reports.{tap_text, tap_title, value_character, xml};
+ghost use Rattle.t65_reports.specs.Reports.{xml_character, xml_value};
 
 use crate::wording::{
     AT_LINE, CASE, CASE_END, CASE_FAILS, CASE_PASSES, FAILS, FAILURES, FAULT_NAME, IN_FILE, LINE,
     PASSES, QUOTE, SUITE, TAG_END, TESTS,
 };
 use std::alloc::{AllocError, Global};
-use t65_values::push_visible;
+use t65_values::{characters_of, push_visible};
 
 /// A row that was run, as it is told of.
 #[derive(Clone, Copy)]
@@ -116,24 +116,34 @@ fn row_of(line: &[u8]) -> &[u8]
     without_comment(line).trim_ascii()
 }
 
-/// Appends a byte of a row's text for TAP.
-fn push_tap_byte(text: &mut String, byte: u8) -> Result<(), AllocError>
-    ensures { OnOk result (string_bytes text.new ≡ string_bytes text.old ++ tap_byte byte) }
+/// Appends a character of a row's text for TAP.
+fn push_tap_character(text: &mut String, character: char) -> Result<(), AllocError>
+    ensures { OnOk result
+        (string_bytes text.new ≡ string_bytes text.old ++ tap_character character) }
 {
-    if byte == b'#' || byte == b'\\' {
+    if character == '#' || character == '\\' {
         text.push('\\')?;
     }
-    push_visible(text, byte)
+    push_visible(text, character)
+}
+
+/// Appends the characters of a name for TAP.
+fn push_tap_characters(text: &mut String, name: &str) -> Result<(), AllocError>
+    ensures { OnOk result (string_bytes text.new
+        ≡ string_bytes text.old ++ flat_map tap_character (chars name.now)) }
+{
+    for character in name.chars() {
+        push_tap_character(text, character)?;
+    }
+    Ok(())
 }
 
 /// Appends a name for TAP, where `#` and `\` have `\` before them.
 fn push_tap_name(text: &mut String, name: &[u8]) -> Result<(), AllocError>
     ensures { OnOk result (string_bytes text.new ≡ string_bytes text.old ++ tap_name name.now) }
 {
-    for byte in name {
-        push_tap_byte(text, *byte)?;
-    }
-    Ok(())
+    let characters = characters_of(text, name)?;
+    push_tap_characters(text, &characters)
 }
 
 /// Appends a row's text without its comment for TAP.
@@ -143,27 +153,37 @@ fn push_description(text: &mut String, line: &[u8]) -> Result<(), AllocError>
     push_tap_name(text, row_of(line))
 }
 
-/// Appends a byte as XML has it in values.
-fn push_value_byte(text: &mut String, byte: u8) -> Result<(), AllocError>
-    ensures { OnOk result (string_bytes text.new ≡ string_bytes text.old ++ value_byte byte) }
+/// Appends a character as XML has it in values.
+fn push_value_character(text: &mut String, character: char) -> Result<(), AllocError>
+    ensures { OnOk result
+        (string_bytes text.new ≡ string_bytes text.old ++ value_character character) }
 {
-    match byte {
-        b'&' => text.push_str("&amp;"),
-        b'<' => text.push_str("&lt;"),
-        b'>' => text.push_str("&gt;"),
-        b'"' => text.push_str("&quot;"),
+    match character {
+        '&' => text.push_str("&amp;"),
+        '<' => text.push_str("&lt;"),
+        '>' => text.push_str("&gt;"),
+        '"' => text.push_str("&quot;"),
         other => push_visible(text, other),
     }
+}
+
+/// Appends characters as XML has them in values.
+fn push_value_characters(text: &mut String, value: &str) -> Result<(), AllocError>
+    ensures { OnOk result (string_bytes text.new
+        ≡ string_bytes text.old ++ flat_map value_character (chars value.now)) }
+{
+    for character in value.chars() {
+        push_value_character(text, character)?;
+    }
+    Ok(())
 }
 
 /// Appends bytes as XML has them in values.
 fn push_value(text: &mut String, bytes: &[u8]) -> Result<(), AllocError>
     ensures { OnOk result (string_bytes text.new ≡ string_bytes text.old ++ xml_value bytes.now) }
 {
-    for byte in bytes {
-        push_value_byte(text, *byte)?;
-    }
-    Ok(())
+    let characters = characters_of(text, bytes)?;
+    push_value_characters(text, &characters)
 }
 
 /// Appends a name as XML has it in values.
@@ -173,25 +193,35 @@ fn push_name(text: &mut String, name: &str) -> Result<(), AllocError>
     push_value(text, name.as_bytes())
 }
 
-/// Appends a byte as XML has it between tags.
-fn push_xml_byte(text: &mut String, byte: u8) -> Result<(), AllocError>
-    ensures { OnOk result (string_bytes text.new ≡ string_bytes text.old ++ xml_byte byte) }
+/// Appends a character as XML has it between tags.
+fn push_xml_character(text: &mut String, character: char) -> Result<(), AllocError>
+    ensures { OnOk result
+        (string_bytes text.new ≡ string_bytes text.old ++ xml_character character) }
 {
-    if byte == b'\n' {
+    if character == '\n' {
         text.push('\n')
     } else {
-        push_value_byte(text, byte)
+        push_value_character(text, character)
     }
+}
+
+/// Appends characters as XML has them between tags.
+fn push_xml_characters(text: &mut String, between: &str) -> Result<(), AllocError>
+    ensures { OnOk result (string_bytes text.new
+        ≡ string_bytes text.old ++ flat_map xml_character (chars between.now)) }
+{
+    for character in between.chars() {
+        push_xml_character(text, character)?;
+    }
+    Ok(())
 }
 
 /// Appends bytes as XML has them between tags.
 fn push_xml(text: &mut String, bytes: &[u8]) -> Result<(), AllocError>
     ensures { OnOk result (string_bytes text.new ≡ string_bytes text.old ++ xml bytes.now) }
 {
-    for byte in bytes {
-        push_xml_byte(text, *byte)?;
-    }
-    Ok(())
+    let characters = characters_of(text, bytes)?;
+    push_xml_characters(text, &characters)
 }
 
 /// Appends a text as XML has it between tags.

@@ -8,11 +8,12 @@ use Rattle.arguments.specs.declared.load_fault.LoadFault.TheVariants.{Refused}
 use Rattle.arguments.specs.declared.refusal.Refusal.{Refusal}
 use Rattle.arguments.specs.declared.refusal.Refusal.TheVariants.{OutOfMemory}
 use Rattle.assembler.specs.Assembly.{AssemblyView, IsAssembled}
+use Rattle.image_files.proofs.Filled.{never_filled}
 use Rattle.image_files.specs.Files.{IsOfFile}
 use Rattle.image_files.specs.declared.refusal.ImageRefusal.TheVariants as why
 use Rattle.image_files.specs.Options.{said_of}
 use Rattle.loading.proofs.Ends.{image_loaded}
-use Rattle.loading.specs.Loads.{EndsAsImage, EndsAsSource, EndsFile, EndsNames, IsImageOf}
+use Rattle.loading.specs.Loads.{EndsAsImage, EndsAsSource, EndsFile, EndsNames, IsImageOf, IsSparedFile}
 use Rattle.loading.specs.Named.{named_image}
 use Rattle.loading.specs.declared.named.NamedFault.TheVariants.{OfFile, OfNames}
 use Rattle.model.specs.Layout.{Context, IsLaidOut, PlacedLine}
@@ -41,10 +42,16 @@ pub of_source : (asked : FileAsked) (bus_map : Map) (a : AssemblyView) → bus_m
     → IsAssembled bus_map a → has_port_byte bus_map a.image ≡ false → IsProgram asked None a
 of_source asked bus_map a same on_map is assembled spared = record {
   loaded = Some a;
-  named = (on_map, subst (λ (f : FileForm). IsImageOf f (map_of asked) a.image (Some a)) (sym is) (subst (λ (m : Map). IsAssembled m a) same assembled, refl));
+  named = (on_map, subst (λ (f : FileForm). IsImageOf f asked.omits_fill (map_of asked) None a.image (Some a)) (sym is) (subst (λ (m : Map). IsAssembled m a) same assembled, refl, refl));
   shown = refl;
   spared = subst (λ (m : Map). has_port_byte m a.image ≡ false) same spared;
 }
+
+-- An image without a byte at the port is the file's own.
+whole_file : (asked : FileAsked) (bus_map : Map) (image : List (Option ℕ)) → bus_map ≡ map_of asked → has_port_byte bus_map image ≡ false → IsOfFile (said_of asked.form) image
+    → IsSparedFile (said_of asked.form) asked.omits_fill (map_of asked) None image
+whole_file asked bus_map image same spared of_file =
+    (image, of_file, (sym (never_filled asked.omits_fill (map_of asked) image (subst (λ (m : Map). has_port_byte m image ≡ false) same spared)), refl))
 
 pub of_image : (asked : FileAsked) (symbols : Option (List ℕ)) (bus_map : Map) (image : List (Option ℕ)) (names a : AssemblyView) → bus_map ≡ map_of asked → is_map asked.rom asked.port ≡ true
     → (asked.form ≡ form.Source → ⊥) → IsOfFile (said_of asked.form) image → has_port_byte bus_map image ≡ false → AreNames (map_of asked) symbols names → a ≡ named_image image names
@@ -52,14 +59,14 @@ pub of_image : (asked : FileAsked) (symbols : Option (List ℕ)) (bus_map : Map)
 of_image asked None bus_map image names a same on_map apart of_file spared are is =
     subst (IsProgram asked None) (sym is) (record {
       loaded = None;
-      named = image_loaded asked image on_map apart of_file;
+      named = image_loaded asked None image on_map apart (whole_file asked bus_map image same spared of_file);
       shown = record { names = are; source = refl; places = refl };
       spared = subst (λ (m : Map). has_port_byte m image ≡ false) same spared;
     })
 of_image asked (Some path) bus_map image names a same on_map apart of_file spared are is =
     subst (IsProgram asked (Some path)) (sym is) (record {
       loaded = Some (named_image image names);
-      named = (image_loaded asked image on_map apart of_file, (names, are, refl));
+      named = (image_loaded asked None image on_map apart (whole_file asked bus_map image same spared of_file), (names, are, refl));
       shown = refl;
       spared = subst (λ (m : Map). has_port_byte m image ≡ false) same spared;
     })
@@ -70,16 +77,16 @@ on_map_file : (asked : FileAsked) (fault : LoadFault) → EndsFile asked.form (m
 on_map_file asked fault ends None = ends
 on_map_file asked fault ends (Some path) = ends
 
-as_image : (f : FileForm) (bus_map : Map) (file : List ℕ) (fault : LoadFault) → (f ≡ form.Source → ⊥) → EndsAsImage (said_of f) bus_map fault → EndsFile f bus_map file fault
+as_image : (f : FileForm) (bus_map : Map) (file : List ℕ) (fault : LoadFault) → (f ≡ form.Source → ⊥) → EndsAsImage (said_of f) false bus_map fault → EndsFile f bus_map file fault
 as_image form.Source bus_map file fault apart ends = absurd (apart refl)
 as_image form.Records bus_map file fault apart ends = ends
 as_image (form.Raw address) bus_map file fault apart ends = ends
 as_image form.Prg bus_map file fault apart ends = ends
 
 pub image_refused : (asked : FileAsked) (symbols : Option (List ℕ)) (bus_map : Map) (fault : LoadFault) → bus_map ≡ map_of asked → (asked.form ≡ form.Source → ⊥)
-    → EndsAsImage (said_of asked.form) bus_map fault → EndsProgram asked symbols (OfFile fault)
+    → EndsAsImage (said_of asked.form) false bus_map fault → EndsProgram asked symbols (OfFile fault)
 image_refused asked symbols bus_map fault same apart ends = on_map_file asked fault
-    (as_image asked.form (map_of asked) asked.file fault apart (subst (λ (m : Map). EndsAsImage (said_of asked.form) m fault) same ends)) symbols
+    (as_image asked.form (map_of asked) asked.file fault apart (subst (λ (m : Map). EndsAsImage (said_of asked.form) false m fault) same ends)) symbols
 
 pub source_refused : (asked : FileAsked) (symbols : Option (List ℕ)) (bus_map : Map) (fault : LoadFault) → bus_map ≡ map_of asked → asked.form ≡ form.Source
     → EndsAsSource bus_map asked.file fault → EndsProgram asked symbols (OfFile fault)

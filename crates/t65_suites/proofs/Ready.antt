@@ -1,6 +1,7 @@
 -- What was prepared.
 use Rattle.std.proofs.Common.{◌≡◌, ℕ, List, Option, map, refl, sym, ap, ◌∙◌}
 use Rattle.std.specs.Prelude.{Ok}
+use Rattle.assembler.specs.Assembly.{AssemblyView}
 use Rattle.model.specs.State.{Map}
 use Rattle.model.specs.TextLines.{lines_of}
 use Rattle.source_map.specs.Lines.{PlacesView, places_of}
@@ -13,11 +14,12 @@ use Rattle.t65_runner.specs.Parts.{rows_of}
 use Rattle.t65_suites.specs.Prepared.{Ground, IsPrepared, map_of, path_of}
 use Rattle.t65_suites.specs.declared.prepared.Prepared.{Prepared}
 
-abbrev ground_at : Map → List (Option ℕ) → PlacesView → List SeenLine → Ground
-ground_at bus_map image places rows = record {
+abbrev ground_at : Map → AssemblyView → PlacesView → List SeenLine → Ground
+ground_at bus_map assembly places rows = record {
   bus_map = bus_map;
-  image = image;
+  image = assembly.image;
   places = places;
+  names = assembly.names;
   before = rows_of Setup rows;
   after = rows_of Teardown rows;
 }
@@ -43,8 +45,8 @@ ready prepared steps suite text head next lines path headed same mapped named pr
     read = read;
   };
   text_is = same;
-  ground_is = ap (λ (m : Map). ground_at m prepared.assembly.image (places_of path prepared.assembly) (map line_view prepared.rows.items)) (sym mapped)
-      ∙ ap (λ (p : PlacesView). ground_at prepared.map prepared.assembly.image p (map line_view prepared.rows.items)) (sym placed);
+  ground_is = ap (λ (m : Map). ground_at m prepared.assembly (places_of path prepared.assembly) (map line_view prepared.rows.items)) (sym mapped)
+      ∙ ap (λ (p : PlacesView). ground_at prepared.map prepared.assembly p (map line_view prepared.rows.items)) (sym placed);
   rows_are = refl;
   form_is = form;
 }

@@ -1,5 +1,5 @@
 -- Why a suite cannot be tested, in words. Source: mos65.
-use Rattle.std.specs.Prelude.{◌≡◌, ℕ, ◌==◌, Bool, true, false, if◌then◌else◌, List, ◌++◌, codes, decimal, map}
+use Rattle.std.specs.Prelude.{◌≡◌, ℕ, ◌==◌, Bool, true, false, if◌then◌else◌, List, [], ◌∷◌, ◌++◌, codes, decimal, flat_map}
 use Rattle.arguments.specs.declared.load_fault.LoadFault.{LoadFault}
 use Rattle.arguments.specs.declared.load_fault.LoadFault.TheVariants as load
 use Rattle.arguments.specs.declared.refusal.Refusal.{Refusal}
@@ -8,7 +8,7 @@ use Rattle.loading.specs.declared.named.NamedFault.{NamedFault}
 use Rattle.loading.specs.declared.named.NamedFault.TheVariants.{HasSource, OfFile, OfNames}
 use Rattle.t65_values.specs.FaultWords.{fault_words}
 use Rattle.t65_values.specs.declared.fault.TextFault.{TextFault}
-use Rattle.t65_values.specs.Visible.{visible}
+use Rattle.t65_values.specs.Visible.{characters, visible_character}
 use Rattle.t65_suites.specs.declared.fault.FileFault.{FileFault}
 use Rattle.t65_suites.specs.declared.fault.FileFault.TheVariants.{InProgram, InRows}
 use Rattle.t65_suites.specs.declared.fault.TestFault.{TestFault}
@@ -55,12 +55,15 @@ line_of (InProgram path fault) = 1
 -- ---- texts
 
 -- Lines end where they do.
-abbrev pub shown : ℕ → ℕ
-shown b = if b == 10 then 10 else visible b
+abbrev pub shown_character : ℕ → List ℕ
+shown_character c = if c == 10 then 10 ∷ [] else visible_character c
+
+abbrev pub shown_text : List ℕ → List ℕ
+shown_text bytes = flat_map shown_character (characters bytes)
 
 -- A text is some bytes as they are shown.
 abbrev pub IsShown : List ℕ → Type 0
-IsShown text = (bytes : List ℕ) × (text ≡ map shown bytes)
+IsShown text = (bytes : List ℕ) × (text ≡ shown_text bytes)
 
 -- The line of a row, and what is wrong there.
 abbrev pub line_title : TextFault → List ℕ

@@ -3,6 +3,7 @@ use Rattle.std.specs.Prelude.{◌≡◌, ℕ, List, Option, Some, None, Ok, map}
 use Rattle.arguments.specs.Values.{base_of}
 use Rattle.assembler.specs.Assembly.{AssemblyView}
 use Rattle.clap.specs.Words.{Text}
+use Rattle.model.specs.Names.{Definitions}
 use Rattle.model.specs.State.{Map}
 use Rattle.model.specs.TextLines.{lines_of}
 use Rattle.source_map.specs.Lines.{PlacesView, places_of}
@@ -45,12 +46,13 @@ pub record TestedFile (steps : ℕ) (suite : SuiteAsked) : Type 0 where
 
 -- ---- its machine
 
--- A machine at its start, what stands where in its source, and the rows that are run before and
--- after each test.
+-- A machine at its start, what stands where in its source, the source's names, and the rows that
+-- are run before and after each test.
 pub record Ground : Type 0 where
   pub bus_map : Map
   pub image : List (Option ℕ)
   pub places : PlacesView
+  pub names : Definitions
   pub before : List (ℕ × SeenRow)
   pub after : List (ℕ × SeenRow)
 
@@ -59,6 +61,7 @@ ground_of steps suite file = record {
   bus_map = map_of file.head;
   image = file.assembly.image;
   places = places_of file.path file.assembly;
+  names = file.assembly.names;
   before = rows_of Setup file.rows;
   after = rows_of Teardown file.rows;
 }
@@ -68,6 +71,7 @@ ground_in prepared = record {
   bus_map = prepared.map;
   image = prepared.assembly.image;
   places = prepared.places;
+  names = prepared.assembly.names;
   before = rows_of Setup (map line_view prepared.rows.items);
   after = rows_of Teardown (map line_view prepared.rows.items);
 }

@@ -13,7 +13,7 @@ use Rattle.model.specs.State.{Map, has_port_byte}
 use Rattle.t65_suites.specs.HeadText.{SeenHead}
 use Rattle.t65_suites.specs.Suites.{ReadingAsked}
 
--- The file of a path, read as the words say, on the map that a head asks for.
+-- The file of a path, read as the words say, on the map that a head asks for. No fill is left out.
 abbrev pub file_asked : ReadingAsked → SeenHead → Text → FileAsked
 file_asked reading head path = record {
   file = path;
@@ -21,6 +21,7 @@ file_asked reading head path = record {
   port = base_of head.port;
   rom = head.rom;
   profile = head.profile;
+  omits_fill = false;
 }
 
 -- An assembly without a name and without a line.
@@ -39,7 +40,7 @@ IsShownAs (Some loaded) a = a ≡ loaded
 -- has no byte at the port.
 pub record IsProgram (asked : FileAsked) (symbols : Option Text) (a : AssemblyView) : Type 0 where
   pub loaded : Option AssemblyView
-  pub named : IsNamed asked symbols a.image loaded
+  pub named : IsNamed asked symbols None a.image loaded
   pub shown : IsShownAs loaded a
   pub spared : has_port_byte (map_of asked) a.image ≡ false
 

@@ -1,7 +1,8 @@
 //! Why a suite cannot be tested, in words.
 
-ghost use Rattle.std.specs.Prelude.{◌≡◌, ◌++◌, ◌∷◌, [], IfOk, OnOk, map, string_bytes};
-ghost use Rattle.t65_suites.specs.FaultTexts.{IsRowsTitle, IsShown, IsTitle, line_title, shown};
+ghost use Rattle.std.specs.Prelude.{◌≡◌, ◌++◌, IfOk, OnOk, chars, flat_map, string_bytes};
+ghost use Rattle.t65_suites.specs.FaultTexts.{IsRowsTitle, IsShown, IsTitle, line_title};
+ghost use Rattle.t65_suites.specs.FaultTexts.{shown_character, shown_text};
 
 use crate::fault::{FileFault, TestFault};
 use crate::names::text_of;
@@ -11,28 +12,37 @@ use arguments::{LoadFault, Refusal, put_fault_line, refuse_file, shown_name, tel
 use loading::NamedFault;
 use std::alloc::{AllocError, Global};
 use std::io::Write;
-use t65_values::{TextFault, push_visible};
+use t65_values::{TextFault, characters_of, push_visible};
 
-/// Appends a byte as it is shown.
-fn push_shown(text: &mut String, byte: u8) -> Result<(), AllocError>
-    ensures { OnOk result (string_bytes text.new ≡ string_bytes text.old ++ shown byte ∷ []) }
+/// Appends a character as it is shown.
+fn push_shown(text: &mut String, character: char) -> Result<(), AllocError>
+    ensures { OnOk result
+        (string_bytes text.new ≡ string_bytes text.old ++ shown_character character) }
 {
-    if byte == b'\n' {
+    if character == '\n' {
         text.push('\n')
     } else {
-        push_visible(text, byte)
+        push_visible(text, character)
     }
 }
 
-/// Appends bytes as they are shown.
-fn push_all_shown(text: &mut String, bytes: &[u8]) -> Result<(), AllocError>
+/// Appends the characters of a text as they are shown.
+fn push_all_shown(text: &mut String, characters: &str) -> Result<(), AllocError>
     ensures { OnOk result (string_bytes text.new
-        ≡ string_bytes text.old ++ map shown bytes.now) }
+        ≡ string_bytes text.old ++ flat_map shown_character (chars characters.now)) }
 {
-    for byte in bytes {
-        push_shown(text, *byte)?;
+    for character in characters.chars() {
+        push_shown(text, character)?;
     }
     Ok(())
+}
+
+/// Appends bytes as they are shown.
+fn push_shown_text(text: &mut String, bytes: &[u8]) -> Result<(), AllocError>
+    ensures { OnOk result (string_bytes text.new ≡ string_bytes text.old ++ shown_text bytes.now) }
+{
+    let characters = characters_of(text, bytes)?;
+    push_all_shown(text, &characters)
 }
 
 /// Returns bytes as they are shown.
@@ -40,7 +50,7 @@ fn shown_text(alloc: Global, bytes: &[u8]) -> Result<String, AllocError>
     ensures { IfOk result (λ text. IsShown (string_bytes text)) }
 {
     let mut text = String::new(alloc);
-    push_all_shown(&mut text, bytes)?;
+    push_shown_text(&mut text, bytes)?;
     Ok(text)
 }
 

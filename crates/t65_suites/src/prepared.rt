@@ -78,6 +78,7 @@ fn words_for<'a>(reading: Reading<'_>, head: Head<'_>, path: &'a str) -> FileWor
         port: port_at(head.port),
         rom: head.rom,
         profile: head.profile,
+        omits_fill: false,
     }
 }
 

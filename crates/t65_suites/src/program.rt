@@ -50,7 +50,7 @@ fn at_port(words: &FileWords<'_>, map: &MapSpec, image: &Image) -> LoadFault
     requires map { map.now ≡ map_of (file_view words.now) }
     requires file { IsOfFile (said_of words.now.form) image.now }
     requires met { has_port_byte map.now image.now ≡ true }
-    ensures { EndsAsImage (said_of words.now.form) map.now result }
+    ensures { EndsAsImage (said_of words.now.form) false map.now result }
 {
     LoadFault::AtPort {
         first: map.port(),
@@ -69,7 +69,7 @@ fn image_on<H: Files + AllocGlobal>(
     requires { map.now ≡ map_of (file_view words.now) }
     ensures found { IfOk result (IsOfFile (said_of words.now.form)) }
     ensures spared { IfOk result (λ image. has_port_byte map.now image ≡ false) }
-    ensures refused { IfErr result (EndsAsImage (said_of words.now.form) map.now) }
+    ensures refused { IfErr result (EndsAsImage (said_of words.now.form) false map.now) }
 {
     let image = image_in(rt, words)?;
     if map.meets(&image) {

@@ -3,7 +3,7 @@
 //!
 //! A call that reads one of these returns it with the text after it. The definitions are
 //! `specs/ValueText.antt` and `specs/StringText.antt`; a fault's words are in
-//! `specs/FaultWords.antt`, and `specs/Visible.antt` says how a byte of a file is told.
+//! `specs/FaultWords.antt`, and `specs/Visible.antt` says how bytes of a file are told.
 #![tactic(auto)]
 
 mod characters;
@@ -23,4 +23,4 @@ pub use scan::{
     skip_blanks, word_of,
 };
 pub use value::{Letters, letter_in, value_of};
-pub use visible::push_visible;
+pub use visible::{characters_of, push_visible, push_visible_text};

@@ -1,15 +1,16 @@
 -- What is said of a warning, and which bytes of its line it means. Source: mos65.
-use Rattle.std.specs.Prelude.{◌≡◌, ◌⊎◌, ℕ, ◌-◌, nat_lt, ◌&&◌, max, Bool, true, false, List, [], ◌++◌, length, take, drop, slice_get, not, codes, if◌then◌else◌, Option, Some, None}
+use Rattle.std.specs.Prelude.{◌≡◌, ◌⊎◌, ℕ, ◌+◌, ◌-◌, ◌*◌, ◌%◌, nat_lt, ◌&&◌, max, Bool, true, false, List, [], ◌∷◌, ◌++◌, length, take, drop, slice_get, not, codes, if◌then◌else◌, Option, Some, None}
 use Rattle.std.specs.Fmt.{decimal}
 use Rattle.std.specs.List.{find, flat_map, prefix_len}
 use Rattle.std.specs.Str.{str_eq_ignore_ascii_case}
 use Rattle.line_parts.specs.Lexemes.{lexemes}
 use Rattle.line_parts.specs.declared.token.Token.{Token}
+use Rattle.model.specs.Text.{hex_address}
 use Rattle.model.specs.Token.{is_blank, is_word_byte, tokens_of}
 use Rattle.source_notes.specs.Lines.{without_blanks}
 use Rattle.source_notes.specs.Operands.{after_label, is_symbol, operand_of, operand_place}
 use Rattle.source_notes.specs.declared.note.Note.{Note}
-use Rattle.warning_notes.specs.declared.wording.TheConstants.{ANOTHER_NAME, CLOSED, CLOSED_WITH_X, CLOSED_WITH_Y, DIFFERS_IN_CASE, HAS_NO_BYTES, HAS_NO_VECTOR, IRQ_VECTOR, IS_AN_ADDRESS, IS_A_REGISTER, IS_NEVER_USED, IS_NOT_READ, LEADS_TO_DATA, LEADS_TO_RTS, NMI_VECTOR, ONLY_GROUPS, ON_LINE, OPENED, RESET_VECTOR, RUNS_ON, TAKES_THE_PAGE, TAKES_TWO_BYTES}
+use Rattle.warning_notes.specs.declared.wording.TheConstants.{AND_NOT_FROM, ANOTHER_NAME, CLOSED, CLOSED_WITH_X, CLOSED_WITH_Y, DIFFERS_IN_CASE, HAS_NO_BYTES, HAS_NO_VECTOR, IRQ_VECTOR, IS_AN_ADDRESS, IS_A_REGISTER, IS_NEVER_USED, IS_NOT_READ, LEADS_TO_DATA, LEADS_TO_RTS, MOVE_IT, NMI_VECTOR, ONLY_GROUPS, ON_LINE, OPENED, RESET_VECTOR, RUNS_ON, TAKES_HIGH_BYTE, TAKES_TWO_BYTES}
 use Rattle.warnings.specs.declared.kinds.Vector.{Vector}
 use Rattle.warnings.specs.declared.kinds.Vector.TheVariants.{Nmi, Reset, Irq}
 use Rattle.warnings.specs.declared.kinds.WarningKind.{WarningKind}
@@ -130,6 +131,17 @@ data_words vector line = vector_name vector ++ LEADS_TO_DATA.now ++ decimal line
 abbrev pub handler_words : Vector → List ℕ
 handler_words vector = vector_name vector ++ LEADS_TO_RTS.now
 
+-- ---- a pointer at the end of a page
+
+-- An address behind `$`.
+abbrev pub address_words : ℕ → List ℕ
+address_words address = 36 ∷ hex_address (address % 65536)
+
+-- Where profile N takes the high byte from, and where the next byte stands.
+abbrev pub wrap_words : ℕ → List ℕ
+wrap_words page = TAKES_HIGH_BYTE.now ++ (address_words (page * 256) ++ (AND_NOT_FROM.now
+    ++ (address_words (page * 256 + 256) ++ MOVE_IT.now)))
+
 -- ---- a warning
 
 -- A note of a warning of this line, among names with their lines' numbers.
@@ -146,8 +158,8 @@ IsNote names NoBytes number line note = Says (word_place line) HAS_NO_BYTES.now 
 IsNote names AfterEnd number line note = Says (word_place line) IS_NOT_READ.now note
 IsNote names NoVector number line note = Says (word_place line) HAS_NO_VECTOR.now note
 IsNote names FallsOff number line note = Says (word_place line) RUNS_ON.now note
-IsNote names PointerWrap number line note = (tokens : List Token) × AreTokens line tokens
-    × Says (operand_place line tokens) TAKES_THE_PAGE.now note
+IsNote names (PointerWrap page) number line note = (tokens : List Token) × AreTokens line tokens
+    × Says (operand_place line tokens) (wrap_words page) note
 IsNote names RegisterName number line note
     = Says (word_place line) (first_word line ++ IS_A_REGISTER.now) note
 IsNote names SquareBrackets number line note = (tokens : List Token) × AreTokens line tokens

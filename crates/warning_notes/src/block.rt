@@ -33,7 +33,7 @@ pub fn kind_name(kind: WarningKind) -> &'static str
         WarningKind::AfterEnd => AFTER_END,
         WarningKind::NoVector => NO_VECTOR,
         WarningKind::FallsOff => FALLS_OFF,
-        WarningKind::PointerWrap => POINTER_WRAP,
+        WarningKind::PointerWrap(_) => POINTER_WRAP,
         WarningKind::RegisterName => REGISTER_NAME,
         WarningKind::SquareBrackets => SQUARE_BRACKETS,
         WarningKind::VectorToData(_, _) => VECTOR_TO_DATA,

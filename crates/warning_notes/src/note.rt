@@ -9,13 +9,13 @@ ghost use Rattle.warning_notes.specs.Notes.{AreTokens, IsNote, Says, case_words,
 ghost use Rattle.warning_notes.specs.Notes.{first_word, handler_words, is_like, vector_name};
 ghost use Rattle.warning_notes.specs.Notes.{address_in, bracket_words, closing_of, first_text, inner_text};
 ghost use Rattle.warning_notes.specs.Notes.{is_closing, joined, last_of, last_text, like_words};
-ghost use Rattle.warning_notes.specs.Notes.{plain_words, pointer_text, word_place};
+ghost use Rattle.warning_notes.specs.Notes.{plain_words, pointer_text, word_place, wrap_words};
 
 use crate::wording::{
-    ANOTHER_NAME, CLOSED, CLOSED_WITH_X, CLOSED_WITH_Y, DIFFERS_IN_CASE, HAS_NO_BYTES,
-    HAS_NO_VECTOR, IRQ_VECTOR, IS_A_REGISTER, IS_AN_ADDRESS, IS_NEVER_USED, IS_NOT_READ,
-    LEADS_TO_DATA, LEADS_TO_RTS, NMI_VECTOR, ON_LINE, ONLY_GROUPS, OPENED, RESET_VECTOR, RUNS_ON,
-    TAKES_THE_PAGE, TAKES_TWO_BYTES,
+    AND_NOT_FROM, ANOTHER_NAME, CLOSED, CLOSED_WITH_X, CLOSED_WITH_Y, DIFFERS_IN_CASE,
+    HAS_NO_BYTES, HAS_NO_VECTOR, IRQ_VECTOR, IS_A_REGISTER, IS_AN_ADDRESS, IS_NEVER_USED,
+    IS_NOT_READ, LEADS_TO_DATA, LEADS_TO_RTS, MOVE_IT, NMI_VECTOR, ON_LINE, ONLY_GROUPS, OPENED,
+    RESET_VECTOR, RUNS_ON, TAKES_HIGH_BYTE, TAKES_TWO_BYTES,
 };
 use formatting::{push_count, push_text};
 use lexer::tokens;
@@ -23,7 +23,7 @@ use line_parts::Token;
 use model::LineFault;
 use source_notes::{
     Name, Note, about_operand, after, after_label, blank_run, describe, is_symbol, operand_of,
-    phrase, word_run,
+    phrase, push_dollar_address, word_run,
 };
 use std::alloc::{AllocError, Global};
 use warnings::{Vector, WarningKind};
@@ -118,18 +118,32 @@ fn long_note(
     Ok(about_operand(line, &found, words))
 }
 
+/// Returns words about a pointer at the end of a page.
+fn wrap_words(alloc: Global, page: u8) -> Result<Vec<u8>, AllocError>
+    ensures { IfOk result (λ words. words.items ≡ wrap_words page) }
+{
+    let start = page as u32 * 256;
+    let mut words = phrase(alloc, TAKES_HIGH_BYTE)?;
+    push_dollar_address(&mut words, start)?;
+    push_text(&mut words, AND_NOT_FROM)?;
+    push_dollar_address(&mut words, start + 256)?;
+    push_text(&mut words, MOVE_IT)?;
+    Ok(words)
+}
+
 /// Returns a note about a pointer at the end of a page.
 fn wrap_note(
     alloc: Global,
     names: &[Name<'_>],
+    page: u8,
     number: u32,
     line: &[u8],
 ) -> Result<Note, AllocError>
     ensures { IfOk result
-        (IsNote (map name_view names.now) WarningKind.PointerWrap number line.now) }
+        (IsNote (map name_view names.now) (WarningKind.PointerWrap page) number line.now) }
 {
     let found = tokens_or_none(alloc, line)?;
-    let words = phrase(alloc, TAKES_THE_PAGE)?;
+    let words = wrap_words(alloc, page)?;
     Ok(about_operand(line, &found, words))
 }
 
@@ -359,7 +373,7 @@ pub fn note_of(
         WarningKind::AfterEnd => line_note(alloc, line, IS_NOT_READ),
         WarningKind::NoVector => line_note(alloc, line, HAS_NO_VECTOR),
         WarningKind::FallsOff => line_note(alloc, line, RUNS_ON),
-        WarningKind::PointerWrap => wrap_note(alloc, names, number, line),
+        WarningKind::PointerWrap(page) => wrap_note(alloc, names, page, number, line),
         WarningKind::SquareBrackets => bracket_note(alloc, names, number, line),
         WarningKind::RegisterName => {
             let words = describe(alloc, first_word(line), IS_A_REGISTER)?;

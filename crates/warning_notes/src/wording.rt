@@ -72,9 +72,14 @@ pub const HAS_NO_VECTOR: &str = "there is no reset vector: write *=$FFFC and .WO
 /// What is said of an instruction after which none is in memory.
 pub const RUNS_ON: &str = "no instruction follows it in memory: JMP, RTS or BRK may be missing";
 
-/// What is said of a pointer at the end of a page.
-pub const TAKES_THE_PAGE: &str =
-    "profile N takes the high byte at $xx00 of the same page, not of the next: move the pointer";
+/// What is said of a pointer at the end of a page, before the start of that page.
+pub const TAKES_HIGH_BYTE: &str = "profile N takes the high byte from ";
+
+/// Stands before the start of the page after it.
+pub const AND_NOT_FROM: &str = ", not ";
+
+/// Stands behind both.
+pub const MOVE_IT: &str = ": move the pointer";
 
 /// Follows a name that is a register's.
 pub const IS_A_REGISTER: &str = " is a register in mon: give the name one letter more";

@@ -1,5 +1,5 @@
 -- Where control goes from an instruction, and where a reset begins. Source: mos65.
-use Rattle.std.specs.Prelude.{ℕ, ℤ, pos, negsuc, ◌+◌, ◌%◌, ◌==◌, nat_le, nat_lt, Bool, true, false, not, ◌&&◌, if◌then◌else◌, List, [], ◌∷◌, Option, Some, None, Result, Ok, Err}
+use Rattle.std.specs.Prelude.{ℕ, ℤ, pos, negsuc, ◌+◌, ◌/◌, ◌%◌, ◌==◌, nat_le, nat_lt, Bool, true, false, not, ◌&&◌, if◌then◌else◌, List, [], ◌∷◌, Option, Some, None, Result, Ok, Err}
 use Rattle.std.specs.List.{list_any}
 use Rattle.model.specs.Effect.{operation_of}
 use Rattle.model.specs.Expression.{Term}
@@ -65,32 +65,35 @@ falls_off p ps = is_straight_line p.line && not (meets (p.address + p.size) ps)
 
 -- ---- a pointer at the end of a page
 
-abbrev pub ends_page : Result ℤ ExprFault → Bool
-ends_page (Ok (pos v)) = v % 256 == 255
-ends_page (Ok (negsuc v)) = false
-ends_page (Err e) = false
+-- The page at whose end an address is.
+abbrev pub page_ended : Result ℤ ExprFault → Option ℕ
+page_ended (Ok (pos v)) = if v % 256 == 255 then Some (v / 256 % 256) else None
+page_ended (Ok (negsuc v)) = None
+page_ended (Err e) = None
 
-abbrev pub wraps_operand : Numbers → ℕ → Operand → Bool
-wraps_operand numbers address (pointer e) = ends_page (eval_of numbers (pos address) e)
-wraps_operand numbers address other = false
+abbrev pub page_of_operand : Numbers → ℕ → Operand → Option ℕ
+page_of_operand numbers address (pointer e) = page_ended (eval_of numbers (pos address) e)
+page_of_operand numbers address other = None
 
-abbrev pub wraps_statement : Numbers → ℕ → Statement → Bool
-wraps_statement numbers address (instruction m operand) = wraps_operand numbers address operand
-wraps_statement numbers address other = false
+abbrev pub page_of_statement : Numbers → ℕ → Statement → Option ℕ
+page_of_statement numbers address (instruction m operand)
+    = page_of_operand numbers address operand
+page_of_statement numbers address other = None
 
-abbrev pub wraps_line : Numbers → ℕ → Option Line → Bool
-wraps_line numbers address None = false
-wraps_line numbers address (Some (labelled label s)) = wraps_statement numbers address s
-wraps_line numbers address (Some (definition word e)) = false
+abbrev pub page_of_line : Numbers → ℕ → Option Line → Option ℕ
+page_of_line numbers address None = None
+page_of_line numbers address (Some (labelled label s)) = page_of_statement numbers address s
+page_of_line numbers address (Some (definition word e)) = None
 
 abbrev pub is_of_n : Profile → Bool
 is_of_n N = true
 is_of_n C = false
 
--- Whether a line jumps through a pointer at the end of a page: of its two bytes profile N takes the
--- high one from the start of the same page. JMP alone has a pointer in profile N.
-abbrev pub wraps : Profile → Numbers → Placed → Bool
-wraps profile numbers p = is_of_n profile && wraps_line numbers p.address p.line
+-- The page at whose end the pointer stands through which a line jumps: of its two bytes profile N
+-- takes the high one from the start of the same page. JMP alone has a pointer in profile N.
+abbrev pub wrapped_page : Profile → Numbers → Placed → Option ℕ
+wrapped_page profile numbers p = if is_of_n profile then page_of_line numbers p.address p.line
+    else None
 
 -- ---- the reset vector
 

@@ -17,7 +17,7 @@ use Rattle.model.specs.declared.expression.ExprFault.{ExprFault}
 use Rattle.model.specs.declared.instruction.Mnemonic.{Mnemonic}
 use Rattle.model.specs.declared.instruction.Profile.{Profile}
 use Rattle.model.specs.declared.line.Index.{Index}
-use Rattle.warnings.specs.Flow.{falls_off, is_vectorless, wraps}
+use Rattle.warnings.specs.Flow.{falls_off, is_vectorless, wrapped_page}
 use Rattle.warnings.specs.Uses.{used_by}
 use Rattle.warnings.specs.Reaches.{is_plain, reaches}
 use Rattle.warnings.specs.declared.written_numbers.Reach.{Reach}
@@ -136,11 +136,16 @@ warnings_alone k number p
     ++ (one_if (is_unused k.used (name_in p.line)) number UnusedName
     ++ one_if (is_long k.profile k.numbers p) number LongForm)
 
+-- The warning of a pointer at the end of a page.
+abbrev pub wrap_warnings : ℕ → Option ℕ → List Warning
+wrap_warnings number None = []
+wrap_warnings number (Some page) = warned number (PointerWrap page) ∷ []
+
 -- The warnings of a line's name, of its pointer, and of where control goes from it.
 abbrev pub warnings_more : Profile → Numbers → ℕ → Bool → Placed → List Warning
 warnings_more profile numbers number falls p
     = one_if (names_register (name_in p.line)) number RegisterName
-    ++ (one_if (wraps profile numbers p) number PointerWrap
+    ++ (wrap_warnings number (wrapped_page profile numbers p)
     ++ (one_if p.bracketed number SquareBrackets ++ one_if falls number FallsOff))
 
 -- A vector leads to data on a line.

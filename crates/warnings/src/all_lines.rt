@@ -10,8 +10,9 @@ ghost use Rattle.warnings.specs.Views.{placed_view, placed_views};
 ghost use Rattle.warnings.specs.Warnings.{begins_silenced, cut_off, denotes_bytes, has_bytes};
 ghost use Rattle.warnings.specs.Warnings.{known, lines_warnings, one_if, says_bytes};
 ghost use Rattle.warnings.specs.Warnings.{warnings_alone, warnings_more, warnings_with};
+ghost use Rattle.warnings.specs.Warnings.{wrap_warnings};
 
-use crate::flow::{falls_off, wraps};
+use crate::flow::{falls_off, wrapped_page};
 use crate::kinds::{Warning, WarningKind};
 use crate::one_line::{is_long, is_silenced, is_unused, name_in, names_register, note_capitals};
 use crate::placed_line::PlacedLine;
@@ -61,6 +62,16 @@ fn push_alone(
     push_if(warnings, long, number, WarningKind::LongForm)
 }
 
+/// Appends the warning of a pointer at the end of a page.
+fn push_wrap(warnings: &mut Vec<Warning>, line: u32, page: Option<u8>) -> Result<(), AllocError>
+    ensures { OnOk result (warnings.new.items ≡ warnings.old.items ++ wrap_warnings line page) }
+{
+    match page {
+        Some(page) => push_if(warnings, true, line, WarningKind::PointerWrap(page)),
+        None => Ok(()),
+    }
+}
+
 /// Appends the warnings of a line's name, of its pointer, and of where control goes from it.
 fn push_more(
     warnings: &mut Vec<Warning>,
@@ -74,9 +85,9 @@ fn push_more(
         ++ warnings_more profile (number_in names.now) number falls (placed_view line.now)) }
 {
     let register = names_register(name_in(&line.line));
-    let wrap = wraps(profile, names, line);
+    let page = wrapped_page(profile, names, line);
     push_if(warnings, register, number, WarningKind::RegisterName)?;
-    push_if(warnings, wrap, number, WarningKind::PointerWrap)?;
+    push_wrap(warnings, number, page)?;
     push_if(
         warnings,
         line.bracketed,

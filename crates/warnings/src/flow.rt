@@ -5,11 +5,12 @@ ghost use Rattle.std.specs.List.{list_any};
 ghost use Rattle.line_parts.specs.Contents.{map_option};
 ghost use Rattle.line_parts.specs.LineViews.{item_view, line_view, operand_view, statement_view};
 ghost use Rattle.model.specs.Names.{number_in};
-ghost use Rattle.warnings.specs.Flow.{ends_page, falls_off, is_entry_line, is_entry_statement};
+ghost use Rattle.warnings.specs.Flow.{falls_off, is_entry_line, is_entry_statement};
 ghost use Rattle.warnings.specs.Flow.{is_instruction, is_instruction_line, is_instruction_statement};
 ghost use Rattle.warnings.specs.Flow.{is_of_n, is_one_value, is_straight, is_straight_line};
 ghost use Rattle.warnings.specs.Flow.{is_straight_statement, is_vector, is_vectorless, meets, meets_line};
-ghost use Rattle.warnings.specs.Flow.{wraps, wraps_line, wraps_operand, wraps_statement};
+ghost use Rattle.warnings.specs.Flow.{page_ended, page_of_line, page_of_operand, page_of_statement};
+ghost use Rattle.warnings.specs.Flow.{wrapped_page};
 ghost use Rattle.warnings.specs.Views.{placed_view, placed_views};
 
 use crate::placed_line::PlacedLine;
@@ -105,47 +106,53 @@ pub fn falls_off(line: &PlacedLine<'_>, behind: &[PlacedLine<'_>]) -> bool
     is_straight_line(&line.line) && !meets(line.address + line.count, behind)
 }
 
-/// Whether a value is the last address of a page.
-fn ends_page(value: Result<i32, ExprFault>) -> bool
-    ensures { result ≡ ends_page value }
+/// Returns the page at whose end a value is, as an address.
+fn page_ended(value: Result<i32, ExprFault>) -> Option<u8>
+    ensures { result ≡ page_ended value }
 {
     match value {
-        Ok(number) => number >= 0 && number % 256 == 255,
-        Err(_) => false,
+        Ok(number) => {
+            if number >= 0 && number % 256 == 255 {
+                Some((number as u32 / 256 % 256) as u8)
+            } else {
+                None
+            }
+        }
+        Err(_) => None,
     }
 }
 
-/// Whether an operand is a pointer at the end of a page.
-fn wraps_operand(names: &Symbols, address: u32, operand: &Operand<'_>) -> bool
+/// Returns the page at whose end the pointer of an operand stands.
+fn page_of_operand(names: &Symbols, address: u32, operand: &Operand<'_>) -> Option<u8>
     requires { address < 2 ^ 31 }
-    ensures { result ≡ wraps_operand (number_in names.now) address (operand_view operand.now) }
+    ensures { result ≡ page_of_operand (number_in names.now) address (operand_view operand.now) }
 {
     match operand {
-        Operand::Pointer(value) => ends_page(value_at(value, names, address)),
-        _ => false,
+        Operand::Pointer(value) => page_ended(value_at(value, names, address)),
+        _ => None,
     }
 }
 
-/// Whether a statement has a pointer at the end of a page.
-fn wraps_statement(names: &Symbols, address: u32, statement: &Statement<'_>) -> bool
+/// Returns the page at whose end the pointer of a statement stands.
+fn page_of_statement(names: &Symbols, address: u32, statement: &Statement<'_>) -> Option<u8>
     requires { address < 2 ^ 31 }
     ensures { result
-        ≡ wraps_statement (number_in names.now) address (statement_view statement.now) }
+        ≡ page_of_statement (number_in names.now) address (statement_view statement.now) }
 {
     match statement {
-        Statement::Instruction(_, operand) => wraps_operand(names, address, operand),
-        _ => false,
+        Statement::Instruction(_, operand) => page_of_operand(names, address, operand),
+        _ => None,
     }
 }
 
-/// Whether a line has a pointer at the end of a page.
-fn wraps_line(names: &Symbols, address: u32, line: &Option<Line<'_>>) -> bool
+/// Returns the page at whose end the pointer of a line stands.
+fn page_of_line(names: &Symbols, address: u32, line: &Option<Line<'_>>) -> Option<u8>
     requires { address < 2 ^ 31 }
-    ensures { result ≡ wraps_line (number_in names.now) address (map_option line_view line.now) }
+    ensures { result ≡ page_of_line (number_in names.now) address (map_option line_view line.now) }
 {
     match line {
-        Some(Line::Labelled(_, statement)) => wraps_statement(names, address, statement),
-        Some(Line::Definition(_, _)) | None => false,
+        Some(Line::Labelled(_, statement)) => page_of_statement(names, address, statement),
+        Some(Line::Definition(_, _)) | None => None,
     }
 }
 
@@ -156,11 +163,15 @@ fn is_of_n(profile: Profile) -> bool
     matches!(profile, Profile::N)
 }
 
-/// Returns whether a line jumps through a pointer at the end of a page, in profile N.
-pub fn wraps(profile: Profile, names: &Symbols, line: &PlacedLine<'_>) -> bool
-    ensures { result ≡ wraps profile (number_in names.now) (placed_view line.now) }
+/// Returns the page at whose end the pointer stands through which a line jumps, in profile N.
+pub fn wrapped_page(profile: Profile, names: &Symbols, line: &PlacedLine<'_>) -> Option<u8>
+    ensures { result ≡ wrapped_page profile (number_in names.now) (placed_view line.now) }
 {
-    is_of_n(profile) && wraps_line(names, line.address, &line.line)
+    if is_of_n(profile) {
+        page_of_line(names, line.address, &line.line)
+    } else {
+        None
+    }
 }
 
 /// Whether a statement is an instruction.

@@ -30,8 +30,8 @@ pub enum WarningKind {
     NoVector,
     /// Control comes from an instruction to a place where none begins.
     FallsOff,
-    /// A jump goes through a pointer at the end of a page, in profile N.
-    PointerWrap,
+    /// A jump goes through a pointer at the end of this page, in profile N.
+    PointerWrap(u8),
     /// A name is that of a register in `mon`.
     RegisterName,
     /// The whole address of an operand stands in square brackets, where a pointer could.

@@ -19,15 +19,16 @@ use Rattle.mon_session.specs.declared.mon_state.MonState.{MonState}
 use Rattle.arguments_play.specs.Mon.{MonAsked}
 
 -- The session of a new state is the one that was loaded.
-pub named_starts : (asked : MonAsked) (session : Session) (assembly : Option AssemblyView) (written loaded : List Bool) (mon : MonState) (warning_line : List ℕ)
-    → (image : List (Option ℕ)) × AreLoaded asked.file asked.others image assembly × (session ≡ new_session asked.history (start (map_of asked.file) image)) × (written ≡ bytes_in image)
+pub named_starts : (asked : MonAsked) (session : Session) (assembly : Option AssemblyView) (fill : Option ℕ) (written loaded : List Bool) (mon : MonState) (warning_line : List ℕ)
+    → (image : List (Option ℕ)) × AreLoaded asked.file asked.others fill image assembly × (session ≡ new_session asked.history (start (map_of asked.file) image)) × (written ≡ bytes_in image)
     → (places : PlacesView) × ArePlaces asked.debug_info asked.file.file session assembly written places
     × (names : Option ImageNames) × AreNamed asked.symbols asked.file names × IsNewState session asked.history (with_names names places) mon
-    → loaded ≡ written → IsWarningLine (map_of asked.file) assembly warning_line → StartsMon asked mon loaded warning_line
-named_starts asked session assembly written loaded mon warning_line given new same warned =
+    → loaded ≡ written → IsWarningLine (map_of asked.file) assembly fill warning_line → StartsMon asked mon loaded warning_line
+named_starts asked session assembly fill written loaded mon warning_line given new same warned =
     let begun = new_session asked.history (start (map_of asked.file) given.0) in (
       given.0,
       assembly,
+      fill,
       given.1,
       same ∙ given.3,
       new.0,

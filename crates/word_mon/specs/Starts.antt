@@ -66,11 +66,12 @@ ArePlaces (Some path) file session assembly loaded places = (image : List (Optio
     × HasBytesOf session.current loaded image
     × AreDebugPlaces (record { profile = session.current.bus.map.profile; image = image }) places
 
--- The line that tells how many warnings a source has on a map, as `run` writes it; nothing without a
--- source or a warning, and nothing or a beginning where memory runs out.
-abbrev pub IsWarningLine : Map → Option AssemblyView → List ℕ → Type 0
-IsWarningLine bus_map assembly line
-    = TellsWarnings bus_map assembly 0 (record { held = Some []; now = Some line })
+-- The line that tells how many warnings a source has on a map, or that fill at the port was left
+-- out of an image, as `run` writes them; nothing without a warning and fill, and nothing or a
+-- beginning where memory runs out.
+abbrev pub IsWarningLine : Map → Option AssemblyView → Option ℕ → List ℕ → Type 0
+IsWarningLine bus_map assembly fill line
+    = TellsWarnings bus_map assembly 0 fill (record { held = Some []; now = Some line })
 
 -- Why a session does not begin on what was loaded.
 abbrev pub EndsDebugInfo : Option Text → LoadFault → Type 0
@@ -97,15 +98,17 @@ pub record IsNewState (begun : Session) (history : ℕ) (known : PlacesView) (mo
 
 -- A state of `mon` with a session at the start of an image that the file can have, with the names
 -- and lines of its source or of its debug information and the names of a file of names; the
--- addresses at which the image has a byte; and the line that tells of the warnings of its source.
+-- addresses at which the image has a byte; and the line that tells of the warnings of its source,
+-- or of fill that was left out.
 abbrev pub StartsMon : MonAsked → MonState → List Bool → List ℕ → Type 0
 StartsMon asked mon loaded warning_line = (image : List (Option ℕ))
     × (assembly : Option AssemblyView)
-    × AreLoaded asked.file asked.others image assembly × (loaded ≡ bytes_in image)
+    × (fill : Option ℕ) × AreLoaded asked.file asked.others fill image assembly
+    × (loaded ≡ bytes_in image)
     × (places : PlacesView)
     × ArePlaces asked.debug_info asked.file.file
     (new_session asked.history (start (map_of asked.file) image)) assembly loaded places
     × (names : Option ImageNames) × AreNamed asked.symbols asked.file names
     × IsNewState (new_session asked.history (start (map_of asked.file) image)) asked.history
     (with_names names places) mon
-    × IsWarningLine (map_of asked.file) assembly warning_line
+    × IsWarningLine (map_of asked.file) assembly fill warning_line

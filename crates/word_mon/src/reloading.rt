@@ -200,7 +200,7 @@ fn begin_anew<H: Files + AllocGlobal>(
 ) -> Result<(), Refusal>
     requires { (image : List (Option ℕ))
         × AreLoaded (file_view terminal.old.words.now.file)
-        (others_view terminal.old.words.now.others) image loaded.assembly
+        (others_view terminal.old.words.now.others) loaded.fill image loaded.assembly
         × (loaded.session ≡ new_session terminal.old.words.now.history
         (start (map_of (file_view terminal.old.words.now.file)) image))
         × (loaded.written ≡ bytes_in image) }

@@ -116,8 +116,8 @@ fn mon_loaded<'a, H: Env + Files + AllocGlobal, R: Read + IsTerminal, O: Write, 
     errors: &mut E,
 ) -> u8
     requires { (image : List (Option ℕ))
-        × AreLoaded (file_view words.now.file) (others_view words.now.others) image
-        loaded.assembly
+        × AreLoaded (file_view words.now.file) (others_view words.now.others) loaded.fill
+        image loaded.assembly
         × (loaded.session
         ≡ new_session words.now.history (start (map_of (file_view words.now.file)) image))
         × (loaded.written ≡ bytes_in image) }

@@ -33,7 +33,7 @@ pub struct Started {
     pub mon: MonState,
     /// The addresses at which the file has a byte, and what a page shows besides.
     pub loaded: Known,
-    /// The line that tells how many warnings the source has, or nothing.
+    /// The line that tells how many warnings the source has or that fill was left out, or nothing.
     pub warning_line: Vec<u8>,
 }
 
@@ -184,13 +184,18 @@ fn known_places<H: Files + AllocGlobal>(
 }
 
 /// Returns the line that tells how many warnings a source has, if there is a source and it has
-/// some; or a beginning of it where memory runs out.
-fn warning_line_of(alloc: Global, words: &MonWords<'_>, assembly: Option<&Assembly>) -> Vec<u8>
+/// some, or that fill at the port was left out; or a beginning of it where memory runs out.
+fn warning_line_of(
+    alloc: Global,
+    words: &MonWords<'_>,
+    assembly: Option<&Assembly>,
+    fill: Option<u32>,
+) -> Vec<u8>
     ensures { IsWarningLine (map_of (file_view words.now.file))
-        (option_map (λ a. a.now) assembly.entry) result.items }
+        (option_map (λ a. a.now) assembly.entry) fill result.items }
 {
     let mut line: Vec<u8> = Vec::new(alloc);
-    tell_warnings(alloc, &words.file, assembly, 0, &mut line);
+    tell_warnings(alloc, &words.file, assembly, 0, fill, &mut line);
     line
 }
 
@@ -214,17 +219,18 @@ pub fn start<H: Files + AllocGlobal>(
         × IsNewState loaded.session words.now.history (with_names names places) started.mon) }
     ensures loaded { IfOk result (λ started. started.loaded ≡ loaded.written) }
     ensures warned { IfOk result (λ started. IsWarningLine (map_of (file_view words.now.file))
-        loaded.assembly started.warning_line.items) }
+        loaded.assembly loaded.fill started.warning_line.items) }
     ensures refused { IfErr result (EndsStart (mon_view words.now).symbols
         (mon_view words.now).debug_info (file_view words.now.file)) }
 {
     let mut places = known_places(rt, words, &loaded)?;
-    let warning_line = warning_line_of(rt.alloc(), words, loaded.assembly.as_ref());
+    let warning_line = warning_line_of(rt.alloc(), words, loaded.assembly.as_ref(), loaded.fill);
     let Loaded {
         session,
         assembly,
         written,
         lost: _,
+        fill: _,
     } = loaded;
     let names = add_names(rt, words, &mut places)?;
     let mon = of_memory(MonState::new(rt.alloc(), session, places, words.history))?;

@@ -9,7 +9,7 @@ use Rattle.console.specs.declared.ending.Played.{Played}
 use Rattle.loading.specs.Loads.{IsLoaded}
 use Rattle.loading.specs.Named.{MayLose}
 use Rattle.loading.specs.Place.{names_of}
-use Rattle.loading.specs.Warned.{lost_text}
+use Rattle.loading.specs.Warned.{left_text}
 use Rattle.loading.specs.Told.{Heard, Tells}
 use Rattle.model.specs.Event.{start}
 use Rattle.model.specs.Session.{Session, new_session}
@@ -36,51 +36,51 @@ shown a assembly until s t heard end status input is ran ended told =
     inr (input, is, (ended ∙ ap (λ (why : Ending). status_of_ending why 0) same.ending, subst S same.session (subst N same.steps (subst E same.ending told))))
 
 -- A file that was loaded.
-done_by : (a : PageAsked) (s : Session) (w : List Bool) (assembly : Option AssemblyView) (image : List (Option ℕ)) (heard : Heard) (status : ℕ) → IsLoaded a.file image assembly
+done_by : (a : PageAsked) (s : Session) (w : List Bool) (assembly : Option AssemblyView) (fill : Option ℕ) (image : List (Option ℕ)) (heard : Heard) (status : ℕ) → IsLoaded a.file fill image assembly
     → s ≡ new_session 0 (start (map_of a.file) image) → w ≡ bytes_in image
-    → ShownIfNamed a assembly (start_in a.is_free s w) heard status → IsDone a heard status
-done_by a s w assembly image heard status loaded begins bytes ran =
-    let T : Start → Type 0 = λ x. ShownIfNamed a assembly x heard status in
+    → ShownIfNamed a assembly fill (start_in a.is_free s w) heard status → IsDone a heard status
+done_by a s w assembly fill image heard status loaded begins bytes ran =
+    let T : Start → Type 0 = λ x. ShownIfNamed a assembly fill x heard status in
     let at : start_in a.is_free s w ≡ start_of a image =
     ap (λ (t : Session). start_in a.is_free t w) begins ∙ ap (λ (v : List Bool). start_in a.is_free (new_session 0 (start (map_of a.file) image)) v) bytes in
-    inr (image, assembly, loaded, subst T at ran)
+    inr (image, assembly, fill, loaded, subst T at ran)
 
 -- A file that was loaded, and names that were not read.
-pub done_unnamed : (a : PageAsked) (s : Session) (w : List Bool) (assembly : Option AssemblyView) (image : List (Option ℕ)) (heard : Heard) (status : ℕ) → IsLoaded a.file image assembly
+pub done_unnamed : (a : PageAsked) (s : Session) (w : List Bool) (assembly : Option AssemblyView) (fill : Option ℕ) (image : List (Option ℕ)) (heard : Heard) (status : ℕ) → IsLoaded a.file fill image assembly
     → s ≡ new_session 0 (start (map_of a.file) image) → w ≡ bytes_in image
     → IsRefused heard status → IsDone a heard status
-done_unnamed a s w assembly image heard status loaded begins bytes refused = done_by a s w assembly image heard status loaded begins bytes (inl refused)
+done_unnamed a s w assembly fill image heard status loaded begins bytes refused = done_by a s w assembly fill image heard status loaded begins bytes (inl refused)
 
 -- A file that was loaded, and names that were read.
-done_named : (a : PageAsked) (s : Session) (w : List Bool) (assembly names told : Option AssemblyView) (image : List (Option ℕ)) (place : Result (Option ℕ) ℕ) (lost : ℕ) (heard : Heard) (between : Option (List ℕ)) (status : ℕ) → IsLoaded a.file image assembly
+done_named : (a : PageAsked) (s : Session) (w : List Bool) (assembly names told : Option AssemblyView) (fill : Option ℕ) (image : List (Option ℕ)) (place : Result (Option ℕ) ℕ) (lost : ℕ) (heard : Heard) (between : Option (List ℕ)) (status : ℕ) → IsLoaded a.file fill image assembly
     → s ≡ new_session 0 (start (map_of a.file) image) → w ≡ bytes_in image
-    → AreNamed a.symbols a.file names → MayLose a.file.profile a.symbols lost → Tells (record { held = heard.held; now = between }) (lost_text lost)
+    → AreNamed a.symbols a.file names → MayLose a.file.profile a.symbols lost → Tells (record { held = heard.held; now = between }) (left_text lost fill)
     → told ≡ names → place ≡ place_in (names_of assembly) (names_of told) a.until
     → ShownIfFound a assembly place (start_in a.is_free s w) (record { held = between; now = heard.now }) status → IsDone a heard status
-done_named a s w assembly names told image place lost heard between status loaded begins bytes named may left same is shown =
+done_named a s w assembly names told fill image place lost heard between status loaded begins bytes named may left same is shown =
     let S : Start = start_in a.is_free s w in
     let H : Heard = record { held = between; now = heard.now } in
     let found = subst (λ r. ShownIfFound a assembly r S H status) is shown in
-    done_by a s w assembly image heard status loaded begins bytes
+    done_by a s w assembly fill image heard status loaded begins bytes
     (inr (names, named, lost, may, between, left, subst (λ x. ShownIfFound a assembly (place_in (names_of assembly) (names_of x) a.until) S H status) same found))
 
 -- A place that was not found.
-pub done_unplaced : (a : PageAsked) (s : Session) (w : List Bool) (assembly names told : Option AssemblyView) (image : List (Option ℕ)) (lost : ℕ) (heard : Heard) (between : Option (List ℕ)) (status : ℕ) → IsLoaded a.file image assembly
+pub done_unplaced : (a : PageAsked) (s : Session) (w : List Bool) (assembly names told : Option AssemblyView) (fill : Option ℕ) (image : List (Option ℕ)) (lost : ℕ) (heard : Heard) (between : Option (List ℕ)) (status : ℕ) → IsLoaded a.file fill image assembly
     → s ≡ new_session 0 (start (map_of a.file) image) → w ≡ bytes_in image
-    → AreNamed a.symbols a.file names → MayLose a.file.profile a.symbols lost → Tells (record { held = heard.held; now = between }) (lost_text lost)
+    → AreNamed a.symbols a.file names → MayLose a.file.profile a.symbols lost → Tells (record { held = heard.held; now = between }) (left_text lost fill)
     → told ≡ names → Err status ≡ place_in (names_of assembly) (names_of told) a.until
     → Tells (record { held = between; now = heard.now }) (unplaced_line a.until) → IsDone a heard status
-done_unplaced a s w assembly names told image lost heard between status loaded begins bytes named may left same is line =
-    done_named a s w assembly names told image (Err status) lost heard between status loaded begins bytes named may left same is (refl, line)
+done_unplaced a s w assembly names told fill image lost heard between status loaded begins bytes named may left same is line =
+    done_named a s w assembly names told fill image (Err status) lost heard between status loaded begins bytes named may left same is (refl, line)
 
 -- A place that was found, of which nothing was told.
-pub done_placed : {E : Type 0} (contents : E → Option (List ℕ)) (a : PageAsked) (s : Session) (w : List Bool) (assembly names told : Option AssemblyView) (image : List (Option ℕ)) (until : Option ℕ) (lost : ℕ)
-    (begun_at first middle last : E) (status : ℕ) → IsLoaded a.file image assembly
+pub done_placed : {E : Type 0} (contents : E → Option (List ℕ)) (a : PageAsked) (s : Session) (w : List Bool) (assembly names told : Option AssemblyView) (fill : Option ℕ) (image : List (Option ℕ)) (until : Option ℕ) (lost : ℕ)
+    (begun_at first middle last : E) (status : ℕ) → IsLoaded a.file fill image assembly
     → s ≡ new_session 0 (start (map_of a.file) image) → w ≡ bytes_in image
-    → AreNamed a.symbols a.file names → MayLose a.file.profile a.symbols lost → Tells (record { held = contents begun_at; now = contents first }) (lost_text lost)
+    → AreNamed a.symbols a.file names → MayLose a.file.profile a.symbols lost → Tells (record { held = contents begun_at; now = contents first }) (left_text lost fill)
     → told ≡ names → Ok until ≡ place_in (names_of assembly) (names_of told) a.until → middle ≡ first
     → IsShown a assembly until (start_in a.is_free s w) (record { held = contents middle; now = contents last }) status
     → IsDone a (record { held = contents begun_at; now = contents last }) status
-done_placed contents a s w assembly names told image until lost begun_at first middle last status loaded begins bytes named may left same is quiet shown =
-    done_named a s w assembly names told image (Ok until) lost (record { held = contents begun_at; now = contents last }) (contents first) status loaded begins bytes named may left same is
+done_placed contents a s w assembly names told fill image until lost begun_at first middle last status loaded begins bytes named may left same is quiet shown =
+    done_named a s w assembly names told fill image (Ok until) lost (record { held = contents begun_at; now = contents last }) (contents first) status loaded begins bytes named may left same is
     (subst (λ e. IsShown a assembly until (start_in a.is_free s w) (record { held = contents e; now = contents last }) status) quiet shown)

@@ -14,7 +14,7 @@ use Rattle.console.specs.Written.{RanAs}
 use Rattle.console.specs.declared.ending.Played.{Played}
 use Rattle.loading.specs.Loads.{AreImageNames, IsLoaded}
 use Rattle.loading.specs.Named.{MayLose}
-use Rattle.loading.specs.Warned.{lost_text}
+use Rattle.loading.specs.Warned.{left_text}
 use Rattle.loading.specs.Place.{names_of, place_of}
 use Rattle.loading.specs.Told.{Heard, IsUnloaded, Tells}
 use Rattle.model.specs.Event.{start}
@@ -121,13 +121,14 @@ found_or None rest = rest
 abbrev pub place_in : Definitions → Definitions → Option (List ℕ) → Result (Option ℕ) ℕ
 place_in source names word = found_or (place_besides source names word) (place_asked source word)
 
--- The names were read, the error stream got how many lines gave none, and the place of the words was
--- looked for among them and in the source; or there is no whole page.
-abbrev pub ShownIfNamed : PageAsked → Option AssemblyView → Start → Heard → ℕ → Type 0
-ShownIfNamed a assembly s heard status = IsRefused heard status
+-- The names were read, the error stream got how many lines gave none and that fill at the port was
+-- left out, and the place of the words was looked for among them and in the source; or there is no
+-- whole page.
+abbrev pub ShownIfNamed : PageAsked → Option AssemblyView → Option ℕ → Start → Heard → ℕ → Type 0
+ShownIfNamed a assembly fill s heard status = IsRefused heard status
     ⊎ ((names : Option AssemblyView) × AreNamed a.symbols a.file names
     × (lost : ℕ) × MayLose a.file.profile a.symbols lost × (between : Option (List ℕ))
-    × Tells (record { held = heard.held; now = between }) (lost_text lost)
+    × Tells (record { held = heard.held; now = between }) (left_text lost fill)
     × ShownIfFound a assembly (place_in (names_of assembly) (names_of names) a.until) s
     (record { held = between; now = heard.now }) status)
 
@@ -142,4 +143,5 @@ start_of a image
 abbrev pub IsDone : PageAsked → Heard → ℕ → Type 0
 IsDone a heard status = IsUnloaded a.file heard status ⊤
     ⊎ ((image : List (Option ℕ)) × (assembly : Option AssemblyView)
-    × IsLoaded a.file image assembly × ShownIfNamed a assembly (start_of a image) heard status)
+    × (fill : Option ℕ) × IsLoaded a.file fill image assembly
+    × ShownIfNamed a assembly fill (start_of a image) heard status)

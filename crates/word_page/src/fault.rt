@@ -1,6 +1,8 @@
 //! Why there is no whole page.
 
+ghost use Rattle.std.specs.Prelude.{◌≡◌};
 ghost use Rattle.word_page.specs.Done.{EndsPage, IsRefused};
+ghost use Rattle.word_page.specs.declared.fault.PageFault.TheVariants.{File};
 
 use crate::notes::NotesFault;
 use arguments::FileRefusal;
@@ -13,6 +15,14 @@ pub enum PageFault<'a> {
     File(FileRefusal<'a>),
     /// A file of notes has a fault.
     Notes { file: &'a str, fault: NotesFault },
+}
+
+impl<'a> From<FileRefusal<'a>> for PageFault<'a> {
+    ghost from_gives = { λ why fault. fault ≡ File why };
+
+    fn from(why: FileRefusal<'a>) -> PageFault<'a> {
+        PageFault::File(why)
+    }
 }
 
 impl PageFault<'_> {

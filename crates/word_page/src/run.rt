@@ -21,7 +21,7 @@ use accesses::Written;
 use arguments::{FileRefusal, NewFile, Refusal, create, read_most, refused_words};
 use assembler::Assembly;
 use console::Played;
-use loading::{Loaded, load, load_counted_names, place_of, tell_lost};
+use loading::{Loaded, load, load_counted_names, place_of, tell_left_out};
 use page_writer::{
     Note, Opening, Program, SendFault, Texts, facts_of, push_opening, source_of, viewer, write_page,
 };
@@ -51,13 +51,12 @@ fn names_asked<'a, H: Files + AllocGlobal>(
         (λ p. MayLose words.now.file.profile (page_view words.now).symbols p.1) }
     ensures refused { IfErr result (λ why. EndsFile why.refusal) }
 {
-    match words.symbols {
-        None => Ok((None, 0)),
-        Some(file) => match load_counted_names(rt, &words.file, file) {
-            Ok((names, lost)) => Ok((Some(names), lost)),
-            Err(refusal) => Err(FileRefusal { file, refusal }),
-        },
-    }
+    let Some(file) = words.symbols else {
+        return Ok((None, 0));
+    };
+    let loaded = load_counted_names(rt, &words.file, file);
+    let (names, lost) = loaded.map_err(|refusal| FileRefusal { file, refusal })?;
+    Ok((Some(names), lost))
 }
 
 /// Returns the first bytes of a file, so many at most, or none where no file is named.
@@ -74,10 +73,7 @@ fn bytes_asked<'a, H: Files + AllocGlobal>(
     let Some(file) = file else {
         return Ok(Vec::new(rt.alloc()));
     };
-    match read_most(rt, file, most) {
-        Ok(bytes) => Ok(bytes),
-        Err(refusal) => Err(FileRefusal { file, refusal }),
-    }
+    read_most(rt, file, most).map_err(|refusal| FileRefusal { file, refusal })
 }
 
 /// Returns the notes of a file, or none where no file is named.
@@ -88,13 +84,10 @@ fn notes_asked<'a, 't>(
 ) -> Result<Vec<Note<'t>>, PageFault<'a>>
     ensures { IfErr result EndsPage }
 {
-    match file {
-        None => Ok(Vec::new(alloc)),
-        Some(file) => match read_notes(alloc, text) {
-            Ok(notes) => Ok(notes),
-            Err(fault) => Err(PageFault::Notes { file, fault }),
-        },
-    }
+    let Some(file) = file else {
+        return Ok(Vec::new(alloc));
+    };
+    read_notes(alloc, text).map_err(|fault| PageFault::Notes { file, fault })
 }
 
 /// Returns the title of a page: that of the words, or else the name of the file without its
@@ -194,12 +187,10 @@ fn write_run<W: Write>(
     let viewer = viewer();
     let session = &mut loaded.session;
     let steps = words.steps;
-    match write_page(
+    write_page(
         alloc, &viewer, &texts, session, written, until, steps, input, file,
-    ) {
-        Ok(played) => Ok(played),
-        Err(fault) => Err(refusal_of(fault)),
-    }
+    )
+    .map_err(refusal_of)
 }
 
 /// Leaves the file of a page that was not written whole, and returns why it was not.
@@ -260,15 +251,9 @@ fn show_run<'a, H: Files + AllocGlobal>(
     ensures assembly { loaded.new.assembly ≡ loaded.old.assembly }
     ensures refused { IfErr result EndsPage }
 {
-    let input = match bytes_asked(rt, words.input, MOST_INPUT) {
-        Ok(input) => input,
-        Err(why) => return Err(PageFault::File(why)),
-    };
+    let input = bytes_asked(rt, words.input, MOST_INPUT)?;
     let wanted = words.opening;
-    let text = match bytes_asked(rt, wanted.notes, MOST_NOTES as u64 + 1) {
-        Ok(text) => text,
-        Err(why) => return Err(PageFault::File(why)),
-    };
+    let text = bytes_asked(rt, wanted.notes, MOST_NOTES as u64 + 1)?;
     let notes = notes_asked(rt.alloc(), wanted.notes, text.as_slice())?;
     let opening = Opening {
         step: wanted.step,
@@ -276,13 +261,10 @@ fn show_run<'a, H: Files + AllocGlobal>(
         notes: notes.as_slice(),
     };
     let bytes = input.as_slice();
-    match make_page(rt, words, loaded, names, &opening, until, bytes) {
-        Ok(played) => Ok(played),
-        Err(refusal) => Err(PageFault::File(FileRefusal {
-            file: words.out,
-            refusal,
-        })),
-    }
+    let made = make_page(rt, words, loaded, names, &opening, until, bytes);
+    let file = words.out;
+    let played = made.map_err(|refusal| FileRefusal { file, refusal })?;
+    Ok(played)
 }
 
 /// Writes the page of what was loaded up to a place, tells how that ended, and returns the exit
@@ -363,7 +345,7 @@ fn show_words<H: Files + AllocGlobal, E: Write>(rt: &H, words: &PageWords<'_>, e
         Ok(names) => names,
         Err(why) => return why.tell(errors),
     };
-    tell_lost(lost, errors);
+    tell_left_out(lost, loaded.fill, errors);
     let until = match place_in(&loaded, names.as_ref(), words.until, errors) {
         Ok(until) => until,
         Err(status) => return status,

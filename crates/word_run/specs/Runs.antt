@@ -136,12 +136,14 @@ start_of a image = record {
 
 -- A file was loaded: from the start of an image that it can have, on the map of the words and with
 -- the names of the image's source, or of the file of names, a session ran. Before that the error
--- stream got how many warnings the source has, and how many lines of the file of names gave none.
+-- stream got how many warnings the source has, how many lines of the file of names gave none,
+-- and that fill at the port was left out.
 abbrev pub RanFile : RunAsked → Streams → Bool → Heard → ℕ → Type 0 → Type 0
 RanFile a streams interrupted heard status Alone = (image : List (Option ℕ))
-    × (assembly : Option AssemblyView) × IsMachine a.file a.others a.symbols image assembly
+    × (assembly : Option AssemblyView) × (fill : Option ℕ)
+    × IsMachine a.file a.others a.symbols fill image assembly
     × (between : Option (List ℕ)) × (lost : ℕ) × MayLose a.file.profile a.symbols lost
-    × TellsWarnings (map_of a.file) assembly lost (heard_of heard.held between)
+    × TellsWarnings (map_of a.file) assembly lost fill (heard_of heard.held between)
     × RanIfFound a assembly (place_asked (names_of assembly) a.until) (start_of a image)
     streams interrupted (heard_of between heard.now) status Alone
 

@@ -4,6 +4,7 @@ ghost use Rattle.std.specs.Prelude.{◌≡◌, ◌⊎◌, [], None, Some, false,
 ghost use Rattle.arguments.specs.Words.{Fits, Refuses, texts};
 ghost use Rattle.arguments_play.specs.Run.{RunAsked, asked, run, run_view};
 ghost use Rattle.loading.specs.Warned.{OnlyWarned};
+ghost use Rattle.std.specs.Prelude.{Bool};
 ghost use Rattle.model.specs.State.{input_waits, is_map};
 ghost use Rattle.word_run.specs.Runs.{IsDone, RanOrInterrupted, Start, TellsEnd};
 ghost use Rattle.word_run.specs.Runs.{TellsInterrupted, heard_of, streams_of};
@@ -141,14 +142,21 @@ fn run_words<H: Files + AllocGlobal, R: Read, W: Write, S: Read, E: Write>(
         ((input.new ≡ input.old) × (output.new ≡ output.old)) }
     ensures bad_map { is_map words.now.file.rom words.now.file.port ≡ false → result ≡ 2 }
     ensures quiet { words.now.tells_cycles ≡ false → result ≡ 0
-        → OnlyWarned (E.contents errors.old) (E.contents errors.new) }
+        → OnlyWarned words.now.file.omits_fill (E.contents errors.old) (E.contents errors.new) }
 {
     let loaded = match load_machine(rt, &words.file, words.others, words.symbols) {
         Ok(loaded) => loaded,
         Err(fault) => return fault.tell(words.file.file, words.symbols, errors),
     };
     let source = loaded.assembly.as_ref();
-    tell_warnings(rt.alloc(), &words.file, source, loaded.lost, errors);
+    tell_warnings(
+        rt.alloc(),
+        &words.file,
+        source,
+        loaded.lost,
+        loaded.fill,
+        errors,
+    );
     let until = match place_named(&loaded, words.until, errors) {
         Ok(until) => until,
         Err(status) => return status,
@@ -158,6 +166,7 @@ fn run_words<H: Files + AllocGlobal, R: Read, W: Write, S: Read, E: Write>(
         assembly,
         written,
         lost: _,
+        fill: _,
     } = loaded;
     let written = written.or_everywhere(words.is_free);
     run_to(
@@ -184,9 +193,9 @@ fn run_words<H: Files + AllocGlobal, R: Read, W: Write, S: Read, E: Write>(
 ///   are wrong. 3: memory ran out. 4: reading or writing failed. 130: the run was interrupted.
 ///
 /// The program's output goes to `output`. Before it runs, a line on `errors` says how many warnings
-/// its source has, if it has some, and one how many lines of a file of names gave no name. For each
-/// status but those of the first line a line on `errors` says why; that a line cannot be written
-/// changes no status.
+/// its source has, if it has some, one how many lines of a file of names gave no name, and one that
+/// fill at the port was left out. For each status but those of the first line a line on `errors`
+/// says why; that a line cannot be written changes no status.
 pub fn run_program<H: Files + AllocGlobal, R: Read, W: Write, S: Read, E: Write>(
     rt: &H,
     words: &[&str],
@@ -212,10 +221,11 @@ pub fn run_program<H: Files + AllocGlobal, R: Read, W: Write, S: Read, E: Write>
         → Fits run (texts words.entry.now)
         → is_map a.file.rom a.file.port ≡ false → (result ≡ 2) ⊎ (result ≡ 3) }
     // Nothing but how many warnings there are, and how many names were left out, is written on the
-    // error stream with the status 0, unless cycles are asked for.
-    ensures quiet { ((a : RunAsked) → asked (texts words.entry.now) ≡ Some a
-        → a.tells_cycles ≡ false) → result ≡ 0
-        → OnlyWarned (E.contents errors.old) (E.contents errors.new) }
+    // error stream with the status 0, unless cycles are asked for; and where a port is given, that
+    // fill was left out.
+    ensures quiet { (omits : Bool) → ((a : RunAsked) → asked (texts words.entry.now) ≡ Some a
+        → (a.tells_cycles ≡ false) × (a.file.omits_fill ≡ omits)) → result ≡ 0
+        → OnlyWarned omits (E.contents errors.old) (E.contents errors.new) }
 {
     match read_run_words(rt.alloc(), words) {
         Ok(words) => run_words(rt, &words, input, output, errors),

@@ -40,7 +40,7 @@ why_row bench row = option_map (detail_text bench.bus_map bench.image bench.plac
 -- Why a test fails, if it does: one of a file with this name, which has this text.
 abbrev pub why : Ground → Text → List ℕ → SeenLine → Option (List ℕ)
 why bench rows text (readable row) = why_row bench row
-why bench rows text (faulty row) = Some (faulty_text rows text row.fault)
+why bench rows text (faulty row) = Some (faulty_text bench.names rows text row.fault)
 
 -- Whether a test passes.
 abbrev pub passes : Ground → SeenLine → Bool

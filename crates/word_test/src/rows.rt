@@ -230,6 +230,7 @@ fn run_row(
 /// Returns the texts of a row of a suite that cannot be read.
 fn faulty_row(
     alloc: Global,
+    prepared: &Prepared,
     suite: Suite<'_>,
     telling: Telling,
     number: u64,
@@ -239,14 +240,17 @@ fn faulty_row(
     ensures tap { IfOk result (λ told. string_bytes told.tap
         ≡ told_case telling number case.entry.file.now case.entry.line row.points
         case.entry.text.now
-        (Some (faulty_text (suite_view suite.entry).rows case.entry.text.now row.fault))) }
+        (Some (faulty_text prepared.now.assembly.names (suite_view suite.entry).rows
+        case.entry.text.now row.fault))) }
     ensures junit { IfOk result (λ told. string_bytes told.junit
         ≡ told_junit case.entry.file.now case.entry.rows.now case.entry.line row.points
         case.entry.text.now
-        (Some (faulty_text (suite_view suite.entry).rows case.entry.text.now row.fault))) }
+        (Some (faulty_text prepared.now.assembly.names (suite_view suite.entry).rows
+        case.entry.text.now row.fault))) }
     ensures passes { IfOk result (λ told. told.passes ≡ false) }
 {
-    let detail = faulty_text(alloc, suite.rows, case.text, row.fault)?;
+    let names = &prepared.assembly;
+    let detail = faulty_text(alloc, names, suite.rows, case.text, row.fault)?;
     texts_of(
         alloc,
         telling,
@@ -294,7 +298,7 @@ fn run_test(
                 alloc, session, prepared, around, telling, number, case, row, coverage,
             )
         }
-        Line::Faulty(row) => faulty_row(alloc, suite, telling, number, case, *row),
+        Line::Faulty(row) => { faulty_row(alloc, prepared, suite, telling, number, case, *row) }
     }
 }
 

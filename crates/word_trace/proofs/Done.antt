@@ -11,7 +11,7 @@ use Rattle.arguments.specs.Asked.{map_of}
 use Rattle.loading.specs.Machine.{IsMachine}
 use Rattle.loading.specs.Named.{MayLose}
 use Rattle.loading.specs.Place.{names_of}
-use Rattle.loading.specs.Warned.{lost_text}
+use Rattle.loading.specs.Warned.{left_text}
 use Rattle.model.specs.Event.{start}
 use Rattle.model.specs.Session.{Session, new_session}
 use Rattle.model.proofs.Written.{front_more}
@@ -109,13 +109,13 @@ pub traced_quiet : {E : Type 0} (contents : E → Option (List ℕ)) (a : TraceA
 traced_quiet contents a b from to streams first middle now status same done = subst (λ e. TracedTo a b from to streams (record { held = contents e; now = now }) status) same done
 
 -- A file that was loaded.
-pub traced_file : (a : TraceAsked) (b : Begin) (image : List (Option ℕ)) (lost : ℕ) (streams : Streams) (heard : Heard) (between : Option (List ℕ)) (status : ℕ) (Alone : Type 0)
-    → IsMachine a.file a.others a.symbols image b.assembly → b.session ≡ new_session 0 (start (map_of a.file) image) → b.written ≡ bytes_in image
-    → MayLose a.file.profile a.symbols lost → Tells (record { held = heard.held; now = between }) (lost_text lost)
+pub traced_file : (a : TraceAsked) (b : Begin) (fill : Option ℕ) (image : List (Option ℕ)) (lost : ℕ) (streams : Streams) (heard : Heard) (between : Option (List ℕ)) (status : ℕ) (Alone : Type 0)
+    → IsMachine a.file a.others a.symbols fill image b.assembly → b.session ≡ new_session 0 (start (map_of a.file) image) → b.written ≡ bytes_in image
+    → MayLose a.file.profile a.symbols lost → Tells (record { held = heard.held; now = between }) (left_text lost fill)
     → TracedIfFound a b (place_asked (names_of b.assembly) a.from) (place_asked (names_of b.assembly) a.to) streams (record { held = between; now = heard.now }) status Alone → IsDone a streams heard status Alone
-traced_file a b image lost streams heard between status A loaded begins written may told done =
+traced_file a b fill image lost streams heard between status A loaded begins written may told done =
     let T : Begin → Type 0 = λ x. TracedIfFound a x (place_asked (names_of b.assembly) a.from) (place_asked (names_of b.assembly) a.to) streams (record { held = between; now = heard.now }) status A in
     let at : b ≡ begin_of a image b.assembly =
     ap (λ (s : Session). record { assembly = b.assembly; session = s; written = b.written }) begins
     ∙ ap (λ (w : List Bool). record { assembly = b.assembly; session = new_session 0 (start (map_of a.file) image); written = w }) written in
-    inr (image, b.assembly, loaded, lost, may, between, told, subst T at done)
+    inr (image, b.assembly, fill, loaded, lost, may, between, told, subst T at done)

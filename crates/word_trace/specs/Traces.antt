@@ -15,7 +15,7 @@ use Rattle.arguments.specs.Asked.{map_of}
 use Rattle.loading.specs.Machine.{IsMachine, IsUnmade}
 use Rattle.loading.specs.Named.{MayLose}
 use Rattle.loading.specs.Place.{names_of}
-use Rattle.loading.specs.Warned.{lost_text}
+use Rattle.loading.specs.Warned.{left_text}
 use Rattle.loading.specs.declared.loaded.Loaded.{Loaded}
 use Rattle.model.specs.Event.{start}
 use Rattle.model.specs.Session.{Session, new_session}
@@ -303,13 +303,14 @@ begin_of a image assembly = record {
 -- What was done for words: nothing was loaded, the error stream got why, and the others were left
 -- alone; or from the start of an image that the file can have, on the map of the words and with the
 -- names of the image's source, or of the file of names, a session was traced. Before that the error
--- stream got how many lines of the file of names gave none.
+-- stream got how many lines of the file of names gave none, and that fill at the port was left
+-- out.
 abbrev pub IsDone : TraceAsked → Streams → Heard → ℕ → Type 0 → Type 0
 IsDone a streams heard status Alone = IsUnmade a.file a.others a.symbols heard status Alone
     ⊎ ((image : List (Option ℕ)) × (assembly : Option AssemblyView)
-    × IsMachine a.file a.others a.symbols image assembly
+    × (fill : Option ℕ) × IsMachine a.file a.others a.symbols fill image assembly
     × (lost : ℕ) × MayLose a.file.profile a.symbols lost × (between : Option (List ℕ))
-    × Tells (record { held = heard.held; now = between }) (lost_text lost)
+    × Tells (record { held = heard.held; now = between }) (left_text lost fill)
     × TracedIfFound a (begin_of a image assembly) (place_asked (names_of assembly) a.from)
     (place_asked (names_of assembly) a.to) streams
     (record { held = between; now = heard.now }) status Alone)

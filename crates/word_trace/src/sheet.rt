@@ -42,10 +42,7 @@ impl Sheet {
     {
         let written = put(output, self.text.as_slice());
         self.text.clear();
-        match written {
-            Ok(()) => Ok(()),
-            Err(_) => Err(Refusal::Write),
-        }
+        written.map_err(|_| Refusal::Write)
     }
 
     /// Writes the text that was gathered, and flushes it. The sheet is empty then.
@@ -58,10 +55,7 @@ impl Sheet {
     {
         let written = write_text(output, self.text.as_slice());
         self.text.clear();
-        match written {
-            Ok(()) => Ok(()),
-            Err(_) => Err(Refusal::Write),
-        }
+        written.map_err(|_| Refusal::Write)
     }
 
     /// Ends the rows of a step: writes the text that was gathered if it is enough. Otherwise

@@ -34,7 +34,7 @@ use arguments::{Refusal, put_two, refuse, refuse_file, refused_words};
 use arguments_play::{TraceWords, read_trace_words};
 use console::{Ending, Played, Player, begin, ending_after};
 use debugger::Session;
-use loading::{Loaded, load_machine, tell_lost};
+use loading::{Loaded, load_machine, tell_left_out};
 use std::alloc::Global;
 use std::io::{Read, Write};
 use std::rt::Files;
@@ -528,8 +528,8 @@ fn trace_loaded<H: Files + AllocGlobal, R: Read, O: Write, E: Write>(
     trace_told(rt, words, loaded, span, input, output, errors)
 }
 
-/// Loads the file of the words, tells how many names were left out, traces it, and returns the exit
-/// status.
+/// Loads the file of the words, tells what was left out of it and of its names, traces it, and
+/// returns the exit status.
 fn trace_words<H: Files + AllocGlobal, R: Read, O: Write, E: Write>(
     rt: &H,
     words: &TraceWords<'_>,
@@ -545,7 +545,7 @@ fn trace_words<H: Files + AllocGlobal, R: Read, O: Write, E: Write>(
 {
     match load_machine(rt, &words.file, words.others, words.symbols) {
         Ok(mut loaded) => {
-            tell_lost(loaded.lost, errors);
+            tell_left_out(loaded.lost, loaded.fill, errors);
             trace_loaded(rt, words, &mut loaded, input, output, errors)
         }
         Err(fault) => fault.tell(words.file.file, words.symbols, errors),

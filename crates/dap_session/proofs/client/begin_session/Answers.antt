@@ -19,5 +19,5 @@ returns-in-Ok g c =
     (λ client h. (
       file,
       c.in_ok-words.ensures,
-      (started.0, assembly, started.1, h.0, h.1, subst (λ (s : Session). IsNewClient launch s assembly h.0 client) session h.2),
+      (started.0, assembly, c.in-Ok.loaded.fill, started.1, h.0, h.1, subst (λ (s : Session). IsNewClient launch s assembly h.0 client) session h.2),
     )) c.begin_on.ensures

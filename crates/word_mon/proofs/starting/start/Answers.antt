@@ -28,7 +28,7 @@ returns-clause-made g c =
 
 pub returns-clause-warned : goal.returns-clause-warned
 returns-clause-warned g c =
-    subst (λ (o : Option AssemblyView). IsWarningLine (map_of (file_view c.args.words.now.file)) o c.warning_line_of-warning_line.result.items)
+    subst (λ (o : Option AssemblyView). IsWarningLine (map_of (file_view c.args.words.now.file)) o c.args.loaded.fill c.warning_line_of-warning_line.result.items)
     c.as_ref.ensures.value c.warning_line_of-warning_line.ensures
 
 pub returns-in_err-names-clause-refused : goal.returns-in_err-names-clause-refused

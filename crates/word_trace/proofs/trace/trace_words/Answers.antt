@@ -6,7 +6,7 @@ use Rattle.word_trace.proofs.trace.trace_words.Goals as goal
 
 pub returns-in-Ok-clause-done : goal.returns-in-Ok-clause-done
 returns-in-Ok-clause-done g c =
-    traced_file (trace_view c.args.words.now) (begin_view c.in-Ok.loaded) c.in-Ok.ensures.started.0 c.in-Ok.loaded.lost (record {
+    traced_file (trace_view c.args.words.now) (begin_view c.in-Ok.loaded) c.in-Ok.loaded.fill c.in-Ok.ensures.started.0 c.in-Ok.loaded.lost (record {
       given = g.R.Read.remaining c.args.input.now;
       left = g.R.Read.remaining c.trace_loaded.new.input;
       held = g.O.Write.contents c.args.output.now;
@@ -14,5 +14,5 @@ returns-in-Ok-clause-done g c =
     }) (record {
       held = g.E.Write.contents c.args.errors.now;
       now = g.E.Write.contents c.trace_loaded.new.errors;
-    }) (g.E.Write.contents c.tell_lost.new.errors) c.trace_loaded.result
-    ((c.trace_loaded.new.input ≡ c.args.input.now) × (c.trace_loaded.new.output ≡ c.args.output.now)) c.in-Ok.ensures.started.1 c.in-Ok.ensures.started.2 c.in-Ok.ensures.started.3 c.in-Ok.ensures.lost c.tell_lost.ensures c.trace_loaded.ensures
+    }) (g.E.Write.contents c.tell_left_out.new.errors) c.trace_loaded.result
+    ((c.trace_loaded.new.input ≡ c.args.input.now) × (c.trace_loaded.new.output ≡ c.args.output.now)) c.in-Ok.ensures.started.1 c.in-Ok.ensures.started.2 c.in-Ok.ensures.started.3 c.in-Ok.ensures.lost c.tell_left_out.ensures c.trace_loaded.ensures
