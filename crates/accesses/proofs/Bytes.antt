@@ -5,7 +5,8 @@ use Rattle.std.proofs.lemmas.List.{get_or-map, length-map, map-set}
 use Rattle.accesses.specs.Writing.{AreMarks, bytes_in, everywhere, is_unmarked, is_written, with_bytes}
 
 -- One of some addresses, and the others.
-pub bytes_on : (cells next : List Bool) (i : ℕ) (xs : List ℕ) → i < length xs → next ≡ slice_set cells (get_or xs i 0) true → with_bytes next (drop (i + 1) xs) ≡ with_bytes cells (drop i xs)
+pub bytes_on : (cells next : List Bool) (i : ℕ) (xs : List ℕ) → i < length xs → next ≡ slice_set cells (get_or xs i 0) true
+    → with_bytes next (drop (i + 1) xs) ≡ with_bytes cells (drop i xs)
 unfolding with_bytes
 bytes_on cells next i xs h e =
     let d : drop i xs ≡ get_or xs i 0 ∷ drop (i + 1) xs = rw (add-one, drop-cons xs i 0) refl in

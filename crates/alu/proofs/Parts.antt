@@ -10,7 +10,8 @@ use Rattle.model.specs.Arithmetic.{bit}
 abbrev pub sum_of : ℕ → Bool → Bool → Bool → Bool → Sum
 sum_of value n v z c = record { value = value; n = n; v = v; z = z; c = c }
 
-pub same_sum : (value value' : ℕ) (n n' v v' z z' c c' : Bool) → value ≡ value' → n ≡ n' → v ≡ v' → z ≡ z' → c ≡ c' → sum_of value n v z c ≡ sum_of value' n' v' z' c'
+pub same_sum : (value value' : ℕ) (n n' v v' z z' c c' : Bool) → value ≡ value' → n ≡ n' → v ≡ v' → z ≡ z' → c ≡ c'
+    → sum_of value n v z c ≡ sum_of value' n' v' z' c'
 same_sum value value' n n' v v' z z' c c' same_value same_n same_v same_z same_c = cc
 
 -- a carry as the code counts it

@@ -30,7 +30,8 @@ joined-append (x ∷ xs) ys =
 split : (parts : List (Bor Text)) (i : ℕ) (d : Bor Text) → i < length parts
     → joined (texts parts) ≡ joined (texts (take i parts)) ++ ((get_or parts i d).now ++ joined (texts (drop (suc i) parts)))
 split parts i d h =
-    let whole : parts ≡ take i parts ++ (get_or parts i d ∷ drop (suc i) parts) = sym (take-append-drop i parts) ∙ ap (λ l. take i parts ++ l) (drop-cons parts i d h) in
+    let whole : parts ≡ take i parts ++ (get_or parts i d ∷ drop (suc i) parts) =
+        sym (take-append-drop i parts) ∙ ap (λ l. take i parts ++ l) (drop-cons parts i d h) in
     ap (λ l. joined (texts l)) whole
     ∙ ap joined (map-append (λ (s : Bor Text). s.now) (take i parts) (get_or parts i d ∷ drop (suc i) parts))
     ∙ joined-append (texts (take i parts)) (texts (get_or parts i d ∷ drop (suc i) parts))
@@ -45,13 +46,15 @@ one_more parts i d h =
 
 module _ (a b : Option (List ℕ)) (parts : List (Bor Text)) (i : ℕ) (written : Appends a b (joined (texts (take i parts)))) where
   -- One part more was written.
-  pub more_written : (c : Option (List ℕ)) (d : Bor Text) → i < length parts → Appends b c (get_or parts i d).now → Appends a c (joined (texts (take (i + 1) parts)))
+  pub more_written : (c : Option (List ℕ)) (d : Bor Text) → i < length parts → Appends b c (get_or parts i d).now
+      → Appends a c (joined (texts (take (i + 1) parts)))
   more_written c d h p =
       let whole : joined (texts (take (i + 1) parts)) ≡ joined (texts (take i parts)) ++ (get_or parts i d).now = rw (add-one) (one_more parts i d h) in
       subst (Appends a c) (sym whole) (Appends-trans a b c (joined (texts (take i parts))) (get_or parts i d).now written p)
 
   -- A beginning of the next part was written.
-  pub front_written : (c : Option (List ℕ)) (d : Bor Text) → i < length parts → AppendsFront b c (get_or parts i d).now → AppendsFront a c (joined (texts parts))
+  pub front_written : (c : Option (List ℕ)) (d : Bor Text) → i < length parts → AppendsFront b c (get_or parts i d).now
+      → AppendsFront a c (joined (texts parts))
   front_written c d h p =
       subst (AppendsFront a c) (sym (split parts i d h))
       (front_after a b c (joined (texts (take i parts))) ((get_or parts i d).now ++ joined (texts (drop (suc i) parts))) written

@@ -29,13 +29,20 @@ nor status three (inl zero) = omega (arith, three, zero)
 nor status three (inr four) = omega (arith, three, four)
 
 -- What the status of refused words says.
-pub says_of_words : (app : App) (words : List Text) (W : Type 0) (fault : WordsFault) (status : ℕ) → IsRefusalOf app words W fault → IsStatusOf fault status → SaysOfWords app words W status
-says_of_words app words W (Help text) status is (inl zero) = record { help = λ h. is.1; never = λ h. omega (arith, zero, h); wrong = λ h. absurd (omega (arith, zero, h)) }
-says_of_words app words W (Help text) status is (inr four) = record { help = λ h. is.1; never = λ h. omega (arith, four, h); wrong = λ h. absurd (omega (arith, four, h)) }
-says_of_words app words W (Usage text) status is two = record { help = λ h. absurd (neither status two h); never = λ h. omega (arith, two, h); wrong = λ h. inl (kind_of text, is.0, is.1) }
-says_of_words app words W Value status is two = record { help = λ h. absurd (neither status two h); never = λ h. omega (arith, two, h); wrong = λ h. inr (is.0, is.1) }
-says_of_words app words W (Wrong which) status is two = record { help = λ h. absurd (neither status two h); never = λ h. omega (arith, two, h); wrong = λ h. inr (is.0, is.1) }
-says_of_words app words W OutOfMemory status is three = record { help = λ h. absurd (nor status three h); never = λ h. omega (arith, three, h); wrong = λ h. absurd (omega (arith, three, h)) }
+pub says_of_words : (app : App) (words : List Text) (W : Type 0) (fault : WordsFault) (status : ℕ) → IsRefusalOf app words W fault
+    → IsStatusOf fault status → SaysOfWords app words W status
+says_of_words app words W (Help text) status is (inl zero) =
+    record { help = λ h. is.1; never = λ h. omega (arith, zero, h); wrong = λ h. absurd (omega (arith, zero, h)) }
+says_of_words app words W (Help text) status is (inr four) =
+    record { help = λ h. is.1; never = λ h. omega (arith, four, h); wrong = λ h. absurd (omega (arith, four, h)) }
+says_of_words app words W (Usage text) status is two = record
+    { help = λ h. absurd (neither status two h); never = λ h. omega (arith, two, h); wrong = λ h. inl (kind_of text, is.0, is.1) }
+says_of_words app words W Value status is two = record { help = λ h. absurd (neither status two h); never = λ h. omega (arith, two, h); wrong =
+    λ h. inr (is.0, is.1) }
+says_of_words app words W (Wrong which) status is two = record
+    { help = λ h. absurd (neither status two h); never = λ h. omega (arith, two, h); wrong = λ h. inr (is.0, is.1) }
+says_of_words app words W OutOfMemory status is three = record
+    { help = λ h. absurd (nor status three h); never = λ h. omega (arith, three, h); wrong = λ h. absurd (omega (arith, three, h)) }
 
 -- ---- a command line that is known
 
@@ -54,7 +61,8 @@ pub one_asked : {A : Type 0} (o : Option A) (a b : A) → o ≡ Some a → o ≡
 one_asked o a b x y = cc
 
 -- A wrong value is refused with a sentence on it, or with none.
-pub value_refused : (app : App) (words : List Text) (W : Type 0) (said : Option (List ℕ)) (fault : WordsFault) → IsOfValue said fault → Fits app words → W → IsRefusalOf app words W fault
+pub value_refused : (app : App) (words : List Text) (W : Type 0) (said : Option (List ℕ)) (fault : WordsFault) → IsOfValue said fault → Fits app words
+    → W → IsRefusalOf app words W fault
 value_refused app words W (Some text) (Wrong which) is fits wrong = (fits, wrong)
 value_refused app words W None Value is fits wrong = (fits, wrong)
 value_refused app words W (Some text) Value is fits wrong = absurd is

@@ -24,11 +24,13 @@ memory_answered e Value m a = absurd a
 memory_answered e (Wrong which) m a = absurd a
 
 -- Words that clap takes are refused only if memory runs out.
-only_memory : (app : App) (words : List Text) (e : Error) (f : WordsFault) → HasKind (fault_of app words) e → AnswersWords e f → Fits app words → f ≡ OutOfMemory
+only_memory : (app : App) (words : List Text) (e : Error) (f : WordsFault) → HasKind (fault_of app words) e → AnswersWords e f → Fits app words
+    → f ≡ OutOfMemory
 only_memory app words e f (inl m) a fits = memory_answered e f m a
 only_memory app words e f (inr among) a fits = absurd (subst (IsAmong (kind_of e)) fits among)
 
-pub memory_unless : {X : Type 0} (app : App) (words : List Text) (e : Error) (r : Result X WordsFault) → HasKind (fault_of app words) e → IsErrAnd r (AnswersWords e)
+pub memory_unless : {X : Type 0} (app : App) (words : List Text) (e : Error) (r : Result X WordsFault) → HasKind (fault_of app words) e
+    → IsErrAnd r (AnswersWords e)
     → Fits app words → IsOkUnless r OutOfMemory
 memory_unless app words e (Ok x) has a fits = absurd a
 memory_unless app words e (Err f) has a fits = only_memory app words e f has a fits

@@ -14,7 +14,8 @@ abbrev Helped : ℕ → Type 0
 Helped status = (status ≡ 0) ⊎ (status ≡ 3) ⊎ (status ≡ 4)
 
 -- Help that is asked for leaves no other kind of fault.
-not_help : (k : ErrorKind) (words : List Text) (app : App) → ¬ (k ≡ kind.DisplayHelp) → IsAmong k (fault_of app words) → fault_of app words ≡ kind.DisplayHelp ∷ [] → ⊥
+not_help : (k : ErrorKind) (words : List Text) (app : App) → ¬ (k ≡ kind.DisplayHelp) → IsAmong k (fault_of app words)
+    → fault_of app words ≡ kind.DisplayHelp ∷ [] → ⊥
 not_help k words app other among is = elim (subst (IsAmong k) is among) [
   | inl same ↦ other same
   | inr none ↦ absurd none
@@ -46,7 +47,8 @@ value_of app words W (Wrong which) status is said fits = inl said
 value_of app words W OutOfMemory status is said fits = inr said
 
 -- Words that were refused, with the input and, but for help, the output left alone.
-pub refuses : (app : App) (words : List Text) (W : Type 0) (fault : WordsFault) (status : ℕ) (Unread Unwritten : Type 0) → IsRefusalOf app words W fault → IsStatusOf fault status
+pub refuses : (app : App) (words : List Text) (W : Type 0) (fault : WordsFault) (status : ℕ) (Unread Unwritten : Type 0)
+    → IsRefusalOf app words W fault → IsStatusOf fault status
     → Unread → (1 ≤ status → status ≤ 3 → Unwritten) → Refuses app words W status Unread Unwritten
 refuses app words W fault status Unread Unwritten is said unread unwritten = record {
   untaken = λ h. (unread, unwritten);
@@ -57,7 +59,8 @@ refuses app words W fault status Unread Unwritten is said unread unwritten = rec
 }
 
 -- Words that fit, with right values, say nothing of words that are refused.
-pub not_refused : (app : App) (words : List Text) (W : Type 0) (status : ℕ) (Unread Unwritten : Type 0) → Fits app words → (W → ⊥) → Refuses app words W status Unread Unwritten
+pub not_refused : (app : App) (words : List Text) (W : Type 0) (status : ℕ) (Unread Unwritten : Type 0) → Fits app words → (W → ⊥)
+    → Refuses app words W status Unread Unwritten
 not_refused app words W status Unread Unwritten fits right = record {
   untaken = λ h. absurd (h fits);
   unasked = λ h. absurd (right h);

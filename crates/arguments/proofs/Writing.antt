@@ -6,7 +6,8 @@ use Rattle.std.proofs.KnownBytes.{Appends-trans}
 use Rattle.model.specs.Writers.{AppendsFront}
 
 -- n more bytes after the first i, of what is left of them
-pub Appends-step : (a b c : Option (List ℕ)) (bs : List ℕ) (i n : ℕ) → Appends a b (take i bs) → Appends b c (take n (take (length bs - i) (drop i bs))) → Appends a c (take (i + n) bs)
+pub Appends-step : (a b c : Option (List ℕ)) (bs : List ℕ) (i n : ℕ) → Appends a b (take i bs)
+    → Appends b c (take n (take (length bs - i) (drop i bs))) → Appends a c (take (i + n) bs)
 Appends-step a b c bs i n p q =
     let left : take (length bs - i) (drop i bs) ≡ drop i bs = take_all (length bs - i) (drop i bs) (omega (arith, length-drop i bs)) in
     rw (take-add i n bs) (Appends-trans a b c (take i bs) (take n (drop i bs)) p (rw left at q))

@@ -25,7 +25,8 @@ abbrev pub then_read : {A : Type 0} → (List Lexeme → Option (List A)) → A 
 then_read more a ts false = Some (a ∷ [])
 then_read more a ts true = option_map (λ rest. a ∷ rest) (more (drop 1 ts))
 
-list_after_is : {A : Type 0} (more : List Lexeme → Option (List A)) (a : A) (ts : List Lexeme) → list_after more a ts ≡ option_and_then (λ go. then_read more a ts go) (goes_on ts)
+list_after_is : {A : Type 0} (more : List Lexeme → Option (List A)) (a : A) (ts : List Lexeme)
+    → list_after more a ts ≡ option_and_then (λ go. then_read more a ts go) (goes_on ts)
 list_after_is more a [] = refl
 list_after_is more a (c ∷ ts) = by (is_symbol 44 c)
   where
@@ -62,7 +63,8 @@ pub more_read : {A : Type 0} (read : Reader A) (front : List A) (n m at taken : 
     → n ≡ suc m → read (drop at ls) ≡ Some (a, drop taken (drop at ls)) → goes_on (drop (at + taken) ls) ≡ Some true
     → before front (list_within read n (drop at ls)) ≡ before (front ++ a ∷ []) (list_within read m (drop (at + taken + 1) ls))
 unfolding list_within
-more_read read front n m at taken ls a count found more = rw (count, found, list_after_is, taken_after, more, after_comma) (one_more front a (list_within read m (drop (at + taken + 1) ls)))
+more_read read front n m at taken ls a count found more = rw (count, found, list_after_is, taken_after, more, after_comma)
+    (one_more front a (list_within read m (drop (at + taken + 1) ls)))
 
 -- one that another token follows
 pub wrong_read : {A : Type 0} (read : Reader A) (front : List A) (n m at taken : ℕ) (ls : List Lexeme) (a : A)

@@ -41,7 +41,8 @@ slice_ends n start line text some long same =
     omega (arith, e, length-take n (drop start line), length-drop start line)
 
 -- no two tokens share a byte, and each has one
-slices_few : (line : List ℕ) (place : ℕ) (ts : List Lexeme) → place ≤ length line → AreSlices line place ts → (weight ts + place ≤ length line) × (length ts ≤ weight ts)
+slices_few : (line : List ℕ) (place : ℕ) (ts : List Lexeme) → place ≤ length line → AreSlices line place ts → (weight ts + place ≤ length line)
+    × (length ts ≤ weight ts)
 slices_few line place [] below h = (omega arith, omega arith)
 slices_few line place (t ∷ ts) below h =
     let ends = slice_ends (length t.text) t.start line t.text h.1 refl h.2 in
@@ -66,7 +67,8 @@ within_map : {A : Type 0} (n : ℕ) (x : A) (o : Option (List A)) → Within n o
 within_map n x None h = h
 within_map n x (Some xs) h = omega arith
 
-within_after : {A : Type 0} (n : ℕ) (more : List Lexeme → Option (List A)) (x : A) (ts : List Lexeme) → ((us : List Lexeme) → Within n (more us)) → Within (suc n) (list_after more x ts)
+within_after : {A : Type 0} (n : ℕ) (more : List Lexeme → Option (List A)) (x : A) (ts : List Lexeme) → ((us : List Lexeme) → Within n (more us))
+    → Within (suc n) (list_after more x ts)
 within_after n more x [] h = omega arith
 within_after n more x (c ∷ ts) h = by (is_symbol 44 c)
   where
@@ -134,7 +136,8 @@ module _ (profile : Profile) (longest : ReadsLongest) where
   light_map n w i c ts None fits h = tt
   light_map n w i c ts (Some items) fits h = omega arith
 
-  light_after : (n w : ℕ) (more : List Lexeme → Option (List Item)) (i : Item) (ts : List Lexeme) → item_size i + weight ts ≤ 1 + w → ((us : List Lexeme) → Light (n + weight us) (more us))
+  light_after : (n w : ℕ) (more : List Lexeme → Option (List Item)) (i : Item) (ts : List Lexeme) → item_size i + weight ts ≤ 1 + w
+      → ((us : List Lexeme) → Light (n + weight us) (more us))
       → Light (suc n + w) (list_after more i ts)
   light_after n w more i [] fits h = omega arith
   light_after n w more i (c ∷ ts) fits h = by (is_symbol 44 c)
@@ -143,7 +146,8 @@ module _ (profile : Profile) (longest : ReadsLongest) where
       by true = light_map n w i c ts (more ts) fits (h ts)
       by false = tt
 
-  light_read : (n : ℕ) (ts : List Lexeme) (more : List Lexeme → Option (List Item)) (r : Option (Item × List Lexeme)) → ItemFits ts r → ((us : List Lexeme) → Light (n + weight us) (more us))
+  light_read : (n : ℕ) (ts : List Lexeme) (more : List Lexeme → Option (List Item)) (r : Option (Item × List Lexeme)) → ItemFits ts r
+      → ((us : List Lexeme) → Light (n + weight us) (more us))
       → Light (suc n + weight ts) (option_and_then (λ p. list_after more p.0 p.1) r)
   light_read n ts more None fits h = tt
   light_read n ts more (Some p) fits h = light_after n (weight ts) more p.0 p.1 fits h
@@ -198,9 +202,12 @@ module _ (profile : Profile) (longest : ReadsLongest) where
   small_directive : (text : List ℕ) (ts : List Lexeme) → length ts ≤ 255 → weight ts ≤ 255 → Small (directive_of text ts)
   unfolding directive_of
   small_directive text ts few light =
-      small_if (is_directive text (codes ".BYTE")) (option_map bytes (items_of ts)) _ (small_bytes (length ts + weight ts) (items_of ts) (omega arith) (items_light (length ts) ts))
-      (small_if (is_directive text (codes ".WORD")) (option_map words (expressions_of ts)) _ (small_words (length ts) (expressions_of ts) few (list_few expression_of (length ts) ts))
-      (small_if (is_directive text (codes ".DBYTE")) (option_map words_high_first (expressions_of ts)) _ (small_words_high_first (length ts) (expressions_of ts) few (list_few expression_of (length ts) ts))
+      small_if (is_directive text (codes ".BYTE")) (option_map bytes (items_of ts)) _
+          (small_bytes (length ts + weight ts) (items_of ts) (omega arith) (items_light (length ts) ts))
+      (small_if (is_directive text (codes ".WORD")) (option_map words (expressions_of ts)) _
+          (small_words (length ts) (expressions_of ts) few (list_few expression_of (length ts) ts))
+      (small_if (is_directive text (codes ".DBYTE")) (option_map words_high_first (expressions_of ts)) _
+          (small_words_high_first (length ts) (expressions_of ts) few (list_few expression_of (length ts) ts))
       (small_if (is_directive text (codes ".RES")) (option_map reserve (whole_expression ts)) _ (small_reserve (whole_expression ts))
       (small_if (is_directive text (codes ".END")) (finish_alone ts) None (small_finish ts) tt))))
 
@@ -290,6 +297,7 @@ module _ (profile : Profile) (longest : ReadsLongest) where
       (small_tokens slices line (ltb-false 255 (length line) short) (tokens_of line) refl)))
 
   -- what was read is small
-  pub small_read : TokensAreSlices → (line : List ℕ) (r : Result code.Line LineError) → Gives line_view r (read_line profile line) → IfOk r (λ l. IsSmallLine (line_view l))
+  pub small_read : TokensAreSlices → (line : List ℕ) (r : Result code.Line LineError) → Gives line_view r (read_line profile line)
+      → IfOk r (λ l. IsSmallLine (line_view l))
   small_read slices line (Ok l) same = let all = right_line slices line in subst Right same all
   small_read slices line (Err e) same = tt

@@ -129,16 +129,19 @@ word_is profile w (s ∷ ts) h = rw (h.0, h.1) refl
 symbol_line : (profile : Profile) (kind : TokenKind) (t : Lexeme) (ts : List Lexeme) → kind ≡ Symbol → line_by profile kind t ts ≡ unlabelled profile (t ∷ ts)
 symbol_line profile kind t ts e = rw e refl
 
-directive_line : (profile : Profile) (kind : TokenKind) (t : Lexeme) (ts : List Lexeme) → kind ≡ Directive → line_by profile kind t ts ≡ unlabelled profile (t ∷ ts)
+directive_line : (profile : Profile) (kind : TokenKind) (t : Lexeme) (ts : List Lexeme) → kind ≡ Directive
+    → line_by profile kind t ts ≡ unlabelled profile (t ∷ ts)
 directive_line profile kind t ts e = rw e refl
 
 word_kind : (profile : Profile) (kind : TokenKind) (t : Lexeme) (ts : List Lexeme) → kind ≡ Word → line_by profile kind t ts ≡ word_line profile t ts
 word_kind profile kind t ts e = rw e refl
 
-star_operation : (profile : Profile) (kind : TokenKind) (t : Lexeme) (ts : List Lexeme) → kind ≡ Symbol → operation_by profile kind t ts ≡ (if is_symbol 42 t then origin_after ts else None)
+star_operation : (profile : Profile) (kind : TokenKind) (t : Lexeme) (ts : List Lexeme) → kind ≡ Symbol
+    → operation_by profile kind t ts ≡ (if is_symbol 42 t then origin_after ts else None)
 star_operation profile kind t ts e = rw e refl
 
-directive_operation : (profile : Profile) (kind : TokenKind) (t : Lexeme) (ts : List Lexeme) → kind ≡ Directive → operation_by profile kind t ts ≡ directive_of t.text ts
+directive_operation : (profile : Profile) (kind : TokenKind) (t : Lexeme) (ts : List Lexeme) → kind ≡ Directive
+    → operation_by profile kind t ts ≡ directive_of t.text ts
 directive_operation profile kind t ts e = rw e refl
 
 module _ (profile : Profile) (longest : ReadsLongest) (one : OneExpression) where
@@ -163,7 +166,8 @@ module _ (profile : Profile) (longest : ReadsLongest) (one : OneExpression) wher
 
   -- ---- operands
 
-  plain_read : (e : Term) (by : Index) (ts us : List Lexeme) → is_a (ts ++ us) ≡ false → IsExpression e ts → IsIndex by us → operand_of (ts ++ us) ≡ Some (direct false e by)
+  plain_read : (e : Term) (by : Index) (ts us : List Lexeme) → is_a (ts ++ us) ≡ false → IsExpression e ts → IsIndex by us
+      → operand_of (ts ++ us) ≡ Some (direct false e by)
   unfolding operand_of
   plain_read e by [] us a d i = let some = some_token longest one e [] d in absurd (omega arith)
   plain_read e by (t ∷ ts) us a d i =
@@ -192,7 +196,8 @@ module _ (profile : Profile) (longest : ReadsLongest) (one : OneExpression) wher
         index_read true e i,
       ) refl
   operand_read (in_brackets t c {e = e} {ts = ts} h d k) =
-      rw (not_a t (ts ++ c ∷ []) 40 h, symbol_other t 40 35 refl h, symbol_is t 40 h, read_before longest one e ts (c ∷ []) d (41, foreign.closing, k), symbol_is c 41 k) refl
+      rw (not_a t (ts ++ c ∷ []) 40 h, symbol_other t 40 35 refl h, symbol_is t 40 h, read_before longest one e ts (c ∷ []) d
+          (41, foreign.closing, k), symbol_is c 41 k) refl
   operand_read (in_brackets_by_x t m x c {e = e} {ts = ts} h d n w k) =
       rw (
         not_a t (ts ++ m ∷ x ∷ c ∷ []) 40 h,
@@ -240,7 +245,8 @@ module _ (profile : Profile) (longest : ReadsLongest) (one : OneExpression) wher
       directive_operation profile t.kind t ts h.kind ∙ rw (h.letters, list_read IsItem item_of items (length ts) l (omega arith)) refl
   operation_read (word_directive t {ts = ts} h l) =
       directive_operation profile t.kind t ts h.kind
-      ∙ rw (other_text t.text (codes ".WORD") (codes ".BYTE") refl h.letters, h.letters, list_read IsExpression expression_of expressions (length ts) l (omega arith)) refl
+      ∙ rw (other_text t.text (codes ".WORD") (codes ".BYTE") refl h.letters, h.letters, list_read IsExpression expression_of expressions (length ts)
+          l (omega arith)) refl
   operation_read (dbyte_directive t {ts = ts} h l) =
       directive_operation profile t.kind t ts h.kind
       ∙ rw (

@@ -58,7 +58,8 @@ record Part {A : Type 0} (Is : A → List Lexeme → Type 0) (ts : List Lexeme) 
 
 -- ---- an index
 
-index_is : (marked : Bool) (e : Term) (us : List Lexeme) (o : Operand) → direct_after marked e us ≡ Some o → (by : Index) × (o ≡ direct marked e by) × IsIndex by us
+index_is : (marked : Bool) (e : Term) (us : List Lexeme) (o : Operand) → direct_after marked e us ≡ Some o → (by : Index) × (o ≡ direct marked e by)
+    × IsIndex by us
 index_is marked e [] o h = (_, sym (some_is _ _ h), unindexed)
   where
     some_is : (a b : Operand) → Some a ≡ Some b → a ≡ b
@@ -67,7 +68,8 @@ index_is marked e (c ∷ []) o h = cc
 index_is marked e (c ∷ w ∷ []) o h = by (is_symbol 44 c && is_word (codes "X") w) (is_symbol 44 c && is_word (codes "Y") w) refl refl h
   where
     by : (x y : Bool) → (is_symbol 44 c && is_word (codes "X") w) ≡ x → (is_symbol 44 c && is_word (codes "Y") w) ≡ y
-        → (if x then Some (direct marked e Rattle.model.specs.declared.line.Index.TheVariants.X) else if y then Some (direct marked e Rattle.model.specs.declared.line.Index.TheVariants.Y) else None) ≡ Some o
+        → (if x then Some (direct marked e Rattle.model.specs.declared.line.Index.TheVariants.X) else if y then Some
+            (direct marked e Rattle.model.specs.declared.line.Index.TheVariants.Y) else None) ≡ Some o
         → (by : Index) × (o ≡ direct marked e by) × IsIndex by (c ∷ w ∷ [])
     by true y hx hy k =
         let b = both (is_symbol 44 c) (is_word (codes "X") w) hx in
@@ -86,7 +88,8 @@ pub record Reads {A : Type 0} (Is : A → List Lexeme → Type 0) (read : List L
   part : (ts : List Lexeme) (p : A × List Lexeme) → read ts ≡ Some p → Part Is ts p.0 p.1
 
 -- a list whose first part was read: the last one, or one before a comma
-after_is : {A : Type 0} (Is : A → List Lexeme → Type 0) (rest : List Lexeme → Option (List A)) → ((ts : List Lexeme) (xs : List A) → rest ts ≡ Some xs → AreListed Is xs ts)
+after_is : {A : Type 0} (Is : A → List Lexeme → Type 0) (rest : List Lexeme → Option (List A))
+    → ((ts : List Lexeme) (xs : List A) → rest ts ≡ Some xs → AreListed Is xs ts)
     → (ts : List Lexeme) (a : A) (left : List Lexeme) (xs : List A) → Part Is ts a left → list_after rest a left ≡ Some xs → AreListed Is xs ts
 after_is {A} Is rest again ts a [] xs p h =
     let one : a ∷ [] ≡ xs = cc in
@@ -176,12 +179,14 @@ module _ (profile : Profile) (longest : ReadsLongest) where
       (subst (λ (l : List Lexeme). IsOperand (direct true b.from.0 index.0) (t ∷ l)) (sym read.cut) (after_mark t mark read.is index.2))
 
   -- what closes a bracket
-  closed_is : (t : Lexeme) (front : List Lexeme) (e : Term) (left : List Lexeme) (o : Operand) → IsSymbol 40 t → IsExpression e front → pointer_after e left ≡ Some o
+  closed_is : (t : Lexeme) (front : List Lexeme) (e : Term) (left : List Lexeme) (o : Operand) → IsSymbol 40 t → IsExpression e front
+      → pointer_after e left ≡ Some o
       → IsOperand o (t ∷ (front ++ left))
   closed_is t front e [] o opens d h = cc
   closed_is t front e (c ∷ []) o opens d h = by (is_symbol 41 c) refl h where
     by : (b : Bool) → is_symbol 41 c ≡ b → (if b then Some (pointer e) else None) ≡ Some o → IsOperand o (t ∷ (front ++ c ∷ []))
-    by true x k = let same : pointer e ≡ o = cc in subst (λ (p : Operand). IsOperand p (t ∷ (front ++ c ∷ []))) same (in_brackets t c opens d (symbol_back c 41 x))
+    by true x k = let same : pointer e ≡ o = cc in subst (λ (p : Operand). IsOperand p (t ∷ (front ++ c ∷ []))) same
+        (in_brackets t c opens d (symbol_back c 41 x))
     by false x k = cc
   closed_is t front e (a ∷ b ∷ []) o opens d h = cc
   closed_is t front e (a ∷ b ∷ c ∷ []) o opens d h =
@@ -191,15 +196,18 @@ module _ (profile : Profile) (longest : ReadsLongest) where
         by true y hx hy k =
             let p = both3 (is_symbol 44 a) (is_word (codes "X") b) (is_symbol 41 c) hx in
             let same : pointer_by_x e ≡ o = cc in
-            subst (λ (q : Operand). IsOperand q (t ∷ (front ++ a ∷ b ∷ c ∷ []))) same (in_brackets_by_x t a b c opens d (symbol_back a 44 p.0) p.1 (symbol_back c 41 p.2))
+            subst (λ (q : Operand). IsOperand q (t ∷ (front ++ a ∷ b ∷ c ∷ []))) same
+                (in_brackets_by_x t a b c opens d (symbol_back a 44 p.0) p.1 (symbol_back c 41 p.2))
         by false true hx hy k =
             let p = both3 (is_symbol 41 a) (is_symbol 44 b) (is_word (codes "Y") c) hy in
             let same : pointer_by_y e ≡ o = cc in
-            subst (λ (q : Operand). IsOperand q (t ∷ (front ++ a ∷ b ∷ c ∷ []))) same (in_brackets_by_y t a b c opens d (symbol_back a 41 p.0) (symbol_back b 44 p.1) p.2)
+            subst (λ (q : Operand). IsOperand q (t ∷ (front ++ a ∷ b ∷ c ∷ []))) same
+                (in_brackets_by_y t a b c opens d (symbol_back a 41 p.0) (symbol_back b 44 p.1) p.2)
         by false false hx hy k = cc
   closed_is t front e (a ∷ b ∷ c ∷ u ∷ us) o opens d h = cc
 
-  bracket_is : (t : Lexeme) (ts : List Lexeme) (o : Operand) → IsSymbol 40 t → option_and_then (λ p. pointer_after p.0 p.1) (expression_of ts) ≡ Some o → IsOperand o (t ∷ ts)
+  bracket_is : (t : Lexeme) (ts : List Lexeme) (o : Operand) → IsSymbol 40 t
+      → option_and_then (λ p. pointer_after p.0 p.1) (expression_of ts) ≡ Some o → IsOperand o (t ∷ ts)
   bracket_is t ts o opens h =
       let b = bound (λ p. pointer_after p.0 p.1) (expression_of ts) o h in
       let read = expression_part ts b.from b.is in
@@ -238,7 +246,8 @@ module _ (profile : Profile) (longest : ReadsLongest) where
   finish_is t (u ∷ ts) s d h = cc
 
   directive_by : (t : Lexeme) (ts : List Lexeme) (s : Statement) (a b c d e : Bool) → t.kind ≡ Directive
-      → is_directive t.text (codes ".BYTE") ≡ a → is_directive t.text (codes ".WORD") ≡ b → is_directive t.text (codes ".DBYTE") ≡ c → is_directive t.text (codes ".RES") ≡ d
+      → is_directive t.text (codes ".BYTE") ≡ a → is_directive t.text (codes ".WORD") ≡ b → is_directive t.text (codes ".DBYTE") ≡ c
+          → is_directive t.text (codes ".RES") ≡ d
       → is_directive t.text (codes ".END") ≡ e
       → (if a then option_map bytes (items_of ts)
       else if b then option_map words (expressions_of ts)
@@ -249,13 +258,16 @@ module _ (profile : Profile) (longest : ReadsLongest) where
       → IsOperation profile s (t ∷ ts)
   directive_by t ts s true b c d e k ha hb hc hd he h =
       let m = mapped bytes (items_of ts) s h in
-      subst (λ (x : Statement). IsOperation profile x (t ∷ ts)) m.to (byte_directive t (record { kind = k; letters = ha }) (list_is IsItem item_of items (length ts) ts m.from m.is))
+      subst (λ (x : Statement). IsOperation profile x (t ∷ ts)) m.to
+          (byte_directive t (record { kind = k; letters = ha }) (list_is IsItem item_of items (length ts) ts m.from m.is))
   directive_by t ts s false true c d e k ha hb hc hd he h =
       let m = mapped words (expressions_of ts) s h in
-      subst (λ (x : Statement). IsOperation profile x (t ∷ ts)) m.to (word_directive t (record { kind = k; letters = hb }) (list_is IsExpression expression_of expressions (length ts) ts m.from m.is))
+      subst (λ (x : Statement). IsOperation profile x (t ∷ ts)) m.to
+          (word_directive t (record { kind = k; letters = hb }) (list_is IsExpression expression_of expressions (length ts) ts m.from m.is))
   directive_by t ts s false false true d e k ha hb hc hd he h =
       let m = mapped words_high_first (expressions_of ts) s h in
-      subst (λ (x : Statement). IsOperation profile x (t ∷ ts)) m.to (dbyte_directive t (record { kind = k; letters = hc }) (list_is IsExpression expression_of expressions (length ts) ts m.from m.is))
+      subst (λ (x : Statement). IsOperation profile x (t ∷ ts)) m.to
+          (dbyte_directive t (record { kind = k; letters = hc }) (list_is IsExpression expression_of expressions (length ts) ts m.from m.is))
   directive_by t ts s false false false true e k ha hb hc hd he h =
       let m = mapped reserve (whole_expression ts) s h in
       subst (λ (x : Statement). IsOperation profile x (t ∷ ts)) m.to (res_directive t (record { kind = k; letters = hd }) (whole_is ts m.from m.is))
@@ -275,18 +287,21 @@ module _ (profile : Profile) (longest : ReadsLongest) where
         subst (λ (y : Statement). IsOperation profile y (t ∷ u ∷ ts)) m.to (sets_address t u star (symbol_back u 61 x) (whole_is ts m.from m.is))
     by false x k = cc
 
-  star_is : (t : Lexeme) (ts : List Lexeme) (s : Statement) (b : Bool) → is_symbol 42 t ≡ b → (if b then origin_after ts else None) ≡ Some s → IsOperation profile s (t ∷ ts)
+  star_is : (t : Lexeme) (ts : List Lexeme) (s : Statement) (b : Bool) → is_symbol 42 t ≡ b → (if b then origin_after ts else None) ≡ Some s
+      → IsOperation profile s (t ∷ ts)
   star_is t ts s true x h = origin_is t ts s (symbol_back t 42 x) h
   star_is t ts s false x h = cc
 
-  instruction_is : (t : Lexeme) (ts : List Lexeme) (s : Statement) → t.kind ≡ Word → option_and_then (λ m. option_map (instruction m) (operand_of ts)) (mnemonic_named profile t.text) ≡ Some s
+  instruction_is : (t : Lexeme) (ts : List Lexeme) (s : Statement) → t.kind ≡ Word
+      → option_and_then (λ m. option_map (instruction m) (operand_of ts)) (mnemonic_named profile t.text) ≡ Some s
       → IsOperation profile s (t ∷ ts)
   instruction_is t ts s k h =
       let b = bound (λ m. option_map (instruction m) (operand_of ts)) (mnemonic_named profile t.text) s h in
       let m = mapped (instruction b.from) (operand_of ts) s b.to in
       subst (λ (x : Statement). IsOperation profile x (t ∷ ts)) m.to (by_mnemonic t k b.is (operand_is ts m.from m.is))
 
-  operation_is : (t : Lexeme) (ts : List Lexeme) (s : Statement) (kind : TokenKind) → t.kind ≡ kind → operation_by profile kind t ts ≡ Some s → IsOperation profile s (t ∷ ts)
+  operation_is : (t : Lexeme) (ts : List Lexeme) (s : Statement) (kind : TokenKind) → t.kind ≡ kind → operation_by profile kind t ts ≡ Some s
+      → IsOperation profile s (t ∷ ts)
   operation_is t ts s Word k h = instruction_is t ts s k h
   operation_is t ts s Directive k h = directive_read t ts s k h
   operation_is t ts s Symbol k h = star_is t ts s (is_symbol 42 t) refl h

@@ -158,7 +158,8 @@ module _ (longest : ReadsLongest) (one : OneExpression) where
   -- an expression is read as far as it goes where nothing of it can follow
   pub read_before : (e : Term) (ts us : List Lexeme) → IsExpression e ts → Ends us → expression_of (ts ++ us) ≡ Some (e, us)
   read_before e ts us d ends = go (expression_of (ts ++ us)) (longest (ts ++ us)) where
-    by : (p : Term × List Lexeme) (h : Longest (ts ++ us) p.0 p.1) (mid : List Lexeme) → h.front ≡ ts ++ mid → us ≡ mid ++ p.1 → (v : List Lexeme) → us ≡ v → Ends v → p ≡ (e, us)
+    by : (p : Term × List Lexeme) (h : Longest (ts ++ us) p.0 p.1) (mid : List Lexeme) → h.front ≡ ts ++ mid → us ≡ mid ++ p.1 → (v : List Lexeme)
+        → us ≡ v → Ends v → p ≡ (e, us)
     by p h [] longer left v is stop =
         let same : h.front ≡ ts = longer ∙ append-nil ts in
         let k : IsExpression p.0 ts = subst (λ x. IsExpression p.0 x) same h.derived in
@@ -171,7 +172,8 @@ module _ (longest : ReadsLongest) (one : OneExpression) where
         let free : NoneIs stop.0 (ts ++ m ∷ mid) = subst (λ x. NoneIs stop.0 x) longer (none_is stop.0 stop.1 h.derived) in
         absurd (none_in stop.0 ts mid m free has)
 
-    go : (r : Read) → IfSome r (λ p. Longest (ts ++ us) p.0 p.1) × IfNone r ((e : Term) (front more : List Lexeme) → ts ++ us ≡ front ++ more → IsExpression e front → ⊥) → r ≡ Some (e, us)
+    go : (r : Read) → IfSome r (λ p. Longest (ts ++ us) p.0 p.1)
+        × IfNone r ((e : Term) (front more : List Lexeme) → ts ++ us ≡ front ++ more → IsExpression e front → ⊥) → r ≡ Some (e, us)
     go None h = absurd (h.1 e ts us refl d)
     go (Some p) h =
         let b = between ts us h.0.front p.1 h.0.cut (h.0.longest e ts us refl d) in

@@ -27,7 +27,8 @@ list_any_map test shown [] = refl
 list_any_map test shown (x ∷ xs) = ap (λ b. test (shown x) || b) (list_any_map test shown xs)
 
 -- a fault that is passed on
-pub passed_on : {A B : Type 0} (shown : A → B) (found : Option B) (r : Result A LineFault) (f : LineFault) → IsErrAnd r (λ e. e ≡ f) → (f ≡ Syntax → found ≡ None) → Reads shown r found
+pub passed_on : {A B : Type 0} (shown : A → B) (found : Option B) (r : Result A LineFault) (f : LineFault) → IsErrAnd r (λ e. e ≡ f)
+    → (f ≡ Syntax → found ≡ None) → Reads shown r found
 passed_on shown found (Ok a) f same none = absurd same
 passed_on shown found (Err Syntax) f same none = none (sym same)
 passed_on shown found (Err OutOfMemory) f same none = tt

@@ -56,55 +56,70 @@ meant_as meant m source a h = meant_by m source a (judgement m source) (meant m 
 image_is : (m : Map) (source : List ℕ) (a : AssemblyView) (x : Meant m source a) → x.judgement.image ≡ a.image
 image_is m source a x = ap (λ (v : Verdict). v.image) x.shown
 
-pub denoted_from : JudgedIsMeant → (m : Map) (source : List ℕ) (r : Given) → AnswersSource verdict_view r (verdict m source) → IfOk r (λ a. Denotes m source a.image)
+pub denoted_from : JudgedIsMeant → (m : Map) (source : List ℕ) (r : Given) → AnswersSource verdict_view r (verdict m source)
+    → IfOk r (λ a. Denotes m source a.image)
 denoted_from meant m source (Ok a) h =
     let x = meant_as meant m source a h in
     subst (λ (i : Cells). Denotes m source i) (image_is m source a x) x.denotes
 denoted_from meant m source (Err f) h = tt
 
 pub places_from : JudgedIsMeant → OneAssignment → (m : Map) (source : List ℕ) (r : Given) → AnswersSource verdict_view r (verdict m source)
-    → IfOk r (λ a. (placed : List PlacedLine) (all : Context) → IsLaidOut (first_context m.profile) (read_lines m.profile source) placed all → a.places ≡ extents_of placed)
+    → IfOk r (λ a. (placed : List PlacedLine) (all : Context) → IsLaidOut (first_context m.profile) (read_lines m.profile source) placed all
+        → a.places ≡ extents_of placed)
 places_from meant one m source (Ok a) h = λ placed all laid.
     let x = meant_as meant m source a h in
-    let same : x.judgement.placed ≡ placed = (one (read_lines m.profile source) (first_context m.profile) x.judgement.placed placed x.judgement.all all x.laid laid).0 in
+    let same : x.judgement.placed ≡ placed = (one (read_lines m.profile source) (first_context m.profile) x.judgement.placed placed x.judgement.all
+        all x.laid laid).0 in
     sym (ap (λ (v : Verdict). v.places) x.shown) ∙ ap extents_of same
 places_from meant one m source (Err f) h = tt
 
 pub names_from : JudgedIsMeant → OneAssignment → (m : Map) (source : List ℕ) (r : Given) → AnswersSource verdict_view r (verdict m source)
-    → IfOk r (λ a. (placed : List PlacedLine) (all : Context) → IsLaidOut (first_context m.profile) (read_lines m.profile source) placed all → a.names ≡ all.names)
+    → IfOk r (λ a. (placed : List PlacedLine) (all : Context) → IsLaidOut (first_context m.profile) (read_lines m.profile source) placed all
+        → a.names ≡ all.names)
 names_from meant one m source (Ok a) h = λ placed all laid.
     let x = meant_as meant m source a h in
-    let same : x.judgement.all ≡ all = (one (read_lines m.profile source) (first_context m.profile) x.judgement.placed placed x.judgement.all all x.laid laid).1 in
+    let same : x.judgement.all ≡ all = (one (read_lines m.profile source) (first_context m.profile) x.judgement.placed placed x.judgement.all all
+        x.laid laid).1 in
     sym (ap (λ (v : Verdict). v.names) x.shown) ∙ ap (λ (f : Context). f.names) same
 names_from meant one m source (Err f) h = tt
 
-pub lines_from : JudgedIsMeant → OneAssignment → (m : Map) (source : List ℕ) (r : Given) → AnswersSource verdict_view r (verdict m source) → IfOk r (λ a. a.source ≡ source) → IfOk r (AreRead m.profile)
-    → IfOk r (λ a. (placed : List PlacedLine) (all : Context) → IsLaidOut (first_context m.profile) (read_lines m.profile source) placed all → source_lines a ≡ placed_lines m.profile source placed)
-lines_from meant one m source (Ok a) h kept are = λ placed all laid. lines_are m.profile source a placed all kept are (places_from meant one m source (Ok a) h placed all laid) laid
+pub lines_from : JudgedIsMeant → OneAssignment → (m : Map) (source : List ℕ) (r : Given) → AnswersSource verdict_view r (verdict m source)
+    → IfOk r (λ a. a.source ≡ source) → IfOk r (AreRead m.profile)
+    → IfOk r (λ a. (placed : List PlacedLine) (all : Context) → IsLaidOut (first_context m.profile) (read_lines m.profile source) placed all
+        → source_lines a ≡ placed_lines m.profile source placed)
+lines_from meant one m source (Ok a) h kept are = λ placed all laid.
+    lines_are m.profile source a placed all kept are (places_from meant one m source (Ok a) h placed all laid) laid
 lines_from meant one m source (Err f) h kept are = tt
 
-pub labels_from : JudgedIsMeant → OneAssignment → (m : Map) (source : List ℕ) (r : Given) → AnswersSource verdict_view r (verdict m source) → IfOk r (λ a. a.source ≡ source) → IfOk r (AreRead m.profile)
+pub labels_from : JudgedIsMeant → OneAssignment → (m : Map) (source : List ℕ) (r : Given) → AnswersSource verdict_view r (verdict m source)
+    → IfOk r (λ a. a.source ≡ source) → IfOk r (AreRead m.profile)
     → IfOk r (λ a. a.labels ≡ labels_in m.profile (read_lines m.profile source))
 labels_from meant one m source (Ok a) h kept are =
     let d = denoted_from meant m source (Ok a) h in
     labels_are m.profile source a d.placed d.all kept are (places_from meant one m source (Ok a) h d.placed d.all d.laid) d.laid
 labels_from meant one m source (Err f) h kept are = tt
 
-assembled_by : (m : Map) (source : List ℕ) (a : AssemblyView) → a.source ≡ source → (d : Denotes m source a.image) → a.names ≡ d.all.names → a.places ≡ extents_of d.placed
+assembled_by : (m : Map) (source : List ℕ) (a : AssemblyView) → a.source ≡ source → (d : Denotes m source a.image) → a.names ≡ d.all.names
+    → a.places ≡ extents_of d.placed
     → source_lines a ≡ placed_lines m.profile source d.placed → a.labels ≡ labels_in m.profile (read_lines m.profile source) → IsAssembled m a
 assembled_by m source a kept d names places lines labels =
-    let of_its_source = subst (λ text. (e : Denotes m text a.image) × (a.names ≡ e.all.names) × (a.places ≡ extents_of e.placed) × (source_lines a ≡ placed_lines m.profile text e.placed) × (a.labels ≡ labels_in m.profile (read_lines m.profile text))) (sym kept) (d, names, places, lines, labels) in
+    let of_its_source = subst (λ text. (e : Denotes m text a.image) × (a.names ≡ e.all.names) × (a.places ≡ extents_of e.placed)
+        × (source_lines a ≡ placed_lines m.profile text e.placed) × (a.labels ≡ labels_in m.profile (read_lines m.profile text))) (sym kept)
+        (d, names, places, lines, labels) in
     record { denotes = of_its_source.0; names = of_its_source.1; places = of_its_source.2; lines = of_its_source.3; labels = of_its_source.4 }
 
-pub assembled_from : JudgedIsMeant → OneAssignment → (m : Map) (source : List ℕ) (r : Given) → AnswersSource verdict_view r (verdict m source) → IfOk r (λ a. a.source ≡ source) → IfOk r (AreRead m.profile) → IfOk r (IsAssembled m)
+pub assembled_from : JudgedIsMeant → OneAssignment → (m : Map) (source : List ℕ) (r : Given) → AnswersSource verdict_view r (verdict m source)
+    → IfOk r (λ a. a.source ≡ source) → IfOk r (AreRead m.profile) → IfOk r (IsAssembled m)
 assembled_from meant one m source (Ok a) h kept are =
     let d = denoted_from meant m source (Ok a) h in
     let names = names_from meant one m source (Ok a) h d.placed d.all d.laid in
     let places = places_from meant one m source (Ok a) h d.placed d.all d.laid in
-    assembled_by m source a kept d names places (lines_from meant one m source (Ok a) h kept are d.placed d.all d.laid) (labels_from meant one m source (Ok a) h kept are)
+    assembled_by m source a kept d names places (lines_from meant one m source (Ok a) h kept are d.placed d.all d.laid)
+        (labels_from meant one m source (Ok a) h kept are)
 assembled_from meant one m source (Err f) h kept are = tt
 
-pub only_from : DenotedIsJudged → (m : Map) (source : List ℕ) (r : Given) → AnswersSource verdict_view r (verdict m source) → (image : Cells) → Denotes m source image → IsImageOrMemory r image
+pub only_from : DenotedIsJudged → (m : Map) (source : List ℕ) (r : Given) → AnswersSource verdict_view r (verdict m source) → (image : Cells)
+    → Denotes m source image → IsImageOrMemory r image
 only_from denoted m source (Ok a) h image d =
     let v = verdict_of (judgement_as d.placed d.all image) in
     let there : verdict m source ≡ Ok v = ap passed (denoted m source image d) in
@@ -119,7 +134,8 @@ refused_by : (m : Map) (source : List ℕ) (f : AsmFault) (r : Result Judgement 
 refused_by m source f (Ok j) says h = absurd (not_both (verdict_of j) f (Ok (verdict_of j)) (Err f) refl refl h)
 refused_by m source f (Err g) says h = subst (λ (x : AsmFault). HasFault m source x) (err_same g f (Err g) (Err f) refl refl h) says
 
-pub refused_from : JudgedIsMeant → (m : Map) (source : List ℕ) (r : Given) → AnswersSource verdict_view r (verdict m source) → IfErr r (λ f. (f ≡ out_of_memory) ⊎ HasFault m source f)
+pub refused_from : JudgedIsMeant → (m : Map) (source : List ℕ) (r : Given) → AnswersSource verdict_view r (verdict m source)
+    → IfErr r (λ f. (f ≡ out_of_memory) ⊎ HasFault m source f)
 refused_from meant m source (Ok a) h = tt
 refused_from meant m source (Err f) (inl memory) = inl memory
 refused_from meant m source (Err f) (inr h) = inr (refused_by m source f (judgement m source) (meant m source) h)
@@ -134,7 +150,9 @@ faulty_from fault m source (Err e) (inr h) f bad =
     let there : verdict m source ≡ Err f = ap passed (fault m source f bad) in
     inl (ap (λ (x : AsmFault). Err x) (err_same e f (verdict m source) (verdict m source) h there refl))
 
-listing_by : (m : Map) (source : List ℕ) (a : AssemblyView) (x : Meant m source a) → OneAssignment → IsListing m source (listing_of (record { image = a.image; source = source; places = a.places; instructions = a.instructions; names = a.names; labels = a.labels }))
+listing_by : (m : Map) (source : List ℕ) (a : AssemblyView) (x : Meant m source a) → OneAssignment
+    → IsListing m source (listing_of (record { image = a.image; source = source; places = a.places; instructions = a.instructions; names =
+    a.names; labels = a.labels }))
 unfolding read_lines
 listing_by m source a x one =
     let d = x.denotes in
@@ -151,7 +169,8 @@ listing_by m source a x one =
       rows = rw (places, names, rows_of_read m.profile a.image (lines_of source) (first_context m.profile) d.placed d.all d.laid) refl;
     }
 
-pub listed_from : JudgedIsMeant → OneAssignment → (m : Map) (source : List ℕ) (r : Given) → AnswersSource verdict_view r (verdict m source) → IfOk r (λ a. a.source ≡ source) → IfOk r (λ a. IsListing m source (listing_of a))
+pub listed_from : JudgedIsMeant → OneAssignment → (m : Map) (source : List ℕ) (r : Given) → AnswersSource verdict_view r (verdict m source)
+    → IfOk r (λ a. a.source ≡ source) → IfOk r (λ a. IsListing m source (listing_of a))
 listed_from meant one m source (Ok a) h kept =
     let x = meant_as meant m source a h in
     rw kept (listing_by m source a x one)

@@ -41,11 +41,13 @@ pub fails : (profile : Profile) (number : ℕ) (before : Context) (found : Found
 fails profile number before found rest text behind kind total cut bad so_far = sym so_far ∙ rw (cut, bad) refl
 
 -- no line is left
-pub done : (profile : Profile) (number : ℕ) (before : Context) (found : Found) (rest : List ℕ) (total : Total) → length rest ≡ 0 → left profile number before found rest ≡ total → total ≡ Ok (found, before)
+pub done : (profile : Profile) (number : ℕ) (before : Context) (found : Found) (rest : List ℕ) (total : Total) → length rest ≡ 0
+    → left profile number before found rest ≡ total → total ≡ Ok (found, before)
 done profile number before found rest total empty so_far = sym so_far ∙ rw (no_lines rest empty) refl
 
 -- before the first line
 pub starts : (profile : Profile) (found : Found) (names : Definitions) (source : List ℕ) → found ≡ nothing_found → names ≡ []
-    → left profile 1 (record { profile = profile; address = 0; names = names }) found source ≡ found_lines 1 (first_context profile) nothing_found (read_lines profile source)
+    → left profile 1 (record { profile = profile; address = 0; names = names }) found source
+        ≡ found_lines 1 (first_context profile) nothing_found (read_lines profile source)
 unfolding read_lines
 starts profile found names source none no_names = rw (none, no_names) refl

@@ -44,7 +44,8 @@ abbrev kept_from : ℕ → List PlacedLine → List NumberedLine
 kept_from n [] = []
 kept_from n (p ∷ ps) = if is_kept p.content then numbered_line n p ∷ kept_from (n + 1) ps else kept_from (n + 1) ps
 
-found_is : (lines : List (List ℕ)) (n : ℕ) (before : Context) (f : Found) → found_lines n before f lines ≡ (layout_from n before lines >>= λ l. Ok (with_all n f l))
+found_is : (lines : List (List ℕ)) (n : ℕ) (before : Context) (f : Found)
+    → found_lines n before f lines ≡ (layout_from n before lines >>= λ l. Ok (with_all n f l))
 found_is [] n before f = refl
 found_is (line ∷ lines) n before f = by (λ (m : Context) (g : Found). found_is lines (n + 1) m g) (layout_of before line)
   where
@@ -55,7 +56,8 @@ found_is (line ∷ lines) n before f = by (λ (m : Context) (g : Found). found_i
 
     by : ((m : Context) (g : Found) → found_lines (n + 1) m g lines ≡ (layout_from (n + 1) m lines >>= λ l. Ok (with_all (n + 1) g l)))
         → (r : Result PlacedAndContext AsmFaultKind)
-        → (on_line n (with_line_found n f r) >>= λ p. found_lines (n + 1) p.1 p.0 lines) ≡ ((on_line n r >>= λ p. layout_from (n + 1) p.1 lines >>= λ rest. Ok (behind p.0 rest)) >>= λ l. Ok (with_all n f l))
+        → (on_line n (with_line_found n f r) >>= λ p. found_lines (n + 1) p.1 p.0 lines)
+            ≡ ((on_line n r >>= λ p. layout_from (n + 1) p.1 lines >>= λ rest. Ok (behind p.0 rest)) >>= λ l. Ok (with_all n f l))
     by later (Ok s) = later s.1 (with_line n f s.0) ∙ regroup s (layout_from (n + 1) s.1 lines)
     by later (Err k) = refl
 
@@ -69,14 +71,16 @@ noting_is (p ∷ ps) n f =
     ∙ two ((f.extents ++ extent_of p ∷ []) ++ extents_of ps) (f.extents ++ extents_of (p ∷ ps)) _ _
     (append_assoc f.extents (extent_of p ∷ []) (extents_of ps)) (by (is_kept p.content))
   where
-    by : (b : Bool) → (if b then f.kept ++ numbered_line n p ∷ [] else f.kept) ++ kept_from (n + 1) ps ≡ f.kept ++ (if b then numbered_line n p ∷ kept_from (n + 1) ps else kept_from (n + 1) ps)
+    by : (b : Bool) → (if b then f.kept ++ numbered_line n p ∷ [] else f.kept) ++ kept_from (n + 1) ps ≡ f.kept
+        ++ (if b then numbered_line n p ∷ kept_from (n + 1) ps else kept_from (n + 1) ps)
     by true = append_assoc f.kept (numbered_line n p ∷ []) (kept_from (n + 1) ps)
     by false = refl
 
 abbrev found_in : Laid → Found × Context
 found_in l = (found_as (extents_of l.0) (kept_from 1 l.0), l.1)
 
-found_all : (profile : Profile) (lines : List (List ℕ)) → found_lines 1 (first_context profile) nothing_found lines ≡ (layout_from 1 (first_context profile) lines >>= λ l. Ok (found_in l))
+found_all : (profile : Profile) (lines : List (List ℕ)) → found_lines 1 (first_context profile) nothing_found lines
+    ≡ (layout_from 1 (first_context profile) lines >>= λ l. Ok (found_in l))
 found_all profile lines = found_is lines 1 (first_context profile) nothing_found ∙ on (layout_from 1 (first_context profile) lines)
   where
     on : (r : Result Laid AsmFault) → (r >>= λ l. Ok (with_all 1 nothing_found l)) ≡ (r >>= λ l. Ok (found_in l))
@@ -90,7 +94,8 @@ put_nothing : (m : Map) (numbers : Numbers) (image : Cells) (a : ℕ) → image_
 unfolding image_with_line value_fault pieces_of place_kinds has_bytes has_port size_of lowest lower line_bytes
 put_nothing m numbers image a = refl
 
-kept_is : (m : Map) (numbers : Numbers) (ps : List PlacedLine) (n : ℕ) (image : Cells) → image_of_lines m numbers image (kept_from n ps) ≡ image_from m numbers n image ps
+kept_is : (m : Map) (numbers : Numbers) (ps : List PlacedLine) (n : ℕ) (image : Cells)
+    → image_of_lines m numbers image (kept_from n ps) ≡ image_from m numbers n image ps
 kept_is m numbers [] n image = refl
 kept_is m numbers (p ∷ ps) n image = step (λ (i : Cells). kept_is m numbers ps (n + 1) i) p.address p.content
   where
@@ -101,7 +106,8 @@ kept_is m numbers (p ∷ ps) n image = step (λ (i : Cells). kept_is m numbers p
 
     step : ((i : Cells) → image_of_lines m numbers i (kept_from (n + 1) ps) ≡ image_from m numbers (n + 1) i ps)
         → (a : ℕ) (c : Content)
-        → image_of_lines m numbers image (if is_kept c then numbered_line n (record { address = a; content = c }) ∷ kept_from (n + 1) ps else kept_from (n + 1) ps)
+        → image_of_lines m numbers image (if is_kept c then numbered_line n (record { address = a; content = c })
+            ∷ kept_from (n + 1) ps else kept_from (n + 1) ps)
         ≡ (on_line n (image_with_line m numbers image (record { address = a; content = c })) >>= λ i. image_from m numbers (n + 1) i ps)
     step later a no_bytes = rw (put_nothing m numbers image a) (later image)
     step later a (byte_list is) = on later (on_line n (image_with_line m numbers image (record { address = a; content = byte_list is })))
@@ -121,7 +127,8 @@ verdict_as image places names = record { image = image; places = places; names =
 abbrev judged_on : Map → Result Laid AsmFault → Result Verdict AsmFault
 judged_on m r = (r >>= λ l. image_from m (number_in l.1.names) 1 empty_image l.0 >>= λ image. Ok (judged_as l image)) >>= λ j. Ok (verdict_of j)
 
-small_verdict : (m : Map) (source : List ℕ) → length source ≤ most_bytes → verdict m source ≡ judged_on m (layout_from 1 (first_context m.profile) (read_lines m.profile source))
+small_verdict : (m : Map) (source : List ℕ) → length source ≤ most_bytes
+    → verdict m source ≡ judged_on m (layout_from 1 (first_context m.profile) (read_lines m.profile source))
 unfolding judgement judgement_of_lines
 small_verdict m source small = rw (le-ltb most_bytes (length source) small) refl
 
@@ -158,7 +165,8 @@ right_on m (Ok l) found all image e made =
     let same : found_in l ≡ (found, all) = ok_same (found_in l) (found, all) (Ok (found_in l)) (Ok (found, all)) refl refl e in
     let extents : extents_of l.0 ≡ found.extents = ap (λ (x : Found × Context). x.0.extents) same in
     let fixed : l.1 ≡ all = ap (λ (x : Found × Context). x.1) same in
-    rw (made_from m l found all (Ok image) same made) (ap (λ (x : List (ℕ × ℕ)). Ok (verdict_as image x l.1.names)) extents ∙ ap (λ (x : Context). Ok (verdict_as image found.extents x.names)) fixed)
+    rw (made_from m l found all (Ok image) same made) (ap (λ (x : List (ℕ × ℕ)). Ok (verdict_as image x l.1.names)) extents
+        ∙ ap (λ (x : Context). Ok (verdict_as image found.extents x.names)) fixed)
 right_on m (Err f) found all image e made = absurd (not_both (found, all) f (Ok (found, all)) (Err f) refl refl (sym e))
 
 layout_on : (m : Map) (r : Result Laid AsmFault) (f : AsmFault) → (r >>= λ l. Ok (found_in l)) ≡ Err f → judged_on m r ≡ Err f
@@ -176,26 +184,32 @@ abbrev found_of_source : Map → List ℕ → FoundIn
 found_of_source m source = found_lines 1 (first_context m.profile) nothing_found (read_lines m.profile source)
 
 pub verdict_right : (m : Map) (source : List ℕ) (found : Found) (all : Context) (image : Cells) → length source ≤ most_bytes
-    → found_lines 1 (first_context m.profile) nothing_found (read_lines m.profile source) ≡ Ok (found, all) → image_of_lines m (number_in all.names) empty_image found.kept ≡ Ok image
+    → found_lines 1 (first_context m.profile) nothing_found (read_lines m.profile source) ≡ Ok (found, all)
+        → image_of_lines m (number_in all.names) empty_image found.kept ≡ Ok image
     → verdict m source ≡ Ok (record { image = image; places = found.extents; names = all.names })
 verdict_right m source found all image small first second =
-    small_verdict m source small ∙ right_on m (layout_from 1 (first_context m.profile) (read_lines m.profile source)) found all image (sym (found_all m.profile (read_lines m.profile source)) ∙ first) second
+    small_verdict m source small ∙ right_on m (layout_from 1 (first_context m.profile) (read_lines m.profile source)) found all image
+        (sym (found_all m.profile (read_lines m.profile source)) ∙ first) second
 
 pub verdict_layout : (m : Map) (source : List ℕ) (f : AsmFault) → length source ≤ most_bytes
     → found_lines 1 (first_context m.profile) nothing_found (read_lines m.profile source) ≡ Err f → verdict m source ≡ Err f
 verdict_layout m source f small first =
-    small_verdict m source small ∙ layout_on m (layout_from 1 (first_context m.profile) (read_lines m.profile source)) f (sym (found_all m.profile (read_lines m.profile source)) ∙ first)
+    small_verdict m source small ∙ layout_on m (layout_from 1 (first_context m.profile) (read_lines m.profile source)) f
+        (sym (found_all m.profile (read_lines m.profile source)) ∙ first)
 
 pub verdict_value : (m : Map) (source : List ℕ) (found : Found) (all : Context) (f : AsmFault) → length source ≤ most_bytes
-    → found_lines 1 (first_context m.profile) nothing_found (read_lines m.profile source) ≡ Ok (found, all) → image_of_lines m (number_in all.names) empty_image found.kept ≡ Err f
+    → found_lines 1 (first_context m.profile) nothing_found (read_lines m.profile source) ≡ Ok (found, all)
+        → image_of_lines m (number_in all.names) empty_image found.kept ≡ Err f
     → verdict m source ≡ Err f
 verdict_value m source found all f small first second =
-    small_verdict m source small ∙ value_on m (layout_from 1 (first_context m.profile) (read_lines m.profile source)) found all f (sym (found_all m.profile (read_lines m.profile source)) ∙ first) second
+    small_verdict m source small ∙ value_on m (layout_from 1 (first_context m.profile) (read_lines m.profile source)) found all f
+        (sym (found_all m.profile (read_lines m.profile source)) ∙ first) second
 
 -- ---- running out of memory
 
 pub layout_answer : (m : Map) (source : List ℕ) (f : AsmFault) → length source ≤ most_bytes
-    → (f ≡ out_of_memory) ⊎ (found_lines 1 (first_context m.profile) nothing_found (read_lines m.profile source) ≡ Err f) → (f ≡ out_of_memory) ⊎ (verdict m source ≡ Err f)
+    → (f ≡ out_of_memory) ⊎ (found_lines 1 (first_context m.profile) nothing_found (read_lines m.profile source) ≡ Err f) → (f ≡ out_of_memory)
+        ⊎ (verdict m source ≡ Err f)
 layout_answer m source f small (inl memory) = inl memory
 layout_answer m source f small (inr first) = inr (verdict_layout m source f small first)
 
@@ -205,6 +219,7 @@ pub value_answer : (m : Map) (source : List ℕ) (found : Found) (all : Context)
 value_answer m source found all f small first (inl memory) = inl memory
 value_answer m source found all f small first (inr second) = inr (verdict_value m source found all f small first second)
 
-pub passed_on : (given : Result Verdict AsmFault) (r : Result AssemblyView AsmFault) (f : AsmFault) → IsErrAnd r (λ e. e ≡ f) → (f ≡ out_of_memory) ⊎ (given ≡ Err f) → AnswersSource verdict_view r given
+pub passed_on : (given : Result Verdict AsmFault) (r : Result AssemblyView AsmFault) (f : AsmFault) → IsErrAnd r (λ e. e ≡ f) → (f ≡ out_of_memory)
+    ⊎ (given ≡ Err f) → AnswersSource verdict_view r given
 passed_on given (Ok a) f same h = absurd same
 passed_on given (Err g) f same h = rw same h

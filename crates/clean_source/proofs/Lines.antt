@@ -129,7 +129,8 @@ led_end begun k = lines_last [] (cleaned_line begun) (line_kept begun k) ∙ las
 
 led_feed : (begun : List ℕ) (b : ℕ) (bytes : List ℕ) → b ≡ 10 → list_all keeps begun ≡ true → Led [] bytes → Led begun (b ∷ bytes)
 unfolding Led
-led_feed begun b bytes e k later = subst (λ x. lines_from last_line [] (cleaned_from begun (x ∷ bytes)) ≡ map cleaned_line (lines_from last_line begun (x ∷ bytes))) (sym e) (at_feed begun bytes k later)
+led_feed begun b bytes e k later = subst (λ x. lines_from last_line [] (cleaned_from begun (x ∷ bytes))
+    ≡ map cleaned_line (lines_from last_line begun (x ∷ bytes))) (sym e) (at_feed begun bytes k later)
 
 led_return : (begun : List ℕ) (b c : ℕ) (bytes : List ℕ) → b ≡ 13 → c ≡ 10 → list_all keeps begun ≡ true → Led [] bytes → Led begun (b ∷ c ∷ bytes)
 unfolding Led

@@ -177,7 +177,8 @@ from_bare begun (b ∷ bytes) h = elim (cases_Bool (ends_line b)) [
       let n = end_other b bytes 239 refl refl in
       rw t (elim (one_or_other begun) [
         | inl s ↦ ap (λ (x : List ℕ). begins_mark (x ++ e ∷ rest)) s ∙ source_then (shown_from 0 begun) rest e (all_shown 0 begun) n
-        | inr s ↦ ap (λ (x : List ℕ). begins_mark (x ++ e ∷ rest)) s ∙ kept_then begun rest (b ∷ bytes) e n (end_other b bytes 187 refl refl) (end_other b bytes 191 refl refl) h
+        | inr s ↦ ap (λ (x : List ℕ). begins_mark (x ++ e ∷ rest)) s
+            ∙ kept_then begun rest (b ∷ bytes) e n (end_other b bytes 187 refl refl) (end_other b bytes 191 refl refl) h
       ])
   | inr f ↦ rw f (from_bare (begun ++ b ∷ []) bytes (ap begins_mark (append_assoc begun (b ∷ []) bytes) ∙ h))
 ]

@@ -26,39 +26,52 @@ unfolding command_of_words
 input_words a ws = refl
 
 -- a line that is short and no `asm` is what its words are
-other_line : (line first behind : List ℕ) → nat_lt 255 (length line) ≡ false → IsNextWord line first behind → bytes_eq first (codes "asm") ≡ false → command_of line ≡ command_of_words (words_of line)
+other_line : (line first behind : List ℕ) → nat_lt 255 (length line) ≡ false → IsNextWord line first behind → bytes_eq first (codes "asm") ≡ false
+    → command_of line ≡ command_of_words (words_of line)
 unfolding command_of
-other_line line [] behind short p no_asm = ap (λ t. if t then Bad else if is_asm (words_of line) then assembled line (words_of line) else command_of_words (words_of line)) short
+other_line line [] behind short p no_asm = ap (λ t. if t then Bad else if is_asm (words_of line) then assembled line (words_of line) else
+    command_of_words (words_of line)) short
     ∙ ap (λ ws. if is_asm ws then assembled line ws else command_of_words ws) p.0 ∙ ap command_of_words (sym p.0)
-other_line line (b ∷ w) behind short p no_asm = ap (λ t. if t then Bad else if is_asm (words_of line) then assembled line (words_of line) else command_of_words (words_of line)) short
+other_line line (b ∷ w) behind short p no_asm = ap (λ t. if t then Bad else if is_asm (words_of line) then assembled line (words_of line) else
+    command_of_words (words_of line)) short
     ∙ ap (λ t. if t then assembled line (words_of line) else command_of_words (words_of line)) (ap is_asm p ∙ no_asm)
 
 no_more : (rest word left : List ℕ) → IsNextWord rest word left → length word ≡ 0 → words_of rest ≡ []
 no_more rest [] left p e = p.0
 no_more rest (b ∷ w) left p e = absurd (omega (arith, e))
 
-pub empty_line : (line first behind : List ℕ) → nat_lt 255 (length line) ≡ false → IsNextWord line first behind → length first ≡ 0 → bytes_eq first (codes "asm") ≡ false → Nothing ≡ command_of line
+pub empty_line : (line first behind : List ℕ) → nat_lt 255 (length line) ≡ false → IsNextWord line first behind → length first ≡ 0
+    → bytes_eq first (codes "asm") ≡ false → Nothing ≡ command_of line
 unfolding command_of_words
 empty_line line first behind short p none no_asm = sym (other_line line first behind short p no_asm ∙ ap command_of_words (no_more line first behind p none))
 
-pub line_of_two : (line first behind second rest third left : List ℕ) → nat_lt 255 (length line) ≡ false → IsNextWord line first behind → (length first ≡ 0 → ⊥) → IsNextWord behind second rest → (length second ≡ 0 → ⊥)
+pub line_of_two : (line first behind second rest third left : List ℕ) → nat_lt 255 (length line) ≡ false → IsNextWord line first behind
+    → (length first ≡ 0 → ⊥) → IsNextWord behind second rest → (length second ≡ 0 → ⊥)
     → IsNextWord rest third left → length third ≡ 0 → bytes_eq first (codes "asm") ≡ false → pair_command first second ≡ command_of line
 line_of_two line first behind second rest third left short p some q more r last no_asm =
-    let words = next line first behind p some ∙ ap (λ ws. first ∷ ws) (next behind second rest q more ∙ ap (λ ws. second ∷ ws) (no_more rest third left r last)) in
+    let words = next line first behind p some ∙ ap (λ ws. first ∷ ws)
+        (next behind second rest q more ∙ ap (λ ws. second ∷ ws) (no_more rest third left r last)) in
     pair_row first second ∙ sym (other_line line first behind short p no_asm ∙ ap command_of_words words)
 
-pub line_of_three : (line first behind second rest third after fourth left : List ℕ) → nat_lt 255 (length line) ≡ false → IsNextWord line first behind → (length first ≡ 0 → ⊥) → IsNextWord behind second rest → (length second ≡ 0 → ⊥)
-    → IsNextWord rest third after → (length third ≡ 0 → ⊥) → IsNextWord after fourth left → length fourth ≡ 0 → bytes_eq first (codes "asm") ≡ false → triple_command first second third ≡ command_of line
+pub line_of_three : (line first behind second rest third after fourth left : List ℕ) → nat_lt 255 (length line) ≡ false → IsNextWord line first behind
+    → (length first ≡ 0 → ⊥) → IsNextWord behind second rest → (length second ≡ 0 → ⊥)
+    → IsNextWord rest third after → (length third ≡ 0 → ⊥) → IsNextWord after fourth left → length fourth ≡ 0 → bytes_eq first (codes "asm") ≡ false
+        → triple_command first second third ≡ command_of line
 line_of_three line first behind second rest third after fourth left short p some q more r third_some t last no_asm =
-    let words = next line first behind p some ∙ ap (λ ws. first ∷ ws) (next behind second rest q more ∙ ap (λ ws. second ∷ ws) (next rest third after r third_some ∙ ap (λ ws. third ∷ ws) (no_more after fourth left t last))) in
+    let words = next line first behind p some ∙ ap (λ ws. first ∷ ws)
+        (next behind second rest q more ∙ ap (λ ws. second ∷ ws)
+        (next rest third after r third_some ∙ ap (λ ws. third ∷ ws) (no_more after fourth left t last))) in
     triple_row first second third ∙ sym (other_line line first behind short p no_asm ∙ ap command_of_words words)
 
-pub in_line : (line first behind second rest : List ℕ) → nat_lt 255 (length line) ≡ false → IsNextWord line first behind → (length first ≡ 0 → ⊥) → IsNextWord behind second rest → (length second ≡ 0 → ⊥)
+pub in_line : (line first behind second rest : List ℕ) → nat_lt 255 (length line) ≡ false → IsNextWord line first behind → (length first ≡ 0 → ⊥)
+    → IsNextWord behind second rest → (length second ≡ 0 → ⊥)
     → bytes_eq first (codes "asm") ≡ false → bytes_eq first (codes "in") ≡ true → input_command (bytes_of_words (words_of behind)) ≡ command_of line
 in_line line first behind second rest short p some q more no_asm is_in =
     let words = next line first behind p some in
     let words_after = next behind second rest q more in
-    ap (λ ws. input_command (bytes_of_words ws)) words_after ∙ sym (other_line line first behind short p no_asm ∙ ap command_of_words (words ∙ ap (λ w. w ∷ words_of behind) (same first is_in) ∙ ap (λ ws. codes "in" ∷ ws) words_after) ∙ input_words second (words_of rest))
+    ap (λ ws. input_command (bytes_of_words ws)) words_after
+        ∙ sym (other_line line first behind short p no_asm ∙ ap command_of_words
+        (words ∙ ap (λ w. w ∷ words_of behind) (same first is_in) ∙ ap (λ ws. codes "in" ∷ ws) words_after) ∙ input_words second (words_of rest))
 
 -- ---- lines that begin with `asm`
 
@@ -70,7 +83,8 @@ is_first : (line first behind : List ℕ) → IsNextWord line first behind → b
 is_first line [] behind p e = cc
 is_first line (b ∷ w) behind p e = p
 
-pub asm_line : (line first behind second rest text : List ℕ) → nat_lt 255 (length line) ≡ false → IsNextWord line first behind → IsNextWord behind second rest → behind ≡ rest_of line → rest ≡ rest_of behind
+pub asm_line : (line first behind second rest text : List ℕ) → nat_lt 255 (length line) ≡ false → IsNextWord line first behind
+    → IsNextWord behind second rest → behind ≡ rest_of line → rest ≡ rest_of behind
     → text ≡ without_spaces rest → bytes_eq first (codes "asm") ≡ true → asm_command (address_of second) text ≡ command_of line
 unfolding command_of
 asm_line line first behind second rest text short p q e f t yes_asm =
@@ -142,29 +156,36 @@ none : (line word rest : List ℕ) → IsNextWord line word rest → length word
 none line [] rest h e = h.0
 none line (b ∷ w) rest h e = absurd (omega arith)
 
-pub meets_all : (line bytes : List ℕ) (count : ℕ) (rest word behind : List ℕ) → Meets line bytes count rest → count ≤ 16 → IsNextWord rest word behind → length word ≡ 0
+pub meets_all : (line bytes : List ℕ) (count : ℕ) (rest word behind : List ℕ) → Meets line bytes count rest → count ≤ 16 → IsNextWord rest word behind
+    → length word ≡ 0
     → Input bytes count ≡ input_command (bytes_of_words (words_of line))
 meets_all line bytes count rest word behind m h p empty =
     let few : length m.0 ≤ 16 = omega (arith, m.1, h) in
     let whole = ap input_command (m.3 ∙ ap (λ ws. joined m.0 (bytes_of_words ws)) (none rest word behind p empty)) ∙ all_met m.0 few in
     ap (λ l. Input l count) m.2 ∙ ap (λ n. Input (padded 16 m.0) n) (sym m.1) ∙ sym whole
 
-pub meets_bad : (line bytes : List ℕ) (count : ℕ) (rest word behind : List ℕ) → Meets line bytes count rest → IsNextWord rest word behind → (length word ≡ 0 → ⊥) → byte_of word ≡ None
+pub meets_bad : (line bytes : List ℕ) (count : ℕ) (rest word behind : List ℕ) → Meets line bytes count rest → IsNextWord rest word behind
+    → (length word ≡ 0 → ⊥) → byte_of word ≡ None
     → Bad ≡ input_command (bytes_of_words (words_of line))
 meets_bad line bytes count rest word behind m p some e =
-    sym (ap input_command (m.3 ∙ ap (λ ws. joined m.0 (bytes_of_words ws)) (next rest word behind p some) ∙ ap (λ b. joined m.0 (byte_before b (bytes_of_words (words_of behind)))) e))
+    sym (ap input_command (m.3 ∙ ap (λ ws. joined m.0 (bytes_of_words ws)) (next rest word behind p some)
+        ∙ ap (λ b. joined m.0 (byte_before b (bytes_of_words (words_of behind)))) e))
 
-pub meets_more : (line bytes : List ℕ) (count : ℕ) (rest word behind : List ℕ) (b : ℕ) → Meets line bytes count rest → count < 16 → IsNextWord rest word behind → (length word ≡ 0 → ⊥) → byte_of word ≡ Some b
+pub meets_more : (line bytes : List ℕ) (count : ℕ) (rest word behind : List ℕ) (b : ℕ) → Meets line bytes count rest → count < 16
+    → IsNextWord rest word behind → (length word ≡ 0 → ⊥) → byte_of word ≡ Some b
     → Meets line (slice_set bytes count b) (count + 1) behind
 meets_more line bytes count rest word behind b m h p some e =
-    let place : slice_set bytes count b ≡ slice_set (padded 16 m.0) (length m.0) b = ap (λ l. slice_set l count b) m.2 ∙ ap (λ n. slice_set (padded 16 m.0) n b) (sym m.1) in (
+    let place : slice_set bytes count b ≡ slice_set (padded 16 m.0) (length m.0) b =
+        ap (λ l. slice_set l count b) m.2 ∙ ap (λ n. slice_set (padded 16 m.0) n b) (sym m.1) in (
       m.0 ++ b ∷ [],
       omega (arith, m.1, length-append m.0 (b ∷ [])),
       place ∙ pad_more 16 m.0 b (omega (arith, m.1, h)),
-      m.3 ∙ ap (λ ws. joined m.0 (bytes_of_words ws)) (next rest word behind p some) ∙ ap (λ c. joined m.0 (byte_before c (bytes_of_words (words_of behind)))) e ∙ joined_more m.0 b (bytes_of_words (words_of behind)),
+      m.3 ∙ ap (λ ws. joined m.0 (bytes_of_words ws)) (next rest word behind p some)
+          ∙ ap (λ c. joined m.0 (byte_before c (bytes_of_words (words_of behind)))) e ∙ joined_more m.0 b (bytes_of_words (words_of behind)),
     )
 
 pub meets_too_many : (line bytes : List ℕ) (rest word behind : List ℕ) → Meets line bytes 16 rest → IsNextWord rest word behind → (length word ≡ 0 → ⊥)
     → Bad ≡ input_command (bytes_of_words (words_of line))
 meets_too_many line bytes rest word behind m p some =
-    sym (ap input_command (m.3 ∙ ap (λ ws. joined m.0 (bytes_of_words ws)) (next rest word behind p some)) ∙ too_many m.0 (byte_of word) (bytes_of_words (words_of behind)) m.1)
+    sym (ap input_command (m.3 ∙ ap (λ ws. joined m.0 (bytes_of_words ws)) (next rest word behind p some))
+        ∙ too_many m.0 (byte_of word) (bytes_of_words (words_of behind)) m.1)

@@ -29,10 +29,13 @@ either_way true x y z e f = e
 either_way false x y z e f = f
 
 -- A command of six words or more, but for `in`.
-pub six : (w a b c rest fifth after sixth left : List ℕ) → IsNextWord rest fifth after → (length fifth ≡ 0 → ⊥) → IsNextWord after sixth left → (length sixth ≡ 0 → ⊥) → bytes_eq w (codes "in") ≡ false
+pub six : (w a b c rest fifth after sixth left : List ℕ) → IsNextWord rest fifth after → (length fifth ≡ 0 → ⊥) → IsNextWord after sixth left
+    → (length sixth ≡ 0 → ⊥) → bytes_eq w (codes "in") ≡ false
     → long_command w a (b ∷ c ∷ words_of rest) ≡ Bad
 unfolding long_command
 six w a b c rest fifth after sixth left p some q more no_in =
     let words = next rest fifth after p some ∙ ap (λ ws. fifth ∷ ws) (next after sixth left q more) in
-    let bad : (if bytes_eq w (codes "in") then input_command (bytes_of_words (a ∷ b ∷ c ∷ words_of rest)) else Bad) ≡ Bad = ap (λ t. if t then input_command (bytes_of_words (a ∷ b ∷ c ∷ words_of rest)) else Bad) no_in in
-    either_way (bytes_eq w (codes "patch")) _ _ Bad (ap (λ ws. patch_command (address_of a) (bytes_of_words (b ∷ c ∷ ws))) words ∙ too_many (address_of a) b c fifth sixth (words_of left)) bad
+    let bad : (if bytes_eq w (codes "in") then input_command (bytes_of_words (a ∷ b ∷ c ∷ words_of rest)) else Bad) ≡ Bad =
+        ap (λ t. if t then input_command (bytes_of_words (a ∷ b ∷ c ∷ words_of rest)) else Bad) no_in in
+    either_way (bytes_eq w (codes "patch")) _ _ Bad (ap (λ ws. patch_command (address_of a) (bytes_of_words (b ∷ c ∷ ws))) words
+        ∙ too_many (address_of a) b c fifth sixth (words_of left)) bad

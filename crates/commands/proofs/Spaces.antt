@@ -63,7 +63,8 @@ other b ne = elim (eqb_tells b 32) [
   | inr e ↦ rw e.0 refl
 ]
 
-pub all_more : (line : List ℕ) (n : ℕ) → n < length line → get_or line n 0 ≢ 32 → list_all no_space (take n line) ≡ true → list_all no_space (take (n + 1) line) ≡ true
+pub all_more : (line : List ℕ) (n : ℕ) → n < length line → get_or line n 0 ≢ 32 → list_all no_space (take n line) ≡ true
+    → list_all no_space (take (n + 1) line) ≡ true
 all_more line n h ne all =
     let test : no_space (get_or line n 0) ≡ true = other _ ne in
     rw (take_more line n 0 h, list_all-append) (rw (all, test) refl)
@@ -91,7 +92,8 @@ word_first b (d ∷ w) rest all ends =
     let parts = both (no_space b) (list_all no_space (d ∷ w)) all in
     let e = plain_byte b parts.0 in
     let f = plain_byte d (both (no_space d) _ parts.1).0 in
-    words_byte b ((d ∷ w) ++ rest) e ∙ ap (λ g. with_byte_before b g (words_of ((d ∷ w) ++ rest))) (goes_byte d (w ++ rest) f) ∙ ap (λ ws. with_byte_before b true ws) (word_first d w rest parts.1 ends)
+    words_byte b ((d ∷ w) ++ rest) e ∙ ap (λ g. with_byte_before b g (words_of ((d ∷ w) ++ rest))) (goes_byte d (w ++ rest) f)
+        ∙ ap (λ ws. with_byte_before b true ws) (word_first d w rest parts.1 ends)
 
 pub next_word : (w rest : List ℕ) → list_all no_space w ≡ true → goes_on rest ≡ false → (w ≡ [] → words_of rest ≡ []) → IsNextWord (w ++ rest) w rest
 next_word [] rest all ends none = (none refl, none refl)
@@ -112,7 +114,8 @@ ends_by line e (inl h) = goes_space line e h.0 h.1
 ends_by line e (inr h) = goes_end line e h
 
 -- where there is no word, there is nothing
-none_by : (line : List ℕ) (e : ℕ) → (length line ≡ 0) ⊎ (get_or line 0 0 ≢ 32) → ((e < length line) × (get_or line e 0 ≡ 32)) ⊎ (length line ≤ e) → e ≡ 0 → words_of (drop e line) ≡ []
+none_by : (line : List ℕ) (e : ℕ) → (length line ≡ 0) ⊎ (get_or line 0 0 ≢ 32) → ((e < length line) × (get_or line e 0 ≡ 32)) ⊎ (length line ≤ e)
+    → e ≡ 0 → words_of (drop e line) ≡ []
 none_by line e starts (inr h) same = words_end line e h
 none_by line e (inl none) (inl h) same = absurd (omega (arith, h.0))
 none_by line e (inr some) (inl h) same = absurd (some (ap (λ n. get_or line n 0) (sym same) ∙ h.1))
@@ -126,8 +129,10 @@ pub found_word : (line front : List ℕ) (e : ℕ) → front ≡ without_spaces 
 found_word line front e is within all last =
     let long : length (take e front) ≡ e = omega (arith, length-take e front) in
     let starts : (length front ≡ 0) ⊎ (get_or front 0 0 ≢ 32) = subst (λ f. (length f ≡ 0) ⊎ (get_or f 0 0 ≢ 32)) (sym is) (front_starts line) in
-    of_line front line (take e front) (drop e front) (ap words_of is ∙ words_unspaced line) (subst (λ l. IsNextWord l (take e front) (drop e front)) (take-append-drop e front)
-    (next_word (take e front) (drop e front) all (ends_by front e last) (λ empty. none_by front e starts last (let z : length (take e front) ≡ 0 = ap length empty in omega arith))))
+    of_line front line (take e front) (drop e front) (ap words_of is ∙ words_unspaced line)
+        (subst (λ l. IsNextWord l (take e front) (drop e front)) (take-append-drop e front)
+    (next_word (take e front) (drop e front) all (ends_by front e last)
+        (λ empty. none_by front e starts last (let z : length (take e front) ≡ 0 = ap length empty in omega arith))))
 
 -- the whole rest
 pub rest_all : (line : List ℕ) (i : ℕ) → take (length line - i) (drop i line) ≡ drop i line

@@ -9,7 +9,8 @@ zeros_front (suc n) zero h = absurd (omega arith)
 zeros_front (suc n) (suc m) h = ap (λ l. 0 ∷ l) (zeros_front n m (omega arith))
 
 -- zeros in the place of whose first a text is put
-pub front_of_zeros : (text : List ℕ) (n m : ℕ) → length text ≤ n → n ≤ m → text ++ drop (length text) (replicate {A = ℕ} n 0) ≡ take n (text ++ replicate {A = ℕ} m 0)
+pub front_of_zeros : (text : List ℕ) (n m : ℕ) → length text ≤ n → n ≤ m
+    → text ++ drop (length text) (replicate {A = ℕ} n 0) ≡ take n (text ++ replicate {A = ℕ} m 0)
 front_of_zeros [] n m h k = zeros_front n m k
 front_of_zeros (b ∷ bs) zero m h k = absurd (omega arith)
 front_of_zeros (b ∷ bs) (suc n) m h k = ap (λ l. b ∷ l) (front_of_zeros bs n m (omega arith) (omega arith))
@@ -31,4 +32,5 @@ after_short (b ∷ bs) = elim (eqb_tells b 32) [
 ]
 
 pub text_short : (line : List ℕ) → length (text_of line) ≤ length line
-text_short line = omega (arith, unspaced_short (rest_of (rest_of line)), after_short (without_spaces (rest_of line)), unspaced_short (rest_of line), after_short (without_spaces line), unspaced_short line)
+text_short line = omega (arith, unspaced_short (rest_of (rest_of line)), after_short (without_spaces (rest_of line)), unspaced_short (rest_of line),
+    after_short (without_spaces line), unspaced_short line)

@@ -34,7 +34,8 @@ use Rattle.console.proofs.Turning.{later_none, later_twice, made, played_turn, t
 
 -- ---- marks
 
-written_where : (marks : List ℕ) (cells : List Bool) (address : ℕ) → AreMarks marks cells → address < length cells → slice_index marks address ≡ 0 → is_written cells address ≡ true
+written_where : (marks : List ℕ) (cells : List Bool) (address : ℕ) → AreMarks marks cells → address < length cells → slice_index marks address ≡ 0
+    → is_written cells address ≡ true
 written_where marks cells address are within zero_mark = are address within ∙ ap is_unmarked zero_mark
 
 -- the place is not written
@@ -46,7 +47,8 @@ bound_off marks cells place size are off = (
       let is = written_where marks cells address are within zero_mark in (is, away place address is off),
 )
   where
-    away : (place : Option ℕ) (address : ℕ) → is_written cells address ≡ true → ((at' : ℕ) → place ≡ Some at' → is_written cells at' ≡ false) → is_place place address ≡ false
+    away : (place : Option ℕ) (address : ℕ) → is_written cells address ≡ true → ((at' : ℕ) → place ≡ Some at' → is_written cells at' ≡ false)
+        → is_place place address ≡ false
     away None address is off = refl
     away (Some at') address is off = elim (eqb_tells address at') [
       | inr differs ↦ differs.0
@@ -54,7 +56,8 @@ bound_off marks cells place size are off = (
     ]
 
 -- the place was written, and is forgotten for a time
-pub bound_at : (marks : List ℕ) (cells : List Bool) (place : ℕ) → length (slice_set cells place false) ≡ 65536 → AreMarks marks (slice_set cells place false) → Bound marks cells (Some place)
+pub bound_at : (marks : List ℕ) (cells : List Bool) (place : ℕ) → length (slice_set cells place false) ≡ 65536
+    → AreMarks marks (slice_set cells place false) → Bound marks cells (Some place)
 bound_at marks cells place size are =
     let same : length (slice_set cells place false) ≡ length cells = length-set cells place false in (
       sym same ∙ size,
@@ -73,7 +76,8 @@ at_place None state = refl
 at_place (Some address) state = refl
 
 -- stores where bytes were written
-stores_kept : (marks : List ℕ) (cells : List Bool) (place : Option ℕ) (map : Map) → Bound marks cells place → (stores : List ℕ) → All (IsFree marks map) stores → with_bytes cells stores ≡ cells
+stores_kept : (marks : List ℕ) (cells : List Bool) (place : Option ℕ) (map : Map) → Bound marks cells place → (stores : List ℕ)
+    → All (IsFree marks map) stores → with_bytes cells stores ≡ cells
 unfolding with_bytes
 stores_kept marks cells place map bound [] free = refl
 stores_kept marks cells place map bound (x ∷ xs) free =
@@ -106,7 +110,8 @@ no_line : (cells : List Bool) (from : Option ℕ) (s : State) → is_port_read s
 unfolding asks looks
 no_line cells from s plain = ap (λ b. not (input_waits s.bus) && b) (no_input s.bus.map (access_here s).read plain) ∙ and_false (not (input_waits s.bus))
 
-no_ending : (cells : List Bool) (from : Option ℕ) (s : State) → is_written cells s.regs.pc ≡ true → is_break (row_here s) ≡ false → ending_here (gliding cells from).memo cells false false s ≡ None
+no_ending : (cells : List Bool) (from : Option ℕ) (s : State) → is_written cells s.regs.pc ≡ true → is_break (row_here s) ≡ false
+    → ending_here (gliding cells from).memo cells false false s ≡ None
 unfolding ending_before fall_of
 no_ending cells from s is other =
     let why = stray_of cells from in
@@ -117,28 +122,35 @@ same_either : {X : Type 0} (x : X) (b : Bool) → x ≡ cond b x x
 same_either x true = refl
 same_either x false = refl
 
-memo_kept : (cells : List Bool) (from : Option ℕ) (s t : State) → stays s.regs t.regs ≡ false → (gliding cells (Some s.regs.pc)).memo ≡ memo_after (gliding cells from).memo false false s t.regs
+memo_kept : (cells : List Bool) (from : Option ℕ) (s t : State) → stays s.regs t.regs ≡ false
+    → (gliding cells (Some s.regs.pc)).memo ≡ memo_after (gliding cells from).memo false false s t.regs
 unfolding memo_after
 memo_kept cells from s t moves = λ i. record { rests = sym moves i; idle = same_either None (puts_byte (access_here s)) i; from = Some s.regs.pc }
 
 not_entered : (marks : List ℕ) (s t : State) → IsPlainStep marks s t → entered (moment_of s) t ≡ false
 not_entered marks s t plain = entered_is s t (ap (λ (bus : Bus). bus.given) plain.rest) ∙ plain.entry
 
-written_kept : (marks : List ℕ) (cells : List Bool) (place : Option ℕ) (s t : State) → Bound marks cells place → IsPlainStep marks s t → cells ≡ with_bytes cells (step_stores s t)
+written_kept : (marks : List ℕ) (cells : List Bool) (place : Option ℕ) (s t : State) → Bound marks cells place → IsPlainStep marks s t
+    → cells ≡ with_bytes cells (step_stores s t)
 written_kept marks cells place s t bound plain =
     sym (ap (λ b. with_bytes cells (stored_by b s.regs.s (stores_here s))) (not_entered marks s t plain)
     ∙ stores_kept marks cells place s.bus.map bound (stores_here s) plain.plain.stores)
 
-plain_turn : (marks : List ℕ) (cells : List Bool) (place from : Option ℕ) (s : Session) (t : State) → Bound marks cells place → is_written cells s.current.regs.pc ≡ true → IsPlainStep marks s.current t
+plain_turn : (marks : List ℕ) (cells : List Bool) (place from : Option ℕ) (s : Session) (t : State) → Bound marks cells place
+    → is_written cells s.current.regs.pc ≡ true → IsPlainStep marks s.current t
     → (input : List ℕ) → turn_of (play_at s (gliding cells from) input) ≡ turn_to None (with_state s t) (gliding cells (Some s.current.regs.pc)) input
 plain_turn marks cells place from s t bound is plain input =
     let k = gliding cells from in
-    turned s s k [] input false false false (sym (no_line cells from s.current plain.plain.read)) (λ rest may. refl) (λ over. absurd (true≢false (sym over))) (sym (input-none s)) refl
-    ∙ ap (λ e. unless_ended e (play_at s k input) (stepped (play_at s k input) false false (step s.current))) (no_ending cells from s.current is plain.plain.no_break)
-    ∙ made s (with_state s t) t k (gliding cells (Some s.current.regs.pc)) input false false (event_is_step s.current ∙ plain.made) refl (memo_kept cells from s.current t plain.plain.moves)
+    turned s s k [] input false false false (sym (no_line cells from s.current plain.plain.read)) (λ rest may. refl)
+        (λ over. absurd (true≢false (sym over))) (sym (input-none s)) refl
+    ∙ ap (λ e. unless_ended e (play_at s k input) (stepped (play_at s k input) false false (step s.current)))
+        (no_ending cells from s.current is plain.plain.no_break)
+    ∙ made s (with_state s t) t k (gliding cells (Some s.current.regs.pc)) input false false (event_is_step s.current ∙ plain.made) refl
+        (memo_kept cells from s.current t plain.plain.moves)
     (written_kept marks cells place s.current t bound plain)
 
-plain_glide : (marks : List ℕ) (cells : List Bool) (place from : Option ℕ) (s : Session) (t : State) → Bound marks cells place → is_at place s.current ≡ false → is_written cells s.current.regs.pc ≡ true → IsPlainStep marks s.current t
+plain_glide : (marks : List ℕ) (cells : List Bool) (place from : Option ℕ) (s : Session) (t : State) → Bound marks cells place
+    → is_at place s.current ≡ false → is_written cells s.current.regs.pc ≡ true → IsPlainStep marks s.current t
     → Glides place 1 s (gliding cells from) (with_state s t) (gliding cells (Some s.current.regs.pc))
 plain_glide marks cells place from s t bound off is plain = λ limit input within.
     let k = gliding cells from in
@@ -149,14 +161,16 @@ plain_glide marks cells place from s t bound off is plain = λ limit input withi
     ∙ ap (λ turn. after_turn place turn (λ q. played place (limit - 1) q)) (plain_turn marks cells place from s t bound is plain input)
     ∙ next_by (is_at place t) after (played place (limit - 1) after)
   where
-    next_by : (b : Bool) (p : Play) (o : Outcome) → cond b (record { steps = 1; ending = Until; play = p }) (later 1 o) ≡ later 1 (cond b (record { steps = 0; ending = Until; play = p }) o)
+    next_by : (b : Bool) (p : Play) (o : Outcome) → cond b (record { steps = 1; ending = Until; play = p }) (later 1 o)
+        ≡ later 1 (cond b (record { steps = 0; ending = Until; play = p }) o)
     next_by true p o = refl
     next_by false p o = refl
 
 -- ---- many plain steps
 
 pub glides_none : (place : Option ℕ) (s : Session) (k : Known) → Glides place 0 s k s k
-glides_none place s k = λ limit input within. ap (λ n. going place n (play_at s k input)) (sym (sub-zero limit)) ∙ sym (later_none (going place (limit - 0) (play_at s k input)))
+glides_none place s k = λ limit input within. ap (λ n. going place n (play_at s k input)) (sym (sub-zero limit))
+    ∙ sym (later_none (going place (limit - 0) (play_at s k input)))
 
 glides_on : (place : Option ℕ) (n m : ℕ) (s t u : Session) (k l o : Known) → Glides place n s k t l → Glides place m t l u o → Glides place (n + m) s k u o
 glides_on place n m s t u k l o h g = λ limit input within.
@@ -187,19 +201,24 @@ record Glided (cells : List Bool) (place : Option ℕ) (n : ℕ) (s : Session) (
   same : SameConsole s.current m
   far : Glides place n s (gliding cells from) (after_steps n s) (gliding cells last)
 
-last_glide : (marks : List ℕ) (cells : List Bool) (place from last : Option ℕ) (n : ℕ) (s : Session) (m t : State) → Bound marks cells place → AllPlain marks marks n s.current m → Glided cells place n s from m last → IsPlainStep marks m t
+last_glide : (marks : List ℕ) (cells : List Bool) (place from last : Option ℕ) (n : ℕ) (s : Session) (m t : State) → Bound marks cells place
+    → AllPlain marks marks n s.current m → Glided cells place n s from m last → IsPlainStep marks m t
     → Glides place (suc n) s (gliding cells from) (after_steps (suc n) s) (gliding cells (Some m.regs.pc))
 last_glide marks cells place from last n s m t bound all h plain =
     let here = session_at marks marks n s m all in
-    let one = plain_glide marks cells place last (after_steps n s) t bound (ap (is_at place) here ∙ h.off) (ap (λ (x : State). is_written cells x.regs.pc) here ∙ h.is)
+    let one = plain_glide marks cells place last (after_steps n s) t bound (ap (is_at place) here ∙ h.off)
+        (ap (λ (x : State). is_written cells x.regs.pc) here ∙ h.is)
     (subst (λ (x : State). IsPlainStep marks x t) (sym here) plain) in
-    let both = glides_on place n 1 s (after_steps n s) (with_state (after_steps n s) t) (gliding cells from) (gliding cells last) (gliding cells (Some (after_steps n s).current.regs.pc)) h.far one in
+    let both = glides_on place n 1 s (after_steps n s) (with_state (after_steps n s) t) (gliding cells from) (gliding cells last)
+        (gliding cells (Some (after_steps n s).current.regs.pc)) h.far one in
     let count : n + 1 ≡ suc n = omega arith in
     subst (λ k. Glides place k s (gliding cells from) (after_steps (suc n) s) (gliding cells (Some m.regs.pc))) count
     (subst (λ (x : State). Glides place (n + 1) s (gliding cells from) (after_steps (suc n) s) (gliding cells (Some x.regs.pc))) here
-    (subst (λ u. Glides place (n + 1) s (gliding cells from) u (gliding cells (Some (after_steps n s).current.regs.pc))) (session_next n s m t here plain.made) both))
+    (subst (λ u. Glides place (n + 1) s (gliding cells from) u (gliding cells (Some (after_steps n s).current.regs.pc)))
+        (session_next n s m t here plain.made) both))
 
-glided : (marks : List ℕ) (cells : List Bool) (place from : Option ℕ) (n : ℕ) (s : Session) (m : State) → Bound marks cells place → IsState s.current → is_at place s.current ≡ false → is_written cells s.current.regs.pc ≡ true
+glided : (marks : List ℕ) (cells : List Bool) (place from : Option ℕ) (n : ℕ) (s : Session) (m : State) → Bound marks cells place → IsState s.current
+    → is_at place s.current ≡ false → is_written cells s.current.regs.pc ≡ true
     → AllPlain marks marks n s.current m → (last : Option ℕ) × Glided cells place n s from m last
 glided marks cells place from zero s m bound state off is all = (
   from,
@@ -227,7 +246,8 @@ glided marks cells place from (suc n) s m bound state off is all =
     )
 
 -- a whole stretch, whose last step may lead to a stop
-pub glides_all : (marks : List ℕ) (cells : List Bool) (place from : Option ℕ) (n at' : ℕ) (s u : Session) → Bound marks cells place → IsState s.current → is_at place s.current ≡ false → is_written cells s.current.regs.pc ≡ true
+pub glides_all : (marks : List ℕ) (cells : List Bool) (place from : Option ℕ) (n at' : ℕ) (s u : Session) → Bound marks cells place
+    → IsState s.current → is_at place s.current ≡ false → is_written cells s.current.regs.pc ≡ true
     → 0 < n → AllPlainButLast marks marks n at' s.current u.current → u ≡ after_steps n s
     → Glides place n s (gliding cells from) u (gliding cells (Some at')) × SameConsole s.current u.current
 glides_all marks cells place from zero at' s u bound state off is some all end = absurd (omega arith)
@@ -242,7 +262,8 @@ glides_all marks cells place from (suc n) at' s u bound state off is some all en
     )
 
 -- what is known then, but for where the last step was made
-pub glides_known : (place : Option ℕ) (n : ℕ) (s u : Session) (k : Known) (cells : List Bool) (at' : ℕ) → k.memo.rests ≡ false → k.memo.idle ≡ None → cells ≡ k.written
+pub glides_known : (place : Option ℕ) (n : ℕ) (s u : Session) (k : Known) (cells : List Bool) (at' : ℕ) → k.memo.rests ≡ false → k.memo.idle ≡ None
+    → cells ≡ k.written
     → Glides place n s (gliding k.written k.memo.from) u (gliding k.written (Some at'))
     → Glides place n s k u (record { memo = record { rests = k.memo.rests; idle = k.memo.idle; from = Some at' }; written = cells })
 glides_known place n s u k cells at' rests idle same far =
@@ -252,7 +273,8 @@ glides_known place n s u k cells at' rests idle same far =
     (subst (λ (l : Known). Glides place n s l u (gliding k.written (Some at'))) (sym (is_gliding k rests idle)) far)
 
 -- no step
-pub glides_nowhere : (place : Option ℕ) (s u : Session) (k : Known) (cells : List Bool) → u ≡ s → cells ≡ k.written → Glides place 0 s k u (record { memo = k.memo; written = cells })
+pub glides_nowhere : (place : Option ℕ) (s u : Session) (k : Known) (cells : List Bool) → u ≡ s → cells ≡ k.written
+    → Glides place 0 s k u (record { memo = k.memo; written = cells })
 glides_nowhere place s u k cells at' same =
     subst (λ (v : Session). Glides place 0 s k v (record { memo = k.memo; written = cells })) (sym at')
     (subst (λ (w : List Bool). Glides place 0 s k s (record { memo = k.memo; written = w })) (sym same) (glides_none place s k))
@@ -268,7 +290,8 @@ pub record StepsPlainly (marks : List ℕ) (at' : ℕ) (s u : Session) : Type 0 
   pub from : at' ≡ s.current.regs.pc
   pub after : u ≡ with_state s u.current
 
-pub steps_plainly : (marks : List ℕ) (n at' : ℕ) (s u : Session) → 0 < n → n ≤ 1 → AllPlainButLast marks marks n at' s.current u.current → u ≡ after_steps n s → StepsPlainly marks at' s u
+pub steps_plainly : (marks : List ℕ) (n at' : ℕ) (s u : Session) → 0 < n → n ≤ 1 → AllPlainButLast marks marks n at' s.current u.current
+    → u ≡ after_steps n s → StepsPlainly marks at' s u
 steps_plainly marks n at' s u some one all end =
     let none : n - 1 ≡ 0 = omega arith in
     let here : all.0 ≡ s.current = subst (λ k. AllPlain marks marks k s.current all.0) none all.1 in
@@ -280,16 +303,20 @@ steps_plainly marks n at' s u some one all end =
     }
 
 -- it is a turn, and no interrupt entry
-pub turns_plainly : (marks : List ℕ) (k : Known) (at' : ℕ) (over : Bool) (s u : Session) → k.memo.rests ≡ false → k.memo.idle ≡ None → AreMarks marks k.written → length k.written ≡ 65536 → is_written k.written s.current.regs.pc ≡ true
-    → StepsPlainly marks at' s u → TurnsTo s k [] over None u (record { memo = record { rests = k.memo.rests; idle = k.memo.idle; from = Some at' }; written = k.written })
+pub turns_plainly : (marks : List ℕ) (k : Known) (at' : ℕ) (over : Bool) (s u : Session) → k.memo.rests ≡ false → k.memo.idle ≡ None
+    → AreMarks marks k.written → length k.written ≡ 65536 → is_written k.written s.current.regs.pc ≡ true
+    → StepsPlainly marks at' s u → TurnsTo s k [] over None u
+        (record { memo = record { rests = k.memo.rests; idle = k.memo.idle; from = Some at' }; written = k.written })
 turns_plainly marks k at' over s u rests idle are size is h = λ rest may.
     let bound = bound_off marks k.written None size are (λ address none. absurd cc) in
-    let after : gliding k.written (Some s.current.regs.pc) ≡ record { memo = record { rests = k.memo.rests; idle = k.memo.idle; from = Some at' }; written = k.written }
+    let after : gliding k.written (Some s.current.regs.pc) ≡ record
+        { memo = record { rests = k.memo.rests; idle = k.memo.idle; from = Some at' }; written = k.written }
     = λ i. record { memo = record { rests = sym rests i; idle = sym idle i; from = Some (sym h.from i) }; written = k.written } in
     ap (λ (l : Known). turn_of (play_at s l rest)) (is_gliding k rests idle)
     ∙ plain_turn marks k.written None k.memo.from s u.current bound is h.plain rest
     ∙ ap (λ (l : Known). turn_to None (with_state s u.current) l rest) after
-    ∙ ap (λ (v : Session). turn_to None v (record { memo = record { rests = k.memo.rests; idle = k.memo.idle; from = Some at' }; written = k.written }) rest) (sym h.after)
+    ∙ ap (λ (v : Session). turn_to None v (record { memo = record { rests = k.memo.rests; idle = k.memo.idle; from = Some at' }; written =
+        k.written }) rest) (sym h.after)
 
 pub no_entry_made : (marks : List ℕ) (at' : ℕ) (s u : Session) → StepsPlainly marks at' s u → entered (moment_of s.current) u.current ≡ false
 no_entry_made marks at' s u h = not_entered marks s.current u.current h.plain

@@ -33,7 +33,8 @@ out_of p = p.session.current.bus.out
 -- ---- input
 
 byte_by : (s : Session) (byte : ℕ) (full : Bool)
-    → (after_event s (cond full (Err InputFull) (Ok (record s.current { bus = record s.current.bus { given = s.current.bus.given ++ byte ∷ [] } })))).current.bus.out ≡ s.current.bus.out
+    → (after_event s (cond full (Err InputFull) (Ok (record s.current
+        { bus = record s.current.bus { given = s.current.bus.given ++ byte ∷ [] } })))).current.bus.out ≡ s.current.bus.out
 byte_by s byte true = refl
 byte_by s byte false = refl
 
@@ -48,7 +49,8 @@ input_kept s (byte ∷ bytes) = input_kept (after_event s (event_of s.current (e
 
 -- ---- a turn
 
-stepped_grows : (p : Play) (asked some : Bool) (r : Result State EventFault) → step p.session.current ≡ r → Begins (out_of p) (out_of (stepped p asked some r).play)
+stepped_grows : (p : Play) (asked some : Bool) (r : Result State EventFault) → step p.session.current ≡ r
+    → Begins (out_of p) (out_of (stepped p asked some r).play)
 stepped_grows p asked some (Ok after) e = step_grows p.session.current after e
 stepped_grows p asked some (Err fault) e = begins_itself (out_of p)
 
@@ -73,7 +75,8 @@ at_grows : (b : Bool) (q : Play) (before : List ℕ) (o : Outcome) → Begins be
 at_grows true q before o first second = first
 at_grows false q before o first second = begins_on before (out_of q) (out_of o.play) first second
 
-after_grows : (until : Option ℕ) (ending : Option Ending) (q : Play) (before : List ℕ) (rest : Play → Outcome) → Begins before (out_of q) → ((p : Play) → Begins (out_of p) (out_of (rest p).play))
+after_grows : (until : Option ℕ) (ending : Option Ending) (q : Play) (before : List ℕ) (rest : Play → Outcome) → Begins before (out_of q)
+    → ((p : Play) → Begins (out_of p) (out_of (rest p).play))
     → Begins before (out_of (after_turn until (record { ending = ending; play = q }) rest).play)
 after_grows until (Some why) q before rest first second = first
 after_grows until None q before rest first second = at_grows (is_at until q.session.current) q before (rest q) first (second q)
@@ -85,22 +88,26 @@ played_grows until (suc n) p = after_grows until (turn_of p).ending (turn_of p).
 
 -- ---- a run that was cut short
 
-cut_turn_grows : (until : Option ℕ) (n m : ℕ) (p : Play) (told rest : List ℕ) (now : Session) → n ≡ suc m → CutTurn p told rest now → Begins now.current.bus.out (out_of (played until n p).play)
+cut_turn_grows : (until : Option ℕ) (n m : ℕ) (p : Play) (told rest : List ℕ) (now : Session) → n ≡ suc m → CutTurn p told rest now
+    → Begins now.current.bus.out (out_of (played until n p).play)
 cut_turn_grows until n m p told rest now more cut = elim cut [
-  | inl same ↦ subst (λ out. Begins out (out_of (played until n p).play)) (sym (ap (λ (s : Session). s.current.bus.out) same ∙ input_kept p.session told)) (played_grows until n p)
+  | inl same ↦ subst (λ out. Begins out (out_of (played until n p).play))
+      (sym (ap (λ (s : Session). s.current.bus.out) same ∙ input_kept p.session told)) (played_grows until n p)
   | inr made ↦ subst (λ (o : Outcome). Begins now.current.bus.out (out_of o.play))
       (sym (played_turn until n m p more ∙ ap (λ turn. after_turn until turn (λ q. played until m q)) made.1))
       (after_grows until None (play_at now made.0 rest) now.current.bus.out (λ q. played until m q) (begins_itself now.current.bus.out) (played_grows until m))
 ]
 
-pub cut_grows : (until : Option ℕ) (limit : ℕ) (first : Play) (now : Session) (rest : List ℕ) → CutRun until limit first now rest → Begins now.current.bus.out (out_of (played until limit first).play)
+pub cut_grows : (until : Option ℕ) (limit : ℕ) (first : Play) (now : Session) (rest : List ℕ) → CutRun until limit first now rest
+    → Begins now.current.bus.out (out_of (played until limit first).play)
 cut_grows until limit first now rest cut =
     let within : cut.steps < limit = cut.within in
     let more : limit - cut.steps ≡ suc (limit - cut.steps - 1) = omega arith in
     subst (λ (o : Outcome). Begins now.current.bus.out (out_of o.play)) (sym cut.made)
     (cut_turn_grows until (limit - cut.steps) (limit - cut.steps - 1) cut.before cut.told rest now more cut.turn)
 
-pub broke_grows : (until : Option ℕ) (limit : ℕ) (first : Play) (now : Session) (rest : List ℕ) → BrokeOff until limit first now rest → Begins now.current.bus.out (out_of (played until limit first).play)
+pub broke_grows : (until : Option ℕ) (limit : ℕ) (first : Play) (now : Session) (rest : List ℕ) → BrokeOff until limit first now rest
+    → Begins now.current.bus.out (out_of (played until limit first).play)
 broke_grows until limit first now rest broke = elim broke [
   | inl cut ↦ cut_grows until limit first now rest cut
   | inr came ↦ ([], sym (ap (λ (s : Session). s.current.bus.out) came.session) ∙ sym (append-nil now.current.bus.out))

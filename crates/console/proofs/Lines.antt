@@ -118,12 +118,14 @@ hands_byte s t u told b h e f = record {
 
 -- ---- what the instruction at PC touches
 
-same_target : (profile : Profile) (state : State) (bytes : List ℕ) (pointer : ℕ) → jump_target profile (given_to state bytes).bus pointer ≡ jump_target profile state.bus pointer
+same_target : (profile : Profile) (state : State) (bytes : List ℕ) (pointer : ℕ)
+    → jump_target profile (given_to state bytes).bus pointer ≡ jump_target profile state.bus pointer
 unfolding jump_target address_at address_in_page
 same_target profile.N state bytes pointer = refl
 same_target profile.C state bytes pointer = refl
 
-same_place : (state : State) (bytes : List ℕ) (mode : Mode) → effective_address (given_to state bytes).bus state.regs mode ≡ effective_address state.bus state.regs mode
+same_place : (state : State) (bytes : List ℕ) (mode : Mode) → effective_address (given_to state bytes).bus state.regs mode
+    ≡ effective_address state.bus state.regs mode
 unfolding effective_address address_at address_in_page
 same_place state bytes mode.Imp = refl
 same_place state bytes mode.Acc = refl

@@ -35,21 +35,25 @@ drop_told [] rest = refl
 drop_told (b ∷ told) rest = drop_told told rest
 
 -- the line that is handed in, for the answer whether one is asked for
-line_told : (memo : Memo) (state : State) (told rest : List ℕ) (asked over : Bool) → asked ≡ asks memo state → IsLine asked over (room_of state) told → MayCome over rest
+line_told : (memo : Memo) (state : State) (told rest : List ℕ) (asked over : Bool) → asked ≡ asks memo state → IsLine asked over (room_of state) told
+    → MayCome over rest
     → line_for memo state (told ++ rest) ≡ told
 line_told memo state told rest asked over e line may = ap (λ b. cond b (line_at (room_of state) (told ++ rest)) []) (sym e) ∙ line rest may
 
 with_told : (s t : Session) (k : Known) (told rest : List ℕ) → t ≡ after_input s told → with_line told (play_at s k (told ++ rest)) ≡ play_at t k rest
 with_told s t k told rest e = ap (λ u. play_at u k (drop (length told) (told ++ rest))) (sym e) ∙ ap (play_at t k) (drop_told told rest)
 
-pub turned : (s t : Session) (k : Known) (told rest : List ℕ) (asked over some : Bool) → asked ≡ asks k.memo s.current → IsLine asked over (room_of s.current) told → MayCome over rest
+pub turned : (s t : Session) (k : Known) (told rest : List ℕ) (asked over some : Bool) → asked ≡ asks k.memo s.current
+    → IsLine asked over (room_of s.current) told → MayCome over rest
     → t ≡ after_input s told → some ≡ came told
-    → turn_of (play_at s k (told ++ rest)) ≡ unless_ended (ending_here k.memo k.written asked some t.current) (play_at t k rest) (stepped (play_at t k rest) asked some (step t.current))
+    → turn_of (play_at s k (told ++ rest)) ≡ unless_ended (ending_here k.memo k.written asked some t.current) (play_at t k rest)
+        (stepped (play_at t k rest) asked some (step t.current))
 unfolding turn_of
 turned s t k told rest asked over some e line may f h =
     ap (λ b. turn_with b (line_for k.memo s.current (told ++ rest)) (play_at s k (told ++ rest))) (sym e)
     ∙ ap (λ l. turn_with asked l (play_at s k (told ++ rest))) (line_told k.memo s.current told rest asked over e line may)
-    ∙ ap (λ q. unless_ended (ending_here k.memo k.written asked (came told) q.session.current) q (stepped q asked (came told) (step q.session.current))) (with_told s t k told rest f)
+    ∙ ap (λ q. unless_ended (ending_here k.memo k.written asked (came told) q.session.current) q
+        (stepped q asked (came told) (step q.session.current))) (with_told s t k told rest f)
     ∙ ap (λ b. unless_ended (ending_here k.memo k.written asked b t.current) (play_at t k rest) (stepped (play_at t k rest) asked b (step t.current))) (sym h)
 
 -- ---- the step of a turn
@@ -60,7 +64,8 @@ unfolding event_of
 refused s t k input asked some fault e f =
     ap (λ r. stepped (play_at s k input) asked some r) e ∙ ap (λ u. turn_to (Some (Refused fault)) u k input) (sym f)
 
-pub made : (s t : Session) (state : State) (k after : Known) (input : List ℕ) (asked some : Bool) → event_of s.current event.Step ≡ Ok state → t ≡ with_state s state
+pub made : (s t : Session) (state : State) (k after : Known) (input : List ℕ) (asked some : Bool) → event_of s.current event.Step ≡ Ok state
+    → t ≡ with_state s state
     → after.memo ≡ memo_after k.memo asked some s.current state.regs → after.written ≡ with_bytes k.written (step_stores s.current state)
     → stepped (play_at s k input) asked some (step s.current) ≡ turn_to None t after input
 unfolding event_of
@@ -73,7 +78,8 @@ made s t state k after input asked some e f h w =
     ∙ ap (λ (w : List Bool). turn_to None t (record { memo = after.memo; written = w }) input) (sym w)
 
 -- the bytes that a step has put somewhere
-pub bytes_made : (w v : List Bool) (s t : Session) (state : State) (m : Moment) (stores stored : List ℕ) → v ≡ with_bytes w stored → stored ≡ stored_by (entered m t.current) m.regs.s stores
+pub bytes_made : (w v : List Bool) (s t : Session) (state : State) (m : Moment) (stores stored : List ℕ) → v ≡ with_bytes w stored
+    → stored ≡ stored_by (entered m t.current) m.regs.s stores
     → m ≡ moment_of s.current → stores ≡ stores_here s.current → t ≡ with_state s state → v ≡ with_bytes w (step_stores s.current state)
 bytes_made w v s t state m stores stored e f at here after =
     e ∙ ap (with_bytes w) (f ∙ ap (λ (u : Session). stored_by (entered m u.current) m.regs.s stores) after
@@ -81,7 +87,8 @@ bytes_made w v s t state m stores stored e f at here after =
     ∙ ap (stored_by (entered (moment_of s.current) state) s.current.regs.s) here)
 
 -- where the instruction at PC stores, by its access
-pub stored_here : (s : State) (access : Access) (regs : Regs) (stores : List ℕ) → access ≡ access_here s → regs ≡ s.regs → stores ≡ stores_by access regs.s → stores ≡ stores_here s
+pub stored_here : (s : State) (access : Access) (regs : Regs) (stores : List ℕ) → access ≡ access_here s → regs ≡ s.regs
+    → stores ≡ stores_by access regs.s → stores ≡ stores_here s
 unfolding stores_here
 stored_here s access regs stores is before e = e ∙ ap (λ (a : Access). stores_by a regs.s) is ∙ ap (λ (r : Regs). stores_by (access_here s) r.s) before
 
@@ -104,8 +111,10 @@ line_over false room rest e = refl
 -- ---- one turn after another
 
 -- the run so far: whatever comes after what was told, it is so many steps and then the rest
-pub record RunsOn (until : Option ℕ) (limit : ℕ) (s : Session) (first : Known) (told : List ℕ) (over : Bool) (steps : ℕ) (t : Session) (memo : Known) : Type 0 where
-  pub runs : (rest : List ℕ) → MayCome over rest → played until limit (play_at s first (told ++ rest)) ≡ later steps (played until (limit - steps) (play_at t memo rest))
+pub record RunsOn (until : Option ℕ) (limit : ℕ) (s : Session) (first : Known) (told : List ℕ) (over : Bool) (steps : ℕ) (t : Session) (memo : Known)
+    : Type 0 where
+  pub runs : (rest : List ℕ) → MayCome over rest → played until limit (play_at s first (told ++ rest))
+      ≡ later steps (played until (limit - steps) (play_at t memo rest))
 
 pub later_none : (o : Outcome) → later 0 o ≡ o
 later_none o = ap (λ n. record o { steps = n }) (zero-add o.steps)
@@ -135,8 +144,10 @@ abbrev next : Option ℕ → ℕ → Turn → Outcome
 next until m turn = after_turn until turn (λ q. played until m q)
 
 -- a run with one turn more
-module _ (until : Option ℕ) (limit : ℕ) (s : Session) (first : Known) (told : List ℕ) (over : Bool) (steps : ℕ) (t : Session) (memo : Known) (h : RunsOn until limit s first told over steps t memo) (room : steps < limit)
-    (told2 : List ℕ) (over2 : Bool) (ending : Option Ending) (u : Session) (memo2 : Known) (once : EndsOnce over over2 told2) (turn : TurnsTo t memo told2 over2 ending u memo2) where
+module _ (until : Option ℕ) (limit : ℕ) (s : Session) (first : Known) (told : List ℕ) (over : Bool) (steps : ℕ) (t : Session) (memo : Known)
+    (h : RunsOn until limit s first told over steps t memo) (room : steps < limit)
+    (told2 : List ℕ) (over2 : Bool) (ending : Option Ending) (u : Session) (memo2 : Known) (once : EndsOnce over over2 told2)
+        (turn : TurnsTo t memo told2 over2 ending u memo2) where
   one_turn : (rest : List ℕ) → MayCome over2 rest
       → played until limit (play_at s first ((told ++ told2) ++ rest)) ≡ later steps (next until (limit - (steps + 1)) (turn_to ending u memo2 rest))
   one_turn rest may =
@@ -149,7 +160,8 @@ module _ (until : Option ℕ) (limit : ℕ) (s : Session) (first : Known) (told 
   runs_on none off = record {
     runs = λ rest may.
         one_turn rest may ∙ ap (λ e. later steps (next until (limit - (steps + 1)) (turn_to e u memo2 rest))) none
-        ∙ ap (λ b. later steps (cond b (record { steps = 1; ending = Until; play = play_at u memo2 rest }) (later 1 (played until (limit - (steps + 1)) (play_at u memo2 rest))))) off
+        ∙ ap (λ b. later steps (cond b (record { steps = 1; ending = Until; play = play_at u memo2 rest })
+            (later 1 (played until (limit - (steps + 1)) (play_at u memo2 rest))))) off
         ∙ later_twice steps 1 (played until (limit - (steps + 1)) (play_at u memo2 rest));
   }
 
@@ -157,7 +169,8 @@ module _ (until : Option ℕ) (limit : ℕ) (s : Session) (first : Known) (told 
       → played until limit (play_at s first ((told ++ told2) ++ rest)) ≡ record { steps = steps + 1; ending = Until; play = play_at u memo2 rest }
   ends_at none on rest may =
       one_turn rest may ∙ ap (λ e. later steps (next until (limit - (steps + 1)) (turn_to e u memo2 rest))) none
-      ∙ ap (λ b. later steps (cond b (record { steps = 1; ending = Until; play = play_at u memo2 rest }) (later 1 (played until (limit - (steps + 1)) (play_at u memo2 rest))))) on
+      ∙ ap (λ b. later steps (cond b (record { steps = 1; ending = Until; play = play_at u memo2 rest })
+          (later 1 (played until (limit - (steps + 1)) (play_at u memo2 rest))))) on
 
   pub ends_with : (why : Ending) → ending ≡ Some why → (rest : List ℕ) → MayCome over2 rest
       → played until limit (play_at s first ((told ++ told2) ++ rest)) ≡ record { steps = steps; ending = why; play = play_at u memo2 rest }
@@ -168,10 +181,13 @@ module _ (until : Option ℕ) (limit : ℕ) (s : Session) (first : Known) (told 
 -- ---- turns made many at a time
 
 -- the run so far, where a step has led: it may be at the address
-pub record GoesOn (until : Option ℕ) (limit : ℕ) (s : Session) (first : Known) (told : List ℕ) (over : Bool) (steps : ℕ) (t : Session) (memo : Known) : Type 0 where
-  pub runs : (rest : List ℕ) → MayCome over rest → played until limit (play_at s first (told ++ rest)) ≡ later steps (going until (limit - steps) (play_at t memo rest))
+pub record GoesOn (until : Option ℕ) (limit : ℕ) (s : Session) (first : Known) (told : List ℕ) (over : Bool) (steps : ℕ) (t : Session) (memo : Known)
+    : Type 0 where
+  pub runs : (rest : List ℕ) → MayCome over rest → played until limit (play_at s first (told ++ rest))
+      ≡ later steps (going until (limit - steps) (play_at t memo rest))
 
-pub goes_turn : (until : Option ℕ) (limit : ℕ) (s : Session) (first : Known) (told : List ℕ) (over : Bool) (steps : ℕ) (t : Session) (memo : Known) → RunsOn until limit s first told over steps t memo → steps < limit
+pub goes_turn : (until : Option ℕ) (limit : ℕ) (s : Session) (first : Known) (told : List ℕ) (over : Bool) (steps : ℕ) (t : Session) (memo : Known)
+    → RunsOn until limit s first told over steps t memo → steps < limit
     → (told2 : List ℕ) (over2 : Bool) (u : Session) (memo2 : Known) → EndsOnce over over2 told2 → TurnsTo t memo told2 over2 None u memo2
     → GoesOn until limit s first (told ++ told2) over2 (steps + 1) u memo2
 goes_turn until limit s first told over steps t memo h room told2 over2 u memo2 once turn = record {
@@ -181,11 +197,13 @@ goes_turn until limit s first told over steps t memo h room told2 over2 u memo2 
 }
   where
     goes_by : (b : Bool) (steps : ℕ) (p : Play) (o : Outcome)
-        → later steps (cond b (record { steps = 1; ending = Until; play = p }) (later 1 o)) ≡ later (steps + 1) (cond b (record { steps = 0; ending = Until; play = p }) o)
+        → later steps (cond b (record { steps = 1; ending = Until; play = p }) (later 1 o))
+            ≡ later (steps + 1) (cond b (record { steps = 0; ending = Until; play = p }) o)
     goes_by true steps p o = ap (λ n. record { steps = n; ending = Until; play = p }) (sym (add-zero (steps + 1)))
     goes_by false steps p o = later_twice steps 1 o
 
-pub goes_far : (until : Option ℕ) (limit : ℕ) (s : Session) (first : Known) (told : List ℕ) (over : Bool) (steps : ℕ) (t : Session) (memo : Known) → GoesOn until limit s first told over steps t memo
+pub goes_far : (until : Option ℕ) (limit : ℕ) (s : Session) (first : Known) (told : List ℕ) (over : Bool) (steps : ℕ) (t : Session) (memo : Known)
+    → GoesOn until limit s first told over steps t memo
     → (more : ℕ) (u : Session) (memo2 : Known) → Glides until more t memo u memo2 → more ≤ limit - steps
     → GoesOn until limit s first told over (steps + more) u memo2
 goes_far until limit s first told over steps t memo h more u memo2 far within = record {
@@ -195,15 +213,18 @@ goes_far until limit s first told over steps t memo h more u memo2 far within = 
       ∙ ap (λ n. later (steps + more) (going until n (play_at u memo2 rest))) left;
 }
 
-pub goes_past : (until : Option ℕ) (limit : ℕ) (s : Session) (first : Known) (told : List ℕ) (over : Bool) (steps : ℕ) (t : Session) (memo : Known) → GoesOn until limit s first told over steps t memo
+pub goes_past : (until : Option ℕ) (limit : ℕ) (s : Session) (first : Known) (told : List ℕ) (over : Bool) (steps : ℕ) (t : Session) (memo : Known)
+    → GoesOn until limit s first told over steps t memo
     → is_at until t.current ≡ false → RunsOn until limit s first told over steps t memo
 goes_past until limit s first told over steps t memo h off = record {
   runs = λ rest may.
       h.runs rest may
-      ∙ ap (λ b. later steps (cond b (record { steps = 0; ending = Until; play = play_at t memo rest }) (played until (limit - steps) (play_at t memo rest)))) off;
+      ∙ ap (λ b. later steps (cond b (record { steps = 0; ending = Until; play = play_at t memo rest })
+          (played until (limit - steps) (play_at t memo rest)))) off;
 }
 
-pub goes_there : (until : Option ℕ) (limit : ℕ) (s : Session) (first : Known) (told : List ℕ) (over : Bool) (steps : ℕ) (t : Session) (memo : Known) → GoesOn until limit s first told over steps t memo
+pub goes_there : (until : Option ℕ) (limit : ℕ) (s : Session) (first : Known) (told : List ℕ) (over : Bool) (steps : ℕ) (t : Session) (memo : Known)
+    → GoesOn until limit s first told over steps t memo
     → is_at until t.current ≡ true → (rest : List ℕ) → MayCome over rest
     → played until limit (play_at s first (told ++ rest)) ≡ record { steps = steps; ending = Until; play = play_at t memo rest }
 goes_there until limit s first told over steps t memo h on rest may =
@@ -211,8 +232,10 @@ goes_there until limit s first told over steps t memo h on rest may =
     ∙ ap (λ b. later steps (cond b (record { steps = 0; ending = Until; play = play_at t memo rest }) (played until (limit - steps) (play_at t memo rest)))) on
     ∙ ap (λ n. record { steps = n; ending = Until; play = play_at t memo rest }) (add-zero steps)
 
-pub ends_full : (until : Option ℕ) (limit : ℕ) (s : Session) (first : Known) (told : List ℕ) (over : Bool) (steps : ℕ) (t : Session) (memo : Known) → RunsOn until limit s first told over steps t memo → limit ≤ steps → steps ≤ limit
-    → (rest : List ℕ) → MayCome over rest → played until limit (play_at s first (told ++ rest)) ≡ record { steps = limit; ending = ending_after memo.memo t.current; play = play_at t memo rest }
+pub ends_full : (until : Option ℕ) (limit : ℕ) (s : Session) (first : Known) (told : List ℕ) (over : Bool) (steps : ℕ) (t : Session) (memo : Known)
+    → RunsOn until limit s first told over steps t memo → limit ≤ steps → steps ≤ limit
+    → (rest : List ℕ) → MayCome over rest → played until limit (play_at s first (told ++ rest))
+        ≡ record { steps = limit; ending = ending_after memo.memo t.current; play = play_at t memo rest }
 ends_full until limit s first told over steps t memo h full within rest may =
     let none : limit - steps ≡ 0 = omega arith in
     let all : steps + 0 ≡ limit = omega arith in
@@ -220,8 +243,10 @@ ends_full until limit s first told over steps t memo h full within rest may =
     ∙ ap (λ n. record { steps = n; ending = ending_after memo.memo t.current; play = play_at t memo rest }) all
 
 -- a run that was cut short in its next turn
-pub cut_run : (until : Option ℕ) (limit : ℕ) (s : Session) (first : Known) (told : List ℕ) (over : Bool) (steps : ℕ) (t : Session) (memo : Known) → RunsOn until limit s first told over steps t memo → steps < limit
-    → (told2 : List ℕ) (over2 : Bool) (u : Session) → EndsOnce over over2 told2 → ((rest : List ℕ) → MayCome over2 rest → CutTurn (play_at t memo (told2 ++ rest)) told2 rest u)
+pub cut_run : (until : Option ℕ) (limit : ℕ) (s : Session) (first : Known) (told : List ℕ) (over : Bool) (steps : ℕ) (t : Session) (memo : Known)
+    → RunsOn until limit s first told over steps t memo → steps < limit
+    → (told2 : List ℕ) (over2 : Bool) (u : Session) → EndsOnce over over2 told2
+        → ((rest : List ℕ) → MayCome over2 rest → CutTurn (play_at t memo (told2 ++ rest)) told2 rest u)
     → (rest : List ℕ) → MayCome over2 rest → CutRun until limit (play_at s first ((told ++ told2) ++ rest)) u rest
 cut_run until limit s first told over steps t memo h room told2 over2 u once cut rest may = record {
   steps = steps;
@@ -234,7 +259,8 @@ cut_run until limit s first told over steps t memo h room told2 over2 u once cut
 }
 
 -- a run that was cut short between two turns
-pub cut_here : (until : Option ℕ) (limit : ℕ) (s : Session) (first : Known) (told : List ℕ) (over : Bool) (steps : ℕ) (t : Session) (memo : Known) → RunsOn until limit s first told over steps t memo → steps < limit
+pub cut_here : (until : Option ℕ) (limit : ℕ) (s : Session) (first : Known) (told : List ℕ) (over : Bool) (steps : ℕ) (t : Session) (memo : Known)
+    → RunsOn until limit s first told over steps t memo → steps < limit
     → (rest : List ℕ) → MayCome over rest → CutRun until limit (play_at s first (told ++ rest)) t rest
 cut_here until limit s first told over steps t memo h room rest may = record {
   steps = steps;
@@ -263,7 +289,8 @@ whole_input None (Some y) told over P c ends f = (told ++ y, y, tt, refl, f y en
 whole_input (Some x) None told over P c ends f = absurd c
 whole_input (Some x) (Some y) told over P c ends f = (told ++ y, y, c, refl, f y ends)
 
-pub ran_as : (o : Outcome) (steps : ℕ) (why : Ending) (t : Session) (memo : Known) (rest : List ℕ) → o ≡ record { steps = steps; ending = why; play = play_at t memo rest }
+pub ran_as : (o : Outcome) (steps : ℕ) (why : Ending) (t : Session) (memo : Known) (rest : List ℕ)
+    → o ≡ record { steps = steps; ending = why; play = play_at t memo rest }
     → RanAs o (record { steps = steps; ending = why }) t rest
 ran_as o steps why t memo rest e = record {
   steps = sym (ap (λ (x : Outcome). x.steps) e);

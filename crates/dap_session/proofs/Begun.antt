@@ -18,7 +18,8 @@ module _ {A B : Type 0} (f : B → List Data) (seen : A → B) where
   coming_all all = refl
 
   -- one more
-  pub coming_more : (all : List A) (i : ℕ) (e : A) (found whole : List Data) → i < length all → found ++ coming all i ≡ whole → (found ++ f (seen (get_or all i e))) ++ coming all (i + 1) ≡ whole
+  pub coming_more : (all : List A) (i : ℕ) (e : A) (found whole : List Data) → i < length all → found ++ coming all i ≡ whole
+      → (found ++ f (seen (get_or all i e))) ++ coming all (i + 1) ≡ whole
   unfolding coming
   coming_more all i e found whole within so_far =
       let cut : drop i all ≡ get_or all i e ∷ drop (i + 1) all = rw (add-one, drop-cons all i e) refl in

@@ -43,7 +43,8 @@ answered_with (Err e) (Err f) told P holds says = tt
 set_where : {E : Type 0} (told : Result Value E) (v : Value) (P : Data → Type 0) → told ≡ Ok v → IfOk told (λ w. P (view w)) → (d : Data) × P d
 set_where told v P is sets = (view v, subst (λ o. IfOk o (λ (w : Value). P (view w))) is sets)
 
-pub set_so : {U E : Type 0} (r : Result U E) (told : Result Value E) (P : Data → Type 0) → IfOk told (λ v. P (view v)) → OnOk r ((v : Value) × (told ≡ Ok v)) → OnOk r ((d : Data) × P d)
+pub set_so : {U E : Type 0} (r : Result U E) (told : Result Value E) (P : Data → Type 0) → IfOk told (λ v. P (view v))
+    → OnOk r ((v : Value) × (told ≡ Ok v)) → OnOk r ((d : Data) × P d)
 set_so (Ok u) told P sets let_go = set_where told let_go.0 P let_go.1 sets
 set_so (Err e) told P sets let_go = tt
 

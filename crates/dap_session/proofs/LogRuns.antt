@@ -26,7 +26,8 @@ last_done pc all i found whole past so_far = sym (ap (λ (ps : List Placed). las
 
 -- ---- the text of a number
 
-pub text_more : (all : List SourceBreakpoint) (i : ℕ) (e : SourceBreakpoint) (id number next : ℕ) (found new whole : Option (List ℕ)) → i < length all → e ≡ get_or all i e
+pub text_more : (all : List SourceBreakpoint) (i : ℕ) (e : SourceBreakpoint) (id number next : ℕ) (found new whole : Option (List ℕ)) → i < length all
+    → e ≡ get_or all i e
     → new ≡ text_or e number id found → next ≡ next_number number
     → text_from found id number (drop i all) ≡ whole → text_from new id next (drop (i + 1) all) ≡ whole
 unfolding text_from
@@ -37,7 +38,8 @@ text_more all i e id number next found new whole within is put counted so_far =
     ∙ ap (λ (b : SourceBreakpoint). text_from (text_or b number id found) id (next_number number) rest) is
     ∙ sym (ap (λ (bs : List SourceBreakpoint). text_from found id number bs) here) ∙ so_far
 
-pub text_done : (all : List SourceBreakpoint) (i id number : ℕ) (found whole : Option (List ℕ)) → length all ≤ i → text_from found id number (drop i all) ≡ whole → found ≡ whole
+pub text_done : (all : List SourceBreakpoint) (i id number : ℕ) (found whole : Option (List ℕ)) → length all ≤ i
+    → text_from found id number (drop i all) ≡ whole → found ≡ whole
 unfolding text_from
 text_done all i id number found whole past so_far = sym (ap (λ (bs : List SourceBreakpoint). text_from found id number bs) (drop_all i all past)) ∙ so_far
 

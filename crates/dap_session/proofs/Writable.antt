@@ -17,7 +17,8 @@ module _ (map : Map) (address : ℕ) (bytes : List ℕ) where
       let next : (address + i) + 1 ≡ address + (i + 1) = omega arith in
       ap (meets_port map (address + i)) cut ∙ ap (λ (a : ℕ). is_port map (address + i) || meets_port map a (drop (i + 1) bytes)) next
 
-  pub not_here : (i : ℕ) → i < length bytes → is_port map (address + i) ≡ false → meets_port map address bytes ≡ left i → meets_port map address bytes ≡ left (i + 1)
+  pub not_here : (i : ℕ) → i < length bytes → is_port map (address + i) ≡ false → meets_port map address bytes ≡ left i
+      → meets_port map address bytes ≡ left (i + 1)
   not_here i within clear so_far = so_far ∙ here i within ∙ ap (λ (b : Bool). b || left (i + 1)) clear
 
   neither : (b : Bool) → (b && false) ≡ false

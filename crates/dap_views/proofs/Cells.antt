@@ -38,13 +38,15 @@ bytes_more memory first offset count found new whole within more put so_far =
     ap (λ t. t ++ rest) put ∙ append_assoc found (get_or memory (first + offset) 0 ∷ []) rest
     ∙ sym (ap (λ xs. found ++ xs) (next_byte memory first offset count within more)) ∙ so_far
 
-pub bytes_begin : (memory : List ℕ) (first count : ℕ) (found : List ℕ) → found ≡ [] → found ++ bytes_from memory (first + 0) (count - 0) ≡ bytes_from memory first count
+pub bytes_begin : (memory : List ℕ) (first count : ℕ) (found : List ℕ) → found ≡ []
+    → found ++ bytes_from memory (first + 0) (count - 0) ≡ bytes_from memory first count
 bytes_begin memory first count found none =
     let a : first + 0 ≡ first = omega arith in
     let n : count - 0 ≡ count = omega arith in
     ap (λ bs. bs ++ bytes_from memory (first + 0) (count - 0)) none ∙ ap (λ k. bytes_from memory k (count - 0)) a ∙ ap (λ k. bytes_from memory first k) n
 
-pub bytes_done : (memory : List ℕ) (first offset count : ℕ) (found whole : List ℕ) → count ≤ offset → found ++ bytes_from memory (first + offset) (count - offset) ≡ whole → found ≡ whole
+pub bytes_done : (memory : List ℕ) (first offset count : ℕ) (found whole : List ℕ) → count ≤ offset
+    → found ++ bytes_from memory (first + offset) (count - offset) ≡ whole → found ≡ whole
 bytes_done memory first offset count found whole past so_far =
     let n : count - offset ≡ 0 = omega arith in
     sym (append-nil found) ∙ sym (ap (λ k. found ++ bytes_from memory (first + offset) k) n) ∙ so_far

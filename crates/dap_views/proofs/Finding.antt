@@ -23,17 +23,20 @@ module _ {W : Type 0} (find : W → Found) where
   unfolding AreFound
   none_found all list told stops = (ap (map told_view) told, ap (map stop_view) stops)
 
-  pub one_found : (all : List W) (i : ℕ) (e : W) (old new : WantedList) → i < length all → HasFound (find (get_or all i e)) old new → AreFound all i old → AreFound all (i + 1) new
+  pub one_found : (all : List W) (i : ℕ) (e : W) (old new : WantedList) → i < length all → HasFound (find (get_or all i e)) old new
+      → AreFound all i old → AreFound all (i + 1) new
   unfolding AreFound
   one_found all i e old new within found so_far =
       let v = get_or all i e in
       let more : take (i + 1) all ≡ take i all ++ v ∷ [] = take_more all i e within in (
-        found.0 ∙ ap (λ (l : List (Option ℕ × Option ℕ)). l ++ tells v ∷ []) so_far.0 ∙ sym (map-append tells (take i all) (v ∷ [])) ∙ sym (ap (map tells) more),
+        found.0 ∙ ap (λ (l : List (Option ℕ × Option ℕ)). l ++ tells v ∷ []) so_far.0 ∙ sym (map-append tells (take i all) (v ∷ []))
+            ∙ sym (ap (map tells) more),
         found.1 ∙ ap (λ (l : List Stop). l ++ sets v) so_far.1 ∙ ap (λ (l : List Stop). flat_map sets (take i all) ++ l) (sym (append-nil (sets v)))
             ∙ sym (flat_map-append sets (take i all) (v ∷ [])) ∙ sym (ap (flat_map sets) more),
       )
 
-  pub all_found : (all : List W) (i : ℕ) (list : WantedList) → length all ≤ i → AreFound all i list → AreTold find all list.told.items × AreStops find all list.stops.items
+  pub all_found : (all : List W) (i : ℕ) (list : WantedList) → length all ≤ i → AreFound all i list → AreTold find all list.told.items
+      × AreStops find all list.stops.items
   unfolding AreFound
   all_found all i list past so_far = (
     so_far.0 ∙ ap (map tells) (take_all i all past),

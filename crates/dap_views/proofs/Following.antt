@@ -10,7 +10,8 @@ use Rattle.serde_json.specs.Data.{Data}
 
 -- ---- where a row begins that is some rows on
 
-pub on_more : (mon : MonState) (end n m at next whole : ℕ) → n ≡ suc m → next ≡ next_row mon end at → rows_on mon end n at ≡ whole → rows_on mon end m next ≡ whole
+pub on_more : (mon : MonState) (end n m at next whole : ℕ) → n ≡ suc m → next ≡ next_row mon end at → rows_on mon end n at ≡ whole
+    → rows_on mon end m next ≡ whole
 unfolding rows_on
 on_more mon end n m at next whole e is so_far = ap (rows_on mon end m) is ∙ sym (ap (λ k. rows_on mon end k at) e) ∙ so_far
 
@@ -24,9 +25,11 @@ one_row : (mon : MonState) (end m at : ℕ) → at < end → rows_to mon end (su
 unfolding rows_to
 one_row mon end m at before = ap (λ b. if b then suc (rows_to mon end m (next_row mon end at)) else 0) (lt-ltb at end before)
 
-pub to_more : (mon : MonState) (end n m at next count whole : ℕ) → n ≡ suc m → at < end → next ≡ next_row mon end at → count + rows_to mon end n at ≡ whole → (count + 1) + rows_to mon end m next ≡ whole
+pub to_more : (mon : MonState) (end n m at next count whole : ℕ) → n ≡ suc m → at < end → next ≡ next_row mon end at
+    → count + rows_to mon end n at ≡ whole → (count + 1) + rows_to mon end m next ≡ whole
 to_more mon end n m at next count whole e before is so_far =
-    let step : rows_to mon end n at ≡ suc (rows_to mon end m next) = ap (λ k. rows_to mon end k at) e ∙ one_row mon end m at before ∙ ap (λ a. suc (rows_to mon end m a)) (sym is) in
+    let step : rows_to mon end n at ≡ suc (rows_to mon end m next) =
+        ap (λ k. rows_to mon end k at) e ∙ one_row mon end m at before ∙ ap (λ a. suc (rows_to mon end m a)) (sym is) in
     omega (arith, step, so_far)
 
 no_row : (mon : MonState) (end n at : ℕ) → end ≤ at → rows_to mon end n at ≡ 0
@@ -45,15 +48,19 @@ to_done mon end n at count whole e so_far =
 
 -- ---- rows
 
-picked : (b : Bool) (f : ℕ → Data) (d : Data) (at len whole past : ℕ) → (if b then at + len else past) ≡ (if b then at + whole else past) → (if b then f len else d) ≡ (if b then f whole else d)
+picked : (b : Bool) (f : ℕ → Data) (d : Data) (at len whole past : ℕ) → (if b then at + len else past) ≡ (if b then at + whole else past)
+    → (if b then f len else d) ≡ (if b then f whole else d)
 picked true f d at len whole past e = let same : len ≡ whole = omega (arith, e) in ap f same
 picked false f d at len whole past e = refl
 
 -- a row has as many bytes as there are to the next
-pub row_here : (mon : MonState) (path : List ℕ) (counting : Counting) (end at len : ℕ) → behind_row at len ≡ next_row mon end at → row_of mon path counting at len ≡ row_at mon path counting end at
-row_here mon path counting end at len e = picked (nat_lt at 65536) (λ (n : ℕ). row_shown mon path counting at n) (no_instruction (decimal at)) at len (row_len mon end at) _ e
+pub row_here : (mon : MonState) (path : List ℕ) (counting : Counting) (end at len : ℕ) → behind_row at len ≡ next_row mon end at
+    → row_of mon path counting at len ≡ row_at mon path counting end at
+row_here mon path counting end at len e = picked (nat_lt at 65536) (λ (n : ℕ). row_shown mon path counting at n) (no_instruction (decimal at)) at len
+    (row_len mon end at) _ e
 
-pub rows_more : (mon : MonState) (path : List ℕ) (counting : Counting) (end n m at next : ℕ) (found whole : List Data) (d : Data) → n ≡ suc m → next ≡ next_row mon end at → d ≡ row_at mon path counting end at
+pub rows_more : (mon : MonState) (path : List ℕ) (counting : Counting) (end n m at next : ℕ) (found whole : List Data) (d : Data) → n ≡ suc m
+    → next ≡ next_row mon end at → d ≡ row_at mon path counting end at
     → found ++ rows mon path counting end n at ≡ whole → (found ++ d ∷ []) ++ rows mon path counting end m next ≡ whole
 unfolding rows
 rows_more mon path counting end n m at next found whole d e is shown so_far =
@@ -62,14 +69,16 @@ rows_more mon path counting end n m at next found whole d e is shown so_far =
     = ap (λ k. rows mon path counting end k at) e ∙ ap (λ a. row_at mon path counting end at ∷ rows mon path counting end m a) (sym is) in
     append_assoc found (d ∷ []) rest ∙ ap (λ (x : Data). found ++ x ∷ rest) shown ∙ sym (ap (λ (ds : List Data). found ++ ds) step) ∙ so_far
 
-pub rows_done : (mon : MonState) (path : List ℕ) (counting : Counting) (end n at : ℕ) (found whole : List Data) → n ≡ 0 → found ++ rows mon path counting end n at ≡ whole → found ≡ whole
+pub rows_done : (mon : MonState) (path : List ℕ) (counting : Counting) (end n at : ℕ) (found whole : List Data) → n ≡ 0
+    → found ++ rows mon path counting end n at ≡ whole → found ≡ whole
 unfolding rows
 rows_done mon path counting end n at found whole e so_far =
     sym (append-nil found) ∙ sym (ap (λ k. found ++ rows mon path counting end k at) e) ∙ so_far
 
 -- ---- rows in front of the memory, and the rows behind them
 
-pub around : (mon : MonState) (path : List ℕ) (counting : Counting) (end back on count steps_back steps_on lacking begun less left : ℕ) → steps_back ≡ back → steps_on ≡ on
+pub around : (mon : MonState) (path : List ℕ) (counting : Counting) (end back on count steps_back steps_on lacking begun less left : ℕ)
+    → steps_back ≡ back → steps_on ≡ on
     → lacking ≡ steps_back - found mon end steps_back → begun ≡ first mon end steps_back steps_on → less ≡ min lacking count → left ≡ count - lacking
     → lacking_rows less lacking ++ rows mon path counting end left begun ≡ rows_around mon path counting end back on count
 around mon path counting end back on count steps_back steps_on lacking begun less left is_back is_on is_lacking is_begun is_less is_left =

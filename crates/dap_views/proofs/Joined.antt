@@ -11,7 +11,8 @@ alike between [] = refl
 alike between (byte ∷ bytes) = refl
 
 -- one byte more, with words in front of it
-pub joined_more : (words between all : List ℕ) (i e : ℕ) (old mid new whole : List ℕ) → i < length all → mid ≡ old ++ words → new ≡ mid ++ hex_byte (get_or all i e)
+pub joined_more : (words between all : List ℕ) (i e : ℕ) (old mid new whole : List ℕ) → i < length all → mid ≡ old ++ words
+    → new ≡ mid ++ hex_byte (get_or all i e)
     → old ++ joined words between (drop i all) ≡ whole → new ++ joined between between (drop (i + 1) all) ≡ whole
 joined_more words between all i e old mid new whole within put_words put_byte so_far =
     let rest = drop (i + 1) all in
@@ -24,4 +25,5 @@ joined_more words between all i e old mid new whole within put_words put_byte so
     ∙ sym (ap (λ (bs : List ℕ). old ++ joined words between bs) cut) ∙ so_far
 
 pub joined_done : (words between all : List ℕ) (i : ℕ) (text whole : List ℕ) → length all ≤ i → text ++ joined words between (drop i all) ≡ whole → text ≡ whole
-joined_done words between all i text whole past so_far = sym (append-nil text) ∙ sym (ap (λ (l : List ℕ). text ++ joined words between l) (drop_all i all past)) ∙ so_far
+joined_done words between all i text whole past so_far = sym (append-nil text)
+    ∙ sym (ap (λ (l : List ℕ). text ++ joined words between l) (drop_all i all past)) ∙ so_far

@@ -18,22 +18,26 @@ use Rattle.mon_session.specs.declared.mon_state.MonState.{MonState}
 use Rattle.serde_json.specs.View.{view}
 use Rattle.serde_json.specs.declared.value.Value.{Value}
 
-pub sets_list : {W : Type 0} (find : W → Found) (counting : Counting) (first : ℕ) (listed : List W) (before after : List Placed) (old new : MonState) (list : WantedList) (r : Result Value AllocError)
+pub sets_list : {W : Type 0} (find : W → Found) (counting : Counting) (first : ℕ) (listed : List W) (before after : List Placed) (old new : MonState)
+    (list : WantedList) (r : Result Value AllocError)
     → Finds find listed list → OnOk r (after ≡ placed_of first list.told.items)
     → OnOk r (place_of new ≡ all_set list.stops.items (all_cleared before (place_of old)))
     → IfOk r (λ v. view v ≡ breakpoints_body (answers_of new.session counting first list.told.items))
     → IfOk r (λ v. SetsList find counting first listed before after old new (view v))
-sets_list find counting first listed before after old new list (Ok v) found held place answer = (list.told.items, list.stops.items, found.0, found.1, place, held, answer)
+sets_list find counting first listed before after old new list (Ok v) found held place answer =
+    (list.told.items, list.stops.items, found.0, found.1, place, held, answer)
 sets_list find counting first listed before after old new list (Err e) found held place answer = tt
 
-pub sets_source : (counting : Counting) (path : List ℕ) (assembly : Option AssemblyView) (named : List ℕ) (listed : LineList) (before after : Listed) (old new : MonState) (r : Result Value AllocError)
+pub sets_source : (counting : Counting) (path : List ℕ) (assembly : Option AssemblyView) (named : List ℕ) (listed : LineList) (before after : Listed)
+    (old new : MonState) (r : Result Value AllocError)
     → IfOk r (λ v. SetsLines counting assembly listed before.lines.items after.lines.items old new (view v))
     → OnOk r (HoldsLines listed before after)
     → IfOk r (λ v. SetsSource counting path assembly named listed before after old new (view v))
 sets_source counting path assembly named listed before after old new (Ok v) sets held = inl (sets, held)
 sets_source counting path assembly named listed before after old new (Err e) sets held = tt
 
-pub sets_none : (counting : Counting) (path : List ℕ) (assembly : Option AssemblyView) (named : List ℕ) (listed : LineList) (held : Listed) (mon : MonState) (r : Result Value AllocError)
+pub sets_none : (counting : Counting) (path : List ℕ) (assembly : Option AssemblyView) (named : List ℕ) (listed : LineList) (held : Listed)
+    (mon : MonState) (r : Result Value AllocError)
     → bytes_eq named path ≡ false → IfOk r (λ v. view v ≡ breakpoints_body (map answer_elsewhere listed.list.items))
     → IfOk r (λ v. SetsSource counting path assembly named listed held held mon mon (view v))
 sets_none counting path assembly named listed held mon (Ok v) other told = inr (other, (refl, refl, told))

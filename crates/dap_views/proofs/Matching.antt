@@ -29,10 +29,12 @@ past line [] (suc i) e = refl
 past line (row ∷ rows) zero e = left_out (has_bytes line row) (row.number, row.address) (first_row line rows) e
 past line (row ∷ rows) (suc i) e = past line rows i e
 
-pub row_here : (line : ℕ) (rows : List LineView) (i : ℕ) (found : ℕ × ℕ) (whole : Option (ℕ × ℕ)) → Some found ≡ row_with line (slice_get rows i) → whole ≡ first_row line (drop i rows) → Some found ≡ whole
+pub row_here : (line : ℕ) (rows : List LineView) (i : ℕ) (found : ℕ × ℕ) (whole : Option (ℕ × ℕ)) → Some found ≡ row_with line (slice_get rows i)
+    → whole ≡ first_row line (drop i rows) → Some found ≡ whole
 row_here line rows i found whole some so_far = sym (so_far ∙ here line rows i found (sym some))
 
-pub row_past : (line : ℕ) (rows : List LineView) (i : ℕ) (whole : Option (ℕ × ℕ)) → None ≡ row_with line (slice_get rows i) → whole ≡ first_row line (drop i rows) → whole ≡ first_row line (drop (i + 1) rows)
+pub row_past : (line : ℕ) (rows : List LineView) (i : ℕ) (whole : Option (ℕ × ℕ)) → None ≡ row_with line (slice_get rows i)
+    → whole ≡ first_row line (drop i rows) → whole ≡ first_row line (drop (i + 1) rows)
 row_past line rows i whole none so_far = rw add-one (so_far ∙ past line rows i (sym none))
 
 pub no_row : (line : ℕ) (rows : List LineView) (i : ℕ) (whole : Option (ℕ × ℕ)) → length rows ≤ i → whole ≡ first_row line (drop i rows) → None ≡ whole

@@ -12,8 +12,10 @@ use Rattle.serde_json.specs.Data.{Data}
 cut : (all : List Wanted) (i : ℕ) (e : Wanted) → i < length all → drop i all ≡ get_or all i e ∷ drop (i + 1) all
 cut all i e within = rw (add-one, drop-cons all i e within) refl
 
-pub answers_more : (session : Session) (counting : Counting) (all : List Wanted) (i id next : ℕ) (e : Wanted) (found whole : List Data) → i < length all → e ≡ get_or all i e → next ≡ next_number id
-    → found ++ answers_of session counting id (drop i all) ≡ whole → (found ++ answer_of session counting id e ∷ []) ++ answers_of session counting next (drop (i + 1) all) ≡ whole
+pub answers_more : (session : Session) (counting : Counting) (all : List Wanted) (i id next : ℕ) (e : Wanted) (found whole : List Data)
+    → i < length all → e ≡ get_or all i e → next ≡ next_number id
+    → found ++ answers_of session counting id (drop i all) ≡ whole
+        → (found ++ answer_of session counting id e ∷ []) ++ answers_of session counting next (drop (i + 1) all) ≡ whole
 unfolding answers_of
 answers_more session counting all i id next e found whole within is number so_far =
     let rest = drop (i + 1) all in
@@ -22,12 +24,14 @@ answers_more session counting all i id next e found whole within is number so_fa
     ∙ ap (λ n. found ++ answer_of session counting id e ∷ answers_of session counting n rest) number
     ∙ sym (ap (λ (ws : List Wanted). found ++ answers_of session counting id ws) here) ∙ so_far
 
-pub answers_done : (session : Session) (counting : Counting) (all : List Wanted) (i id : ℕ) (found whole : List Data) → length all ≤ i → found ++ answers_of session counting id (drop i all) ≡ whole → found ≡ whole
+pub answers_done : (session : Session) (counting : Counting) (all : List Wanted) (i id : ℕ) (found whole : List Data) → length all ≤ i
+    → found ++ answers_of session counting id (drop i all) ≡ whole → found ≡ whole
 unfolding answers_of
 answers_done session counting all i id found whole past so_far =
     sym (append-nil found) ∙ sym (ap (λ (ws : List Wanted). found ++ answers_of session counting id ws) (drop_all i all past)) ∙ so_far
 
-pub placed_more : (all : List Wanted) (i id next : ℕ) (e : Wanted) (found new whole : List Placed) → i < length all → e ≡ get_or all i e → next ≡ next_number id → new ≡ found ++ placed_at id e.address
+pub placed_more : (all : List Wanted) (i id next : ℕ) (e : Wanted) (found new whole : List Placed) → i < length all → e ≡ get_or all i e
+    → next ≡ next_number id → new ≡ found ++ placed_at id e.address
     → found ++ placed_of id (drop i all) ≡ whole → new ++ placed_of next (drop (i + 1) all) ≡ whole
 unfolding placed_of
 placed_more all i id next e found new whole within is number put so_far =

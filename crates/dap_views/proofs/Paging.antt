@@ -34,7 +34,8 @@ module _ (asked : Page) (ds : List Data) (d : Data) where
       → IsPage asked ds (record { list = list; skip = skip; left = left }) → IsPage asked more (record { list = list; skip = skip - 1; left = left })
   passed_by list skip left before is =
       let short : length more ≤ asked.first = omega (arith, one_more, before, is.1) in
-      let none : drop asked.first more ≡ drop asked.first ds = drop_all asked.first more short ∙ sym (drop_all asked.first ds (omega (arith, one_more, short))) in
+      let none : drop asked.first more ≡ drop asked.first ds =
+          drop_all asked.first more short ∙ sym (drop_all asked.first ds (omega (arith, one_more, short))) in
       let same : length ds - asked.first ≡ length more - asked.first = omega (arith, one_more, short) in (
         subst (λ (vs : List Data). HasValues vs list) (sym (ap (λ (vs : List Data). at_most asked.count vs) none)) is.0,
         omega (arith, one_more, is.1),
@@ -60,7 +61,8 @@ module _ (asked : Page) (ds : List Data) (d : Data) where
   taken list new is has =
       let unlimited = no_limit (asked.count == 0) _ is.2 in
       let old : page_of asked ds ≡ drop asked.first ds = all_of asked.count _ unlimited in
-      let all : page_of asked ds ++ d ∷ [] ≡ page_of asked more = ap (λ (vs : List Data). vs ++ d ∷ []) old ∙ sym (behind is.1) ∙ sym (all_of asked.count _ unlimited) in (
+      let all : page_of asked ds ++ d ∷ [] ≡ page_of asked more =
+          ap (λ (vs : List Data). vs ++ d ∷ []) old ∙ sym (behind is.1) ∙ sym (all_of asked.count _ unlimited) in (
         subst (λ (vs : List Data). HasValues vs new) all has,
         begun_still is.1,
         sym (ap (λ b. if b then None else Some (asked.count - (length more - asked.first))) unlimited),
@@ -89,7 +91,8 @@ module _ (asked : Page) (ds : List Data) (d : Data) where
       let longer : length (drop asked.first ds ++ d ∷ []) ≡ length (drop asked.first ds) + 1 = length_push (drop asked.first ds) d in
       let old : page_of asked ds ≡ drop asked.first ds = some_of count _ limited.0 ∙ take_all count (drop asked.first ds) (omega (arith, room)) in
       let whole : take count (drop asked.first ds ++ d ∷ []) ≡ drop asked.first ds ++ d ∷ [] = take_all count _ (omega (arith, room, longer)) in
-      let all : page_of asked ds ++ d ∷ [] ≡ page_of asked more = ap (λ (vs : List Data). vs ++ d ∷ []) old ∙ sym whole ∙ ap (take count) (sym (behind is.1)) ∙ sym (some_of count _ limited.0) in
+      let all : page_of asked ds ++ d ∷ [] ≡ page_of asked more =
+          ap (λ (vs : List Data). vs ++ d ∷ []) old ∙ sym whole ∙ ap (take count) (sym (behind is.1)) ∙ sym (some_of count _ limited.0) in
       let rest : left - 1 ≡ count - (length more - asked.first) = omega (arith, one_more, limited.1, is.1, some) in (
         subst (λ (vs : List Data). HasValues vs new) all has,
         begun_still is.1,

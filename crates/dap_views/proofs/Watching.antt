@@ -13,7 +13,8 @@ use Rattle.mon_runs.specs.declared.watches.Watch.{Watch}
 
 -- ---- watches cleared
 
-pub unset_by : (r : Result Unit SessionFault) (address : ℕ) (old new : Session) → OnOk r (watch_cleared address old ≡ Ok new) → IfErr r (λ fault. (watch_cleared address old ≡ Err fault) × (new ≡ old)) → new ≡ unset address old
+pub unset_by : (r : Result Unit SessionFault) (address : ℕ) (old new : Session) → OnOk r (watch_cleared address old ≡ Ok new)
+    → IfErr r (λ fault. (watch_cleared address old ≡ Err fault) × (new ≡ old)) → new ≡ unset address old
 unset_by (Ok done) address old new is failed = sym (ap (or_same old) is)
 unset_by (Err fault) address old new is failed = failed.1 ∙ sym (ap (or_same old) failed.0)
 

@@ -24,7 +24,8 @@ module _ (s : State) (places : PlacesView) where
   one place (Interrupt at) = sym (append-nil (from_line INTERRUPTED_AT.now s places.names at))
   one place Byte = refl
 
-  by_end : (past : Bool) (text : List ℕ) (frames : List Frame) → text ≡ flat_map line frames → (if past then [] else text) ≡ flat_map line (if past then [] else frames)
+  by_end : (past : Bool) (text : List ℕ) (frames : List Frame) → text ≡ flat_map line frames
+      → (if past then [] else text) ≡ flat_map line (if past then [] else frames)
   by_end true text frames e = refl
   by_end false text frames e = e
 
@@ -34,7 +35,8 @@ module _ (s : State) (places : PlacesView) where
   all (suc n) at =
       let pushed = pushed_at s.bus.memory places.lines at in
       let next = at + entry_len s.bus.memory places.lines at in
-      by_end (nat_le 512 at) _ _ ((λ i. one at pushed i ++ all n next i) ∙ sym (flat_map-append line (frame_of at pushed) (frames_from n s.bus.memory places.lines next)))
+      by_end (nat_le 512 at) _ _ ((λ i. one at pushed i ++ all n next i)
+          ∙ sym (flat_map-append line (frame_of at pushed) (frames_from n s.bus.memory places.lines next)))
 
 pub frames_are_those_of_where : FramesAreThoseOfWhere
 frames_are_those_of_where s places = ap (λ (text : List ℕ). at_line places.names s.regs.pc ++ text) (all s places 256 (257 + s.regs.s))

@@ -5,7 +5,8 @@ use Rattle.std.proofs.Math.ListN.{drop_of_length-le}
 use Rattle.debug_files.specs.Paths.{name_start}
 
 -- One byte of a path, and the rest.
-pub start_on : (path : List ℕ) (at start next whole : ℕ) → at < length path → next ≡ (if get_or path at 0 == 47 then at + 1 else start) → whole ≡ name_start at start (drop at path) → whole ≡ name_start (at + 1) next (drop (at + 1) path)
+pub start_on : (path : List ℕ) (at start next whole : ℕ) → at < length path → next ≡ (if get_or path at 0 == 47 then at + 1 else start)
+    → whole ≡ name_start at start (drop at path) → whole ≡ name_start (at + 1) next (drop (at + 1) path)
 unfolding name_start
 start_on path at start next whole inside is so_far =
     let step : drop at path ≡ get_or path at 0 ∷ drop (at + 1) path = rw (add-one, drop-cons path at 0) refl in

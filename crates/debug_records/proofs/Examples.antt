@@ -36,11 +36,13 @@ unfolding debug_info lines_read lines_from with_text said_by fields_within next_
 counts = refl
 
 pub no_segment : debug_info (version ++ codes "span\tid=0,seg=3,start=0,size=1\n") ≡ fault_in_file 2 15 fault.NoRecord
-unfolding debug_info lines_read lines_from with_text said_by fields_within next_field field_of field_with number_of with_said with_version with_record with_span span_of with_new finished
+unfolding debug_info lines_read lines_from with_text said_by fields_within next_field field_of field_with number_of with_said with_version with_record
+    with_span span_of with_new finished
 no_segment = refl
 
 pub twice : debug_info (version ++ codes "seg\tid=0,start=0x0,size=1\r\nseg\tid=0,start=1,size=1\n") ≡ fault_in_file 3 8 fault.IdTwice
-unfolding debug_info lines_read lines_from with_text said_by fields_within next_field field_of field_with number_of with_said with_version with_record with_segment segment_of with_new finished
+unfolding debug_info lines_read lines_from with_text said_by fields_within next_field field_of field_with number_of with_said with_version with_record
+    with_segment segment_of with_new finished
 twice = refl
 
 pub open_quote : debug_info (version ++ codes "file\tid=0,name=" ++ 34 ∷ codes "a,b\n") ≡ fault_in_file 2 16 fault.OpenText
@@ -65,11 +67,13 @@ row file line kind depth start end = record {
 }
 
 abbrev while_line : List ℕ
-while_line = version ++ codes "line\tid=0,file=0,line=8,type=1,span=1+0\nspan\tid=0,seg=0,start=325,size=3\nspan\tid=1,seg=0,start=376,size=13\nseg\tid=0,start=0x008019,size=0x055E\nfile\tid=0,name="
+while_line = version
+    ++ codes "line\tid=0,file=0,line=8,type=1,span=1+0\nspan\tid=0,seg=0,start=325,size=3\nspan\tid=1,seg=0,start=376,size=13\nseg\tid=0,start=0x008019,size=0x055E\nfile\tid=0,name="
     ++ 34 ∷ codes "bank.c" ++ 34 ∷ codes ",size=9,mtime=0x10\n"
 
 pub two_spans : rows_in (debug_info while_line) ≡ row 0 8 kind.C 0 0x8191 0x819E ∷ row 0 8 kind.C 0 0x815E 0x8161 ∷ []
-unfolding debug_info lines_read lines_from with_text said_by fields_within next_field field_of field_with number_of next_number numbers_within with_said with_version with_record with_file file_of with_segment segment_of with_span span_of with_line line_of with_uses with_new finished row_of
+unfolding debug_info lines_read lines_from with_text said_by fields_within next_field field_of field_with number_of next_number numbers_within
+    with_said with_version with_record with_file file_of with_segment segment_of with_span span_of with_line line_of with_uses with_new finished row_of
 two_spans = refl
 
 -- ---- a macro in a macro: the line that the author wrote is shown

@@ -48,10 +48,12 @@ same_within first past address h = elim (cases_lt address first) [
   ]
 ]
 
-first_byte : (row : Row) (address : ℕ) (b : Bool) → nat_lt row.start row.end ≡ b → within row.start (if b then row.start + 1 else row.start) address ≡ (within row.start row.end address && row.start == address)
+first_byte : (row : Row) (address : ℕ) (b : Bool) → nat_lt row.start row.end ≡ b
+    → within row.start (if b then row.start + 1 else row.start) address ≡ (within row.start row.end address && row.start == address)
 first_byte row address true h = elim (cases_eq row.start address) [
   | inl same ↦ inside row.start (row.start + 1) address (omega (arith, same)) (omega (arith, same))
-      ∙ sym (ap (λ b. b && (row.start == address)) (inside row.start row.end address (omega (arith, same)) (omega (arith, same, ltb-true row.start row.end h))) ∙ eq-eqb row.start address same)
+      ∙ sym (ap (λ b. b && (row.start == address)) (inside row.start row.end address (omega (arith, same))
+          (omega (arith, same, ltb-true row.start row.end h))) ∙ eq-eqb row.start address same)
   | inr other ↦ elim (cases_lt address row.start) [
     | inl under ↦ below row.start (row.start + 1) address under
         ∙ sym (and_right (within row.start row.end address) (row.start == address) (ne_eqb row.start address other))
@@ -71,7 +73,8 @@ passes_within wants.Begun row address = first_byte row address (nat_lt row.start
 pub none_taken : (wanted : Wanted) (row : Row) (first : ℕ) (table : List (Option Row)) → length table ≡ 65536 → Taken wanted row first table table first
 none_taken wanted row first table h = record {
   size = h;
-  rows = λ address k. sym (ap (λ b. if b then Some (better wanted (record_at table address) row) else record_at table address) (outside first first address (omega arith)));
+  rows = λ address k. sym (ap (λ b. if b then Some (better wanted (record_at table address) row) else record_at table address)
+      (outside first first address (omega arith)));
 }
 
 one_more : (first past address : ℕ) → (address ≡ past → ⊥) → within first (past + 1) address ≡ within first past address
@@ -80,7 +83,8 @@ one_more first past address apart = elim (cases_lt address past) [
   | inr h ↦ ap (λ b. nat_le first address && b) (le-ltb address (past + 1) (omega (arith, apart, h)) ∙ sym (le-ltb address past h))
 ]
 
-taken_here : (wanted : Wanted) (row : Row) (first past : ℕ) (old table : List (Option Row)) → first ≤ past → past < 65536 → Taken wanted row first old table past
+taken_here : (wanted : Wanted) (row : Row) (first past : ℕ) (old table : List (Option Row)) → first ≤ past → past < 65536
+    → Taken wanted row first old table past
     → Some (better wanted (record_at table past) row) ≡ so_far wanted row first (past + 1) past (record_at old past)
 taken_here wanted row first past old table h k t =
     let untouched : record_at table past ≡ record_at old past = t.rows past k
@@ -138,7 +142,8 @@ all_left wanted rows table t = record {
 }
 
 pub row_put : (wanted : Wanted) (d : Row) (rows : List Row) (i : ℕ) (table new : List (Option Row)) → i < length rows
-    → IsTable new (λ address. with_row wanted address (record_at table address) (get_or rows i d)) → Left wanted rows (drop i rows) table → Left wanted rows (drop (i + 1) rows) new
+    → IsTable new (λ address. with_row wanted address (record_at table address) (get_or rows i d)) → Left wanted rows (drop i rows) table
+        → Left wanted rows (drop (i + 1) rows) new
 row_put wanted d rows i table new h t l =
     let step : drop i rows ≡ get_or rows i d ∷ drop (i + 1) rows = drop_more rows i d h in record {
       size = t.size;

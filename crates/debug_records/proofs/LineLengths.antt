@@ -16,7 +16,8 @@ length-stripped byte xs = by (ends_with_byte byte xs)
     by false = omega arith
 
 -- with the line that has begun
-length-line_from : (begun text line : List ℕ) (lines : List (List ℕ)) → lines_from last_line begun text ≡ line ∷ lines → length line ≤ length begun + length text
+length-line_from : (begun text line : List ℕ) (lines : List (List ℕ)) → lines_from last_line begun text ≡ line ∷ lines
+    → length line ≤ length begun + length text
 unfolding lines_from
 length-line_from [] [] line lines h = absurd (cc)
 length-line_from (b ∷ begun) [] line lines h =

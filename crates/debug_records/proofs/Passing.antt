@@ -20,10 +20,12 @@ passed_on_in_file (debug.Fault fault) part whole same h = same fault h
 passed_on_in_file debug.OutOfMemory part whole same h = tt
 
 -- the first step of several
-pub first_refused : {B D : Type 0} (why : LineError) (part : Result B LineFault) (next : B → Result D LineFault) → Refuses why part → Refuses why (part >>= next)
+pub first_refused : {B D : Type 0} (why : LineError) (part : Result B LineFault) (next : B → Result D LineFault) → Refuses why part
+    → Refuses why (part >>= next)
 first_refused (error.Fault fault) part next h = ap (λ r. r >>= next) h
 first_refused error.Memory part next h = tt
 
-pub first_refused_in_file : {B D : Type 0} (why : DebugError) (part : Result B DebugFault) (next : B → Result D DebugFault) → RefusesInfo why part → RefusesInfo why (part >>= next)
+pub first_refused_in_file : {B D : Type 0} (why : DebugError) (part : Result B DebugFault) (next : B → Result D DebugFault) → RefusesInfo why part
+    → RefusesInfo why (part >>= next)
 first_refused_in_file (debug.Fault fault) part next h = ap (λ r. r >>= next) h
 first_refused_in_file debug.OutOfMemory part next h = tt

@@ -18,12 +18,14 @@ use Rattle.debug_records.proofs.Tables.{new_put, new_refused}
 
 -- ---- files
 
-file_pushed : (fields : List Field) (r : Reading) (id : Placed) (file : File) (files : Table File) → placed_in fields (codes "id") ≡ Ok id → file_of fields ≡ Ok file
+file_pushed : (fields : List Field) (r : Reading) (id : Placed) (file : File) (files : Table File) → placed_in fields (codes "id") ≡ Ok id
+    → file_of fields ≡ Ok file
     → with_new most_files r.info.files id file ≡ Ok files → with_file fields r ≡ Ok (record r { info = record r.info { files = files } })
 unfolding with_file
 file_pushed fields r id file files h k p = rw h (rw k (rw p refl))
 
-file_refused : (fields : List Field) (r : Reading) (id : Placed) (file : File) (fault : LineFault) → placed_in fields (codes "id") ≡ Ok id → file_of fields ≡ Ok file
+file_refused : (fields : List Field) (r : Reading) (id : Placed) (file : File) (fault : LineFault) → placed_in fields (codes "id") ≡ Ok id
+    → file_of fields ≡ Ok file
     → with_new most_files r.info.files id file ≡ Err fault → with_file fields r ≡ Err fault
 unfolding with_file
 file_refused fields r id file fault h k p = rw h (rw k (rw p refl))
@@ -47,17 +49,20 @@ file_given (Err why) fields r table new id file same h k given =
 
 -- ---- segments
 
-segment_pushed : (fields : List Field) (r : Reading) (id : Placed) (segment : Segment) (segments : Table Segment) → placed_in fields (codes "id") ≡ Ok id → segment_of fields ≡ Ok segment
+segment_pushed : (fields : List Field) (r : Reading) (id : Placed) (segment : Segment) (segments : Table Segment)
+    → placed_in fields (codes "id") ≡ Ok id → segment_of fields ≡ Ok segment
     → with_new most_records r.info.segments id segment ≡ Ok segments → with_segment fields r ≡ Ok (record r { info = record r.info { segments = segments } })
 unfolding with_segment
 segment_pushed fields r id segment segments h k p = rw h (rw k (rw p refl))
 
-segment_refused : (fields : List Field) (r : Reading) (id : Placed) (segment : Segment) (fault : LineFault) → placed_in fields (codes "id") ≡ Ok id → segment_of fields ≡ Ok segment
+segment_refused : (fields : List Field) (r : Reading) (id : Placed) (segment : Segment) (fault : LineFault) → placed_in fields (codes "id") ≡ Ok id
+    → segment_of fields ≡ Ok segment
     → with_new most_records r.info.segments id segment ≡ Err fault → with_segment fields r ≡ Err fault
 unfolding with_segment
 segment_refused fields r id segment fault h k p = rw h (rw k (rw p refl))
 
-pub segment_given : {A : Type 0} (result : Result A LineError) (fields : List Field) (r : Reading) (table new : Table HeldSegment) (id : Placed) (segment : HeldSegment)
+pub segment_given : {A : Type 0} (result : Result A LineError) (fields : List Field) (r : Reading) (table new : Table HeldSegment) (id : Placed)
+    (segment : HeldSegment)
     → map (option_map segment_view) table ≡ r.info.segments → placed_in fields (codes "id") ≡ Ok id → segment_of fields ≡ Ok (segment_view segment)
     → Gives (λ (x : A). new) result (with_new most_records table id segment)
     → Gives (λ (x : A). record r { info = record r.info { segments = map (option_map segment_view) new } }) result (with_segment fields r)

@@ -9,7 +9,8 @@ use Rattle.debug_records.specs.declared.fault.LineFault.{LineFault}
 use Rattle.debug_records.specs.declared.numbers.Placed.{Placed}
 
 -- the record at a number
-pub record_seen : {A B : Type 0} (view : A → B) (table : Table A) (number : ℕ) → record_at (map (option_map view) table) number ≡ option_map view (record_at table number)
+pub record_seen : {A B : Type 0} (view : A → B) (table : Table A) (number : ℕ)
+    → record_at (map (option_map view) table) number ≡ option_map view (record_at table number)
 record_seen view [] number = refl
 record_seen view (x ∷ table) zero = refl
 record_seen view (x ∷ table) (suc number) = record_seen view table number
@@ -19,7 +20,8 @@ still_some view None = refl
 still_some view (Some x) = refl
 
 -- whether there is one
-pub taken_seen : {A B : Type 0} (view : A → B) (table : Table A) (number : ℕ) → is_some (record_at (map (option_map view) table) number) ≡ is_some (record_at table number)
+pub taken_seen : {A B : Type 0} (view : A → B) (table : Table A) (number : ℕ)
+    → is_some (record_at (map (option_map view) table) number) ≡ is_some (record_at table number)
 taken_seen view table number = ap (λ o. is_some o) (record_seen view table number) ∙ still_some view (record_at table number)
 
 empty_seen : {A B : Type 0} (view : A → B) (n : ℕ) → map (option_map view) (replicate n None) ≡ replicate n None
@@ -33,7 +35,8 @@ grown_seen view table count =
     ∙ ap (λ n. map (option_map view) table ++ replicate (count - n) None) (sym (length-map table (option_map view))))
 
 -- the table with a record more
-pub put_seen : {A B : Type 0} (view : A → B) (table : Table A) (number : ℕ) (item : A) → map (option_map view) (put_at table number item) ≡ put_at (map (option_map view) table) number (view item)
+pub put_seen : {A B : Type 0} (view : A → B) (table : Table A) (number : ℕ) (item : A)
+    → map (option_map view) (put_at table number item) ≡ put_at (map (option_map view) table) number (view item)
 put_seen view table number item =
     map-set (option_map view) (grown table (number + 1)) number (Some item)
     ∙ ap (λ t. set t number (Some (view item))) (grown_seen view table (number + 1))
@@ -55,6 +58,7 @@ pub new_put : {A B : Type 0} (view : A → B) (most : ℕ) (table new : Table A)
     → with_new most (map (option_map view) table) id (view item) ≡ Ok (map (option_map view) new)
 new_put view most table new id item h = new_seen view most table id item ∙ ap (seen (map (option_map view))) h
 
-pub new_refused : {A B : Type 0} (view : A → B) (most : ℕ) (table : Table A) (id : Placed) (item : A) (fault : LineFault) → with_new most table id item ≡ Err fault
+pub new_refused : {A B : Type 0} (view : A → B) (most : ℕ) (table : Table A) (id : Placed) (item : A) (fault : LineFault)
+    → with_new most table id item ≡ Err fault
     → with_new most (map (option_map view) table) id (view item) ≡ Err fault
 new_refused view most table id item fault h = new_seen view most table id item ∙ ap (seen (map (option_map view))) h

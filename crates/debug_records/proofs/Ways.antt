@@ -24,7 +24,8 @@ unfolding fields_within
 field_suc zero m fields more text rest e k = absurd (omega (arith, e))
 field_suc (suc n) m fields more text rest e k =
     let same : n ≡ m = omega (arith, e) in
-    rw (← same) (rw k (elim (length rest == 0) as (λ (b : Bool). cond b (Ok more) (fields_within n more (drop 1 rest)) ≡ behind_field n more rest b) [ true ↦ refl | false ↦ refl ]))
+    rw (← same) (rw k (elim (length rest == 0) as (λ (b : Bool). cond b (Ok more) (fields_within n more (drop 1 rest)) ≡ behind_field n more rest b)
+        [ true ↦ refl | false ↦ refl ]))
 
 pub field_last : (n m : ℕ) (fields more : List Field) (text rest : List ℕ) → n ≡ m + 1 → next_field fields text ≡ Ok (more, rest) → (length rest == 0) ≡ true
     → fields_within n fields text ≡ Ok more
@@ -58,13 +59,17 @@ unfolding numbers_within
 number_suc zero m left found more text e k = absurd (omega (arith, e))
 number_suc (suc n) m left found more text e k =
     let same : n ≡ m = omega (arith, e) in
-    rw (← same) (rw k (elim (plus_in text == length text) as (λ (b : Bool). cond b (Ok more) (numbers_within n more (left - (plus_in text + 1)) (drop (plus_in text + 1) text)) ≡ behind_number n more left text b) [ true ↦ refl | false ↦ refl ]))
+    rw (← same) (rw k (elim (plus_in text == length text) as
+        (λ (b : Bool). cond b (Ok more) (numbers_within n more (left - (plus_in text + 1)) (drop (plus_in text + 1) text))
+        ≡ behind_number n more left text b) [ true ↦ refl | false ↦ refl ]))
 
-pub number_last : (n m left : ℕ) (found more : List Placed) (text : List ℕ) → n ≡ m + 1 → next_number found left text ≡ Ok more → (plus_in text == length text) ≡ true
+pub number_last : (n m left : ℕ) (found more : List Placed) (text : List ℕ) → n ≡ m + 1 → next_number found left text ≡ Ok more
+    → (plus_in text == length text) ≡ true
     → numbers_within n found left text ≡ Ok more
 number_last n m left found more text e k h = number_suc n m left found more text e k ∙ ap (behind_number m more left text) h
 
-pub number_more : (n m left : ℕ) (found more : List Placed) (text : List ℕ) → n ≡ m + 1 → next_number found left text ≡ Ok more → (plus_in text == length text) ≡ false
+pub number_more : (n m left : ℕ) (found more : List Placed) (text : List ℕ) → n ≡ m + 1 → next_number found left text ≡ Ok more
+    → (plus_in text == length text) ≡ false
     → numbers_within n found left text ≡ numbers_within m more (left - (plus_in text + 1)) (drop (plus_in text + 1) text)
 number_more n m left found more text e k h = number_suc n m left found more text e k ∙ ap (behind_number m more left text) h
 
@@ -86,7 +91,8 @@ pub line_more : (number : ℕ) (line : List ℕ) (lines : List (List ℕ)) (r mo
 unfolding lines_read
 line_more number line lines r more k = ap (λ (read : Result Reading DebugFault). read >>= lines_read (number + 1) lines) k
 
-pub line_refused : (number : ℕ) (line : List ℕ) (lines : List (List ℕ)) (r : Reading) (fault : DebugFault) → in_line (place_of number line) (with_text number line r) ≡ Err fault
+pub line_refused : (number : ℕ) (line : List ℕ) (lines : List (List ℕ)) (r : Reading) (fault : DebugFault)
+    → in_line (place_of number line) (with_text number line r) ≡ Err fault
     → lines_read number (line ∷ lines) r ≡ Err fault
 unfolding lines_read
 line_refused number line lines r fault k = ap (λ (read : Result Reading DebugFault). read >>= lines_read (number + 1) lines) k

@@ -162,24 +162,28 @@ tells_pushed t0 t1 e s t r p h f =
           ∙ ap (λ x. held_states (min (t0.held + 1) t0.history) t0.kept.items x t) p.events ∙ a.states t0.held t0.history r.held r.few;
     }
 
-tells_many : (t0 t1 t2 : Trail) (e : Event) (now : State) (all : List State) → HasRoom t0 → Pushed t0 t1 e → t1.held + 1024 ≤ length t1.events.items → DropsOldest t1 t2 → Tells t1 now all → Tells t2 now all
+tells_many : (t0 t1 t2 : Trail) (e : Event) (now : State) (all : List State) → HasRoom t0 → Pushed t0 t1 e → t1.held + 1024 ≤ length t1.events.items
+    → DropsOldest t1 t2 → Tells t1 now all → Tells t2 now all
 tells_many t0 t1 t2 e now all r p h g told =
     let long = length-pushed t0 t1 e p in
     let k1 : length t1.kept.items ≡ length t0.kept.items = ap (λ b. length b.items) p.kept in
     let some : 0 < length t1.kept.items = omega (arith, r.count) in
     let w = without_part 1024 t1.kept.items t1.events.items now some (λ one. omega (arith, r.count)) told.history in
     record {
-      history = subst (λ x. IsHistory 1024 x t2.events.items now) (sym g.kept) (subst (λ x. IsHistory 1024 (drop 1 t1.kept.items) x now) (sym g.events) w.history);
+      history = subst (λ x. IsHistory 1024 x t2.events.items now) (sym g.kept)
+          (subst (λ x. IsHistory 1024 (drop 1 t1.kept.items) x now) (sym g.events) w.history);
       states = ap (λ n. held_states n t2.kept.items t2.events.items now) g.room.held ∙ ap (λ x. held_states t1.held x t2.events.items now) g.kept
           ∙ ap (λ x. held_states t1.held (drop 1 t1.kept.items) x now) g.events ∙ w.states t1.held h ∙ told.states;
     }
 
-tells_one : (t u : Trail) (now : State) (all : List State) → IsDue t → length t.events.items % 1024 ≡ 0 → SavesCheckpoint t u (checkpoint_of now) → Tells t now all → Tells u now all
+tells_one : (t u : Trail) (now : State) (all : List State) → IsDue t → length t.events.items % 1024 ≡ 0 → SavesCheckpoint t u (checkpoint_of now)
+    → Tells t now all → Tells u now all
 tells_one t u now all d h m told =
     let room : 1024 * length t.kept.items ≡ length t.events.items = omega (arith, d.count, d.whole) in
     let w = with_mark 1024 t.kept.items (checkpoint_of now) t.events.items now room (leads-here now) told.history in
     record {
-      history = subst (λ x. IsHistory 1024 x u.events.items now) (sym m.kept) (subst (λ x. IsHistory 1024 (t.kept.items ++ checkpoint_of now ∷ []) x now) (sym m.events) w.history);
+      history = subst (λ x. IsHistory 1024 x u.events.items now) (sym m.kept)
+          (subst (λ x. IsHistory 1024 (t.kept.items ++ checkpoint_of now ∷ []) x now) (sym m.events) w.history);
       states = ap (λ n. held_states n u.kept.items u.events.items now) m.room.held ∙ ap (λ x. held_states t.held x u.events.items now) m.kept
           ∙ ap (λ x. held_states t.held (t.kept.items ++ checkpoint_of now ∷ []) x now) m.events ∙ w.states t.held ∙ told.states;
     }
@@ -204,7 +208,8 @@ noted t0 t1 t2 t3 e s now r p g m h f =
 pub kept_all : {X : Type 0} (n : ℕ) (xs : List X) (x : X) → length xs < n → ring.keep_last n (xs ++ x ∷ []) ≡ xs ++ x ∷ []
 kept_all n xs x h = let z : length (xs ++ x ∷ []) - n ≡ 0 = omega (arith, length-append xs (x ∷ [])) in ap (λ k. drop k (xs ++ x ∷ [])) z
 
-pub pushed : (t : Trail) (events : ring.Buffer Event) (held : ℕ) (e : Event) → HasRoom t → events ≡ ring.buffer (ring.keep_last t.events.capacity (t.events.items ++ e ∷ [])) t.events.capacity → held ≡ min (t.held + 1) t.history
+pub pushed : (t : Trail) (events : ring.Buffer Event) (held : ℕ) (e : Event) → HasRoom t
+    → events ≡ ring.buffer (ring.keep_last t.events.capacity (t.events.items ++ e ∷ [])) t.events.capacity → held ≡ min (t.held + 1) t.history
     → Pushed t (record { events = events; kept = t.kept; spare = t.spare; held = held; history = t.history }) e
 pushed t events held e r is more = record {
   events = ap (λ b. b.items) is ∙ kept_all t.events.capacity t.events.items e (omega (arith, r.recent, r.held, r.event_room));
@@ -216,7 +221,8 @@ pushed t events held e r is more = record {
 }
 
 -- the number of the current state
-pub numbered : (t0 t1 t2 t3 : Trail) (e : Event) (c : Checkpoint) → HasRoom t0 → Pushed t0 t1 e → LetGoIf t1 t2 → MarkedIf t2 t3 c → length t3.events.items % 1024 ≡ (length t0.events.items % 1024 + 1) % 1024
+pub numbered : (t0 t1 t2 t3 : Trail) (e : Event) (c : Checkpoint) → HasRoom t0 → Pushed t0 t1 e → LetGoIf t1 t2 → MarkedIf t2 t3 c
+    → length t3.events.items % 1024 ≡ (length t0.events.items % 1024 + 1) % 1024
 numbered t0 t1 t2 t3 e c r p g m =
     let long = length-pushed t0 t1 e p in
     let marked : length t3.events.items ≡ length t2.events.items = elim (none_or_some (length t2.events.items % 1024)) [
@@ -225,5 +231,6 @@ numbered t0 t1 t2 t3 e c r p g m =
     ] in
     elim (few_or_many (length t1.events.items) (t1.held + 1024)) [
       | inl k ↦ (let same : length t2.events.items ≡ length t1.events.items = ap (λ (t : Trail). length t.events.items) (g.few k) in omega arith)
-      | inr k ↦ (let less : length t2.events.items ≡ length t1.events.items - 1024 = ap length ((g.many k).events) ∙ length-drop 1024 t1.events.items in omega arith)
+      | inr k ↦ (let less : length t2.events.items ≡ length t1.events.items - 1024 =
+          ap length ((g.many k).events) ∙ length-drop 1024 t1.events.items in omega arith)
     ]

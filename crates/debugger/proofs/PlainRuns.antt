@@ -29,7 +29,8 @@ plain_steps_last stops marks (suc n) from s t some all =
     let less : suc n - 1 ≡ n = omega arith in
     (all.0, plain_steps stops marks n s all.0 (subst (λ k. AllPlain stops marks k s all.0) less all.1), plain_step marks all.0 t all.2)
 
-made_by : (stops marks : List ℕ) (stopped : Bool) (n from : ℕ) (s t : State) → (stopped ≡ false → AllPlain stops marks n s t) → (0 < n → AllPlainButLast stops marks n from s t) → (stopped ≡ true → 0 < n) → AllSteps [] n s t
+made_by : (stops marks : List ℕ) (stopped : Bool) (n from : ℕ) (s t : State) → (stopped ≡ false → AllPlain stops marks n s t)
+    → (0 < n → AllPlainButLast stops marks n from s t) → (stopped ≡ true → 0 < n) → AllSteps [] n s t
 made_by stops marks true n from s t on last some = plain_steps_last stops marks n from s t (some refl) (last (some refl))
 made_by stops marks false n from s t on last some = plain_steps stops marks n s t (on refl)
 

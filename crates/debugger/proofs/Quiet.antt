@@ -33,7 +33,8 @@ more_held a p b = grind arith
 
 one_more : (t : Trail) (p : ℕ) → Pushed (with_steps t p) (with_steps t (p + 1)) Step
 one_more t p = record {
-  events = ap (λ (xs : List Event). t.events.items ++ xs) (sym (replicate-append-replicate p 1 Step)) ∙ sym (append_assoc t.events.items (replicate p Step) (Step ∷ []));
+  events = ap (λ (xs : List Event). t.events.items ++ xs) (sym (replicate-append-replicate p 1 Step))
+      ∙ sym (append_assoc t.events.items (replicate p Step) (Step ∷ []));
   capacity = refl;
   kept = refl;
   spare = refl;
@@ -90,7 +91,8 @@ number_then t p q now r k some =
     numbered t0 t1 t1 t1 Step (checkpoint_of now) r (one_more t p) (nothing_let_go t p q k some) (nothing_marked t p q (checkpoint_of now) k some)
 
 -- a trail that has room is quiet for so many steps
-pub quiet_now : (t : Trail) (more : ℕ) → HasRoom t → length t.events.items % 1024 + more < 1024 → length t.events.items + more < t.held + 1024 → IsQuiet t 0 more
+pub quiet_now : (t : Trail) (more : ℕ) → HasRoom t → length t.events.items % 1024 + more < 1024 → length t.events.items + more < t.held + 1024
+    → IsQuiet t 0 more
 quiet_now t more r part room = record {
   few = omega (arith, part);
   size = r.history;
@@ -123,8 +125,10 @@ quiet_here t p q k =
     room_here l len held history q same room = grind arith
 
 -- some steps put after the others at once
-pub settled : (t : Trail) (steps count held : ℕ) (given : List Event) (events : Buffer Event) → given ≡ replicate steps Step → length t.events.items + steps ≤ t.events.capacity
-    → count ≡ min (length given) (t.events.capacity - length t.events.items) → events ≡ buffer (t.events.items ++ take count given) t.events.capacity → held ≡ min (t.held + steps) t.history
+pub settled : (t : Trail) (steps count held : ℕ) (given : List Event) (events : Buffer Event) → given ≡ replicate steps Step
+    → length t.events.items + steps ≤ t.events.capacity
+    → count ≡ min (length given) (t.events.capacity - length t.events.items) → events ≡ buffer (t.events.items ++ take count given) t.events.capacity
+        → held ≡ min (t.held + steps) t.history
     → record_of t events held ≡ with_steps t steps
 settled t steps count held given events is room n all more =
     let size : length given ≡ steps = ap length is ∙ length-replicate steps Step in

@@ -52,7 +52,8 @@ pub length-keep_last : (n : ℕ) (xs : List State) → length (keep_last n xs) �
 length-keep_last n xs = omega (arith, length-drop (length xs - n) xs)
 
 -- an event appends the state before it, and the oldest beyond the history is dropped
-pub kept-event : (held history : ℕ) (xs : List State) (x : State) → held ≤ history → held ≤ length xs → keep_last (min (held + 1) history) (xs ++ x ∷ []) ≡ keep_last history (keep_last held xs ++ x ∷ [])
+pub kept-event : (held history : ℕ) (xs : List State) (x : State) → held ≤ history → held ≤ length xs
+    → keep_last (min (held + 1) history) (xs ++ x ∷ []) ≡ keep_last history (keep_last held xs ++ x ∷ [])
 kept-event held history xs x h k =
     let cut = length xs - held in
     let grown : keep_last held xs ++ x ∷ [] ≡ drop cut (xs ++ x ∷ []) = sym (drop-append-le cut xs (x ∷ []) (omega arith)) in
@@ -68,7 +69,8 @@ kept-drop held k xs h =
 
 -- going back takes the last states away
 pub kept-back : (held k n : ℕ) (s : State) (es : List Event) → held ≤ length es → k ≤ held → n ≡ length es - k
-    → keep_last (held - k) (before_each s (take n es)) ++ state_after s (take n es) ∷ [] ≡ take (held - k + 1) (keep_last held (before_each s es) ++ state_after s es ∷ [])
+    → keep_last (held - k) (before_each s (take n es)) ++ state_after s (take n es) ∷ []
+        ≡ take (held - k + 1) (keep_last held (before_each s es) ++ state_after s es ∷ [])
 kept-back held k n s es h j e =
     let short = take n es in
     let cut = length es - held in
@@ -77,12 +79,14 @@ kept-back held k n s es h j e =
     let whole = length-before_each s es in
     let a : length (before_each s short) - (held - k) ≡ cut = omega arith in
     let left : keep_last (held - k) (before_each s short) ++ state_after s short ∷ [] ≡ drop cut (states_along s short) =
-    ap (λ m. drop m (before_each s short) ++ state_after s short ∷ []) a ∙ sym (drop-append-le cut (before_each s short) (state_after s short ∷ []) (omega arith)) in
+    ap (λ m. drop m (before_each s short) ++ state_after s short ∷ []) a
+        ∙ sym (drop-append-le cut (before_each s short) (state_after s short ∷ []) (omega arith)) in
     let b : length (before_each s es) - held ≡ cut = omega arith in
     let right : keep_last held (before_each s es) ++ state_after s es ∷ [] ≡ drop cut (states_along s es) =
     ap (λ m. drop m (before_each s es) ++ state_after s es ∷ []) b ∙ sym (drop-append-le cut (before_each s es) (state_after s es ∷ []) (omega arith)) in
     let m : suc n ≡ cut + (held - k + 1) = omega arith in
-    left ∙ ap (drop cut) (states_along-take n s es (omega arith) ∙ ap (λ x. take x (states_along s es)) m) ∙ drop-take cut (held - k + 1) (states_along s es) ∙ ap (take (held - k + 1)) (sym right)
+    left ∙ ap (drop cut) (states_along-take n s es (omega arith) ∙ ap (λ x. take x (states_along s es)) m)
+        ∙ drop-take cut (held - k + 1) (states_along s es) ∙ ap (take (held - k + 1)) (sym right)
 
 -- ---- growing
 
@@ -161,7 +165,8 @@ AllFollow-drop (suc n) s [] all = all
 AllFollow-drop (suc n) s (e ∷ es) all = AllFollow-drop n (next s e) es all.1
 
 -- the event at a place is accepted where its turn comes, and leads one state on
-pub follow_at : (i : ℕ) (s : State) (es : List Event) (e : Event) → slice_get es i ≡ Some e → AllFollow s es → event_of (state_after s (take i es)) e ≡ Ok (state_after s (take (i + 1) es))
+pub follow_at : (i : ℕ) (s : State) (es : List Event) (e : Event) → slice_get es i ≡ Some e → AllFollow s es
+    → event_of (state_after s (take i es)) e ≡ Ok (state_after s (take (i + 1) es))
 follow_at zero s [] e h all = cc
 follow_at zero s (f ∷ es) e h all = let same : f ≡ e = cc in subst (λ (x : Event). event_of s x ≡ Ok (next s f)) same all.0.accepted
 follow_at (suc i) s [] e h all = cc

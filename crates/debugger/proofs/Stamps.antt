@@ -13,11 +13,13 @@ abbrev pages_of : List ℕ → ℕ → ℕ → Pages
 pages_of stamps now spare = record { stamps = stamps; now = now; spare = spare }
 
 -- a bus under another name
-pub stamped : (now : ℕ) (old new : List ℕ) (restored before : Bus) (after : List ℕ) → restored ≡ before → StaySame now old new restored.memory after → StaySame now old new before.memory after
+pub stamped : (now : ℕ) (old new : List ℕ) (restored before : Bus) (after : List ℕ) → restored ≡ before → StaySame now old new restored.memory after
+    → StaySame now old new before.memory after
 stamped now old new restored before after is same = subst (λ (b : Bus). StaySame now old new b.memory after) is same
 
 -- memory changed in stamped pages
-pub tells_on : (now spare : ℕ) (old new : List ℕ) (used unused : List Checkpoint) (before after : List ℕ) → StaySame now old new before after → TellsPages (pages_of old now spare) used unused before → TellsPages (pages_of new now spare) used unused after
+pub tells_on : (now spare : ℕ) (old new : List ℕ) (used unused : List Checkpoint) (before after : List ℕ) → StaySame now old new before after
+    → TellsPages (pages_of old now spare) used unused before → TellsPages (pages_of new now spare) used unused after
 tells_on now spare old new used unused before after same told = record {
   within = told.within;
   kept = λ i c at. let inside = slice_get_within used i c at in same (number_at now (length used) i) (omega (arith, inside)) c.bus.memory (told.kept i c at);
@@ -25,7 +27,8 @@ tells_on now spare old new used unused before after same told = record {
 }
 
 -- all pages are stamped
-pub tells_nothing : (now : ℕ) (stamps : List ℕ) (used unused : List Checkpoint) (memory : List ℕ) → ((since : ℕ) → since ≤ now → (xs ys : List ℕ) → AreSameBelow since stamps xs ys) → TellsPages (pages_of stamps now 0) used unused memory
+pub tells_nothing : (now : ℕ) (stamps : List ℕ) (used unused : List Checkpoint) (memory : List ℕ)
+    → ((since : ℕ) → since ≤ now → (xs ys : List ℕ) → AreSameBelow since stamps xs ys) → TellsPages (pages_of stamps now 0) used unused memory
 tells_nothing now stamps used unused memory all = record {
   within = omega arith;
   kept = λ i c at. let inside = slice_get_within used i c at in all (number_at now (length used) i) (omega (arith, inside)) c.bus.memory memory;
@@ -33,7 +36,8 @@ tells_nothing now stamps used unused memory all = record {
 }
 
 -- the first checkpoint let go
-pub tells_let_go : (now spare number : ℕ) (stamps : List ℕ) (used unused left more : List Checkpoint) (c : Checkpoint) (memory : List ℕ) → slice_get used 0 ≡ Some c → left ≡ drop 1 used → more ≡ unused ++ c ∷ [] → number ≡ now - (length used - 1)
+pub tells_let_go : (now spare number : ℕ) (stamps : List ℕ) (used unused left more : List Checkpoint) (c : Checkpoint) (memory : List ℕ)
+    → slice_get used 0 ≡ Some c → left ≡ drop 1 used → more ≡ unused ++ c ∷ [] → number ≡ now - (length used - 1)
     → TellsPages (pages_of stamps now spare) used unused memory → TellsPages (pages_of stamps now number) left more memory
 tells_let_go now spare number stamps used unused left more c memory first rest pushed is told =
     let some = slice_get_within used 0 c first in
@@ -43,7 +47,8 @@ tells_let_go now spare number stamps used unused left more c memory first rest p
       kept = λ i d at.
           let same : number_at now (length used) (i + 1) ≡ number_at now (length left) i = omega (arith, fewer, some) in
           let next : i + 1 ≡ 1 + i = omega arith in
-          subst (λ n. AreSameBelow n stamps d.bus.memory memory) same (told.kept (i + 1) d (sym (slice_get-drop 1 used i (i + 1) next) ∙ ap (λ l. slice_get l i) (sym rest) ∙ at));
+          subst (λ n. AreSameBelow n stamps d.bus.memory memory) same
+              (told.kept (i + 1) d (sym (slice_get-drop 1 used i (i + 1) next) ∙ ap (λ l. slice_get l i) (sym rest) ∙ at));
       spare = λ d at.
           let place : length (unused ++ c ∷ []) - 1 ≡ length unused = omega (arith, length-append unused (c ∷ [])) in
           let last : Some c ≡ Some d = sym (slice_get-last unused c (length (unused ++ c ∷ []) - 1) place) ∙ ap last_item (sym pushed) ∙ at in
@@ -52,13 +57,15 @@ tells_let_go now spare number stamps used unused left more c memory first rest p
     }
 
 -- a checkpoint at the current state put after the others
-pub tells_mark : (now more spare : ℕ) (stamps : List ℕ) (used unused left all : List Checkpoint) (s : State) → more ≤ now + 1 → all ≡ used ++ checkpoint_of s ∷ []
+pub tells_mark : (now more spare : ℕ) (stamps : List ℕ) (used unused left all : List Checkpoint) (s : State) → more ≤ now + 1
+    → all ≡ used ++ checkpoint_of s ∷ []
     → TellsPages (pages_of stamps now spare) used unused s.bus.memory → TellsPages (pages_of stamps more 0) all left s.bus.memory
 unfolding checkpoint_of saved_of
 tells_mark now more spare stamps used unused left all s grown is told = subst (λ l. TellsPages (pages_of stamps more 0) l left s.bus.memory) (sym is) (record {
   within = omega arith;
   kept = λ i c at. elim (below_or_not i (length used)) [
-    | inl h ↦ (let long = length-append used (checkpoint_of s ∷ []) in λ k inside below. told.kept i c (sym (slice_get-append_left used (checkpoint_of s ∷ []) i h) ∙ at) k inside (omega (arith, below, long, grown)))
+    | inl h ↦ (let long = length-append used (checkpoint_of s ∷ []) in
+        λ k inside below. told.kept i c (sym (slice_get-append_left used (checkpoint_of s ∷ []) i h) ∙ at) k inside (omega (arith, below, long, grown)))
     | inr h ↦ (
         let inside = slice_get_within (used ++ checkpoint_of s ∷ []) i c at in
         let place : i ≡ length used = omega (arith, inside, h, length-append used (checkpoint_of s ∷ [])) in
@@ -70,7 +77,8 @@ tells_mark now more spare stamps used unused left all s grown is told = subst (�
 })
 
 -- the checkpoint that a session starts with
-pub tells_first : (p : Pages) (used unused : List Checkpoint) (s : State) → p.now ≡ 1 → p.spare ≡ 0 → used ≡ checkpoint_of s ∷ [] → TellsPages p used unused s.bus.memory
+pub tells_first : (p : Pages) (used unused : List Checkpoint) (s : State) → p.now ≡ 1 → p.spare ≡ 0 → used ≡ checkpoint_of s ∷ []
+    → TellsPages p used unused s.bus.memory
 tells_first p used unused s now spare is =
     let told = tells_mark 0 p.now 0 p.stamps [] [] unused used s (omega (arith, now)) is (record {
       within = omega arith;

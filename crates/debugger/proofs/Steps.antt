@@ -12,8 +12,10 @@ use Rattle.debugger.specs.Replay.{Follows}
 use Rattle.debugger.proofs.Replays.{follows_of, grows_plain}
 use Rattle.debugger.proofs.Runs.{event_is_step, record_of, undoes_by}
 
-pub step_follows : (change : Change) (before after : State) → step before ≡ Ok after → CanRestore change after.bus → bus_before change after.bus ≡ before.bus → Follows before Step after
-step_follows change before after made fits back = follows_of (record_of change before) before after Step (event_is_step before ∙ made) (undoes_by change before after fits back)
+pub step_follows : (change : Change) (before after : State) → step before ≡ Ok after → CanRestore change after.bus
+    → bus_before change after.bus ≡ before.bus → Follows before Step after
+step_follows change before after made fits back = follows_of (record_of change before) before after Step (event_is_step before ∙ made)
+    (undoes_by change before after fits back)
 
 -- a step that changed of the bus only memory
 pub quick_follows : (before after : State) → step before ≡ Ok after → after.bus ≡ record before.bus { memory = after.bus.memory } → Follows before Step after

@@ -13,7 +13,8 @@ use Rattle.debugger.proofs.Checkpoints.{leads-here, leads-later, marks-later, ma
 
 -- ---- an event more
 
-same_base : (p : ℕ) (kept : List Checkpoint) (base : State) (es : List Event) (s t : State) → 0 < length kept → base ≡ base_of kept s → Grows s t → AllLeadBack p kept base es s → base_of kept t ≡ base
+same_base : (p : ℕ) (kept : List Checkpoint) (base : State) (es : List Event) (s t : State) → 0 < length kept → base ≡ base_of kept s → Grows s t
+    → AllLeadBack p kept base es s → base_of kept t ≡ base
 same_base p [] base es s t some is grows marks = absurd (omega arith)
 same_base p (c ∷ cs) base es s t some is grows marks = (leads-later c s t base marks.0 grows).back
 
@@ -22,7 +23,8 @@ pub record AfterEvent (p : ℕ) (kept : List Checkpoint) (es : List Event) (e : 
   pub states : (held size : ℕ) → held ≤ size → held ≤ length es
       → held_states (min (held + 1) size) kept (es ++ e ∷ []) t ≡ keep_last size (held_states held kept es s ++ s ∷ [])
 
-pub after_event : (p : ℕ) (kept : List Checkpoint) (es : List Event) (e : Event) (s t : State) → 0 < length kept → p * length kept ≤ length es + p → IsHistory p kept es s → Follows s e t → AfterEvent p kept es e s t
+pub after_event : (p : ℕ) (kept : List Checkpoint) (es : List Event) (e : Event) (s t : State) → 0 < length kept → p * length kept ≤ length es + p
+    → IsHistory p kept es s → Follows s e t → AfterEvent p kept es e s t
 after_event p kept es e s t some room h follows =
     let base = base_of kept s in
     let same : base_of kept t ≡ base = same_base p kept base es s t some refl follows.grows h.marks in
@@ -32,7 +34,8 @@ after_event p kept es e s t some room h follows =
       history = record {
         follow = subst (λ (x : State). AllFollow x (es ++ e ∷ [])) (sym same) (AllFollow-append base es e t h.follow last);
         whole = ap (λ (x : State). state_after x (es ++ e ∷ [])) same ∙ reached;
-        marks = subst (λ (x : State). AllLeadBack p kept x (es ++ e ∷ []) t) (sym same) (marks-more p kept base es e t room (marks-later p kept base es s t follows.grows h.marks));
+        marks = subst (λ (x : State). AllLeadBack p kept x (es ++ e ∷ []) t) (sym same)
+            (marks-more p kept base es e t room (marks-later p kept base es s t follows.grows h.marks));
       };
       states = λ held size within few.
           ap (λ (x : State). keep_last (min (held + 1) size) (before_each x (es ++ e ∷ []))) same
@@ -42,12 +45,14 @@ after_event p kept es e s t some room h follows =
 
 -- ---- the oldest part let go
 
-later_base : (p : ℕ) (kept : List Checkpoint) (es : List Event) (now : State) → 0 < length kept → (length kept ≡ 1 → length es ≤ p) → IsHistory p kept es now → base_of (drop 1 kept) now ≡ state_after (base_of kept now) (take p es)
+later_base : (p : ℕ) (kept : List Checkpoint) (es : List Event) (now : State) → 0 < length kept → (length kept ≡ 1 → length es ≤ p)
+    → IsHistory p kept es now → base_of (drop 1 kept) now ≡ state_after (base_of kept now) (take p es)
 later_base p [] es now some lone h = absurd (omega arith)
 later_base p (c ∷ []) es now some lone h = sym (ap (state_after (state_at c now)) (take_all p es (lone refl)) ∙ h.whole)
 later_base p (c ∷ d ∷ cs) es now some lone h = h.marks.1.0.back
 
-rest_marks : (p : ℕ) (kept : List Checkpoint) (base : State) (es : List Event) (now : State) → AllLeadBack p kept base es now → AllLeadBack p (drop 1 kept) (state_after base (take p es)) (drop p es) now
+rest_marks : (p : ℕ) (kept : List Checkpoint) (base : State) (es : List Event) (now : State) → AllLeadBack p kept base es now
+    → AllLeadBack p (drop 1 kept) (state_after base (take p es)) (drop p es) now
 rest_marks p [] base es now h = tt
 rest_marks p (c ∷ cs) base es now h = h.1
 
@@ -55,7 +60,8 @@ pub record WithoutPart (p : ℕ) (kept : List Checkpoint) (es : List Event) (now
   pub history : IsHistory p (drop 1 kept) (drop p es) now
   pub states : (held : ℕ) → held + p ≤ length es → held_states held (drop 1 kept) (drop p es) now ≡ held_states held kept es now
 
-pub without_part : (p : ℕ) (kept : List Checkpoint) (es : List Event) (now : State) → 0 < length kept → (length kept ≡ 1 → length es ≤ p) → IsHistory p kept es now → WithoutPart p kept es now
+pub without_part : (p : ℕ) (kept : List Checkpoint) (es : List Event) (now : State) → 0 < length kept → (length kept ≡ 1 → length es ≤ p)
+    → IsHistory p kept es now → WithoutPart p kept es now
 without_part p kept es now some lone h =
     let base = base_of kept now in
     let same : base_of (drop 1 kept) now ≡ state_after base (take p es) = later_base p kept es now some lone h in
@@ -67,7 +73,8 @@ without_part p kept es now some lone h =
       };
       states = λ held few.
           let n = length-before_each base es in
-          ap (λ (x : State). keep_last held (before_each x (drop p es))) same ∙ ap (keep_last held) (before_each-drop p base es (omega arith)) ∙ kept-drop held p (before_each base es) (omega arith);
+          ap (λ (x : State). keep_last held (before_each x (drop p es))) same ∙ ap (keep_last held) (before_each-drop p base es (omega arith))
+              ∙ kept-drop held p (before_each base es) (omega arith);
     }
 
 -- ---- a checkpoint more
@@ -80,7 +87,8 @@ pub record WithMark (p : ℕ) (kept : List Checkpoint) (c : Checkpoint) (es : Li
   pub history : IsHistory p (kept ++ c ∷ []) es now
   pub states : (held : ℕ) → held_states held (kept ++ c ∷ []) es now ≡ held_states held kept es now
 
-pub with_mark : (p : ℕ) (kept : List Checkpoint) (c : Checkpoint) (es : List Event) (now : State) → p * length kept ≡ length es → LeadsBack c now now → IsHistory p kept es now → WithMark p kept c es now
+pub with_mark : (p : ℕ) (kept : List Checkpoint) (c : Checkpoint) (es : List Event) (now : State) → p * length kept ≡ length es → LeadsBack c now now
+    → IsHistory p kept es now → WithMark p kept c es now
 with_mark p kept c es now room leads h =
     let base = base_of kept now in
     let same : base_of (kept ++ c ∷ []) now ≡ base = more_base kept c now leads.back in
@@ -88,7 +96,8 @@ with_mark p kept c es now room leads h =
       history = record {
         follow = subst (λ (x : State). AllFollow x es) (sym same) h.follow;
         whole = ap (λ (x : State). state_after x es) same ∙ h.whole;
-        marks = subst (λ (x : State). AllLeadBack p (kept ++ c ∷ []) x es now) (sym same) (marks-push p kept base es c now room (subst (LeadsBack c now) (sym h.whole) leads) h.marks);
+        marks = subst (λ (x : State). AllLeadBack p (kept ++ c ∷ []) x es now) (sym same)
+            (marks-push p kept base es c now room (subst (LeadsBack c now) (sym h.whole) leads) h.marks);
       };
       states = λ held. ap (λ (x : State). keep_last held (before_each x es)) same;
     }
@@ -101,7 +110,8 @@ pub record GoneBack (p n m : ℕ) (kept : List Checkpoint) (es : List Event) (no
       → held_states (held - k) (take m kept) (take n es) (state_after (base_of kept now) (take n es)) ++ state_after (base_of kept now) (take n es) ∷ []
       ≡ take (held - k + 1) (held_states held kept es now ++ now ∷ [])
 
-back_base : (p m : ℕ) (kept : List Checkpoint) (base : State) (es : List Event) (t : State) → 0 < m → 0 < length kept → AllLeadBack p (take m kept) base es t → base_of (take m kept) t ≡ base
+back_base : (p m : ℕ) (kept : List Checkpoint) (base : State) (es : List Event) (t : State) → 0 < m → 0 < length kept
+    → AllLeadBack p (take m kept) base es t → base_of (take m kept) t ≡ base
 back_base zero m kept base es t few some marks = by m kept few some marks
   where
     by : (m : ℕ) (kept : List Checkpoint) → 0 < m → 0 < length kept → AllLeadBack zero (take m kept) base es t → base_of (take m kept) t ≡ base
@@ -112,11 +122,13 @@ back_base (suc p) zero kept base es t few some marks = absurd (omega arith)
 back_base (suc p) (suc m) [] base es t few some marks = absurd (omega arith)
 back_base (suc p) (suc m) (c ∷ cs) base es t few some marks = marks.0.back
 
-pub gone_back : (p n m : ℕ) (kept : List Checkpoint) (es : List Event) (now : State) → 0 < m → 0 < length kept → p * length (take m kept) ≤ n + p → n ≤ length es → IsHistory p kept es now → GoneBack p n m kept es now
+pub gone_back : (p n m : ℕ) (kept : List Checkpoint) (es : List Event) (now : State) → 0 < m → 0 < length kept → p * length (take m kept) ≤ n + p
+    → n ≤ length es → IsHistory p kept es now → GoneBack p n m kept es now
 gone_back p n m kept es now few some room within h =
     let base = base_of kept now in
     let t = state_after base (take n es) in
-    let marks : AllLeadBack p (take m kept) base (take n es) t = marks-back p n (take m kept) base es now t room within h.follow h.whole refl (marks-take m p kept base es now h.marks) in
+    let marks : AllLeadBack p (take m kept) base (take n es) t =
+        marks-back p n (take m kept) base es now t room within h.follow h.whole refl (marks-take m p kept base es now h.marks) in
     let same : base_of (take m kept) t ≡ base = back_base p m kept base (take n es) t few some marks in
     record {
       history = record {
@@ -131,11 +143,13 @@ gone_back p n m kept es now few some room within h =
 
 -- ---- the last checkpoint
 
-pub last_mark : (p : ℕ) (kept : List Checkpoint) (es : List Event) (now : State) (c : Checkpoint) → last_item kept ≡ Some c → IsHistory p kept es now → LeadsBack c now (state_after (base_of kept now) (take (p * (length kept - 1)) es))
+pub last_mark : (p : ℕ) (kept : List Checkpoint) (es : List Event) (now : State) (c : Checkpoint) → last_item kept ≡ Some c → IsHistory p kept es now
+    → LeadsBack c now (state_after (base_of kept now) (take (p * (length kept - 1)) es))
 last_mark p kept es now c h history = mark_at (length kept - 1) p kept (base_of kept now) es now c h history.marks
 
 -- the last of the first m checkpoints
-pub kept_leads : (p m : ℕ) (kept : List Checkpoint) (es : List Event) (now : State) (c : Checkpoint) → last_item (take m kept) ≡ Some c → m ≤ length kept → IsHistory p kept es now
+pub kept_leads : (p m : ℕ) (kept : List Checkpoint) (es : List Event) (now : State) (c : Checkpoint) → last_item (take m kept) ≡ Some c
+    → m ≤ length kept → IsHistory p kept es now
     → LeadsBack c now (state_after (base_of kept now) (take (p * (m - 1)) es))
 kept_leads p m kept es now c h within history =
     let n : length (take m kept) ≡ m = length-take-le m kept within in
@@ -143,7 +157,8 @@ kept_leads p m kept es now c h within history =
     (mark_at (length (take m kept) - 1) p (take m kept) (base_of kept now) es now c h (marks-take m p kept (base_of kept now) es now history.marks))
 
 -- the last checkpoint put back, and the events from there on replayed
-pub returned_there : (p m k n : ℕ) (kept : List Checkpoint) (es : List Event) (now mid end : State) → 0 < m → m ≤ length kept → k ≡ p * (m - 1) → IsHistory p kept es now
+pub returned_there : (p m k n : ℕ) (kept : List Checkpoint) (es : List Event) (now mid end : State) → 0 < m → m ≤ length kept → k ≡ p * (m - 1)
+    → IsHistory p kept es now
     → ((c : Checkpoint) → last_item (take m kept) ≡ Some c → mid ≡ state_at c now)
     → ((base : State) → AllFollow base es → mid ≡ state_after base (take k es) → end ≡ state_after base (take n es))
     → end ≡ state_after (base_of kept now) (take n es)
@@ -154,7 +169,8 @@ returned_there p m k n kept es now mid end some within place h at on =
     on (base_of kept now) h.follow (at first.0 first.1 ∙ leads.back ∙ ap (λ x. state_after (base_of kept now) (take x es)) (sym place))
 
 -- the same lists and state under other names
-pub renamed : (p : ℕ) (kept kept' : List Checkpoint) (es es' : List Event) (t t' : State) → kept' ≡ kept → es' ≡ es → t' ≡ t → IsHistory p kept es t → IsHistory p kept' es' t'
+pub renamed : (p : ℕ) (kept kept' : List Checkpoint) (es es' : List Event) (t t' : State) → kept' ≡ kept → es' ≡ es → t' ≡ t → IsHistory p kept es t
+    → IsHistory p kept' es' t'
 renamed p kept kept' es es' t t' a b c h =
     subst (λ x. IsHistory p x es' t') (sym a) (subst (λ x. IsHistory p kept x t') (sym b) (subst (IsHistory p kept es) (sym c) h))
 

@@ -26,7 +26,8 @@ changed_here ws i a before after some within is differ =
     ap (λ l. lowest (changed_addresses l before after)) (front ws i a some within is) ∙ ap (λ b. lowest (cond (not b) (a ∷ rest) rest)) e
 
 pub changed_later : (ws : List ℕ) (i a : ℕ) (before after : State) → 0 < i → i ≤ length ws → slice_get ws (i - 1) ≡ Some a
-    → slice_index before.bus.memory a ≡ slice_index after.bus.memory a → lowest (changed_addresses (drop (i - 1) ws) before after) ≡ lowest (changed_addresses (drop i ws) before after)
+    → slice_index before.bus.memory a ≡ slice_index after.bus.memory a
+        → lowest (changed_addresses (drop (i - 1) ws) before after) ≡ lowest (changed_addresses (drop i ws) before after)
 changed_later ws i a before after some within is same =
     let e : eqb (slice_index before.bus.memory a) (slice_index after.bus.memory a) ≡ true = grind (arith, nat_tests) in
     let rest = changed_addresses (drop i ws) before after in
@@ -56,13 +57,15 @@ none_changed (w ∷ ws) before after same =
     ap (λ b. cond (not b) (w ∷ changed_addresses ws before after) (changed_addresses ws before after)) e ∙ none_changed ws before after same
 
 -- the bytes that are marked are the same, and all that are watched are marked
-pub none_kept : (ws bytes : List ℕ) (before after : State) → ((k : ℕ) → slice_index bytes k ≡ 0 → list_any (nat_eq k) ws ≡ false) → ((k : ℕ) → slice_index bytes k ≢ 0 → slice_index after.bus.memory k ≡ slice_index before.bus.memory k) → changed_addresses ws before after ≡ []
+pub none_kept : (ws bytes : List ℕ) (before after : State) → ((k : ℕ) → slice_index bytes k ≡ 0 → list_any (nat_eq k) ws ≡ false)
+    → ((k : ℕ) → slice_index bytes k ≢ 0 → slice_index after.bus.memory k ≡ slice_index before.bus.memory k) → changed_addresses ws before after ≡ []
 none_kept [] bytes before after marks kept = refl
 none_kept (w ∷ ws) bytes before after marks kept =
     let marked : slice_index bytes w ≢ 0 = λ z. true≢false (sym (first_any w ws) ∙ marks w z) in
     let byte : slice_index before.bus.memory w ≡ slice_index after.bus.memory w = sym (kept w marked) in
     let e : eqb (slice_index before.bus.memory w) (slice_index after.bus.memory w) ≡ true = grind (arith, nat_tests) in
-    ap (λ b. cond (not b) (w ∷ changed_addresses ws before after) (changed_addresses ws before after)) e ∙ none_kept ws bytes before after (λ k z. rest_any k w ws (marks k z)) kept
+    ap (λ b. cond (not b) (w ∷ changed_addresses ws before after) (changed_addresses ws before after)) e
+        ∙ none_kept ws bytes before after (λ k z. rest_any k w ws (marks k z)) kept
 
 same_memory : (change : Change) (s : State) → change.count ≡ 0 → (before_of change s).bus.memory ≡ s.bus.memory
 unfolding bus_before

@@ -17,7 +17,8 @@ use borrow.Author.Tests.{leb-true, leb-false}
 -- ---- loops over values
 
 -- one value more
-pub gathered_step : {A B : Type 0} (f : B → BytesOrFault) (view : A → B) (xs : List A) (i : ℕ) (x : A) (g new : Gathering) (piece : BytesOrFault) (total : Gathering)
+pub gathered_step : {A B : Type 0} (f : B → BytesOrFault) (view : A → B) (xs : List A) (i : ℕ) (x : A) (g new : Gathering) (piece : BytesOrFault)
+    (total : Gathering)
     → i < length xs → x ≡ get_or xs i x → new ≡ with_piece g piece → piece ≡ f (view x)
     → with_pieces g (map f (map view (drop i xs))) ≡ total → with_pieces new (map f (map view (drop (i + 1) xs))) ≡ total
 unfolding with_pieces
@@ -89,7 +90,8 @@ noted_is g (k ∷ ks) = noted_is (with_fault_if g k) ks ∙ ap (both g.bytes) (l
 -- ---- the whole line
 
 -- it is the line's bytes and its value fault
-pub line_is : (m : Map) (numbers : Numbers) (image : List (Option ℕ)) (p : PlacedLine) → line_gathering m numbers image p ≡ both (line_bytes numbers p) (value_fault m numbers image p)
+pub line_is : (m : Map) (numbers : Numbers) (image : List (Option ℕ)) (p : PlacedLine)
+    → line_gathering m numbers image p ≡ both (line_bytes numbers p) (value_fault m numbers image p)
 unfolding line_bytes value_fault lower
 line_is m numbers image p =
     let pieces = pieces_of numbers p.address p.content in
@@ -98,7 +100,8 @@ line_is m numbers image p =
     ∙ noted_is (both (flat_map bytes_in pieces) (lowest (kinds_in pieces))) places
     ∙ ap (both (flat_map bytes_in pieces)) (sym (lowest-append (kinds_in pieces) places))
 
-pub put_faulty : (m : Map) (numbers : Numbers) (image : List (Option ℕ)) (p : PlacedLine) (g : Gathering) (kind : AsmFaultKind) → g ≡ line_gathering m numbers image p → g.kind ≡ Some kind
+pub put_faulty : (m : Map) (numbers : Numbers) (image : List (Option ℕ)) (p : PlacedLine) (g : Gathering) (kind : AsmFaultKind)
+    → g ≡ line_gathering m numbers image p → g.kind ≡ Some kind
     → image_with_line m numbers image p ≡ Err kind
 unfolding image_with_line
 put_faulty m numbers image p g kind is met =

@@ -21,12 +21,15 @@ abbrev pub kinds_alone : PlacedLine → Option AsmFaultKind
 kinds_alone p = lowest (kinds_in (pieces_of no_numbers p.address p.content) ++ kind_if (not (nat_le (p.address + size_of p.content) 65536)) PastEnd ∷ [])
 
 abbrev pub gathered_alone : PlacedLine → Gathering
-gathered_alone p = with_fault_if (with_pieces nothing_gathered (pieces_of no_numbers p.address p.content)) (kind_if (nat_lt 65536 (p.address + size_of p.content)) PastEnd)
+gathered_alone p = with_fault_if (with_pieces nothing_gathered (pieces_of no_numbers p.address p.content))
+    (kind_if (nat_lt 65536 (p.address + size_of p.content)) PastEnd)
 
 -- the size that was counted
-pub same_alone : (p : PlacedLine) (g : Gathering) (count : ℕ) → g ≡ with_fault_if (with_pieces nothing_gathered (pieces_of no_numbers p.address p.content)) (kind_if (nat_lt 65536 (p.address + count)) PastEnd)
+pub same_alone : (p : PlacedLine) (g : Gathering) (count : ℕ)
+    → g ≡ with_fault_if (with_pieces nothing_gathered (pieces_of no_numbers p.address p.content)) (kind_if (nat_lt 65536 (p.address + count)) PastEnd)
     → count ≡ size_of p.content → g ≡ gathered_alone p
-same_alone p g count is counted = is ∙ ap (λ (n : ℕ). with_fault_if (with_pieces nothing_gathered (pieces_of no_numbers p.address p.content)) (kind_if (nat_lt 65536 (p.address + n)) PastEnd)) counted
+same_alone p g count is counted = is ∙ ap (λ (n : ℕ). with_fault_if (with_pieces nothing_gathered (pieces_of no_numbers p.address p.content))
+    (kind_if (nat_lt 65536 (p.address + n)) PastEnd)) counted
 
 -- it is the line's bytes, and its value fault
 alone_is : (p : PlacedLine) → gathered_alone p ≡ both (line_bytes no_numbers p) (kinds_alone p)
@@ -36,7 +39,8 @@ alone_is p =
     let past = nat_lt 65536 (p.address + size_of p.content) in
     ap (λ (g : Gathering). with_fault_if g (kind_if past PastEnd)) (gathered_is nothing_gathered pieces)
     ∙ ap (λ (k : Option AsmFaultKind). both (flat_map bytes_in pieces) (lower (lowest (kinds_in pieces)) k)) (sym (lower_nothing (kind_if past PastEnd)))
-    ∙ ap (λ (t : Bool). both (flat_map bytes_in pieces) (lower (lowest (kinds_in pieces)) (lower (kind_if t PastEnd) None))) (sym (past_is (p.address + size_of p.content) past refl))
+    ∙ ap (λ (t : Bool). both (flat_map bytes_in pieces) (lower (lowest (kinds_in pieces)) (lower (kind_if t PastEnd) None)))
+        (sym (past_is (p.address + size_of p.content) past refl))
     ∙ ap (both (flat_map bytes_in pieces)) (sym (lowest-append (kinds_in pieces) (kind_if (not (nat_le (p.address + size_of p.content) 65536)) PastEnd ∷ [])))
 
 pub alone_faulty : (p : PlacedLine) (g : Gathering) (kind : AsmFaultKind) → g ≡ gathered_alone p → g.kind ≡ Some kind → bytes_alone p ≡ Err kind

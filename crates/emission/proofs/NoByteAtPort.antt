@@ -41,7 +41,8 @@ set_spared m image a b off s = record {
   free = λ q on. let apart : q ≢ a = differ m a q off on in rw get_or-set_other (s.free q on);
 }
 
-bytes_spared : (m : Map) (bytes : List ℕ) (image : Cells) (a n : ℕ) → length bytes ≤ n → has_port m a n ≡ false → IsSpared m image → IsSpared m (with_bytes image a bytes)
+bytes_spared : (m : Map) (bytes : List ℕ) (image : Cells) (a n : ℕ) → length bytes ≤ n → has_port m a n ≡ false → IsSpared m image
+    → IsSpared m (with_bytes image a bytes)
 unfolding has_port
 bytes_spared m [] image a n small off s = s
 bytes_spared m (b ∷ bytes) image a zero small off s = absurd (omega arith)
@@ -56,20 +57,24 @@ no_ok : (x : Cells) (kind : AsmFaultKind) → wrong kind ≡ right x → ⊥
 no_ok x kind h = cc
 
 -- a line that is put leaves no byte there
-pub put_spared : (m : Map) (numbers : Numbers) (image new : Cells) (p : PlacedLine) → image_with_line m numbers image p ≡ Ok new → IsSpared m image → IsSpared m new
+pub put_spared : (m : Map) (numbers : Numbers) (image new : Cells) (p : PlacedLine) → image_with_line m numbers image p ≡ Ok new → IsSpared m image
+    → IsSpared m new
 unfolding image_with_line
 put_spared m numbers image new p done s = by (value_fault m numbers image p) refl done
   where
-    by : (fault : Option AsmFaultKind) → value_fault m numbers image p ≡ fault → unless fault (Ok (with_bytes image p.address (line_bytes numbers p))) ≡ Ok new → IsSpared m new
+    by : (fault : Option AsmFaultKind) → value_fault m numbers image p ≡ fault
+        → unless fault (Ok (with_bytes image p.address (line_bytes numbers p))) ≡ Ok new → IsSpared m new
     by None right made =
         let same : with_bytes image p.address (line_bytes numbers p) ≡ new = same_ok (with_bytes image p.address (line_bytes numbers p)) new made in
-        rw (← same) (bytes_spared m (line_bytes numbers p) image p.address (size_of p.content) (line_size numbers p) (placed_right m numbers image p right).port s)
+        rw (← same) (bytes_spared m (line_bytes numbers p) image p.address (size_of p.content) (line_size numbers p)
+            (placed_right m numbers image p right).port s)
     by (Some kind) wrong made = absurd (no_ok new kind made)
 
 blank_cell : (n q : ℕ) → get_or (replicate n nothing) q None ≡ None
 blank_cell n q = elim (leb_tells (suc q) n) [
   | inl inside ↦ get_or-replicate n q nothing None inside.1
-  | inr past ↦ let whole : length (replicate n nothing) ≤ q = omega (arith, past.1, length-replicate {A = Option ℕ} n nothing) in get_or_past (replicate n nothing) q None whole
+  | inr past ↦ let whole : length (replicate n nothing) ≤ q = omega (arith, past.1, length-replicate {A = Option ℕ} n nothing) in
+      get_or_past (replicate n nothing) q None whole
 ]
 
 blank_spared : (m : Map) (n : ℕ) → IsSpared m (replicate n nothing)
@@ -99,4 +104,5 @@ first_on m = let same : m.port + 0 ≡ m.port = omega arith in rw same at (on_po
 pub spared_is : (m : Map) (image : Cells) → IsSpared m image → has_port_byte m image ≡ false
 unfolding has_port_byte
 spared_is m image s =
-    rw (s.free m.port (first_on m), s.free (m.port + 1) (on_port m 1 (omega arith)), s.free (m.port + 2) (on_port m 2 (omega arith)), s.free (m.port + 3) (on_port m 3 (omega arith))) refl
+    rw (s.free m.port (first_on m), s.free (m.port + 1) (on_port m 1 (omega arith)), s.free (m.port + 2) (on_port m 2 (omega arith)), s.free
+        (m.port + 3) (on_port m 3 (omega arith))) refl

@@ -7,7 +7,8 @@ use Rattle.model.specs.Image.{has_byte}
 use Rattle.model.specs.Bytes.{has_port, has_bytes}
 
 -- the addresses from one on, and from the next one on
-port_step : (p a n : ℕ) → (nat_lt 0 (suc n) && nat_lt a (p + 4) && nat_lt p (a + suc n)) ≡ ((nat_le p a && nat_lt a (p + 4)) || (nat_lt 0 n && nat_lt (a + 1) (p + 4) && nat_lt p (a + 1 + n)))
+port_step : (p a n : ℕ) → (nat_lt 0 (suc n) && nat_lt a (p + 4) && nat_lt p (a + suc n))
+    ≡ ((nat_le p a && nat_lt a (p + 4)) || (nat_lt 0 n && nat_lt (a + 1) (p + 4) && nat_lt p (a + 1 + n)))
 port_step p a n = grind (arith, nat_tests)
 
 no_port : (p a : ℕ) → (nat_lt 0 0 && nat_lt a (p + 4) && nat_lt p (a + 0)) ≡ false
@@ -39,7 +40,8 @@ unfolding has_bytes
 has_bytes_none image a n none = rw none refl
 
 -- the same at a place of some addresses
-pub has_bytes_next : (image : List (Option ℕ)) (a n i : ℕ) → i < n → none image (a + i) → has_bytes image (a + i) (n - i) ≡ has_bytes image (a + (i + 1)) (n - (i + 1))
+pub has_bytes_next : (image : List (Option ℕ)) (a n i : ℕ) → i < n → none image (a + i)
+    → has_bytes image (a + i) (n - i) ≡ has_bytes image (a + (i + 1)) (n - (i + 1))
 has_bytes_next image a n i within free =
     let next : a + i + 1 ≡ a + (i + 1) = omega arith in
     let left : n - i - 1 ≡ n - (i + 1) = omega arith in

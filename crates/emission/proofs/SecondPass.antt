@@ -37,7 +37,8 @@ puts_fault : (m : Map) (numbers : Numbers) (image : Cells) (ks : List KeptLine) 
 puts_fault m numbers image ks i k kind total within is here so_far = sym so_far ∙ rw (first_left ks i k within is, here) refl
 
 -- a line with a fault, or a refused request for memory
-pub puts_error : (m : Map) (numbers : Numbers) (image left : Cells) (ks : List KeptLine) (i : ℕ) (k : KeptLine) (e : LineError) (answer : AsmFault) (total : Total)
+pub puts_error : (m : Map) (numbers : Numbers) (image left : Cells) (ks : List KeptLine) (i : ℕ) (k : KeptLine) (e : LineError) (answer : AsmFault)
+    (total : Total)
     → i < length ks → k ≡ get_or ks i k → Stores (Err e) left (image_with_line m numbers image (placed_line_of k)) → answer ≡ fault_on_line k.number e
     → image_of_lines m numbers image (numbered_lines (drop i ks)) ≡ total → (answer ≡ out_of_memory) ⊎ (total ≡ Err answer)
 puts_error m numbers image left ks i k errors.Memory answer total within is here answered so_far = inl answered

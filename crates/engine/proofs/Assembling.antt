@@ -55,7 +55,8 @@ given_fault (Err k) fault e = ap Err (ap kind_in e)
     kind_in (Ok b) = k
     kind_in (Err f) = f.kind
 
-module _ (a b : Option (List ℕ)) (s : Session) (address : ℕ) (given : Given) (fault : AsmFault) (r : Told) (why : (fault ≡ assemblies.out_of_memory) ⊎ (on_line 1 given ≡ Err fault))
+module _ (a b : Option (List ℕ)) (s : Session) (address : ℕ) (given : Given) (fault : AsmFault) (r : Told)
+    (why : (fault ≡ assemblies.out_of_memory) ⊎ (on_line 1 given ≡ Err fault))
     (memory : fault.kind ≡ source_fault.OutOfMemory → (r ≡ Err reply_fault.OutOfMemory) × (b ≡ a)) where
   nothing : (text : List ℕ) → (r ≡ Err reply_fault.OutOfMemory) × (b ≡ a) → Writes a b text r
   nothing text h = subst (λ (q : Told). Writes a b text q) (sym h.0) (subst (λ (o : Option (List ℕ)). AppendsFront a o text) (sym h.1) (front_none a text))

@@ -51,7 +51,8 @@ cuts_then begun bs middle cs more c d = record {
 pub record ServesSoFar (start : Session) (told text : List ℕ) (s : Session) (kept : List ℕ) : Type 0 where
   pub begun : List ℕ
   pub front : kept ≡ take 257 begun
-  pub goes_on : (ending : List ℕ → List (List ℕ)) (rest : List ℕ) → serving start (lines_from ending [] (told ++ rest)) ≡ after_text text (serving s (lines_from ending begun rest))
+  pub goes_on : (ending : List ℕ → List (List ℕ)) (rest : List ℕ)
+      → serving start (lines_from ending [] (told ++ rest)) ≡ after_text text (serving s (lines_from ending begun rest))
   pub cuts : Cuts [] told begun
 
 pub served_start : (s : Session) → ServesSoFar s [] [] s []
@@ -78,7 +79,8 @@ length-strip b xs = by (ends_with_byte b xs)
 
 pub command-kept_line : (begun : List ℕ) → command_of (strip_last 13 (take 257 begun)) ≡ command_of (strip_last 13 begun)
 command-kept_line begun = elim (cases_lt 257 (length begun)) [
-  | inl more ↦ too_long (strip_last 13 (take 257 begun)) (omega (arith, length-take 257 begun, length-strip 13 (take 257 begun))) ∙ sym (too_long (strip_last 13 begun) (omega (arith, length-strip 13 begun)))
+  | inl more ↦ too_long (strip_last 13 (take 257 begun)) (omega (arith, length-take 257 begun, length-strip 13 (take 257 begun)))
+      ∙ sym (too_long (strip_last 13 begun) (omega (arith, length-strip 13 begun)))
   | inr less ↦ ap (λ l. command_of (strip_last 13 l)) (take_all 257 begun less)
 ]
 
@@ -98,8 +100,10 @@ kept-more begun b = elim (cases_lt 256 (length begun)) [
 pub record Feeds (s : Session) (begun bytes : List ℕ) (r : Fed) : Type 0 where
   pub more : List ℕ
   pub front : r.kept ≡ take 257 more
-  pub goes_on : r.quit ≡ false → (ending : List ℕ → List (List ℕ)) (rest : List ℕ) → serving s (lines_from ending begun (bytes ++ rest)) ≡ after_text r.written (serving r.session (lines_from ending more rest))
-  pub ends : r.quit ≡ true → (ending : List ℕ → List (List ℕ)) (rest : List ℕ) → serving s (lines_from ending begun (bytes ++ rest)) ≡ record { written = r.written; session = r.session }
+  pub goes_on : r.quit ≡ false → (ending : List ℕ → List (List ℕ)) (rest : List ℕ)
+      → serving s (lines_from ending begun (bytes ++ rest)) ≡ after_text r.written (serving r.session (lines_from ending more rest))
+  pub ends : r.quit ≡ true → (ending : List ℕ → List (List ℕ)) (rest : List ℕ)
+      → serving s (lines_from ending begun (bytes ++ rest)) ≡ record { written = r.written; session = r.session }
   pub cuts : r.quit ≡ false → Cuts begun bytes more
 
 -- a line that does not end the engine is not `quit`
@@ -108,11 +112,13 @@ unfolding answer_to
 not_quit command s on is = true≢false (sym (ap (λ (c : Command). (answer_to c s).quit) is) ∙ on)
 
 -- one line or one byte of it
-served_line : (s : Session) (begun bs : List ℕ) (ending : List ℕ → List (List ℕ)) → serving s (lines_from ending begun (10 ∷ bs)) ≡ serving_after (answer_to (command_of (strip_last 13 begun)) s) (λ t. serving t (lines_from ending [] bs))
+served_line : (s : Session) (begun bs : List ℕ) (ending : List ℕ → List (List ℕ))
+    → serving s (lines_from ending begun (10 ∷ bs)) ≡ serving_after (answer_to (command_of (strip_last 13 begun)) s) (λ t. serving t (lines_from ending [] bs))
 unfolding serving lines_from
 served_line s begun bs ending = refl
 
-served_byte : (s : Session) (begun bs : List ℕ) (b : ℕ) (ending : List ℕ → List (List ℕ)) → eqb b 10 ≡ false → serving s (lines_from ending begun (b ∷ bs)) ≡ serving s (lines_from ending (begun ++ b ∷ []) bs)
+served_byte : (s : Session) (begun bs : List ℕ) (b : ℕ) (ending : List ℕ → List (List ℕ)) → eqb b 10 ≡ false
+    → serving s (lines_from ending begun (b ∷ bs)) ≡ serving s (lines_from ending (begun ++ b ∷ []) bs)
 unfolding serving lines_from
 served_byte s begun bs b ending e = rw e refl
 
@@ -129,25 +135,32 @@ unfolding feed
 feed_none s kept = refl
 
 -- a line served, and then what comes after it
-after_line : (a : Answer) (s : Session) (begun bs : List ℕ) → (a.quit ≡ false → command_of (strip_last 13 begun) ≢ Quit) → ((ending : List ℕ → List (List ℕ)) (rest : List ℕ) → serving s (lines_from ending begun (10 ∷ bs ++ rest)) ≡ serving_after a (λ t. serving t (lines_from ending [] (bs ++ rest))))
+after_line : (a : Answer) (s : Session) (begun bs : List ℕ) → (a.quit ≡ false → command_of (strip_last 13 begun) ≢ Quit)
+    → ((ending : List ℕ → List (List ℕ)) (rest : List ℕ) → serving s (lines_from ending begun (10 ∷ bs ++ rest))
+    ≡ serving_after a (λ t. serving t (lines_from ending [] (bs ++ rest))))
     → ((t : Session) → Feeds t [] bs (feed t [] bs)) → Feeds s begun (10 ∷ bs) (fed_on a (λ t. feed t [] bs))
 after_line a s begun bs stays h rest = by a.quit refl
   where
     by : (q : Bool) → a.quit ≡ q → Feeds s begun (10 ∷ bs) (cond a.quit (fed a.written a.session [] true) (fed_after a.written (feed a.session [] bs)))
-    by true e = rw e (record { more = []; front = refl; goes_on = λ no. absurd (true≢false no); ends = λ _ ending more. h ending more ∙ rw e refl; cuts = λ no. absurd (true≢false no) })
+    by true e = rw e (record { more = []; front = refl; goes_on = λ no. absurd (true≢false no); ends =
+        λ _ ending more. h ending more ∙ rw e refl; cuts = λ no. absurd (true≢false no) })
     by false e = let r = rest a.session in rw e (record {
       more = r.more;
       front = r.front;
-      goes_on = λ no ending more. h ending more ∙ rw e (ap (after_text a.written) (r.goes_on no ending more) ∙ ap (λ w. record { written = w; session = (serving (feed a.session [] bs).session (lines_from ending r.more more)).session }) (sym (append_assoc a.written (feed a.session [] bs).written (serving (feed a.session [] bs).session (lines_from ending r.more more)).written)));
+      goes_on = λ no ending more. h ending more ∙ rw e (ap (after_text a.written) (r.goes_on no ending more)
+          ∙ ap (λ w. record { written = w; session = (serving (feed a.session [] bs).session (lines_from ending r.more more)).session })
+          (sym (append_assoc a.written (feed a.session [] bs).written (serving (feed a.session [] bs).session (lines_from ending r.more more)).written)));
       ends = λ yes ending more. h ending more ∙ rw e (ap (after_text a.written) (r.ends yes ending more));
       cuts = λ no. cuts_line begun bs r.more (stays e) (r.cuts no);
     })
 
 pub feeds : (s : Session) (begun bytes : List ℕ) → Feeds s begun bytes (feed s (take 257 begun) bytes)
-feeds s begun [] = rw feed_none (record { more = begun; front = refl; goes_on = λ _ ending rest. refl; ends = λ no. absurd (true≢false (sym no)); cuts = λ _. cuts_nothing begun })
+feeds s begun [] = rw feed_none (record { more = begun; front = refl; goes_on = λ _ ending rest. refl; ends =
+    λ no. absurd (true≢false (sym no)); cuts = λ _. cuts_nothing begun })
 feeds s begun (b ∷ bs) = elim (eqb_tells b 10) [
   | inl h ↦ subst (λ x. Feeds s begun (x ∷ bs) (feed s (take 257 begun) (x ∷ bs))) (sym h.1)
-      (rw (feed_line, command-kept_line begun) (after_line (answer_to (command_of (strip_last 13 begun)) s) s begun bs (not_quit (command_of (strip_last 13 begun)) s) (λ ending rest. served_line s begun (bs ++ rest) ending) (λ t. feeds t [] bs)))
+      (rw (feed_line, command-kept_line begun) (after_line (answer_to (command_of (strip_last 13 begun)) s) s begun bs
+          (not_quit (command_of (strip_last 13 begun)) s) (λ ending rest. served_line s begun (bs ++ rest) ending) (λ t. feeds t [] bs)))
   | inr h ↦ let r = feeds s (begun ++ b ∷ []) bs in
       rw (feed_byte s (take 257 begun) bs b h.0, kept-more begun b) (record {
         more = r.more;
@@ -173,12 +186,14 @@ fed_then_line a bs = by a.quit refl
 feed_one : (s : Session) (kept bs : List ℕ) (b : ℕ) → feed s kept (b ∷ bs) ≡ fed_then (feed s kept (b ∷ [])) bs
 unfolding fed_then
 feed_one s kept bs b = elim (eqb_tells b 10) [
-  | inl h ↦ subst (λ x. feed s kept (x ∷ bs) ≡ fed_then (feed s kept (x ∷ [])) bs) (sym h.1) (rw (feed_line s kept bs, feed_line s kept []) (fed_then_line (answer_to (command_of (strip_last 13 kept)) s) bs))
+  | inl h ↦ subst (λ x. feed s kept (x ∷ bs) ≡ fed_then (feed s kept (x ∷ [])) bs) (sym h.1)
+      (rw (feed_line s kept bs, feed_line s kept []) (fed_then_line (answer_to (command_of (strip_last 13 kept)) s) bs))
   | inr h ↦ rw (feed_byte s kept bs b h.0, feed_byte s kept [] b h.0, feed_none s (kept_with kept b)) refl
 ]
 
 -- the byte at i and then the rest
-pub feed_at : (s : Session) (kept bytes : List ℕ) (i : ℕ) → i < length bytes → feed s kept (drop i bytes) ≡ fed_then (feed s kept (get_or bytes i 0 ∷ [])) (drop (i + 1) bytes)
+pub feed_at : (s : Session) (kept bytes : List ℕ) (i : ℕ) → i < length bytes
+    → feed s kept (drop i bytes) ≡ fed_then (feed s kept (get_or bytes i 0 ∷ [])) (drop (i + 1) bytes)
 feed_at s kept bytes i h = rw (drop-cons bytes i 0, ← add-one) (feed_one s kept (drop (i + 1) bytes) (get_or bytes i 0))
 
 pub then_on : (text w : List ℕ) (s : Session) (kept bs : List ℕ) → fed_after text (fed_then (fed w s kept false) bs) ≡ fed_after (text ++ w) (feed s kept bs)

@@ -49,7 +49,8 @@ none_written : (s : Session) (input held : Option (List ℕ)) → Begins s input
 none_written s input held = ([], Consumes-nil input, inl (front_none held _))
 
 -- Nothing was written, which is a beginning of the transcript.
-pub early_serves : {X : Type 0} (result : Result X EngineFault) (s : Session) (input held : Option (List ℕ)) → IsErrAnd result IsEarly → Serves s input input held held result
+pub early_serves : {X : Type 0} (result : Result X EngineFault) (s : Session) (input held : Option (List ℕ)) → IsErrAnd result IsEarly
+    → Serves s input input held held result
 early_serves (Ok x) s input held h = absurd h
 early_serves (Err engine_fault.Read) s input held h = absurd h
 early_serves (Err engine_fault.Write) s input held h = absurd h

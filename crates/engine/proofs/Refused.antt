@@ -45,7 +45,8 @@ same_image image cells f (inl e) = ap image_in e
 same_image image cells f (inr e) = absurd cc
 
 -- What holds of the image that was read holds of each image that the text denotes.
-pub for_each : (P : Image → Type 0) (text : List ℕ) (image : Image) → ((cells : Image) → TapeDenotes text cells → (read_ok image ≡ read_ok cells) ⊎ (read_ok image ≡ read_err tape_faults.out_of_memory))
+pub for_each : (P : Image → Type 0) (text : List ℕ) (image : Image)
+    → ((cells : Image) → TapeDenotes text cells → (read_ok image ≡ read_ok cells) ⊎ (read_ok image ≡ read_err tape_faults.out_of_memory))
     → P image → (cells : Image) → TapeDenotes text cells → P cells
 for_each P text image only p cells d = subst P (same_image image cells _ (only cells d)) p
 
@@ -85,7 +86,8 @@ tape_answered (Err e) f g h (inr memory) = inr (ap Err (h ∙ ap of_tape (ap fau
 
 -- ---- a source that was refused
 
-pub source_memory : {X : Type 0} (result : Result X EngineFault) (f : AsmFault) → IsErrAnd result (λ e. e ≡ of_source f) → f ≡ assemblies.out_of_memory → result ≡ Err OutOfMemory
+pub source_memory : {X : Type 0} (result : Result X EngineFault) (f : AsmFault) → IsErrAnd result (λ e. e ≡ of_source f)
+    → f ≡ assemblies.out_of_memory → result ≡ Err OutOfMemory
 source_memory (Ok x) f h memory = absurd h
 source_memory (Err e) f h memory = ap Err (h ∙ ap of_source memory)
 
@@ -130,7 +132,8 @@ memory_no_tape {X = X} result e = subst (λ r. IfTape {X = X} r (λ _. ⊥)) (sy
 
 -- ---- a session that was refused
 
-pub no_session : {X : Type 0} (result : Result X EngineFault) (P : SessionFault → Type 0) → IfSession result P → ((fault : SessionFault) → P fault → ⊥) → IfSession result (λ _. ⊥)
+pub no_session : {X : Type 0} (result : Result X EngineFault) (P : SessionFault → Type 0) → IfSession result P
+    → ((fault : SessionFault) → P fault → ⊥) → IfSession result (λ _. ⊥)
 no_session (Ok x) P h not = tt
 no_session (Err (Source fault)) P h not = tt
 no_session (Err (Tape fault)) P h not = tt

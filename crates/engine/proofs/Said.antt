@@ -49,15 +49,18 @@ either_goes_on false x y h k = k
 
 input_goes_on : (s : Session) (bytes : List ℕ) → (input_answer s bytes).quit ≡ false
 unfolding input_answer
-input_goes_on s bytes = either_goes_on (nat_lt console_size (length s.current.bus.given + length bytes)) (answer (fault_line InputFull) s) (answer (codes "OK\n") (after_input s bytes)) refl refl
+input_goes_on s bytes = either_goes_on (nat_lt console_size (length s.current.bus.given + length bytes)) (answer (fault_line InputFull) s)
+    (answer (codes "OK\n") (after_input s bytes)) refl refl
 
-pub said_input : (s n : Session) (command : Command) (bytes first : List ℕ) (count : ℕ) (r : Told) (q : Result Bool EngineFault) → command ≡ Input bytes count → first ≡ take count bytes → Says r q
+pub said_input : (s n : Session) (command : Command) (bytes first : List ℕ) (count : ℕ) (r : Told) (q : Result Bool EngineFault)
+    → command ≡ Input bytes count → first ≡ take count bytes → Says r q
     → n ≡ (input_answer s first).session → IfOk q (λ quit. (quit ≡ (answer_to command s).quit) × (n ≡ (answer_to command s).session))
 unfolding answer_to
 said_input s n command bytes first count r q is e h after =
     subst (λ (c : Command). IfOk q (λ quit. (quit ≡ (answer_to c s).quit) × (n ≡ (answer_to c s).session))) (sym is)
     (subst (λ (l : List ℕ). IfOk q (λ quit. (quit ≡ (input_answer s l).quit) × (n ≡ (input_answer s l).session))) e
-    (subst (λ (b : Bool). IfOk q (λ quit. (quit ≡ b) × (n ≡ (input_answer s first).session))) (sym (input_goes_on s first)) (said_after (n ≡ (input_answer s first).session) r q h after)))
+    (subst (λ (b : Bool). IfOk q (λ quit. (quit ≡ b) × (n ≡ (input_answer s first).session))) (sym (input_goes_on s first))
+        (said_after (n ≡ (input_answer s first).session) r q h after)))
 
 pub first_all : (bytes : List ℕ) (count : ℕ) → length bytes ≤ count → bytes ≡ take count bytes
 first_all bytes count h = sym (take_all count bytes h)

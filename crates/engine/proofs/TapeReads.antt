@@ -62,7 +62,8 @@ with_known (Some x) P Q h f = f x h
 
 -- a read failed, memory ran out, or the tape is rejected with a fault that is not running out of
 -- memory
-each_end : (f : TapeReadFault) (P : EngineFault → Type 0) → P Read → P OutOfMemory → ((g : TapeFault) → f ≡ tape_read_fault.Tape g → of_tape g ≡ Tape g → P (Tape g)) → P (of_tape_read f)
+each_end : (f : TapeReadFault) (P : EngineFault → Type 0) → P Read → P OutOfMemory
+    → ((g : TapeFault) → f ≡ tape_read_fault.Tape g → of_tape g ≡ Tape g → P (Tape g)) → P (of_tape_read f)
 each_end tape_read_fault.Read P r m t = r
 each_end (tape_read_fault.Tape g) P r m t = elim (tape_either g.kind g) [
   | inl is ↦ subst P (sym is) (t g refl is)
@@ -87,7 +88,8 @@ early_refused a f ends =
 pub early_session : (f : TapeReadFault) (P : SessionFault → Type 0) → IfSession (failed (of_tape_read f)) P
 early_session f P = each_end f (λ e. IfSession (failed e) P) tt tt (λ g e is. tt)
 
-pub early_spared : (a : Option (List ℕ)) (f : TapeReadFault) (P : Image → Type 0) → IfSome a (λ text. (image : Image) → IsReadInPieces text image → P image → IfSession (failed (of_tape_read f)) (λ _. ⊥))
+pub early_spared : (a : Option (List ℕ)) (f : TapeReadFault) (P : Image → Type 0)
+    → IfSome a (λ text. (image : Image) → IsReadInPieces text image → P image → IfSession (failed (of_tape_read f)) (λ _. ⊥))
 early_spared None f P = tt
 early_spared (Some text) f P = λ image r p. early_session f (λ _. ⊥)
 
@@ -103,7 +105,8 @@ only_ends f cells (inr (inr e)) = inr (ap of_tape_read (same_fault f (tape_read_
 pub early_right : (a : Option (List ℕ)) (f : TapeReadFault) → IfSome a (λ text. (cells : Image) → IsReadInPieces text cells → Is (read_err f) (read_ok cells))
     → IfSome a (λ text. (image : Image) → IsReadInPieces text image → IfTape (failed (of_tape_read f)) (λ _. ⊥))
 early_right a f only =
-    with_known a (λ text. (cells : Image) → IsReadInPieces text cells → Is (read_err f) (read_ok cells)) (λ text. (image : Image) → IsReadInPieces text image → IfTape (failed (of_tape_read f)) (λ _. ⊥)) only
+    with_known a (λ text. (cells : Image) → IsReadInPieces text cells → Is (read_err f) (read_ok cells))
+        (λ text. (image : Image) → IsReadInPieces text image → IfTape (failed (of_tape_read f)) (λ _. ⊥)) only
     (λ text o image r. none (only_ends f image (o image r))) where
       none : (of_tape_read f ≡ Read) ⊎ (of_tape_read f ≡ OutOfMemory) → IfTape (failed (of_tape_read f)) (λ _. ⊥)
       none (inl e) = subst (λ x. IfTape (failed x) (λ _. ⊥)) (sym e) tt
@@ -112,10 +115,12 @@ early_right a f only =
 abbrev Ends : EngineFault → Result (Unit {0}) EngineFault → Type 0
 Ends e wanted = (failed e ≡ wanted) ⊎ ((failed e ≡ failed Read) ⊎ (failed e ≡ failed OutOfMemory))
 
-pub early_port : (a : Option (List ℕ)) (f : TapeReadFault) (P : Image → Type 0) → IfSome a (λ text. (cells : Image) → IsReadInPieces text cells → Is (read_err f) (read_ok cells))
+pub early_port : (a : Option (List ℕ)) (f : TapeReadFault) (P : Image → Type 0)
+    → IfSome a (λ text. (cells : Image) → IsReadInPieces text cells → Is (read_err f) (read_ok cells))
     → IfSome a (λ text. (image : Image) → IsReadInPieces text image → P image → Ends (of_tape_read f) (Err (Session PortAddress)))
 early_port a f P only =
-    with_known a (λ text. (cells : Image) → IsReadInPieces text cells → Is (read_err f) (read_ok cells)) (λ text. (image : Image) → IsReadInPieces text image → P image → Ends (of_tape_read f) (Err (Session PortAddress))) only
+    with_known a (λ text. (cells : Image) → IsReadInPieces text cells → Is (read_err f) (read_ok cells))
+        (λ text. (image : Image) → IsReadInPieces text image → P image → Ends (of_tape_read f) (Err (Session PortAddress))) only
     (λ text o image r p. inr (one (only_ends f image (o image r)))) where
       one : (of_tape_read f ≡ Read) ⊎ (of_tape_read f ≡ OutOfMemory) → (failed (of_tape_read f) ≡ failed Read) ⊎ (failed (of_tape_read f) ≡ failed OutOfMemory)
       one (inl e) = inl (ap failed e)
@@ -130,16 +135,19 @@ refusal_ends f fault (inl e) = elim (tape_either fault.kind fault) [
 refusal_ends f fault (inr (inl e)) = inr (inl (ap failed (ap of_tape_read (same_fault f tape_read_fault.Read e))))
 refusal_ends f fault (inr (inr e)) = inr (inr (ap failed (ap of_tape_read (same_fault f (tape_read_fault.Tape out_of_memory) e))))
 
-pub early_faulty : (a : Option (List ℕ)) (f : TapeReadFault) → IfSome a (λ text. (fault : TapeFault) → IsRefusedInPieces text fault → Is (read_err f) (read_err (tape_read_fault.Tape fault)))
+pub early_faulty : (a : Option (List ℕ)) (f : TapeReadFault)
+    → IfSome a (λ text. (fault : TapeFault) → IsRefusedInPieces text fault → Is (read_err f) (read_err (tape_read_fault.Tape fault)))
     → IfSome a (λ text. (fault : TapeFault) → IsRefusedInPieces text fault → Ends (of_tape_read f) (Err (Tape fault)))
 early_faulty a f only =
-    with_known a (λ text. (fault : TapeFault) → IsRefusedInPieces text fault → Is (read_err f) (read_err (tape_read_fault.Tape fault))) (λ text. (fault : TapeFault) → IsRefusedInPieces text fault → Ends (of_tape_read f) (Err (Tape fault))) only
+    with_known a (λ text. (fault : TapeFault) → IsRefusedInPieces text fault → Is (read_err f) (read_err (tape_read_fault.Tape fault)))
+        (λ text. (fault : TapeFault) → IsRefusedInPieces text fault → Ends (of_tape_read f) (Err (Tape fault))) only
     (λ text o fault r. refusal_ends f fault (o fault r))
 
 -- ---- what was consumed of the tape
 
 -- no text's fault is running out of memory
-breaks_not_memory : (kind : TapeFaultKind) (g : TapeFault) (count : ℕ) (rest : List ℕ) (place : ℕ) → Breaks kind count rest place → of_tape_kind kind g ≡ OutOfMemory → ⊥
+breaks_not_memory : (kind : TapeFaultKind) (g : TapeFault) (count : ℕ) (rest : List ℕ) (place : ℕ) → Breaks kind count rest place
+    → of_tape_kind kind g ≡ OutOfMemory → ⊥
 breaks_not_memory tape_fault.OutOfMemory g count rest place breaks out = breaks
 breaks_not_memory kind g count rest place breaks out = cc
 
@@ -154,7 +162,8 @@ refused_not_memory text g (inr long) out = elim long.told [
     differ e = cc
 
 module _ (told : List ℕ) (AtEnd : Type 0) where
-  told_fault : (g : TapeFault) → Shows told AtEnd (read_err (tape_read_fault.Tape g)) → of_tape g ≡ Tape g → EndsWithPiece told g ⊎ (AtEnd × IsRefusedInPieces told g)
+  told_fault : (g : TapeFault) → Shows told AtEnd (read_err (tape_read_fault.Tape g)) → of_tape g ≡ Tape g → EndsWithPiece told g
+      ⊎ (AtEnd × IsRefusedInPieces told g)
   told_fault g (inl memory) is = absurd (not_memory g memory.0 is)
   told_fault g (inr fault) is = fault
 
@@ -170,7 +179,8 @@ module _ (told : List ℕ) (AtEnd : Type 0) where
     | inr out ↦ subst (λ (e : EngineFault). ShowsTape told AtEnd (failed e)) (sym out) (told_memory g h out)
   ]
 
-  late_shows : {X : Type 0} (result : Result X EngineFault) → IsReadWhole told AtEnd → IfSource result (λ _. ⊥) → IfTape result (λ _. ⊥) → ShowsTape told AtEnd result
+  late_shows : {X : Type 0} (result : Result X EngineFault) → IsReadWhole told AtEnd → IfSource result (λ _. ⊥) → IfTape result (λ _. ⊥)
+      → ShowsTape told AtEnd result
   late_shows (Ok x) whole source tape = whole
   late_shows (Err (Source f)) whole source tape = source
   late_shows (Err (Tape f)) whole source tape = absurd tape
@@ -181,7 +191,8 @@ module _ (told : List ℕ) (AtEnd : Type 0) where
 pub early_reads : (a b : Option (List ℕ)) (f : TapeReadFault) → Reads a b (read_err f) → ReadsTape a b (failed (of_tape_read f))
 early_reads a b f (told, c, shows) = (told, c, early_shows told _ f shows)
 
-pub late_reads : {X : Type 0} (a b : Option (List ℕ)) (image : Image) (result : Result X EngineFault) → Reads a b (read_ok image) → IfSource result (λ _. ⊥) → IfTape result (λ _. ⊥) → ReadsTape a b result
+pub late_reads : {X : Type 0} (a b : Option (List ℕ)) (image : Image) (result : Result X EngineFault) → Reads a b (read_ok image)
+    → IfSource result (λ _. ⊥) → IfTape result (λ _. ⊥) → ReadsTape a b result
 late_reads a b image result (told, c, shows) source tape = (told, c, late_shows told _ result (shows.0, (image, shows.1)) source tape)
 
 -- ---- an image was read
@@ -199,10 +210,12 @@ same_image image cells (inr (inl e)) = absurd cc
 same_image image cells (inr (inr e)) = absurd cc
 
 -- what holds of the image that was read holds of each that a known text has
-pub for_each_known : (a : Option (List ℕ)) (image : Image) (P : Image → Type 0) → IfSome a (λ text. (cells : Image) → IsReadInPieces text cells → Is (read_ok image) (read_ok cells)) → P image
+pub for_each_known : (a : Option (List ℕ)) (image : Image) (P : Image → Type 0)
+    → IfSome a (λ text. (cells : Image) → IsReadInPieces text cells → Is (read_ok image) (read_ok cells)) → P image
     → IfSome a (λ text. (cells : Image) → IsReadInPieces text cells → P cells)
 for_each_known a image P only p =
-    with_known a (λ text. (cells : Image) → IsReadInPieces text cells → Is (read_ok image) (read_ok cells)) (λ text. (cells : Image) → IsReadInPieces text cells → P cells) only
+    with_known a (λ text. (cells : Image) → IsReadInPieces text cells → Is (read_ok image) (read_ok cells))
+        (λ text. (cells : Image) → IsReadInPieces text cells → P cells) only
     (λ text o cells r. subst P (same_image image cells (o cells r)) p)
 
 not_refused : (image : Image) (f : TapeReadFault) → Is (read_ok image) (read_err f) → ⊥
@@ -214,7 +227,8 @@ pub read_excluded : (a : Option (List ℕ)) (image : Image) (P : TapeFault → T
     → IfSome a (λ text. (fault : TapeFault) → IsRefusedInPieces text fault → Is (read_ok image) (read_err (tape_read_fault.Tape fault)))
     → IfSome a (λ text. (fault : TapeFault) → IsRefusedInPieces text fault → P fault)
 read_excluded a image P only =
-    with_known a (λ text. (fault : TapeFault) → IsRefusedInPieces text fault → Is (read_ok image) (read_err (tape_read_fault.Tape fault))) (λ text. (fault : TapeFault) → IsRefusedInPieces text fault → P fault) only
+    with_known a (λ text. (fault : TapeFault) → IsRefusedInPieces text fault → Is (read_ok image) (read_err (tape_read_fault.Tape fault)))
+        (λ text. (fault : TapeFault) → IsRefusedInPieces text fault → P fault) only
     (λ text o fault r. absurd (not_refused image (tape_read_fault.Tape fault) (o fault r)))
 
 pub third_answer : (A B C : Type 0) → A ⊎ C → A ⊎ (B ⊎ C)

@@ -31,7 +31,8 @@ use Rattle.fault_notes.specs.Marks.{IsMeant, IsNote, IsPlain, IsRight, Known, Pl
 behind_expression : (index taken : ℕ) (tokens : List Token) → first_or index (lexemes (drop taken tokens)) ≡ first_or index (drop taken (lexemes tokens))
 behind_expression index taken tokens = ap (first_or index) (sym (drop-map lexeme_of taken tokens))
 
-pub left_marked : (index taken : ℕ) (tokens rest : List Token) (term : Term) → rest ≡ drop taken tokens → expression_of (lexemes tokens) ≡ Some (term, drop taken (lexemes tokens))
+pub left_marked : (index taken : ℕ) (tokens rest : List Token) (term : Term) → rest ≡ drop taken tokens
+    → expression_of (lexemes tokens) ≡ Some (term, drop taken (lexemes tokens))
     → first_or index (lexemes rest) ≡ expression_place index tokens
 left_marked index taken tokens rest term e found =
     ap (λ (r : List Token). first_or index (lexemes r)) e
@@ -45,7 +46,8 @@ none_marked index tokens none = ap (unless_read index (lexemes tokens)) (sym non
 abbrev plain : Place → Place × Option (List ℕ)
 plain place = (place, None)
 
-pub marked_as : {E : Type 0} (result made : Result Note E) (place same : Place) → result ≡ made → place ≡ same → IfOk made (IsPlain place) → IfOk result (IsPlain same)
+pub marked_as : {E : Type 0} (result made : Result Note E) (place same : Place) → result ≡ made → place ≡ same → IfOk made (IsPlain place)
+    → IfOk result (IsPlain same)
 marked_as result (Ok note) place same is e marked = rw is (marked ∙ ap plain e)
 marked_as result (Err fault) place same is e marked = rw is tt
 
@@ -61,7 +63,8 @@ plain_note place may_be note is = record {
   right = subst (IsRight may_be note.words.items) (sym (ap (λ (p : Place × Option (List ℕ)). p.1) is)) tt;
 }
 
-pub plain_result : {E : Type 0} (result : Result Note E) (place : Place) (may_be : List ℕ → Bool) → IfOk result (IsPlain place) → IfOk result (IsNote place may_be)
+pub plain_result : {E : Type 0} (result : Result Note E) (place : Place) (may_be : List ℕ → Bool) → IfOk result (IsPlain place)
+    → IfOk result (IsNote place may_be)
 plain_result result place may_be marked = IfOk-weaker result _ _ (λ note. plain_note place may_be note) marked
 
 pub ruleset plain_steps = (plain_note, plain_result)
@@ -111,7 +114,8 @@ read_front profile (line ∷ lines) = elim (cases_Bool (is_end (read_line profil
 ]
 
 -- as many lines as were laid out are those that are read
-pub lines_read : (m : Mending) (before : Context) (profile : Profile) (source : List ℕ) (count : ℕ) (lines : List (Bor (List ℕ))) → texts_of lines ≡ lines_of source
+pub lines_read : (m : Mending) (before : Context) (profile : Profile) (source : List ℕ) (count : ℕ) (lines : List (Bor (List ℕ)))
+    → texts_of lines ≡ lines_of source
     → count ≡ length (found_lines m before (read_lines profile source)) → texts_of (take count lines) ≡ read_lines profile source
 unfolding read_lines
 lines_read m before profile source count lines same e =
@@ -125,11 +129,14 @@ lines_read m before profile source count lines same e =
 abbrev known : Profile → List (List ℕ × ℕ) → Definitions → Known
 known profile names numbers = record { profile = profile; names = names; numbers = numbers }
 
-pub known_same : (profile : Profile) (names ns : List (List ℕ × ℕ)) (numbers ds : Definitions) → names ≡ ns → numbers ≡ ds → known profile names numbers ≡ known profile ns ds
+pub known_same : (profile : Profile) (names ns : List (List ℕ × ℕ)) (numbers ds : Definitions) → names ≡ ns → numbers ≡ ds
+    → known profile names numbers ≡ known profile ns ds
 known_same profile names ns numbers ds n d = rw (n, d) refl
 
-pub blocks_as : {X E : Type 0} (items : X → List ℕ) (result : Result X E) (file : List ℕ) (lines same : List (List ℕ)) (one other : Known) (faults : List AsmFault) → lines ≡ same → one ≡ other
-    → IfOk result (λ x. AreBlocks (fault_blocks (IsMeant one)) file lines faults (items x)) → IfOk result (λ x. AreBlocks (fault_blocks (IsMeant other)) file same faults (items x))
+pub blocks_as : {X E : Type 0} (items : X → List ℕ) (result : Result X E) (file : List ℕ) (lines same : List (List ℕ)) (one other : Known)
+    (faults : List AsmFault) → lines ≡ same → one ≡ other
+    → IfOk result (λ x. AreBlocks (fault_blocks (IsMeant one)) file lines faults (items x))
+        → IfOk result (λ x. AreBlocks (fault_blocks (IsMeant other)) file same faults (items x))
 blocks_as items result file lines same one other faults l k blocks =
     subst (λ (ls : List (List ℕ)). IfOk result (λ x. AreBlocks (fault_blocks (IsMeant other)) file ls faults (items x))) l
     (subst (λ (kn : Known). IfOk result (λ x. AreBlocks (fault_blocks (IsMeant kn)) file lines faults (items x))) k blocks)

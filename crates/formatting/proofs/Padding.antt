@@ -30,7 +30,8 @@ reaches (suc n) (x ∷ xs) ys h = let e : n ≤ length (take n xs ++ ys) = reach
 
 pub ruleset grown = (take_grown, drop_grown, take_taken, drop_taken, reaches)
 
-pub padded_at : (from column : ℕ) (text : List ℕ) → from ≤ length text → take from text ++ padded column (drop from text) ≡ text ++ blanks (column - (length text - from))
+pub padded_at : (from column : ℕ) (text : List ℕ) → from ≤ length text
+    → take from text ++ padded column (drop from text) ≡ text ++ blanks (column - (length text - from))
 unfolding padded
 padded_at from column text h =
     sym (append_assoc (take from text) (drop from text) (blanks (column - length (drop from text))))

@@ -12,7 +12,8 @@ Gives = Result (List (Option ℕ)) RecordFault
 pub denotes_goes : (gives : Gives) (cells : List (Option ℕ)) → gives ≡ Ok cells → true ≡ goes_on gives
 denotes_goes gives cells is = sym (ap goes_on is)
 
-pub fault_goes : (gives : Gives) (f : RecordFault) → (fault.Record f ≡ fault.OutOfMemory) ⊎ IsTextFault gives (fault.Record f) → lacks_end f.kind ≡ goes_on gives
+pub fault_goes : (gives : Gives) (f : RecordFault) → (fault.Record f ≡ fault.OutOfMemory) ⊎ IsTextFault gives (fault.Record f)
+    → lacks_end f.kind ≡ goes_on gives
 fault_goes gives f (inl memory) = absurd (no memory)
   where
     no : fault.Record f ≡ fault.OutOfMemory → ⊥

@@ -20,7 +20,8 @@ by_kind said (Refused Write) ends = absurd ends.1
 by_kind said (Refused (WriteFile f)) ends = absurd ends.1
 
 -- A file that is no image has the status 1; one that is not read has 3 or 4.
-pub ended : (said : Option Form) (why : ImageRefusal) (status : ℕ) → EndsImage said why → status ≡ status_of_image why → ((status ≡ 1) × HasNoImage said) ⊎ ((3 ≤ status) × (status ≤ 4))
+pub ended : (said : Option Form) (why : ImageRefusal) (status : ℕ) → EndsImage said why → status ≡ status_of_image why
+    → ((status ≡ 1) × HasNoImage said) ⊎ ((3 ≤ status) × (status ≤ 4))
 ended said why status ends is = elim (by_kind said why ends) [
   | inl one ↦ inl (omega (arith, is, one), (why, ends, one))
   | inr more ↦ inr (omega (arith, is, more.0), omega (arith, is, more.1))

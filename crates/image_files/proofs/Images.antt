@@ -78,21 +78,25 @@ module _ (said : Option Form) (bytes : List ℕ) (form : Form) (read : Read) (to
     | inr e ↦ inr (ap as_refusal e)
   ]
 
-pub found_in : (said : Option Form) (bytes : List ℕ) (form : Form) (read : Read) → form_by said bytes ≡ Ok form → IfOk read (Denotes form bytes) → IfOk (as_refusal read) (IsImage said bytes)
+pub found_in : (said : Option Form) (bytes : List ℕ) (form : Form) (read : Read) → form_by said bytes ≡ Ok form → IfOk read (Denotes form bytes)
+    → IfOk (as_refusal read) (IsImage said bytes)
 found_in said bytes form (Ok cells) told denotes = (form, told, denotes)
 found_in said bytes form (Err f) told denotes = tt
 
-pub fault_in : (said : Option Form) (bytes : List ℕ) (form : Form) (read : Read) → form_by said bytes ≡ Ok form → IfErr read (λ f. (f ≡ fault.OutOfMemory) ⊎ HasFault form bytes f)
+pub fault_in : (said : Option Form) (bytes : List ℕ) (form : Form) (read : Read) → form_by said bytes ≡ Ok form
+    → IfErr read (λ f. (f ≡ fault.OutOfMemory) ⊎ HasFault form bytes f)
     → IfErr (as_refusal read) (λ why. (why ≡ Memory) ⊎ IsNoImage said bytes why)
 fault_in said bytes form (Ok cells) told has = tt
 fault_in said bytes form (Err f) told has = fault_by said bytes form (Err f) told f has
 
 -- ---- bytes that tell no form
 
-pub only_other : (said : Option Form) (bytes : List ℕ) (like : OtherText) (A : Type 0) (cells : Cells) → form_by said bytes ≡ Err like → IsImage said bytes cells → A
+pub only_other : (said : Option Form) (bytes : List ℕ) (like : OtherText) (A : Type 0) (cells : Cells) → form_by said bytes ≡ Err like
+    → IsImage said bytes cells → A
 only_other said bytes like A cells told is = no_form said bytes is.0 like is.1 told
 
-pub refused_other : (said : Option Form) (bytes : List ℕ) (like : OtherText) (why : ImageRefusal) → form_by said bytes ≡ Err like → IsNoImage said bytes why → NoImage (Looks like) ≡ why
+pub refused_other : (said : Option Form) (bytes : List ℕ) (like : OtherText) (why : ImageRefusal) → form_by said bytes ≡ Err like
+    → IsNoImage said bytes why → NoImage (Looks like) ≡ why
 refused_other said bytes like (NoImage (Looks other)) told is = ap (λ l. NoImage (Looks l)) (one_like said bytes like other told is)
 refused_other said bytes like (NoImage (Record f)) told is = no_form said bytes is.0 like is.1 told
 refused_other said bytes like (NoImage PastEnd) told is = no_form said bytes is.0 like is.1 told

@@ -142,7 +142,8 @@ refused_already form front more f e =
     sym (fed_text form (front ++ more)) ∙ ap end_of_feeding (fed-append front more (nothing_fed form) ∙ ap (λ (s : Fed). fed s more) e ∙ fed-Err more f)
 
 -- if there is none, the lines that have ended have none
-pub goes_on : (form : TextForm) (front : List ℕ) (r : Begun) → fed (nothing_fed form) front ≡ Ok r → (t : ℕ × Progress) × (after_lines 1 (start form) (lines_from no_line [] front) ≡ Ok t)
+pub goes_on : (form : TextForm) (front : List ℕ) (r : Begun) → fed (nothing_fed form) front ≡ Ok r → (t : ℕ × Progress)
+    × (after_lines 1 (start form) (lines_from no_line [] front) ≡ Ok t)
 goes_on form front r e = go (after_lines 1 (start form) (lines_from no_line [] front)) (sym (fed_led front [] [] 1 (start form) refl) ∙ e) where
   go : (l : Lines) → (l >>= begun_at (tail_from [] front)) ≡ Ok r → (t : ℕ × Progress) × (l ≡ Ok t)
   go (Ok t) k = (t, refl)

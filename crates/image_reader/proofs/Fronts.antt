@@ -73,7 +73,8 @@ failed front extra total xs f e = ap (λ (r : Result (List ℕ) LineFault). r >>
 abbrev bad : RecordFaultKind → ℕ → Result (List ℕ) LineFault
 bad kind column = Err (at kind column)
 
-bytes_same : (front extra total m : ℕ) (xs ys : List ℕ) → extra ≤ 5 → 2 * (extra + 255) < m → Same m xs ys → record_bytes front extra total xs ≡ record_bytes front extra total ys
+bytes_same : (front extra total m : ℕ) (xs ys : List ℕ) → extra ≤ 5 → 2 * (extra + 255) < m → Same m xs ys
+    → record_bytes front extra total xs ≡ record_bytes front extra total ys
 bytes_same front extra total m xs ys le small h =
     let w = wanted_same extra m xs ys (omega (arith, small)) h in
     let n = prefix_same is_hex_byte m xs ys h in

@@ -14,7 +14,8 @@ all_pass p (x ∷ xs) h = elim (cases_Bool (p x)) [
   | inr f ↦ absurd (let k = rw f at h in omega (arith, k))
 ]
 
-pub bytes_size : (extra : ℕ) (digits : List ℕ) → length digits ≡ wanted extra digits → length (bytes_of_digits digits) ≡ extra + slice_index (bytes_of_digits digits) 0
+pub bytes_size : (extra : ℕ) (digits : List ℕ) → length digits ≡ wanted extra digits
+    → length (bytes_of_digits digits) ≡ extra + slice_index (bytes_of_digits digits) 0
 bytes_size extra [] e = absurd (omega (arith, e))
 bytes_size extra (d ∷ []) e = absurd (omega (arith, e))
 bytes_size extra (high ∷ low ∷ digits) e = length-bytes_of (high ∷ low ∷ digits) (extra + (digit_value high * 16 + digit_value low)) e

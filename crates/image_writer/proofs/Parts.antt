@@ -48,7 +48,8 @@ ltb_next k i other = elim (cases_lt k i) [
 ]
 
 -- one cell more
-pub one_cell : (low i : ℕ) (fill cell : Option ℕ) (image part new : Cells) → low ≤ i → i < 65536 → length part ≡ 65536 → cell ≡ filled_with fill (cell_at image i) → new ≡ with_cell part i cell
+pub one_cell : (low i : ℕ) (fill cell : Option ℕ) (image part new : Cells) → low ≤ i → i < 65536 → length part ≡ 65536
+    → cell ≡ filled_with fill (cell_at image i) → new ≡ with_cell part i cell
     → ((k : ℕ) → cell_at part k ≡ so_far low i fill image k) → (k : ℕ) → cell_at new k ≡ so_far low (i + 1) fill image k
 one_cell low i fill cell image part new le top size is put before k =
     elim (cases_eq k i) [

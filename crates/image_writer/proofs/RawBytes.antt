@@ -73,7 +73,8 @@ raw_size low high fill cells h =
     let c = length-drop low cells in
     omega (arith, a, b, c, h)
 
-raw_at : (low high fill k : ℕ) (cells : Cells) → low ≤ k → k ≤ high → high < length cells → get_or (raw_bytes low high fill cells) (k - low) 0 ≡ unwrap_or (get_or cells k None) fill
+raw_at : (low high fill k : ℕ) (cells : Cells) → low ≤ k → k ≤ high → high < length cells
+    → get_or (raw_bytes low high fill cells) (k - low) 0 ≡ unwrap_or (get_or cells k None) fill
 unfolding raw_bytes
 raw_at low high fill k cells a b h =
     let part = take (high + 1 - low) (drop low cells) in
@@ -81,7 +82,8 @@ raw_at low high fill k cells a b h =
     let back : low + (k - low) ≡ k = omega (arith, a) in
     get_or_default (map (byte_of fill) part) (k - low) 0 fill (omega (arith, size, a, b))
     ∙ get_or-map (byte_of fill) part (k - low) None
-    ∙ ap (byte_of fill) (get_or-take (high + 1 - low) (drop low cells) (k - low) None (omega (arith, a, b)) ∙ get_or-drop low cells (k - low) None ∙ ap (λ (i : ℕ). get_or cells i None) back)
+    ∙ ap (byte_of fill) (get_or-take (high + 1 - low) (drop low cells) (k - low) None (omega (arith, a, b)) ∙ get_or-drop low cells (k - low) None
+        ∙ ap (λ (i : ℕ). get_or cells i None) back)
 
 is_part : (low high fill : ℕ) (cells : Cells) → low ≤ high → high < 65536 → length cells ≡ 65536
     → IsPart low high (Some fill) cells (with_bytes empty_image low (raw_bytes low high fill cells))
@@ -107,23 +109,27 @@ raw_is : (low : ℕ) (bytes : List ℕ) → low + length bytes ≤ 65536 → raw
 unfolding raw_image
 raw_is low bytes h = rw (le-leb (low + length bytes) 65536 h) refl
 
-pub raw_read : (low high fill : ℕ) (cells : Cells) → low ≤ high → high < 65536 → length cells ≡ 65536 → IsReadPart low high fill cells (raw_image low (raw_bytes low high fill cells))
+pub raw_read : (low high fill : ℕ) (cells : Cells) → low ≤ high → high < 65536 → length cells ≡ 65536
+    → IsReadPart low high fill cells (raw_image low (raw_bytes low high fill cells))
 raw_read low high fill cells le top size = (
   with_bytes empty_image low (raw_bytes low high fill cells),
   raw_is low (raw_bytes low high fill cells) (omega (arith, raw_size low high fill cells (omega (arith, size, top)), le, top)),
   is_part low high fill cells le top size,
 )
 
-pub prg_read : (low high fill : ℕ) (cells : Cells) → low ≤ high → high < 65536 → length cells ≡ 65536 → IsReadPart low high fill cells (prg_image (prg_bytes low high fill cells))
+pub prg_read : (low high fill : ℕ) (cells : Cells) → low ≤ high → high < 65536 → length cells ≡ 65536
+    → IsReadPart low high fill cells (prg_image (prg_bytes low high fill cells))
 prg_read low high fill cells le top size =
     let same : low ≡ low / 256 * 256 + low % 256 = omega arith in
     subst (λ (a : ℕ). IsReadPart low high fill cells (raw_image a (raw_bytes low high fill cells))) same (raw_read low high fill cells le top size)
 
-pub one_more : (fill : ℕ) (part : Cells) (i : ℕ) (cell : Option ℕ) → i < length part → cell ≡ get_or part i cell → (out start : List ℕ) → out ≡ start ++ map (byte_of fill) (take i part)
+pub one_more : (fill : ℕ) (part : Cells) (i : ℕ) (cell : Option ℕ) → i < length part → cell ≡ get_or part i cell → (out start : List ℕ)
+    → out ≡ start ++ map (byte_of fill) (take i part)
     → out ++ unwrap_or cell fill ∷ [] ≡ start ++ map (byte_of fill) (take (i + 1) part)
 one_more fill part i cell below is out start e =
     let read : cell ≡ get_or part i None = is ∙ get_or_default part i cell None below in
     ap (λ (o : List ℕ). o ++ unwrap_or cell fill ∷ []) e
     ∙ append_assoc start (map (byte_of fill) (take i part)) (unwrap_or cell fill ∷ [])
     ∙ ap (λ (c : Option ℕ). start ++ (map (byte_of fill) (take i part) ++ byte_of fill c ∷ [])) read
-    ∙ ap (λ (t : List ℕ). start ++ t) (sym (map-append (byte_of fill) (take i part) (get_or part i None ∷ [])) ∙ ap (λ (t : Cells). map (byte_of fill) t) (sym (take_more part i None below)))
+    ∙ ap (λ (t : List ℕ). start ++ t) (sym (map-append (byte_of fill) (take i part) (get_or part i None ∷ []))
+        ∙ ap (λ (t : Cells). map (byte_of fill) t) (sym (take_more part i None below)))

@@ -14,7 +14,8 @@ sum_append (x ∷ xs) ys =
     let k = sum_append xs ys in
     omega (arith, a, b, k)
 
-pub checksum_of : (total : ℕ) (head bytes : List ℕ) (a b : ℕ) → a ≡ sum head → b ≡ sum bytes → (total + 256 - (a + b) % 256) % 256 ≡ checksum total (head ++ bytes)
+pub checksum_of : (total : ℕ) (head bytes : List ℕ) (a b : ℕ) → a ≡ sum head → b ≡ sum bytes
+    → (total + 256 - (a + b) % 256) % 256 ≡ checksum total (head ++ bytes)
 checksum_of total head bytes a b e f =
     let s = sum_append head bytes in
     let same : a + b ≡ sum (head ++ bytes) = omega (arith, s, e, f) in
@@ -29,7 +30,8 @@ regroup : (a m h b c e : List ℕ) → ((((a ++ m) ++ h) ++ b) ++ c) ++ e ≡ a 
 regroup a m h b c e = simp append_assoc refl
 
 whole_record : (total : ℕ) (mark head bytes a : List ℕ)
-    → ((((a ++ mark) ++ encode_upper head) ++ encode_upper bytes) ++ encode_upper (checksum total (head ++ bytes) ∷ [])) ++ 13 ∷ 10 ∷ [] ≡ a ++ record_text mark total (head ++ bytes)
+    → ((((a ++ mark) ++ encode_upper head) ++ encode_upper bytes) ++ encode_upper (checksum total (head ++ bytes) ∷ [])) ++ 13 ∷ 10 ∷ [] ≡ a
+        ++ record_text mark total (head ++ bytes)
 whole_record total mark head bytes a =
     let check = checksum total (head ++ bytes) in
     regroup a mark (encode_upper head) (encode_upper bytes) (encode_upper (check ∷ [])) (13 ∷ 10 ∷ [])
@@ -41,5 +43,6 @@ pub record_done : {E : Type 0} (r : Result Unit E) (total check : ℕ) (mark hea
     → f ≡ (if is_ok r then e ++ 13 ∷ 10 ∷ [] else e) → IfOk r (λ _. f ≡ a ++ record_text mark total (head ++ bytes))
 record_done (Err x) total check mark head bytes a b c d e f k hb hc hd he hf = tt
 record_done (Ok u) total check mark head bytes a b c d e f k hb hc hd he hf =
-    let all : e ≡ (((a ++ mark) ++ encode_upper head) ++ encode_upper bytes) ++ encode_upper (checksum total (head ++ bytes) ∷ []) = rw (he, hd, hc, hb, k) refl in
+    let all : e ≡ (((a ++ mark) ++ encode_upper head) ++ encode_upper bytes) ++ encode_upper (checksum total (head ++ bytes) ∷ []) =
+        rw (he, hd, hc, hb, k) refl in
     hf ∙ ap (λ (t : List ℕ). t ++ 13 ∷ 10 ∷ []) all ∙ whole_record total mark head bytes a

@@ -35,12 +35,14 @@ both : (xs ys : List Stretch) → AllByRecursion IsRow xs → AllByRecursion IsR
 both [] ys h k = k
 both (x ∷ xs) ys h k = (h.0, both xs ys h.1 k)
 
-ended_is : (address : ℕ) (begun : List ℕ) → AreBytes begun → length begun ≤ 16 → length begun ≤ address → address ≤ 65536 → AllByRecursion IsRow (ended address begun)
+ended_is : (address : ℕ) (begun : List ℕ) → AreBytes begun → length begun ≤ 16 → length begun ≤ address → address ≤ 65536
+    → AllByRecursion IsRow (ended address begun)
 ended_is address [] bytes few after inside = tt
 ended_is address (b ∷ begun) bytes few after inside =
     (record { few = few; bytes = bytes; fits = omega (arith, after, inside); inside = omega (arith, after, inside) }, tt)
 
-are_rows : (cells : Cells) (address : ℕ) (begun : List ℕ) → AreCells cells → AreBytes begun → length begun < 16 → length begun ≤ address → address + length cells ≤ 65536
+are_rows : (cells : Cells) (address : ℕ) (begun : List ℕ) → AreCells cells → AreBytes begun → length begun < 16 → length begun ≤ address
+    → address + length cells ≤ 65536
     → AllByRecursion IsRow (rows address begun cells)
 are_rows [] address begun h bytes few after inside = ended_is address begun bytes (omega (arith, few)) after (omega (arith, inside))
 are_rows (None ∷ cells) address begun h bytes few after inside =
@@ -53,7 +55,8 @@ are_rows (Some b ∷ cells) address begun h bytes few after inside =
       | inl full ↦ rw full (both (ended (address + 1) (begun ++ b ∷ [])) (rows (address + 1) [] cells)
           (ended_is (address + 1) (begun ++ b ∷ []) more (omega (arith, few, n)) (omega (arith, after, n)) (omega (arith, inside)))
           (are_rows cells (address + 1) [] h.1 tt (omega arith) (omega arith) (omega (arith, inside))))
-      | inr room ↦ rw room (are_rows cells (address + 1) (begun ++ b ∷ []) h.1 more (omega (arith, few, n, eqb-false (length begun) 15 room)) (omega (arith, after, n)) (omega (arith, inside)))
+      | inr room ↦ rw room (are_rows cells (address + 1) (begun ++ b ∷ []) h.1 more (omega (arith, few, n, eqb-false (length begun) 15 room))
+          (omega (arith, after, n)) (omega (arith, inside)))
     ]
 
 -- the rows of an image
@@ -73,12 +76,14 @@ unfolding empty_image
 empty_is n e = ap none e
 
 -- bytes where nothing is
-stored_front : (bytes : List ℕ) (front : Cells) (n address : ℕ) → length front ≡ address → with_bytes (front ++ none (length bytes + n)) address bytes ≡ front ++ (some bytes ++ none n)
+stored_front : (bytes : List ℕ) (front : Cells) (n address : ℕ) → length front ≡ address
+    → with_bytes (front ++ none (length bytes + n)) address bytes ≡ front ++ (some bytes ++ none n)
 stored_front [] front n address h = ap (λ k. front ++ none k) (omega arith)
 stored_front (b ∷ bytes) front n address h =
     let k : length (b ∷ bytes) + n ≡ suc (length bytes + n) = omega arith in
     let one : set (front ++ none (length (b ∷ bytes) + n)) address (Some b) ≡ (front ++ Some b ∷ []) ++ none (length bytes + n) =
-    ap (λ m. set (front ++ none m) address (Some b)) k ∙ set_at front None (none (length bytes + n)) (Some b) address h ∙ sym (append_assoc front (Some b ∷ []) (none (length bytes + n))) in
+    ap (λ m. set (front ++ none m) address (Some b)) k ∙ set_at front None (none (length bytes + n)) (Some b) address h
+        ∙ sym (append_assoc front (Some b ∷ []) (none (length bytes + n))) in
     ap (λ (x : Cells). with_bytes x (address + 1) bytes) one
     ∙ stored_front bytes (front ++ Some b ∷ []) n (address + 1) (omega (arith, length-append front (Some b ∷ [])))
     ∙ append_assoc front (Some b ∷ []) (some bytes ++ none n)
@@ -106,7 +111,8 @@ rows_put (None ∷ cells) address begun front h =
     let nothing : Option ℕ = None in
     let done : Cells = front ++ some begun in
     let zero_more : length cells ≡ 0 + length cells = omega arith in
-    let there : length (done ++ nothing ∷ []) + 0 ≡ address + 1 = omega (arith, h, length-append done (nothing ∷ []), length-append front (some begun), length_some begun) in
+    let there : length (done ++ nothing ∷ []) + 0 ≡ address + 1 =
+        omega (arith, h, length-append done (nothing ∷ []), length-append front (some begun), length_some begun) in
     let ended_here : put_rows (front ++ none (length begun + suc (length cells))) (ended address begun) ≡ (done ++ nothing ∷ []) ++ none (length cells) =
     ended_put begun front (suc (length cells)) address h ∙ sym (append_assoc done (nothing ∷ []) (none (length cells))) in
     put-append (ended address begun) (rows (address + 1) [] cells) (front ++ none (length begun + suc (length cells)))
@@ -122,12 +128,14 @@ rows_put (Some b ∷ cells) address begun front h =
     let next : length begun + length (byte ∷ cells) ≡ length more + length cells = omega (arith, l) in
     let zero_more : length cells ≡ 0 + length cells = omega arith in
     let back : (front ++ some more) ++ cells ≡ (front ++ some begun) ++ (byte ∷ cells) =
-    ap (λ (x : Cells). (front ++ x) ++ cells) (some_more begun b) ∙ ap (λ (x : Cells). x ++ cells) (sym (append_assoc front (some begun) (byte ∷ []))) ∙ append_assoc (front ++ some begun) (byte ∷ []) cells in
+    ap (λ (x : Cells). (front ++ x) ++ cells) (some_more begun b) ∙ ap (λ (x : Cells). x ++ cells) (sym (append_assoc front (some begun) (byte ∷ [])))
+        ∙ append_assoc (front ++ some begun) (byte ∷ []) cells in
     let there : length (front ++ some more) + 0 ≡ address + 1 = omega (arith, h, l, length-append front (some more), length_some more) in
     let ended_here = ended_put more front (length cells) (address + 1) (omega (arith, h, l)) in
     let behind = rows_put cells (address + 1) [] (front ++ some more) there in
     let later = rows_put cells (address + 1) more front (omega (arith, h, l)) in
-    let full_row : put_rows (front ++ none (length more + length cells)) (ended (address + 1) more ++ rows (address + 1) [] cells) ≡ (front ++ some begun) ++ (byte ∷ cells) =
+    let full_row : put_rows (front ++ none (length more + length cells)) (ended (address + 1) more ++ rows (address + 1) [] cells)
+        ≡ (front ++ some begun) ++ (byte ∷ cells) =
     put-append (ended (address + 1) more) (rows (address + 1) [] cells) (front ++ none (length more + length cells))
     ∙ ap (λ (x : Cells). put_rows x (rows (address + 1) [] cells)) ended_here
     ∙ ap (λ (k : ℕ). put_rows ((front ++ some more) ++ none k) (rows (address + 1) [] cells)) zero_more

@@ -54,14 +54,16 @@ wanted-encode extra b bs h =
     let lo = ap (λ (o : Option ℕ). unwrap_or o 0) (IsDigits-upper_digits (b % 16) (omega arith)) in
     rw (hi, lo) (omega arith)
 
-digits_read : (front extra b : ℕ) (bs : List ℕ) → AreBytes (b ∷ bs) → length (b ∷ bs) ≡ extra + b → record_digits front extra (encode_upper (b ∷ bs)) ≡ Ok (b ∷ bs)
+digits_read : (front extra b : ℕ) (bs : List ℕ) → AreBytes (b ∷ bs) → length (b ∷ bs) ≡ extra + b
+    → record_digits front extra (encode_upper (b ∷ bs)) ≡ Ok (b ∷ bs)
 unfolding record_digits
 digits_read front extra b bs h n =
     let digits = encode_upper (b ∷ bs) in
     let all = all_pass is_hex_byte digits (hex_of-encode (b ∷ bs) h) in
     let len : length digits ≡ 2 * length (b ∷ bs) = length-encode_with upper_digits (b ∷ bs) in
     let w = wanted-encode extra b bs h.0 in
-    rw (le-ltb (prefix_len is_hex_byte digits) (wanted extra digits) (omega (arith, all, len, w, n)), le-ltb (wanted extra digits) (length digits) (omega (arith, len, w, n)))
+    rw (le-ltb (prefix_len is_hex_byte digits) (wanted extra digits) (omega (arith, all, len, w, n)), le-ltb (wanted extra digits) (length digits)
+        (omega (arith, len, w, n)))
     (ap (λ (x : List ℕ). Ok x) (bytes_of-encode (b ∷ bs) h))
 
 -- bytes with their checksum
@@ -123,7 +125,8 @@ hex_read : (row : Stretch) (s : Progress) → IsRow row → s.base ≡ 0 → hex
 unfolding hex_line
 hex_read row s h base =
     let fits : AreBytes (hex_bytes row) = (omega (arith, h.few), (omega (arith, h.inside), (omega arith, (omega arith, h.bytes)))) in
-    ap (λ (r : Result (List ℕ) LineFault). r >>= after_hex s) (bytes_read 1 5 0 (length row.1) (row.0 / 256 ∷ row.0 % 256 ∷ 0 ∷ row.1) (omega arith) fits (omega arith))
+    ap (λ (r : Result (List ℕ) LineFault). r >>= after_hex s)
+        (bytes_read 1 5 0 (length row.1) (row.0 / 256 ∷ row.0 % 256 ∷ 0 ∷ row.1) (omega arith) fits (omega arith))
     ∙ hex_stored row s h base
 
 s_stored : (row : Stretch) (s : Progress) → IsRow row → after_s Data 2 s (whole 255 (s_bytes row)) ≡ Ok (one_more (put s row.0 row.1))
@@ -131,7 +134,8 @@ unfolding after_s
 s_stored row s h =
     let c = checksum 255 (s_bytes row) in
     let n : length row.1 + 3 - 3 ≡ length row.1 = omega arith in
-    let bytes : take (length row.1 + 3 - 3) (row.1 ++ c ∷ []) ≡ row.1 = ap (λ (k : ℕ). take k (row.1 ++ c ∷ [])) n ∙ take_at row.1 (c ∷ []) (length row.1) refl in
+    let bytes : take (length row.1 + 3 - 3) (row.1 ++ c ∷ []) ≡ row.1 =
+        ap (λ (k : ℕ). take k (row.1 ++ c ∷ [])) n ∙ take_at row.1 (c ∷ []) (length row.1) refl in
     let address : row.0 / 256 * 256 + row.0 % 256 ≡ row.0 = omega arith in
     rw (le-ltb (length row.1 + 3) 3 (omega arith))
     (ap (λ (x : List ℕ). stored 5 (row.0 / 256 * 256 + row.0 % 256) x s >>= λ t. Ok (one_more t)) bytes
@@ -143,7 +147,8 @@ s_read : (row : Stretch) (s : Progress) → IsRow row → s_line s (codes "S1" +
 unfolding s_line
 s_read row s h =
     let fits : AreBytes (s_bytes row) = (omega (arith, h.few), (omega (arith, h.inside), (omega arith, h.bytes))) in
-    ap (λ (r : Result (List ℕ) LineFault). r >>= after_s Data 2 s) (bytes_read 2 1 255 (length row.1 + 3) (row.0 / 256 ∷ row.0 % 256 ∷ row.1) (omega arith) fits (omega arith))
+    ap (λ (r : Result (List ℕ) LineFault). r >>= after_s Data 2 s)
+        (bytes_read 2 1 255 (length row.1 + 3) (row.0 / 256 ∷ row.0 % 256 ∷ row.1) (omega arith) fits (omega arith))
     ∙ s_stored row s h
 
 -- ---- lines
@@ -152,13 +157,15 @@ abbrev no_end : ℕ → Bool
 no_end b = cond (eqb b 10) false true
 
 -- a line and its CR LF
-cut : (line begun rest : List ℕ) → list_all no_end line ≡ true → lines_from last_line begun (line ++ 13 ∷ 10 ∷ rest) ≡ strip_last 13 ((begun ++ line) ++ 13 ∷ []) ∷ lines_from last_line [] rest
+cut : (line begun rest : List ℕ) → list_all no_end line ≡ true
+    → lines_from last_line begun (line ++ 13 ∷ 10 ∷ rest) ≡ strip_last 13 ((begun ++ line) ++ 13 ∷ []) ∷ lines_from last_line [] rest
 unfolding lines_from
 cut [] begun rest plain = ap (λ (l : List ℕ). strip_last 13 (l ++ 13 ∷ []) ∷ lines_from last_line [] rest) (sym (append-nil begun))
 cut (b ∷ line) begun rest plain =
     let p = and_parts (no_end b) (list_all no_end line) plain in
     let other : eqb b 10 ≡ false = not_end (eqb b 10) p.0 in
-    rw other (cut line (begun ++ b ∷ []) rest p.1 ∙ ap (λ (l : List ℕ). strip_last 13 (l ++ 13 ∷ []) ∷ lines_from last_line [] rest) (append_assoc begun (b ∷ []) line)) where
+    rw other (cut line (begun ++ b ∷ []) rest p.1 ∙ ap (λ (l : List ℕ). strip_last 13 (l ++ 13 ∷ []) ∷ lines_from last_line [] rest)
+        (append_assoc begun (b ∷ []) line)) where
       not_end : (t : Bool) → cond t false true ≡ true → t ≡ false
       not_end true e = absurd cc
       not_end false e = refl
@@ -192,7 +199,8 @@ record_cut : (mark : List ℕ) (total : ℕ) (bytes rest : List ℕ) → list_al
     → lines_from last_line [] (record_text mark total bytes ++ rest) ≡ line_of mark total bytes ∷ lines_from last_line [] rest
 record_cut mark total bytes rest plain =
     let digits = encode_upper (whole total bytes) in
-    ap (lines_from last_line []) (append_assoc mark (digits ++ 13 ∷ 10 ∷ []) rest ∙ ap (λ (x : List ℕ). mark ++ x) (append_assoc digits (13 ∷ 10 ∷ []) rest) ∙ sym (append_assoc mark digits (13 ∷ 10 ∷ rest)))
+    ap (lines_from last_line []) (append_assoc mark (digits ++ 13 ∷ 10 ∷ []) rest
+        ∙ ap (λ (x : List ℕ). mark ++ x) (append_assoc digits (13 ∷ 10 ∷ []) rest) ∙ sym (append_assoc mark digits (13 ∷ 10 ∷ rest)))
     ∙ first_line (mark ++ digits) rest plain
 
 -- ---- rows
@@ -221,7 +229,8 @@ row_read Hex row s h e place base =
     (omega (arith, h.few), (omega (arith, h.inside), (omega arith, (omega arith, h.bytes)))) (omega arith, tt) in
     record {
       line = line_of (codes ":") 0 (hex_bytes row);
-      cut = λ rest. record_cut (codes ":") 0 (hex_bytes row) rest (hex_no_end (encode_upper (whole 0 (hex_bytes row))) (hex_of-encode (whole 0 (hex_bytes row)) fits));
+      cut = λ rest. record_cut (codes ":") 0 (hex_bytes row) rest
+          (hex_no_end (encode_upper (whole 0 (hex_bytes row))) (hex_of-encode (whole 0 (hex_bytes row)) fits));
       next = put s row.0 row.1;
       read = read_open Hex s _ e place ∙ hex_read row s h base;
       same = e;
@@ -234,7 +243,8 @@ row_read SRecord row s h e place base =
     (omega (arith, h.few), (omega (arith, h.inside), (omega arith, h.bytes))) (omega arith, tt) in
     record {
       line = line_of (codes "S1") 255 (s_bytes row);
-      cut = λ rest. record_cut (codes "S1") 255 (s_bytes row) rest (hex_no_end (encode_upper (whole 255 (s_bytes row))) (hex_of-encode (whole 255 (s_bytes row)) fits));
+      cut = λ rest. record_cut (codes "S1") 255 (s_bytes row) rest
+          (hex_no_end (encode_upper (whole 255 (s_bytes row))) (hex_of-encode (whole 255 (s_bytes row)) fits));
       next = one_more (put s row.0 row.1);
       read = read_open SRecord s _ e place ∙ s_read row s h;
       same = e;
@@ -258,7 +268,8 @@ record Led (form : TextForm) (n : ℕ) (s : Progress) (rs : List Stretch) (rest 
   place : next.place ≡ Open
   cells : next.cells ≡ put_rows s.cells rs
 
-led : (form : TextForm) (rs : List Stretch) (n : ℕ) (s : Progress) (rest : List ℕ) → AllByRecursion IsRow rs → s.form ≡ form → s.place ≡ Open → s.base ≡ 0 → Led form n s rs rest
+led : (form : TextForm) (rs : List Stretch) (n : ℕ) (s : Progress) (rest : List ℕ) → AllByRecursion IsRow rs → s.form ≡ form → s.place ≡ Open
+    → s.base ≡ 0 → Led form n s rs rest
 led form [] n s rest each e place base = record { line = n; next = s; ran = refl; same = e; place = place; cells = refl }
 led form (row ∷ rs) n s rest each e place base =
     let r = row_read form row s each.0 e place base in
@@ -309,13 +320,16 @@ end_read form n s line e place cut read =
 
 form_ends : (form : TextForm) (n : ℕ) (s : Progress) → s.form ≡ form → s.place ≡ Open → (run n s (end_text form) >>= end_lines) ≡ Ok s.cells
 unfolding encode_with
-form_ends Hex n s e place = end_read Hex n s (line_of (codes ":") 0 (0 ∷ 0 ∷ 0 ∷ 1 ∷ [])) e place (record_cut (codes ":") 0 (0 ∷ 0 ∷ 0 ∷ 1 ∷ []) [] refl) (hex_ends s)
-form_ends SRecord n s e place = end_read SRecord n s (line_of (codes "S9") 255 (3 ∷ 0 ∷ 0 ∷ [])) e place (record_cut (codes "S9") 255 (3 ∷ 0 ∷ 0 ∷ []) [] refl) (s_ends s)
+form_ends Hex n s e place = end_read Hex n s (line_of (codes ":") 0 (0 ∷ 0 ∷ 0 ∷ 1 ∷ [])) e place
+    (record_cut (codes ":") 0 (0 ∷ 0 ∷ 0 ∷ 1 ∷ []) [] refl) (hex_ends s)
+form_ends SRecord n s e place = end_read SRecord n s (line_of (codes "S9") 255 (3 ∷ 0 ∷ 0 ∷ [])) e place
+    (record_cut (codes "S9") 255 (3 ∷ 0 ∷ 0 ∷ []) [] refl) (s_ends s)
 
 -- ---- an image
 
 -- rows and the end, from a state with no byte
-rows_end : (form : TextForm) (cells : List (Option ℕ)) (n : ℕ) (s : Progress) → IsImage cells → s.form ≡ form → s.place ≡ Open → s.base ≡ 0 → s.cells ≡ empty_image
+rows_end : (form : TextForm) (cells : List (Option ℕ)) (n : ℕ) (s : Progress) → IsImage cells → s.form ≡ form → s.place ≡ Open → s.base ≡ 0
+    → s.cells ≡ empty_image
     → (run n s (flat_map (row_text form) (rows 0 [] cells) ++ end_text form) >>= end_lines) ≡ Ok cells
 rows_end form cells n s image e place base empty =
     let l = led form (rows 0 [] cells) n s (end_text form) (image_rows cells image) e place base in
@@ -330,5 +344,6 @@ written_denotes SRecord cells image =
     let more : List ℕ = flat_map s_row (rows 0 [] cells) ++ s_end in
     ap (λ (x : List ℕ). run 1 (start SRecord) x >>= end_lines) (append_assoc s_header (flat_map s_row (rows 0 [] cells)) s_end)
     ∙ ap (λ (x : List (List ℕ)). after_lines 1 (start SRecord) x >>= end_lines) (record_cut (codes "S0") 255 (8 ∷ 0 ∷ 0 ∷ codes "mos65") more refl)
-    ∙ ap (λ (x : Step). (numbered 1 x >>= λ t. run (next_line 1) t more) >>= end_lines) (read_open SRecord (start SRecord) _ refl refl ∙ s_heads (start SRecord))
+    ∙ ap (λ (x : Step). (numbered 1 x >>= λ t. run (next_line 1) t more) >>= end_lines)
+        (read_open SRecord (start SRecord) _ refl refl ∙ s_heads (start SRecord))
     ∙ rows_end SRecord cells 2 (record (start SRecord) { place = Open }) image refl refl refl refl

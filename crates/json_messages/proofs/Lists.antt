@@ -16,11 +16,13 @@ module _ {A : Type 0} (g : A → Data) where
   pub listed_more : (all : List A) (i : ℕ) (e : A) (found new : List Value) (v : Value) → i < length all → view v ≡ g (get_or all i e) → new ≡ found ++ v ∷ []
       → map view found ≡ map g (take i all) → map view new ≡ map g (take (i + 1) all)
   listed_more all i e found new v within is put so_far =
-      ap (map view) put ∙ map-append view found (v ∷ []) ∙ ap (λ (ds : List Data). ds ++ view v ∷ []) so_far ∙ ap (λ (d : Data). map g (take i all) ++ d ∷ []) is
+      ap (map view) put ∙ map-append view found (v ∷ []) ∙ ap (λ (ds : List Data). ds ++ view v ∷ []) so_far
+          ∙ ap (λ (d : Data). map g (take i all) ++ d ∷ []) is
       ∙ sym (map-append g (take i all) (get_or all i e ∷ [])) ∙ sym (ap (map g) (take_more all i e within))
 
   -- the list of all
-  pub listed : (all : List A) (i : ℕ) (found : Vec Value Global) → length all ≤ i → map view found.items ≡ map g (take i all) → view (Array found) ≡ list_of (map g all)
+  pub listed : (all : List A) (i : ℕ) (found : Vec Value Global) → length all ≤ i → map view found.items ≡ map g (take i all)
+      → view (Array found) ≡ list_of (map g all)
   listed all i found past so_far = view-Array found ∙ ap list_of (so_far ∙ ap (map g) (take_all i all past))
 
   -- ---- the same behind others: what is still to come is that of the items from an index on
@@ -28,13 +30,15 @@ module _ {A : Type 0} (g : A → Data) where
   unfoldable pub left : List A → ℕ → List Data
   left all i = map g (drop i all)
 
-  pub left_more : (all : List A) (i : ℕ) (e : A) (found new : List Value) (v : Value) (whole : List Data) → i < length all → view v ≡ g (get_or all i e) → new ≡ found ++ v ∷ []
+  pub left_more : (all : List A) (i : ℕ) (e : A) (found new : List Value) (v : Value) (whole : List Data) → i < length all
+      → view v ≡ g (get_or all i e) → new ≡ found ++ v ∷ []
       → map view found ++ left all i ≡ whole → map view new ++ left all (i + 1) ≡ whole
   unfolding left
   left_more all i e found new v whole within is put so_far =
       let cut : drop i all ≡ get_or all i e ∷ drop (i + 1) all = rw (add-one, drop-cons all i e) refl in
       let at : left all i ≡ view v ∷ left all (i + 1) = ap (map g) cut ∙ ap (λ (d : Data). d ∷ left all (i + 1)) (sym is) in
-      ap (λ (ds : List Data). ds ++ left all (i + 1)) (ap (map view) put ∙ map-append view found (v ∷ [])) ∙ append_assoc (map view found) (view v ∷ []) (left all (i + 1))
+      ap (λ (ds : List Data). ds ++ left all (i + 1)) (ap (map view) put ∙ map-append view found (v ∷ []))
+          ∙ append_assoc (map view found) (view v ∷ []) (left all (i + 1))
       ∙ sym (ap (λ (ds : List Data). map view found ++ ds) at) ∙ so_far
 
   pub left_done : (all : List A) (i : ℕ) (found whole : List Data) → length all ≤ i → found ++ left all i ≡ whole → found ≡ whole
@@ -49,7 +53,8 @@ module _ {A : Type 0} (g : A → Data) where
 
   -- ---- the same in a list that is made one value after another
 
-  pub next_value : (all : List A) (i : ℕ) (e : A) (list : ValueList) → i < length all → HasValues (map g (take i all) ++ g (get_or all i e) ∷ []) list → HasValues (map g (take (i + 1) all)) list
+  pub next_value : (all : List A) (i : ℕ) (e : A) (list : ValueList) → i < length all → HasValues (map g (take i all) ++ g (get_or all i e) ∷ []) list
+      → HasValues (map g (take (i + 1) all)) list
   next_value all i e list within has =
       subst (λ (ds : List Data). HasValues ds list) (sym (map-append g (take i all) (get_or all i e ∷ [])) ∙ sym (ap (map g) (take_more all i e within))) has
 

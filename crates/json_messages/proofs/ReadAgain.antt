@@ -138,14 +138,16 @@ field_read ds a = field_value ds ∙ ap number_in (one_skipped ds (no_blanks ds 
 
 -- ---- the front
 
-pub front_at : (all : List ℕ) (h n : ℕ) → header_len all ≡ Some h → length_in true (take h all) ≡ Some n → h ≤ 4096 → h + 4 + n ≤ length all → front_of all ≡ Message (h + 4) (h + 4 + n)
+pub front_at : (all : List ℕ) (h n : ℕ) → header_len all ≡ Some h → length_in true (take h all) ≡ Some n → h ≤ 4096 → h + 4 + n ≤ length all
+    → front_of all ≡ Message (h + 4) (h + 4 + n)
 front_at all h n e l small long =
     let t : nat_lt 4096 h ≡ false = le-ltb 4096 h small in
     let u : nat_lt (length all) (h + 4 + n) ≡ false = le-ltb (length all) (h + 4 + n) long in
     rw (e, t, l, u) refl
 
 -- A header of so many bytes, its blank line, a body and what is behind it.
-front_here : (head body rest : List ℕ) → no_cr head ≡ true → length_in true head ≡ Some (length body) → length head ≤ 4096 → IsFront (head ++ (blank_line ++ (body ++ rest))) body rest
+front_here : (head body rest : List ℕ) → no_cr head ≡ true → length_in true head ≡ Some (length body) → length head ≤ 4096
+    → IsFront (head ++ (blank_line ++ (body ++ rest))) body rest
 front_here head body rest clean gives small =
     let all = head ++ (blank_line ++ (body ++ rest)) in
     let h = length head in
@@ -159,10 +161,12 @@ front_here head body rest clean gives small =
     let long : h + 4 + n ≤ length all = omega (arith, e1, e2, e3) in
     let front : (head ++ blank_line) ++ (body ++ rest) ≡ all = append_assoc head blank_line (body ++ rest) in
     let before : length (head ++ blank_line) ≡ h + 4 = length-append head blank_line in
-    let d : drop (h + 4) all ≡ body ++ rest = subst (λ k. drop k all ≡ body ++ rest) before (subst (λ z. drop (length (head ++ blank_line)) z ≡ body ++ rest) front (drop-append_seam (head ++ blank_line) (body ++ rest))) in
+    let d : drop (h + 4) all ≡ body ++ rest = subst (λ k. drop k all ≡ body ++ rest) before
+        (subst (λ z. drop (length (head ++ blank_line)) z ≡ body ++ rest) front (drop-append_seam (head ++ blank_line) (body ++ rest))) in
     let whole : ((head ++ blank_line) ++ body) ++ rest ≡ all = append_assoc (head ++ blank_line) body rest ∙ front in
     let count : length ((head ++ blank_line) ++ body) ≡ h + 4 + n = length-append (head ++ blank_line) body ∙ ap (λ k. k + n) before in
-    let r : drop (h + 4 + n) all ≡ rest = subst (λ k. drop k all ≡ rest) count (subst (λ z. drop (length ((head ++ blank_line) ++ body)) z ≡ rest) whole (drop-append_seam ((head ++ blank_line) ++ body) rest)) in
+    let r : drop (h + 4 + n) all ≡ rest = subst (λ k. drop k all ≡ rest) count
+        (subst (λ z. drop (length ((head ++ blank_line) ++ body)) z ≡ rest) whole (drop-append_seam ((head ++ blank_line) ++ body) rest)) in
     let k : (h + 4 + n) - (h + 4) ≡ n = omega arith in
     let b : take ((h + 4 + n) - (h + 4)) (drop (h + 4) all) ≡ body = rw (k, d) (take-append_seam body rest) in
     (h + 4, h + 4 + n, front_at all h n e l small long, sym b, sym r)

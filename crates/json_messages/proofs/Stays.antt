@@ -28,7 +28,8 @@ none_found : (at h : ℕ) → header_from at [] ≡ Some h → ⊥
 unfolding header_from
 none_found at h f = grind arith
 
-within_by : (at b : ℕ) (bs : List ℕ) (h : ℕ) (t : Bool) → ends_header (b ∷ bs) ≡ t → header_from at (b ∷ bs) ≡ Some h → (header_from (at + 1) bs ≡ Some h → (at + 1 ≤ h) × (h + 4 ≤ at + 1 + length bs)) → (at ≤ h) × (h + 4 ≤ at + length (b ∷ bs))
+within_by : (at b : ℕ) (bs : List ℕ) (h : ℕ) (t : Bool) → ends_header (b ∷ bs) ≡ t → header_from at (b ∷ bs) ≡ Some h
+    → (header_from (at + 1) bs ≡ Some h → (at + 1 ≤ h) × (h + 4 ≤ at + 1 + length bs)) → (at ≤ h) × (h + 4 ≤ at + length (b ∷ bs))
 within_by at b bs h true e f ih =
     let g : Some at ≡ Some h = sym (header_by at b bs true e) ∙ f in
     let len : 4 ≤ length (b ∷ bs) = ends_long (b ∷ bs) e in
@@ -42,7 +43,8 @@ pub header_within : (at : ℕ) (bs : List ℕ) (h : ℕ) → header_from at bs �
 header_within at [] h f = absurd (none_found at h f)
 header_within at (b ∷ bs) h f = within_by at b bs h (ends_header (b ∷ bs)) refl f (header_within (at + 1) bs h)
 
-stays_by : (at b : ℕ) (bs more : List ℕ) (h : ℕ) (t : Bool) → ends_header (b ∷ bs) ≡ t → header_from at (b ∷ bs) ≡ Some h → (header_from (at + 1) bs ≡ Some h → header_from (at + 1) (bs ++ more) ≡ Some h) → header_from at (b ∷ (bs ++ more)) ≡ Some h
+stays_by : (at b : ℕ) (bs more : List ℕ) (h : ℕ) (t : Bool) → ends_header (b ∷ bs) ≡ t → header_from at (b ∷ bs) ≡ Some h
+    → (header_from (at + 1) bs ≡ Some h → header_from (at + 1) (bs ++ more) ≡ Some h) → header_from at (b ∷ (bs ++ more)) ≡ Some h
 stays_by at b bs more h true e f ih =
     let g : Some at ≡ Some h = sym (header_by at b bs true e) ∙ f in
     let same : ends_header (b ∷ (bs ++ more)) ≡ true = ends_same (b ∷ bs) more (ends_long (b ∷ bs) e) ∙ e in
@@ -61,17 +63,21 @@ header_stays at (b ∷ bs) more h f = stays_by at b bs more h (ends_header (b �
 -- ---- the body
 
 -- What is a message was no fault, and has ended.
-ends_at : (all h n start end : ℕ) (t : Bool) → nat_lt all (h + 4 + n) ≡ t → (if t then Open else Message (h + 4) (h + 4 + n)) ≡ Message start end → (start ≡ h + 4) × (end ≡ h + 4 + n) × (h + 4 + n ≤ all)
+ends_at : (all h n start end : ℕ) (t : Bool) → nat_lt all (h + 4 + n) ≡ t → (if t then Open else Message (h + 4) (h + 4 + n)) ≡ Message start end
+    → (start ≡ h + 4) × (end ≡ h + 4 + n) × (h + 4 + n ≤ all)
 ends_at all h n start end true e f = absurd (grind arith)
 ends_at all h n start end false e f = let long : h + 4 + n ≤ all = ltb-false all (h + 4 + n) e in grind arith
 
-ends_body : (all h : ℕ) (len : Option ℕ) (start end : ℕ) → body_at all h len ≡ Message start end → (n : ℕ) × (len ≡ Some n) × (start ≡ h + 4) × (end ≡ h + 4 + n) × (h + 4 + n ≤ all)
+ends_body : (all h : ℕ) (len : Option ℕ) (start end : ℕ) → body_at all h len ≡ Message start end → (n : ℕ) × (len ≡ Some n) × (start ≡ h + 4)
+    × (end ≡ h + 4 + n) × (h + 4 + n ≤ all)
 ends_body all h None start end f = absurd (grind arith)
 ends_body all h (Some n) start end f =
     let parts = ends_at all h n start end (nat_lt all (h + 4 + n)) refl f in
     (n, refl, parts.0, parts.1, parts.2)
 
-ends_short : (bytes : List ℕ) (h start end : ℕ) (t : Bool) → nat_lt most_header h ≡ t → (if t then LongHeader else body_at (length bytes) h (length_in true (take h bytes))) ≡ Message start end → (nat_lt most_header h ≡ false) × (body_at (length bytes) h (length_in true (take h bytes)) ≡ Message start end)
+ends_short : (bytes : List ℕ) (h start end : ℕ) (t : Bool) → nat_lt most_header h ≡ t
+    → (if t then LongHeader else body_at (length bytes) h (length_in true (take h bytes))) ≡ Message start end → (nat_lt most_header h ≡ false)
+    × (body_at (length bytes) h (length_in true (take h bytes)) ≡ Message start end)
 ends_short bytes h start end true e f = absurd (grind arith)
 ends_short bytes h start end false e f = (e, f)
 
@@ -79,7 +85,8 @@ no_header : (bytes : List ℕ) (start end : ℕ) (t : Bool) → (if t then LongH
 no_header bytes start end true f = grind arith
 no_header bytes start end false f = grind arith
 
-front_by : (bytes more : List ℕ) (found : Option ℕ) (start end : ℕ) → header_len bytes ≡ found → behind_header bytes found ≡ Message start end → (front_of (bytes ++ more) ≡ Message start end) × (start ≤ end) × (end ≤ length bytes)
+front_by : (bytes more : List ℕ) (found : Option ℕ) (start end : ℕ) → header_len bytes ≡ found → behind_header bytes found ≡ Message start end
+    → (front_of (bytes ++ more) ≡ Message start end) × (start ≤ end) × (end ≤ length bytes)
 front_by bytes more None start end e f = absurd (no_header bytes start end (nat_lt (most_header + 3) (length bytes)) f)
 front_by bytes more (Some h) start end e f =
     let short = ends_short bytes h start end (nat_lt most_header h) refl f in
@@ -118,13 +125,15 @@ stays bytes more body rest front =
 -- ---- messages
 
 -- More bytes come behind the messages of a stream.
-pub messages_kept : (told more : List ℕ) (bodies : List (List ℕ)) (held : List ℕ) → AreMessages told bodies held → AreMessages (told ++ more) bodies (held ++ more)
+pub messages_kept : (told more : List ℕ) (bodies : List (List ℕ)) (held : List ℕ) → AreMessages told bodies held
+    → AreMessages (told ++ more) bodies (held ++ more)
 unfolding AreMessages
 messages_kept told more [] held h = ap (λ z. z ++ more) h
 messages_kept told more (body ∷ bodies) held h = (h.0 ++ more, stays told more body h.0 h.1, messages_kept h.0 more bodies held h.2)
 
 -- One message more stands in front of what was held and what is read.
-pub messages_more : (told more : List ℕ) (bodies : List (List ℕ)) (held body left : List ℕ) → AreMessages told bodies held → IsFront (held ++ more) body left → AreMessages (told ++ more) (bodies ++ body ∷ []) left
+pub messages_more : (told more : List ℕ) (bodies : List (List ℕ)) (held body left : List ℕ) → AreMessages told bodies held
+    → IsFront (held ++ more) body left → AreMessages (told ++ more) (bodies ++ body ∷ []) left
 unfolding AreMessages
 messages_more told more [] held body left h front = (left, subst (λ z. IsFront (z ++ more) body left) h front, refl)
 messages_more told more (b ∷ bodies) held body left h front = (h.0 ++ more, stays told more b h.0 h.1, messages_more h.0 more bodies held body left h.2 front)

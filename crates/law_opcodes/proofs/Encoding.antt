@@ -223,7 +223,8 @@ encoded_of_row profile m d opcode below is = has_code_parts profile opcode m d (
 pub encoded_exactly : (profile : Profile) (m : Mnemonic) (d : Mode) (opcode : ℕ) → opcode < 256
     → (opcode_of profile m d ≡ Some opcode) ↔ IsRowOf m d (row_at profile opcode)
 encoded_exactly profile m d opcode below =
-    (λ is. (subst (λ code. IfSome code (λ k. (k < 256) × IsRowOf m d (row_at profile k))) is (row_of_encoded profile m d)).1, encoded_of_row profile m d opcode below)
+    (λ is. (subst (λ code. IfSome code (λ k. (k < 256) × IsRowOf m d (row_at profile k))) is (row_of_encoded profile m d)).1, encoded_of_row profile m
+        d opcode below)
 
 -- ---- the rows that profile C adds stand after those of profile N
 
@@ -287,7 +288,8 @@ all_named C = refl
 -- each mnemonic that has an opcode in a profile is read there from its own letters
 pub named_of_code : (profile : Profile) (m : Mnemonic) (d : Mode) (opcode : ℕ)
     → opcode_of profile m d ≡ Some opcode → mnemonic_named profile (mnemonic_text m) ≡ Some m
-named_of_code profile m d opcode code = rw code at (same_at_each (λ m d. name_if profile m (opcode_of profile m d)) (λ m (d : Mode). Some m) (all_named profile) m d)
+named_of_code profile m d opcode code = rw code at (same_at_each (λ m d. name_if profile m (opcode_of profile m d)) (λ m (d : Mode). Some m)
+    (all_named profile) m d)
 
 -- each mnemonic has three letters
 pub length-mnemonic_text : (m : Mnemonic) → length (mnemonic_text m) ≡ 3

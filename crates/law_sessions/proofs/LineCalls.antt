@@ -83,7 +83,8 @@ assembled : (s : Session) (address : ℕ) (r : Result (List ℕ) AsmFaultKind)
     → Leads s (asm_answer s address r).session
 unfolding after_call
 assembled s address (Ok bytes) =
-    one_call s _ (happen (event.Patch address bytes (length bytes))) (evented s (patch_of address bytes s.current) ∙ ap (after_event s) (sym (is_patch s.current address bytes)))
+    one_call s _ (happen (event.Patch address bytes (length bytes)))
+        (evented s (patch_of address bytes s.current) ∙ ap (after_event s) (sym (is_patch s.current address bytes)))
 assembled s address (Err kind) = ([], refl)
 
 -- ---- commands
@@ -99,7 +100,8 @@ leads (Patch address bytes count) s = one_call s _ (happen (event.Patch address 
 leads Reset s = one_call s _ (happen event.Reset) (evented s (event_of s.current event.Reset))
 leads (Irq level) s = one_call s _ (happen (event.Irq level)) (evented s (event_of s.current (event.Irq level)))
 leads Nmi s = one_call s _ (happen event.Nmi) (evented s (event_of s.current event.Nmi))
-leads (Input bytes count) s = given s (take count bytes) (nat_lt console_size (length s.current.bus.given + length (take count bytes))) (fault_line InputFull) (codes "OK\n")
+leads (Input bytes count) s = given s (take count bytes) (nat_lt console_size (length s.current.bus.given + length (take count bytes)))
+    (fault_line InputFull) (codes "OK\n")
 leads (Run n) s = one_call s _ (run n) refl
 leads (Back k) s = one_call s _ (back k) (backed s (back_of k s))
 leads (Break address) s = one_call s _ (set_break address) (tabled s (break_set address s))

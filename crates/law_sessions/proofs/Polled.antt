@@ -167,14 +167,16 @@ after_input-unset : (bytes : List ℕ) (s : Session) → AllUnset s → AllUnset
 unfolding after_input event_of
 after_input-unset [] s u = u
 after_input-unset (byte ∷ bytes) s u =
-    after_input-unset bytes (after_event s (input_of byte s.current)) (after_event-unset s (input_of byte s.current) u (input_leaves byte s.current (current_unset s u)))
+    after_input-unset bytes (after_event s (input_of byte s.current))
+        (after_event-unset s (input_of byte s.current) u (input_leaves byte s.current (current_unset s u)))
 
 given : (s : Session) (bytes : List ℕ) → AllUnset s → SameAnswer (input_answer s bytes)
     (input_answer s bytes)
 unfolding input_answer
 given s bytes u = by (nat_lt console_size (length s.current.bus.given + length bytes))
   where
-    by : (b : Bool) → SameAnswer (cond b (answer (fault_line InputFull) s) (answer (codes "OK\n") (after_input s bytes))) (cond b (answer (fault_line InputFull) s) (answer (codes "OK\n") (after_input s bytes)))
+    by : (b : Bool) → SameAnswer (cond b (answer (fault_line InputFull) s) (answer (codes "OK\n") (after_input s bytes)))
+        (cond b (answer (fault_line InputFull) s) (answer (codes "OK\n") (after_input s bytes)))
     by true = stays (fault_line InputFull) s u
     by false = stays (codes "OK\n") (after_input s bytes) (after_input-unset bytes s u)
 
@@ -184,7 +186,8 @@ unfolding without_last
 without_last-unset k s h u =
     let left = length s.earlier - k in
     let within : left < length (states s) = omega (arith, length-append s.earlier (s.current ∷ [])) in
-    All-push Unset (take left s.earlier) (get_or (states s) left s.current) (All-take Unset left s.earlier (All-pop Unset (states s) s.earlier (Some s.current) refl u).0)
+    All-push Unset (take left s.earlier) (get_or (states s) left s.current)
+        (All-take Unset left s.earlier (All-pop Unset (states s) s.earlier (Some s.current) refl u).0)
     (All-get_or Unset (states s) left s.current within u)
 
 backed : (k : ℕ) (s : Session) → AllUnset s → SameAnswer (back_answer s (back_of k s))
@@ -193,7 +196,8 @@ unfolding back_of
 backed k s u = by (nat_le k (length s.earlier)) refl
   where
     by : (b : Bool) → nat_le k (length s.earlier) ≡ b
-        → SameAnswer (back_answer s (cond b (Ok (without_last k s)) (Err (NoHistory (length s.earlier))))) (back_answer s (cond b (Ok (without_last k s)) (Err (NoHistory (length s.earlier)))))
+        → SameAnswer (back_answer s (cond b (Ok (without_last k s)) (Err (NoHistory (length s.earlier)))))
+            (back_answer s (cond b (Ok (without_last k s)) (Err (NoHistory (length s.earlier)))))
     by true h = record { same = refl; unset = without_last-unset k s (grind (arith, nat_tests)) u }
     by false h = record { same = refl; unset = u }
 
@@ -235,7 +239,8 @@ unfolding answer_to polled_answer event_of break_set break_cleared watch_set wat
 answered Step s u p = stepped s (step s.current) (polled_step s.current) u (step_same s.current (current_unset s u) p)
 answered (Run n) s u p = ran n s u p
 answered (Set x) s u p = evented s _ u (leaves _ (current_unset s u))
-answered (Patch a bytes n) s u p = evented s _ u (either (nat_lt 3 n) (Err BadLength) (patch_of a (take n bytes) s.current) (refuses BadLength) (patch_leaves a (take n bytes) s.current (current_unset s u)))
+answered (Patch a bytes n) s u p = evented s _ u (either (nat_lt 3 n) (Err BadLength) (patch_of a (take n bytes) s.current) (refuses BadLength)
+    (patch_leaves a (take n bytes) s.current (current_unset s u)))
 answered Reset s u p = evented s _ u (reset_leaves s.current)
 answered (Irq level) s u p = evented s _ u (leaves _ (current_unset s u))
 answered Nmi s u p = evented s _ u (leaves _ (current_unset s u))

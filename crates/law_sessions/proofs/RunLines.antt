@@ -86,7 +86,8 @@ numbers : (xs : List ℕ) (n : ℕ) → AreSmall xs
 numbers [] n h = refl
 numbers (x ∷ xs) n h = next_digit n x (map (λ x. 48 + x) xs) h.0 ∙ numbers xs (n * 10 + x) h.1
 
-module _ (a b c d e f g : ℕ) (a-small : a < 10) (b-small : b < 10) (c-small : c < 10) (d-small : d < 10) (e-small : e < 10) (f-small : f < 10) (g-small : g < 10) where
+module _ (a b c d e f g : ℕ) (a-small : a < 10) (b-small : b < 10) (c-small : c < 10) (d-small : d < 10) (e-small : e < 10) (f-small : f < 10)
+    (g-small : g < 10) where
   abbrev value : ℕ
   value = (((((a * 10 + b) * 10 + c) * 10 + d) * 10 + e) * 10 + f) * 10 + g
 
@@ -97,7 +98,8 @@ module _ (a b c d e f g : ℕ) (a-small : a < 10) (b-small : b < 10) (c-small : 
       ∙ ap (λ (n : ℕ). Some n) (omega arith)
 
   words : words_of (run_line (seven a b c d e f g)) ≡ (114 ∷ 117 ∷ 110 ∷ []) ∷ seven a b c d e f g ∷ []
-  words = run_words (seven a b c d e f g) (word_alone (48 + a) _ (no_space a, (no_space b, (no_space c, (no_space d, (no_space e, (no_space f, (no_space g, tt))))))))
+  words = run_words (seven a b c d e f g) (word_alone (48 + a) _
+      (no_space a, (no_space b, (no_space c, (no_space d, (no_space e, (no_space f, (no_space g, tt))))))))
 
   asks : 1 ≤ value → value ≤ most_steps → command_of (run_line (seven a b c d e f g)) ≡ Run value
   unfolding command_of
@@ -115,7 +117,8 @@ each_run_has_a_line k some most =
     let u = t / 10 in
     let same : (((((u * 10 + t % 10) * 10 + s % 10) * 10 + r % 10) * 10 + q % 10) * 10 + p % 10) * 10 + k % 10 ≡ k = omega arith in (
       run_line (seven u (t % 10) (s % 10) (r % 10) (q % 10) (p % 10) (k % 10)),
-      asks u (t % 10) (s % 10) (r % 10) (q % 10) (p % 10) (k % 10) (omega arith) (omega arith) (omega arith) (omega arith) (omega arith) (omega arith) (omega arith)
+      asks u (t % 10) (s % 10) (r % 10) (q % 10) (p % 10) (k % 10) (omega arith) (omega arith) (omega arith) (omega arith) (omega arith) (omega arith)
+          (omega arith)
           (omega arith) (omega arith) ∙ ap Run same,
     )
 
@@ -175,7 +178,8 @@ run_few None = tt
 
 irq_few : (level : Bytes) → FewSteps (irq_command level)
 irq_few level =
-    either (bytes_eq level (codes "0")) (Irq false) (cond (bytes_eq level (codes "1")) (Irq true) Bad) tt (either (bytes_eq level (codes "1")) (Irq true) Bad tt tt)
+    either (bytes_eq level (codes "0")) (Irq false) (cond (bytes_eq level (codes "1")) (Irq true) Bad) tt
+        (either (bytes_eq level (codes "1")) (Irq true) Bad tt tt)
 
 byte_few : (register : ℕ → Setting) (given : Option ℕ) → FewSteps (set_byte register given)
 byte_few register (Some byte) = tt
@@ -356,7 +360,8 @@ sooner_few (Some a) b n h = by (nat_le a.did b.did) refl
     by true e = let le : a.did ≤ b.did = grind (arith, nat_tests) in omega arith
     by false e = h
 
-later_few : (r : Option RunEnd) (n : ℕ) → (unwrap_or r (record { did = n; why = Limit })).did ≤ n → (unwrap_or (option_map one_later r) (record { did = suc n; why = Limit })).did ≤ suc n
+later_few : (r : Option RunEnd) (n : ℕ) → (unwrap_or r (record { did = n; why = Limit })).did ≤ n
+    → (unwrap_or (option_map one_later r) (record { did = suc n; why = Limit })).did ≤ suc n
 later_few None n h = omega arith
 later_few (Some r) n h = omega arith
 

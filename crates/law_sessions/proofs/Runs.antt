@@ -81,7 +81,8 @@ first_refused-made : (one : OneStep) (n : ℕ) (s t : State) → one s ≡ Ok t
 unfolding first_refused
 first_refused-made one n s t h = rw h refl
 
-first_refused-now : (one : OneStep) (n : ℕ) (s : State) (f : EventFault) → one s ≡ Err f → first_refused one (suc n) s ≡ Some (record { did = 0; why = Refused f })
+first_refused-now : (one : OneStep) (n : ℕ) (s : State) (f : EventFault) → one s ≡ Err f
+    → first_refused one (suc n) s ≡ Some (record { did = 0; why = Refused f })
 unfolding first_refused
 first_refused-now one n s f h = rw h refl
 
@@ -104,19 +105,23 @@ by_first : (w b : Option Why) (ws bs : Option RunEnd) (rest : RunEnd)
     → sooner (met_now_or_later w ws)
     (sooner (met_now_or_later b bs) (one_later rest)) ≡ ends_with (option_or w b)
     (sooner ws (sooner bs rest))
-by_first (Some w) (Some b) ws bs rest h k = let n = now_first b (one_later rest) (omega arith) in ap (sooner (Some (now w))) n ∙ now_first w (now b) (omega arith)
+by_first (Some w) (Some b) ws bs rest h k = let n = now_first b (one_later rest) (omega arith) in
+    ap (sooner (Some (now w))) n ∙ now_first w (now b) (omega arith)
 by_first (Some w) None ws bs rest h k = ap (sooner (Some (now w))) (sooner-later bs rest) ∙ now_first w (one_later (sooner bs rest)) (omega arith)
 by_first None (Some b) ws bs rest h k = ap (sooner (option_map one_later ws)) (now_first b (one_later rest) (omega arith)) ∙ later_last ws b k
 by_first None None ws bs rest h k = ap (sooner (option_map one_later ws)) (sooner-later bs rest) ∙ sooner-later ws (sooner bs rest)
 
 pub run_end-zero : (one : OneStep) (s : Session) → run_end_by one zero s ≡ limit zero
 unfolding run_end_by
-run_end-zero one s = rw (first_met-zero one (watch_met s.watches) s.current, first_met-zero one (break_met s.breaks) s.current, first_refused-zero one s.current) refl
+run_end-zero one s = rw (first_met-zero one (watch_met s.watches) s.current, first_met-zero one (break_met s.breaks) s.current, first_refused-zero one
+    s.current) refl
 
-pub run_end-refused : (one : OneStep) (n : ℕ) (s : Session) (f : EventFault) → one s.current ≡ Err f → run_end_by one (suc n) s ≡ record { did = 0; why = Refused f }
+pub run_end-refused : (one : OneStep) (n : ℕ) (s : Session) (f : EventFault) → one s.current ≡ Err f
+    → run_end_by one (suc n) s ≡ record { did = 0; why = Refused f }
 unfolding run_end_by
 run_end-refused one n s f h =
-    rw (first_met-refused one (watch_met s.watches) n s.current f h, first_met-refused one (break_met s.breaks) n s.current f h, first_refused-now one n s.current f h) refl
+    rw (first_met-refused one (watch_met s.watches) n s.current f h, first_met-refused one (break_met s.breaks) n s.current f h, first_refused-now one
+        n s.current f h) refl
 
 pub run_end-made : (one : OneStep) (n : ℕ) (s : Session) (t : State) → one s.current ≡ Ok t
     → run_end_by one (suc n) s
@@ -125,8 +130,10 @@ pub run_end-made : (one : OneStep) (n : ℕ) (s : Session) (t : State) → one s
 unfolding run_end_by
 run_end-made one n s t h =
     rw (first_met-suc one (watch_met s.watches) n s.current t h, first_met-suc one (break_met s.breaks) n s.current t h, first_refused-made one n s.current t h)
-    (ap (λ x. sooner (met_now_or_later (watch_met s.watches s.current t) (first_met one (watch_met s.watches) n t)) (sooner (met_now_or_later (break_met s.breaks s.current t) (first_met one (break_met s.breaks) n t)) x)) (unwrap-later (first_refused one n t) n)
-    ∙ by_first (watch_met s.watches s.current t) (break_met s.breaks s.current t) (first_met one (watch_met s.watches) n t) (first_met one (break_met s.breaks) n t) (unwrap_or (first_refused one n t) (limit n))
+    (ap (λ x. sooner (met_now_or_later (watch_met s.watches s.current t) (first_met one (watch_met s.watches) n t))
+        (sooner (met_now_or_later (break_met s.breaks s.current t) (first_met one (break_met s.breaks) n t)) x)) (unwrap-later (first_refused one n t) n)
+    ∙ by_first (watch_met s.watches s.current t) (break_met s.breaks s.current t) (first_met one (watch_met s.watches) n t)
+        (first_met one (break_met s.breaks) n t) (unwrap_or (first_refused one n t) (limit n))
     (positive one (break_met s.breaks) n t (one t) refl) (positive one (watch_met s.watches) n t (one t) refl))
 
 -- ---- steps of a session
@@ -153,12 +160,14 @@ unmet before after = refl
 
 run_end-without_stops : (n : ℕ) (s : Session) (t : State) → step s.current ≡ Ok t → run_end (suc n)
     (without_stops s) ≡ one_later (run_end n (without_stops (with_state s t)))
-run_end-without_stops n s t h = run_end-made step n (without_stops s) t h ∙ ap (λ w. ends_with w (run_end n (without_stops (with_state s t)))) (unmet s.current t)
+run_end-without_stops n s t h = run_end-made step n (without_stops s) t h
+    ∙ ap (λ w. ends_with w (run_end n (without_stops (with_state s t)))) (unmet s.current t)
 
 mutual_after : (k : ℕ) (s : Session) (r : Result State EventFault) → step s.current ≡ r
     → after_steps k (without_stops s) ≡ without_stops (after_steps k s)
 mutual_after zero s r h = after_steps-zero step (without_stops s) ∙ ap without_stops (sym (after_steps-zero step s))
-mutual_after (suc k) s (Ok t) h = after_steps-made step k (without_stops s) t h ∙ mutual_after k (with_state s t) (step t) refl ∙ ap without_stops (sym (after_steps-made step k s t h))
+mutual_after (suc k) s (Ok t) h = after_steps-made step k (without_stops s) t h ∙ mutual_after k (with_state s t) (step t) refl
+    ∙ ap without_stops (sym (after_steps-made step k s t h))
 mutual_after (suc k) s (Err f) h = after_steps-refused step k (without_stops s) f h ∙ ap without_stops (sym (after_steps-refused step k s f h))
 
 -- ---- a run repeated
@@ -173,10 +182,12 @@ repeated_by n s t None h again = run_end-without_stops (run_end n (with_state s 
 
 repeated_end : (n : ℕ) (s : Session) (r : Result State EventFault) → step s.current ≡ r
     → run_end (run_end n s).did (without_stops s) ≡ limit (run_end n s).did
-repeated_end zero s r h = ap (λ (e : RunEnd). run_end e.did (without_stops s)) (run_end-zero step s) ∙ run_end-zero step (without_stops s) ∙ ap (λ (e : RunEnd). limit e.did) (sym (run_end-zero step s))
+repeated_end zero s r h = ap (λ (e : RunEnd). run_end e.did (without_stops s)) (run_end-zero step s) ∙ run_end-zero step (without_stops s)
+    ∙ ap (λ (e : RunEnd). limit e.did) (sym (run_end-zero step s))
 repeated_end (suc n) s (Ok t) h =
     let e = run_end-made step n s t h in
-    ap (λ (x : RunEnd). run_end x.did (without_stops s)) e ∙ repeated_by n s t (option_or (watch_met s.watches s.current t) (break_met s.breaks s.current t)) h (repeated_end n (with_state s t) (step t) refl)
+    ap (λ (x : RunEnd). run_end x.did (without_stops s)) e ∙ repeated_by n s t
+        (option_or (watch_met s.watches s.current t) (break_met s.breaks s.current t)) h (repeated_end n (with_state s t) (step t) refl)
     ∙ ap (λ (x : RunEnd). limit x.did) (sym e)
 repeated_end (suc n) s (Err f) h =
     let e = run_end-refused step n s f h in
@@ -209,7 +220,8 @@ rest_of n cut s = beyond cut.did (run_end (n - cut.did) (without_stops (after_st
 none_cut : (n : ℕ) (s : Session) (why : Why) → run_end n (without_stops s) ≡ rest_of n (record { did = 0; why = why }) s
 none_cut n s why =
     let z : n ≡ n - 0 = omega arith in
-    ap (λ m. run_end m (without_stops s)) z ∙ ap (λ x. run_end (n - 0) (without_stops x)) (sym (after_steps-zero step s)) ∙ sym (none_before (run_end (n - 0) (without_stops (after_steps 0 s))))
+    ap (λ m. run_end m (without_stops s)) z ∙ ap (λ x. run_end (n - 0) (without_stops x)) (sym (after_steps-zero step s))
+        ∙ sym (none_before (run_end (n - 0) (without_stops (after_steps 0 s))))
 
 cut_by : (n : ℕ) (s : Session) (t : State) (why : Option Why) → step s.current ≡ Ok t
     → run_end n (without_stops (with_state s t)) ≡ rest_of n (run_end n (with_state s t))
@@ -218,7 +230,8 @@ cut_by : (n : ℕ) (s : Session) (t : State) (why : Option Why) → step s.curre
     (ends_with why (run_end n (with_state s t))) s
 cut_by n s t (Some why) h rest =
     let z : n ≡ suc n - 1 = omega arith in
-    run_end-without_stops n s t h ∙ ap one_later (ap (λ m. run_end m (without_stops (with_state s t))) z ∙ ap (λ x. run_end (suc n - 1) (without_stops x)) (sym (after_steps-made step zero s t h ∙ after_steps-zero step (with_state s t))))
+    run_end-without_stops n s t h ∙ ap one_later (ap (λ m. run_end m (without_stops (with_state s t))) z
+        ∙ ap (λ x. run_end (suc n - 1) (without_stops x)) (sym (after_steps-made step zero s t h ∙ after_steps-zero step (with_state s t))))
     ∙ one_before (run_end (suc n - 1) (without_stops (after_steps 1 s)))
 cut_by n s t None h rest =
     let k = (run_end n (with_state s t)).did in
@@ -231,7 +244,8 @@ cut_end_of : (n : ℕ) (s : Session) (r : Result State EventFault) → step s.cu
     → run_end n (without_stops s) ≡ rest_of n (run_end n s) s
 cut_end_of zero s r h = none_cut zero s Limit ∙ ap (λ e. rest_of zero e s) (sym (run_end-zero step s))
 cut_end_of (suc n) s (Ok t) h =
-    cut_by n s t (option_or (watch_met s.watches s.current t) (break_met s.breaks s.current t)) h (cut_end_of n (with_state s t) (step t) refl) ∙ ap (λ e. rest_of (suc n) e s) (sym (run_end-made step n s t h))
+    cut_by n s t (option_or (watch_met s.watches s.current t) (break_met s.breaks s.current t)) h (cut_end_of n (with_state s t) (step t) refl)
+        ∙ ap (λ e. rest_of (suc n) e s) (sym (run_end-made step n s t h))
 cut_end_of (suc n) s (Err f) h = none_cut (suc n) s (Refused f) ∙ ap (λ e. rest_of (suc n) e s) (sym (run_end-refused step n s f h))
 
 -- ---- steps after steps
@@ -244,7 +258,8 @@ pub after_steps-add : (k j : ℕ) (s : Session) (r : Result State EventFault) �
     → after_steps (k + j) s ≡ after_steps j (after_steps k s)
 after_steps-add zero j s r h = (let z : zero + j ≡ j = omega arith in ap (λ m. after_steps m s) z) ∙ ap (after_steps j) (sym (after_steps-zero step s))
 after_steps-add (suc k) j s (Ok t) h =
-    (let z : suc k + j ≡ suc (k + j) = omega arith in ap (λ m. after_steps m s) z) ∙ after_steps-made step (k + j) s t h ∙ after_steps-add k j (with_state s t) (step t) refl
+    (let z : suc k + j ≡ suc (k + j) = omega arith in ap (λ m. after_steps m s) z) ∙ after_steps-made step (k + j) s t h
+        ∙ after_steps-add k j (with_state s t) (step t) refl
     ∙ ap (after_steps j) (sym (after_steps-made step k s t h))
 after_steps-add (suc k) j s (Err f) h =
     (let z : suc k + j ≡ suc (k + j) = omega arith in ap (λ m. after_steps m s) z) ∙ after_steps-refused step (k + j) s f h

@@ -12,7 +12,8 @@ Lines = List (List ℕ)
 
 -- Some bytes are lines and a line begun, whatever still comes.
 abbrev Split : List ℕ → List ℕ → Type 0
-Split begun bytes = (lines : Lines) × (more : List ℕ) × ((ending : List ℕ → Lines) (rest : List ℕ) → lines_from ending begun (bytes ++ rest) ≡ lines ++ lines_from ending more rest)
+Split begun bytes = (lines : Lines) × (more : List ℕ) × ((ending : List ℕ → Lines) (rest : List ℕ)
+    → lines_from ending begun (bytes ++ rest) ≡ lines ++ lines_from ending more rest)
 
 split_line : (begun bs : List ℕ) → Split [] bs → Split begun (10 ∷ bs)
 unfolding lines_from
@@ -39,7 +40,8 @@ goes_on_from : (a : Answer) (xs ys : Lines) → ((t : Session) → GoesOn t xs y
     × ((serving_after a (λ t. serving t (xs ++ ys))).written ≡ (serving_after a (λ t. serving t xs)).written ++ more)
 goes_on_from a xs ys rest = by a.quit refl
   where
-    by : (q : Bool) → a.quit ≡ q → (more : List ℕ) × ((serving_after a (λ t. serving t (xs ++ ys))).written ≡ (serving_after a (λ t. serving t xs)).written ++ more)
+    by : (q : Bool) → a.quit ≡ q → (more : List ℕ) × ((serving_after a (λ t. serving t (xs ++ ys))).written
+        ≡ (serving_after a (λ t. serving t xs)).written ++ more)
     by true e = ([], rw e (sym (append-nil a.written)))
     by false e = let r = rest a.session in (r.0, rw e (ap (λ w. a.written ++ w) r.1 ∙ sym (append_assoc a.written (serving a.session xs).written r.0)))
 

@@ -59,14 +59,16 @@ write_keeps : (bus : Bus) (address value : ℕ)
 unfolding polled_write
 write_keeps bus address value = kept (is_port bus.map address) (eqb address bus.map.port) (is_rom bus.map address)
   where
-    kept : (port out rom : Bool) → (cond port (cond out (record bus { out = bus.out ++ value ∷ [] }) bus) (cond rom bus (bus_with_byte bus address value))).control ≡ bus.control
+    kept : (port out rom : Bool) → (cond port (cond out (record bus { out = bus.out ++ value ∷ [] }) bus)
+        (cond rom bus (bus_with_byte bus address value))).control ≡ bus.control
     kept true true rom = refl
     kept true false rom = refl
     kept false out true = refl
     kept false out false = refl
 
 -- a read takes an input byte, or leaves the bus as it was
-taken_if : (bus : Bus) (b : Bool) → ((cond b (record bus { taken = bus.taken + 1 }) bus).control ≡ bus.control) × ((cond b (record bus { taken = bus.taken + 1 }) bus).map ≡ bus.map)
+taken_if : (bus : Bus) (b : Bool) → ((cond b (record bus { taken = bus.taken + 1 }) bus).control ≡ bus.control)
+    × ((cond b (record bus { taken = bus.taken + 1 }) bus).map ≡ bus.map)
 taken_if bus true = (refl, refl)
 taken_if bus false = (refl, refl)
 
@@ -84,7 +86,8 @@ pub record Polled (new old : State) : Type 0 where
 
 -- an operation that stores no odd byte at base+3
 abbrev Spares : Operation → Mode → EffectiveAddress → State → Type 0
-Spares op mode place state = (eqb place.address (state.bus.map.port + 3) && option_map_or (λ byte. eqb (byte % 2) 1) (byte_stored op mode place state) false) ≡ false
+Spares op mode place state = (eqb place.address (state.bus.map.port + 3)
+    && option_map_or (λ byte. eqb (byte % 2) 1) (byte_stored op mode place state) false) ≡ false
 
 load_same : (op : ReadOp) (mode : Mode) (place : EffectiveAddress) (state : State) → Unset state
     → Polled (load op mode place state) (polled_load op mode place state)
@@ -122,7 +125,8 @@ modify_same op place state h e =
     let spared = subst (λ m. (eqb place.address (m.port + 3) && eqb (new_byte op place state % 2) 1) ≡ false) (sym (read_keeps state.bus place.address).1) e in
     let w = write_same read place.address (new_byte op place state) unread spared in record {
       same = ap (λ (b : Bus). record state { bus = b; regs = with_result state.regs (modify_sum op (byte_read state.bus place.address) state.regs.flags.c) }) w
-          ∙ ap (λ m. record state { bus = polled_write read place.address (modify_sum op m state.regs.flags.c).value; regs = with_result state.regs (modify_sum op m state.regs.flags.c) }) (read_same state.bus place.address h);
+          ∙ ap (λ m. record state { bus = polled_write read place.address (modify_sum op m state.regs.flags.c).value; regs =
+              with_result state.regs (modify_sum op m state.regs.flags.c) }) (read_same state.bus place.address h);
       unset = ap (λ (b : Bus). b.control) w ∙ write_keeps read place.address (new_byte op place state) ∙ unread;
     }
 
@@ -138,7 +142,8 @@ branch_unset op place state h = taken (branches op state.regs.flags)
 performed_same : (op : Operation) (mode : Mode) (place : EffectiveAddress) (state : State)
     → Unset state → Spares op mode place state
     → Polled (after_operation op mode place state) (polled_operation op mode place state)
-unfolding after_operation polled_operation byte_stored modify_a after_push after_pull pull_a pull_x pull_y pull_status call return_from_call return_from_interrupt interrupt_sequence break_entry
+unfolding after_operation polled_operation byte_stored modify_a after_push after_pull pull_a pull_x pull_y pull_status call return_from_call
+    return_from_interrupt interrupt_sequence break_entry
 performed_same (operation.Read op) mode place state h e = load_same op mode place state h
 performed_same (operation.Store op) mode place state h e = store_same op mode place state h e
 performed_same (operation.Modify op) mode place state h e = by (is_accumulator mode) e
@@ -200,7 +205,8 @@ executed_same row state h e =
     let place = effective_address state.bus state.regs row.mode in
     let op = operation_of row.mnemonic in
     let next = past_instruction row place state in
-    let spared : Spares op row.mode place next = ap (λ b. eqb place.address (state.bus.map.port + 3) && option_map_or (λ byte. eqb (byte % 2) 1) b false) (byte_advanced op row place state) ∙ e in
+    let spared : Spares op row.mode place next = ap (λ b. eqb place.address (state.bus.map.port + 3)
+        && option_map_or (λ byte. eqb (byte % 2) 1) b false) (byte_advanced op row place state) ∙ e in
     by (stores op row.mode && overflows state.bus place.address) (performed_same op row.mode place next h spared)
   where
     by : (b : Bool) {new old : State} → Polled new old → PolledStep (cond b (Err ConsoleFull) (Ok new)) (cond b (Err ConsoleFull) (Ok old))
@@ -235,12 +241,15 @@ step_same state h e =
     let asked = irq_asked state && not state.regs.flags.i in
     let alike : asked ≡ (state.irq && not state.regs.flags.i) = ap (λ b. b && not state.regs.flags.i) (asked_by_line state.irq (input_waits state.bus) h) in
     let row = row_at state.bus.map.profile (slice_index state.bus.memory state.regs.pc) in
-    subst (λ b. PolledStep (step state) (cond (nat_lt most_cycles state.cycles) (Err CyclesFull) (cond state.nmi (Ok (interrupt_entry (record state { nmi = false }) 0xFFFA)) (cond b (Ok (interrupt_entry state 0xFFFE)) (polled_attempt row state)))))
+    subst (λ b. PolledStep (step state) (cond (nat_lt most_cycles state.cycles) (Err CyclesFull)
+        (cond state.nmi (Ok (interrupt_entry (record state { nmi = false }) 0xFFFA)) (cond b (Ok (interrupt_entry state 0xFFFE)) (polled_attempt row state)))))
     alike (by (nat_lt most_cycles state.cycles) state.nmi asked row e)
   where
     by : (full nmi asked : Bool) (row : Option Row) → option_map_or (λ r. stores_odd r state) (unless full nmi asked row) false ≡ false
-        → PolledStep (cond full (Err CyclesFull) (cond nmi (Ok (interrupt_entry (record state { nmi = false }) 0xFFFA)) (cond asked (Ok (interrupt_entry state 0xFFFE)) (attempt row state))))
-        (cond full (Err CyclesFull) (cond nmi (Ok (interrupt_entry (record state { nmi = false }) 0xFFFA)) (cond asked (Ok (interrupt_entry state 0xFFFE)) (polled_attempt row state))))
+        → PolledStep (cond full (Err CyclesFull) (cond nmi (Ok (interrupt_entry (record state { nmi = false }) 0xFFFA))
+            (cond asked (Ok (interrupt_entry state 0xFFFE)) (attempt row state))))
+        (cond full (Err CyclesFull) (cond nmi (Ok (interrupt_entry (record state { nmi = false }) 0xFFFA))
+            (cond asked (Ok (interrupt_entry state 0xFFFE)) (polled_attempt row state))))
     by true nmi asked row e = refused CyclesFull
     by false true asked row e = made _ _ (record { same = refl; unset = entered_unset (record state { nmi = false }) 0xFFFA h })
     by false false true row e = made _ _ (record { same = refl; unset = entered_unset state 0xFFFE h })
@@ -270,10 +279,12 @@ pub refused_spares : (state : State) (f : EventFault) → step state ≡ Err f
     → sets_control state ≡ false
 unfolding step sets_control instruction_at attempt
 refused_spares state f h =
-    by (nat_lt most_cycles state.cycles) state.nmi (irq_asked state && not state.regs.flags.i) (row_at state.bus.map.profile (slice_index state.bus.memory state.regs.pc)) h
+    by (nat_lt most_cycles state.cycles) state.nmi (irq_asked state && not state.regs.flags.i)
+        (row_at state.bus.map.profile (slice_index state.bus.memory state.regs.pc)) h
   where
     by : (full nmi asked : Bool) (row : Option Row)
-        → cond full (Err CyclesFull) (cond nmi (Ok (interrupt_entry (record state { nmi = false }) 0xFFFA)) (cond asked (Ok (interrupt_entry state 0xFFFE)) (attempt row state))) ≡ Err f
+        → cond full (Err CyclesFull) (cond nmi (Ok (interrupt_entry (record state { nmi = false }) 0xFFFA))
+            (cond asked (Ok (interrupt_entry state 0xFFFE)) (attempt row state))) ≡ Err f
         → option_map_or (λ r. stores_odd r state) (unless full nmi asked row) false ≡ false
     by true nmi asked row h = refl
     by false true asked row h = refl

@@ -147,7 +147,8 @@ data_said : (profile : Profile) (b : ℕ) (bs note : List ℕ) → b < 256 → A
 unfolding read_line tokens_of
 data_said profile b bs note below small few is =
     let fits : length (data_text (b ∷ bs) note) ≤ 255 = omega (arith, length_data b bs note, is.few) in
-    rw (le-ltb 255 (length (data_text (b ∷ bs) note)) fits, line_plain b bs note below small is, data_tokens b bs note below small is, line_found profile b bs, none_reserved profile (b ∷ bs), values_are (b ∷ bs) (below, small)) refl
+    rw (le-ltb 255 (length (data_text (b ∷ bs) note)) fits, line_plain b bs note below small is, data_tokens b bs note below small is, line_found
+        profile b bs, none_reserved profile (b ∷ bs), values_are (b ∷ bs) (below, small)) refl
 
 -- ---- numbers: their bytes
 
@@ -197,7 +198,8 @@ unfolding line_bytes pieces_of
 pieces_bytes numbers a items bs is = is
 
 module _ (Near : Definitions → Type 0) (Final : Numbers → Type 0) (profile : Profile) (a : ℕ) where
-  pub data_stands : (b : ℕ) (bs note : List ℕ) → b < 256 → AreSmall bs → length bs < 8 → IsNote note → Stands Near Final profile (data_text (b ∷ bs) note) a (b ∷ bs)
+  pub data_stands : (b : ℕ) (bs note : List ℕ) → b < 256 → AreSmall bs → length bs < 8 → IsNote note
+      → Stands Near Final profile (data_text (b ∷ bs) note) a (b ∷ bs)
   data_stands b bs note below small few is =
       let read = data_said profile b bs note below small few is in
       record {

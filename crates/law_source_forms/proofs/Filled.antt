@@ -63,14 +63,17 @@ pub record Filled (table : List ℕ) (m : Map) (cells : List (Option ℕ)) (a : 
   pub names : fills.after.names ≡ all
 
 module _ (table : List ℕ) (m : Map) (cells : List (Option ℕ)) (image : IsImage cells) (spared : has_port_byte m cells ≡ false) where
-  row_next : (line : List ℕ) (a : ℕ) (bytes : List ℕ) (names : Definitions) (lines : List (List ℕ)) (all : Definitions) → Stands Near (Final table) m.profile line a bytes → 0 < length bytes → Shows cells a bytes → Near names
-      → Filled table m cells (a + length bytes) (fixed_at m.profile (a + length bytes) names) lines all → Filled table m cells a (fixed_at m.profile a names) (line ∷ lines) all
+  row_next : (line : List ℕ) (a : ℕ) (bytes : List ℕ) (names : Definitions) (lines : List (List ℕ)) (all : Definitions)
+      → Stands Near (Final table) m.profile line a bytes → 0 < length bytes → Shows cells a bytes → Near names
+      → Filled table m cells (a + length bytes) (fixed_at m.profile (a + length bytes) names) lines all
+          → Filled table m cells a (fixed_at m.profile a names) (line ∷ lines) all
   row_next line a bytes names lines all s some shown near_names rest = record {
     fills = record {
       placed = placed_at a s.content ∷ rest.fills.placed;
       after = rest.fills.after;
       laid = (fixed_at m.profile (a + length bytes) names, s.laid names near_names, rest.fills.laid);
-      made = λ numbers final. (row_right Near (Final table) m cells image.size spared line a bytes s some shown numbers final, rw (s.bytes_are numbers final, put_below cells a bytes shown) (rest.fills.made numbers final));
+      made = λ numbers final. (row_right Near (Final table) m cells image.size spared line a bytes s some shown numbers final, rw
+          (s.bytes_are numbers final, put_below cells a bytes shown) (rest.fills.made numbers final));
       plain = (s.plain, rest.fills.plain);
       go_on = (s.goes_on, rest.fills.go_on);
     };
@@ -93,8 +96,10 @@ module _ (table : List ℕ) (m : Map) (cells : List (Option ℕ)) (image : IsIma
         names = rest.names;
       }
 
-  label_next : (a : ℕ) (names : Definitions) (lines : List (List ℕ)) (all : Definitions) → a < 65536 → number_in names (label_text a) ≡ None → (length names == most_names) ≡ false
-      → Filled table m cells a (fixed_at m.profile a (names ++ (label_text a, pos a) ∷ [])) lines all → Filled table m cells a (fixed_at m.profile a names) (label_line a ∷ lines) all
+  label_next : (a : ℕ) (names : Definitions) (lines : List (List ℕ)) (all : Definitions) → a < 65536 → number_in names (label_text a) ≡ None
+      → (length names == most_names) ≡ false
+      → Filled table m cells a (fixed_at m.profile a (names ++ (label_text a, pos a) ∷ [])) lines all
+          → Filled table m cells a (fixed_at m.profile a names) (label_line a ∷ lines) all
   label_next a names lines all small new room rest =
       let read = label_said m.profile a small in
       record {
@@ -109,7 +114,8 @@ module _ (table : List ℕ) (m : Map) (cells : List (Option ℕ)) (image : IsIma
         names = rest.names;
       }
 
-  gap_next : (a : ℕ) (before : Context) (lines : List (List ℕ)) (all : Definitions) → cell_at cells a ≡ None → Filled table m cells (a + 1) before lines all → Filled table m cells a before lines all
+  gap_next : (a : ℕ) (before : Context) (lines : List (List ℕ)) (all : Definitions) → cell_at cells a ≡ None
+      → Filled table m cells (a + 1) before lines all → Filled table m cells a before lines all
   gap_next a before lines all e rest =
       let one_more : suc a ≡ a + 1 = omega arith in
       let same : below (a + 1) cells ≡ below a cells = rw one_more at (gap_below a cells e) in
@@ -142,7 +148,8 @@ and_first : (s t : Bool) → (s && t) ≡ true → s ≡ true
 and_first true t h = refl
 and_first false t h = absurd cc
 
-module _ (m : Map) (cells : List (Option ℕ)) (marks : List Mark) (flags : List Bool) (table : List ℕ) (image : IsImage cells) (spared : has_port_byte m cells ≡ false) where
+module _ (m : Map) (cells : List (Option ℕ)) (marks : List Mark) (flags : List Bool) (table : List ℕ) (image : IsImage cells)
+    (spared : has_port_byte m cells ≡ false) where
   abbrev Lines : ℕ → ℕ → ℕ → Bool → List (List ℕ)
   Lines n left a ends = labelled_lines m.profile cells marks flags table n left a ends
 
@@ -165,7 +172,8 @@ module _ (m : Map) (cells : List (Option ℕ)) (marks : List Mark) (flags : List
   Fill a x ss lines all = Filled table m cells a (fixed_at m.profile x (defs ss)) lines (defs all)
 
   -- a label and a line
-  label_filled : (left a b : ℕ) (ss rest_names : List ℕ) (lines : List (List ℕ)) (named : Bool) → is_named flags left a (piece a b) ≡ named → a < 65536 → Below a ss → length ss + left ≤ most_names
+  label_filled : (left a b : ℕ) (ss rest_names : List ℕ) (lines : List (List ℕ)) (named : Bool) → is_named flags left a (piece a b) ≡ named
+      → a < 65536 → Below a ss → length ss + left ≤ most_names
       → ((ts : List ℕ) → Below (a + len_of (piece a b)) ts → length ts + left_after named left ≤ most_names → Fill a a ts lines (ts ++ rest_names))
       → 0 < len_of (piece a b) → Fill a a ss (labelled_lines_of named a ++ lines) (ss ++ named_here m.profile cells marks flags named a rest_names)
   label_filled left a b ss rest_names lines false e small low count next some =
@@ -180,8 +188,10 @@ module _ (m : Map) (cells : List (Option ℕ)) (marks : List Mark) (flags : List
       (rw (joined, defs_more ss a) at these)
 
   row_filled : (n left a b x : ℕ) (ss : List ℕ) (ends : Bool) → cell_at cells a ≡ Some b → (ends ≡ true → x ≡ a) → Below a ss → length ss + left ≤ most_names
-      → ((k l : ℕ) (ts : List ℕ) → a < k → Below k ts → length ts + l ≤ most_names → Fill k k ts (Lines n l k true) (ts ++ Names n l k)) → (named : Bool) → is_named flags left a (piece a b) ≡ named
-      → Fill a x ss (opened ends a ++ (labelled_lines_of named a ++ text_of m.profile table a (piece a b) ∷ Lines n (left_after named left) (a + len_of (piece a b)) true))
+      → ((k l : ℕ) (ts : List ℕ) → a < k → Below k ts → length ts + l ≤ most_names → Fill k k ts (Lines n l k true) (ts ++ Names n l k))
+          → (named : Bool) → is_named flags left a (piece a b) ≡ named
+      → Fill a x ss (opened ends a ++ (labelled_lines_of named a ++ text_of m.profile table a (piece a b)
+          ∷ Lines n (left_after named left) (a + len_of (piece a b)) true))
       (ss ++ named_here m.profile cells marks flags named a (Names n (left_after named left) (a + len_of (piece a b))))
   row_filled n left a b x ss ends e here low count next named is =
       let r = has a b e in
@@ -189,14 +199,17 @@ module _ (m : Map) (cells : List (Option ℕ)) (marks : List Mark) (flags : List
       let line = text_of m.profile table a (piece a b) in
       let after = a + len_of (piece a b) in
       let lines = Lines n (left_after named left) after true in
-      opening_next table m cells image spared a x ends (defs ss) (labelled_lines_of named a ++ line ∷ lines) (defs (ss ++ named_here m.profile cells marks flags named a (Names n (left_after named left) after))) small here
+      opening_next table m cells image spared a x ends (defs ss) (labelled_lines_of named a ++ line ∷ lines)
+          (defs (ss ++ named_here m.profile cells marks flags named a (Names n (left_after named left) after))) small here
       (label_filled left a b ss (Names n (left_after named left) after) (line ∷ lines) named is small low count
-      (λ ts low_ts count_ts. row_next table m cells image spared line a r.bytes (defs ts) lines (defs (ts ++ Names n (left_after named left) after)) r.stands (omega (arith, r.size, r.some)) r.shows
+      (λ ts low_ts count_ts. row_next table m cells image spared line a r.bytes (defs ts) lines (defs (ts ++ Names n (left_after named left) after))
+          r.stands (omega (arith, r.size, r.some)) r.shows
       (near ts after low_ts (omega (arith, shown_within cells a r.bytes (omega (arith, r.size, r.some)) r.shows, r.size, image.size)))
       (rw r.size (next after (left_after named left) ts (omega (arith, r.some)) low_ts count_ts)))
       r.some)
 
-  fills : (n left a x : ℕ) (ss : List ℕ) (ends : Bool) → 65536 ≤ a + n → (ends ≡ true → x ≡ a) → Below a ss → length ss + left ≤ most_names → Fill a x ss (Lines n left a ends) (ss ++ Names n left a)
+  fills : (n left a x : ℕ) (ss : List ℕ) (ends : Bool) → 65536 ≤ a + n → (ends ≡ true → x ≡ a) → Below a ss → length ss + left ≤ most_names
+      → Fill a x ss (Lines n left a ends) (ss ++ Names n left a)
   unfolding labelled_lines names_from
   fills zero left a x ss ends enough here low count = record {
     fills = record {
@@ -210,7 +223,8 @@ module _ (m : Map) (cells : List (Option ℕ)) (marks : List Mark) (flags : List
     names = ap defs (sym (append-nil ss));
   }
   fills (suc n) left a x ss ends enough here low count =
-      on (cell_at cells a) refl (fills n left (a + 1) x ss false (omega (arith, enough)) (λ (h : false ≡ true). absurd cc) (below_later a (a + 1) ss (omega arith) low) count)
+      on (cell_at cells a) refl (fills n left (a + 1) x ss false (omega (arith, enough)) (λ (h : false ≡ true). absurd cc)
+          (below_later a (a + 1) ss (omega arith) low) count)
       (λ k l ts later low_ts count_ts. fills n l k k ts true (omega (arith, enough, later)) (λ h. refl) low_ts count_ts)
     where
       on : (c : Option ℕ) → cell_at cells a ≡ c → Fill (a + 1) x ss (Lines n left (a + 1) false) (ss ++ Names n left (a + 1))
@@ -219,8 +233,10 @@ module _ (m : Map) (cells : List (Option ℕ)) (marks : List Mark) (flags : List
           (λ b. let p = piece_at m.profile cells marks flags a b in let named = is_named flags left a p in
           opened ends a ++ (labelled_lines_of named a ++ text_of m.profile table a p ∷ Lines n (left_after named left) (a + len_of p) true)))
           (ss ++ by_cell c (Names n left (a + 1))
-          (λ b. let p = piece_at m.profile cells marks flags a b in let named = is_named flags left a p in named_here m.profile cells marks flags named a (Names n (left_after named left) (a + len_of p))))
-      on None e gap next = gap_next table m cells image spared a (fixed_at m.profile x (defs ss)) (Lines n left (a + 1) false) (defs (ss ++ Names n left (a + 1))) e gap
+          (λ b. let p = piece_at m.profile cells marks flags a b in let named = is_named flags left a p in
+              named_here m.profile cells marks flags named a (Names n (left_after named left) (a + len_of p))))
+      on None e gap next = gap_next table m cells image spared a (fixed_at m.profile x (defs ss)) (Lines n left (a + 1) false)
+          (defs (ss ++ Names n left (a + 1))) e gap
       on (Some b) e gap next = row_filled n left a b x ss ends e here low count next (is_named flags left a (piece a b)) refl
 
   -- ---- the names are in memory
@@ -236,9 +252,11 @@ module _ (m : Map) (cells : List (Option ℕ)) (marks : List Mark) (flags : List
 
       on : (c : Option ℕ) → cell_at cells a ≡ c → Below 65536 (Names n left (a + 1)) → ((l k : ℕ) → Below 65536 (Names n l k))
           → Below 65536 (by_cell c (Names n left (a + 1))
-          (λ b. let p = piece_at m.profile cells marks flags a b in let named = is_named flags left a p in named_here m.profile cells marks flags named a (Names n (left_after named left) (a + len_of p))))
+          (λ b. let p = piece_at m.profile cells marks flags a b in let named = is_named flags left a p in
+              named_here m.profile cells marks flags named a (Names n (left_after named left) (a + len_of p))))
       on None e gap next = gap
-      on (Some b) e gap next = put (is_named flags left a (piece a b)) _ (inside a b e) (next (left_after (is_named flags left a (piece a b)) left) (a + len_of (piece a b)))
+      on (Some b) e gap next = put (is_named flags left a (piece a b)) _ (inside a b e)
+          (next (left_after (is_named flags left a (piece a b)) left) (a + len_of (piece a b)))
 
   -- ---- their size
 
@@ -257,26 +275,31 @@ module _ (m : Map) (cells : List (Option ℕ)) (marks : List Mark) (flags : List
   line_size : (line rest : List ℕ) → length (ended line ++ rest) ≡ length line + 1 + length rest
   line_size line rest = omega (arith, length-append (ended line) rest, length-append line (10 ∷ []))
 
-  label_sized : (left a b : ℕ) (lines : List (List ℕ)) (named : Bool) → is_named flags left a (piece a b) ≡ named → (room : ℕ) → length (flat_map ended lines) ≤ room + 8 * left_after named left
+  label_sized : (left a b : ℕ) (lines : List (List ℕ)) (named : Bool) → is_named flags left a (piece a b) ≡ named → (room : ℕ)
+      → length (flat_map ended lines) ≤ room + 8 * left_after named left
       → length (flat_map ended (labelled_lines_of named a ++ lines)) ≤ room + 8 * left
   label_sized left a b lines false e room h = h
   label_sized left a b lines true e room h = omega (arith, h, some_left left a (piece a b) e)
 
-  opening_sized : (a : ℕ) (ends : Bool) (lines : List (List ℕ)) (room : ℕ) → length (flat_map ended lines) ≤ room → length (flat_map ended (opened ends a ++ lines)) ≤ room + extra ends
+  opening_sized : (a : ℕ) (ends : Bool) (lines : List (List ℕ)) (room : ℕ) → length (flat_map ended lines) ≤ room
+      → length (flat_map ended (opened ends a ++ lines)) ≤ room + extra ends
   opening_sized a true lines room h = omega (arith, h)
   opening_sized a false lines room h = omega (arith, h)
 
   row_sized : (n left a b : ℕ) (ends : Bool) → cell_at cells a ≡ Some b
       → ((l k : ℕ) → length (flat_map ended (Lines n l k true)) ≤ 14 * (65536 - k) + 8 * l + 0) → (named : Bool) → is_named flags left a (piece a b) ≡ named
-      → length (flat_map ended (opened ends a ++ (labelled_lines_of named a ++ text_of m.profile table a (piece a b) ∷ Lines n (left_after named left) (a + len_of (piece a b)) true))) ≤ 14 * (65536 - a) + 8 * left + extra ends
+      → length (flat_map ended (opened ends a ++ (labelled_lines_of named a ++ text_of m.profile table a (piece a b)
+          ∷ Lines n (left_after named left) (a + len_of (piece a b)) true))) ≤ 14 * (65536 - a) + 8 * left + extra ends
   row_sized n left a b ends e next named is =
       let r = has a b e in
       let after = a + len_of (piece a b) in
       let line = text_of m.profile table a (piece a b) in
       let lines = Lines n (left_after named left) after true in
       let fits : a + len_of (piece a b) ≤ 65536 = omega (arith, shown_within cells a r.bytes (omega (arith, r.size, r.some)) r.shows, r.size, image.size) in
-      let these : length (flat_map ended (line ∷ lines)) ≤ 14 * (65536 - a) + 8 * left_after named left = omega (arith, line_size line (flat_map ended lines), next (left_after named left) after, r.short, fits) in
-      opening_sized a ends (labelled_lines_of named a ++ line ∷ lines) (14 * (65536 - a) + 8 * left) (label_sized left a b (line ∷ lines) named is (14 * (65536 - a)) these)
+      let these : length (flat_map ended (line ∷ lines)) ≤ 14 * (65536 - a) + 8 * left_after named left =
+          omega (arith, line_size line (flat_map ended lines), next (left_after named left) after, r.short, fits) in
+      opening_sized a ends (labelled_lines_of named a ++ line ∷ lines) (14 * (65536 - a) + 8 * left)
+          (label_sized left a b (line ∷ lines) named is (14 * (65536 - a)) these)
 
   gap_sized : (n left a : ℕ) (ends : Bool) → length (flat_map ended (Lines n left (a + 1) false)) ≤ 14 * (65536 - (a + 1)) + 8 * left + 8
       → length (flat_map ended (Lines n left (a + 1) false)) ≤ 14 * (65536 - a) + 8 * left + extra ends
@@ -294,7 +317,8 @@ module _ (m : Map) (cells : List (Option ℕ)) (marks : List Mark) (flags : List
           → ((l k : ℕ) → length (flat_map ended (Lines n l k true)) ≤ 14 * (65536 - k) + 8 * l + 0)
           → length (flat_map ended (by_cell c (Lines n left (a + 1) false)
           (λ b. let p = piece_at m.profile cells marks flags a b in let named = is_named flags left a p in
-          opened ends a ++ (labelled_lines_of named a ++ text_of m.profile table a p ∷ Lines n (left_after named left) (a + len_of p) true)))) ≤ 14 * (65536 - a) + 8 * left + extra ends
+          opened ends a ++ (labelled_lines_of named a ++ text_of m.profile table a p ∷ Lines n (left_after named left) (a + len_of p) true)))) ≤ 14 *
+              (65536 - a) + 8 * left + extra ends
       on None e gap next = gap_sized n left a ends gap
       on (Some b) e gap next = row_sized n left a b ends e next (is_named flags left a (piece a b)) refl
 
@@ -306,7 +330,8 @@ table_is : (profile : Profile) (cells : List (Option ℕ)) (marks : List Mark) (
 unfolding table_of
 table_is profile cells marks flags s reaches = on (reached profile cells marks flags 65536 most_names 0 s no_labels reaches)
   where
-    on : (0 < reach_at no_labels s) ⊎ In s (names_from profile cells marks flags 65536 most_names 0) → In s (names_from profile cells marks flags 65536 most_names 0)
+    on : (0 < reach_at no_labels s) ⊎ In s (names_from profile cells marks flags 65536 most_names 0)
+        → In s (names_from profile cells marks flags 65536 most_names 0)
     on (inl some) = absurd (omega (arith, some, no_label s 65536 refl))
     on (inr there) = there
 
@@ -320,7 +345,8 @@ flagged_source_denotes m cells marks flags image spared =
     let names : List ℕ = names_from m.profile cells marks flags 65536 most_names 0 in
     let final : Final table (number_in f.fills.after.names) =
     λ s small reaches. ap (λ (ds : Definitions). number_in ds (label_text s)) f.names
-    ∙ known names 65536 s (names_below m cells marks flags table image spared 65536 most_names 0) (omega arith) small (table_is m.profile cells marks flags s reaches) in
+    ∙ known names 65536 s (names_below m cells marks flags table image spared 65536 most_names 0) (omega arith) small
+        (table_is m.profile cells marks flags s reaches) in
     record {
       size = omega (arith, size m cells marks flags table image spared 65536 most_names 0 false);
       placed = f.fills.placed;

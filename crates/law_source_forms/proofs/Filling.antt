@@ -37,7 +37,8 @@ origin_tokens : (w : ℕ) → w < 65536 → tokens_from 0 0 (origin_line w)
     ≡ Some (symbol 0 42 ∷ symbol 1 61 ∷ number 2 (word_text w) ∷ [])
 origin_tokens w below =
     star_first (word_text w) ∙ ap (λ (t : Tokens). before (symbol 0 42) (before (symbol 1 61) t))
-    (address_first 2 _ _ _ _ _ _ _ _ [] (high (w / 256) (first_half w below)) (low (w / 256)) (high (w % 256) (last_half w)) (low (w % 256)) refl refl ∙ ap (before (number 2 (word_text w))) no_more)
+    (address_first 2 _ _ _ _ _ _ _ _ [] (high (w / 256) (first_half w below)) (low (w / 256)) (high (w % 256) (last_half w)) (low (w % 256)) refl refl
+        ∙ ap (before (number 2 (word_text w))) no_more)
 
 origin_line_of : (profile : Profile) (t : List ℕ)
     → line_of profile (symbol 0 42 ∷ symbol 1 61 ∷ number 2 t ∷ [])
@@ -50,7 +51,8 @@ pub origin_said : (profile : Profile) (w : ℕ) → w < 65536
 unfolding read_line tokens_of
 origin_said profile w below =
     let value : written (word_text w) ≡ of_number w = ap literal (four_digits w below) in
-    rw ((high (w / 256) (first_half w below)).source, (low (w / 256)).source, (high (w % 256) (last_half w)).source, (low (w % 256)).source, origin_tokens w below, origin_line_of profile (word_text w), value) refl
+    rw ((high (w / 256) (first_half w below)).source, (low (w / 256)).source, (high (w % 256) (last_half w)).source, (low (w % 256)).source,
+        origin_tokens w below, origin_line_of profile (word_text w), value) refl
 
 -- ---- stretches
 
@@ -105,7 +107,8 @@ module _ (cells : List (Option ℕ)) (marks : List Mark) where
   pub shown : (kind : Mark) (n a : ℕ) → Shows cells a (stretch cells marks kind n a)
   unfolding stretch
   shown kind zero a = tt
-  shown kind (suc n) a = shown_before cells a (λ b. is_kind kind (kind_of (mark_at marks a) b)) (stretch cells marks kind n (a + 1)) (shown kind n (a + 1)) (cell_at cells a) refl
+  shown kind (suc n) a = shown_before cells a (λ b. is_kind kind (kind_of (mark_at marks a) b)) (stretch cells marks kind n (a + 1))
+      (shown kind n (a + 1)) (cell_at cells a) refl
 
   pub letters : (n a : ℕ) → AreLetters (stretch cells marks Text n a)
   unfolding stretch
@@ -115,9 +118,11 @@ module _ (cells : List (Option ℕ)) (marks : List Mark) where
   pub few : (kind : Mark) (n a : ℕ) → length (stretch cells marks kind n a) ≤ n
   unfolding stretch
   few kind zero a = omega arith
-  few kind (suc n) a = few_before (λ b. is_kind kind (kind_of (mark_at marks a) b)) (stretch cells marks kind n (a + 1)) n (few kind n (a + 1)) (cell_at cells a)
+  few kind (suc n) a = few_before (λ b. is_kind kind (kind_of (mark_at marks a) b)) (stretch cells marks kind n (a + 1)) n (few kind n (a + 1))
+      (cell_at cells a)
 
-  pub begins : (kind : Mark) (n a b : ℕ) → cell_at cells a ≡ Some b → kind_of (mark_at marks a) b ≡ kind → stretch cells marks kind (suc n) a ≡ b ∷ stretch cells marks kind n (a + 1)
+  pub begins : (kind : Mark) (n a b : ℕ) → cell_at cells a ≡ Some b → kind_of (mark_at marks a) b ≡ kind
+      → stretch cells marks kind (suc n) a ≡ b ∷ stretch cells marks kind n (a + 1)
   unfolding stretch
   begins kind n a b here is = rw (here, is, same_kind kind) refl
 

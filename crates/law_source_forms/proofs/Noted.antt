@@ -132,7 +132,8 @@ fits_here profile opcode u below is =
     let b = and_both _ _ a.1 in
     let c = and_both _ _ b.1 in
     let d = and_both _ _ c.1 in
-    record { name = is_three (length u.name) a.0; letters = b.0; some = omega (arith, leb-true 1 u.len c.0); small = leb-true u.len 3 d.0; short = leb-true _ _ d.1 }
+    record { name = is_three (length u.name) a.0; letters = b.0; some = omega (arith, leb-true 1 u.len c.0); small = leb-true u.len 3 d.0; short =
+        leb-true _ _ d.1 }
 
 mark_small : (len : ℕ) → length (mark_of len) ≤ 3
 mark_small len = on (len == 1)
@@ -143,7 +144,8 @@ mark_small len = on (len == 1)
 
 pub note_size : (u : Undocumented) (b c : ℕ) → Fits u → length (instruction_note u b c) ≡ length (mark_of u.len) + 3 + operand_size u.mode
 unfolding instruction_note
-note_size u b c f = omega (arith, length-append (mark_of u.len) (u.name ++ bare_operand u.mode b c), length-append u.name (bare_operand u.mode b c), f.name, operand_sized u.mode b c)
+note_size u b c f = omega (arith, length-append (mark_of u.len) (u.name ++ bare_operand u.mode b c), length-append u.name (bare_operand u.mode b c),
+    f.name, operand_sized u.mode b c)
 
 operand_small : (mode : Mode) → operand_size mode ≤ 8
 operand_small Imp = omega arith
@@ -225,7 +227,8 @@ count_is_noted b n l small = on (nat_le 16 n)
 
     on : (t : Bool) → IsShort (if t then codes " ; " ++ (decimal n ++ (codes " bytes " ++ byte_text b)) else [])
     on true = record {
-      note_is = comment_behind (decimal n ++ (codes " bytes " ++ byte_text b)) (plain_both (decimal n) (codes " bytes " ++ byte_text b) (decimal_plain n (omega (arith, small))) tail_plain) (omega (arith, size));
+      note_is = comment_behind (decimal n ++ (codes " bytes " ++ byte_text b))
+          (plain_both (decimal n) (codes " bytes " ++ byte_text b) (decimal_plain n (omega (arith, small))) tail_plain) (omega (arith, size));
       size = omega (arith, size);
     }
     on false = nothing
@@ -241,7 +244,8 @@ run_is_noted cells marks a bytes small =
     b = slice_index bytes 0
 
     on : (t : Bool) → IsShort (if t then count_note (slice_index bytes 0) (run_length cells marks (slice_index bytes 0) 65536 a) else [])
-    on true = count_is_noted (slice_index bytes 0) (run_length cells marks (slice_index bytes 0) 65536 a) (small_at bytes small 0) (run_small cells marks (slice_index bytes 0) 65536 a)
+    on true = count_is_noted (slice_index bytes 0) (run_length cells marks (slice_index bytes 0) 65536 a) (small_at bytes small 0)
+        (run_small cells marks (slice_index bytes 0) 65536 a)
     on false = nothing
 
 -- elsewhere it is empty
@@ -251,8 +255,10 @@ unfolding run_note
 run_needs_eight cells marks a bytes few = on (length bytes == 8) refl few
   where
     on : (t : Bool) → (length bytes == 8) ≡ t
-        → length (if t && not (goes_on cells marks (slice_index bytes 0) a) then count_note (slice_index bytes 0) (run_length cells marks (slice_index bytes 0) 65536 a) else []) ≤ 18
-        → length (if t && not (goes_on cells marks (slice_index bytes 0) a) then count_note (slice_index bytes 0) (run_length cells marks (slice_index bytes 0) 65536 a) else []) ≤ 5 * (length bytes - 1)
+        → length (if t && not (goes_on cells marks (slice_index bytes 0) a) then count_note (slice_index bytes 0)
+            (run_length cells marks (slice_index bytes 0) 65536 a) else []) ≤ 18
+        → length (if t && not (goes_on cells marks (slice_index bytes 0) a) then count_note (slice_index bytes 0)
+            (run_length cells marks (slice_index bytes 0) 65536 a) else []) ≤ 5 * (length bytes - 1)
     on true e h = let eight : length bytes ≡ 8 = is_eight (length bytes) e in omega (arith, h, eight)
       where
         is_eight : (n : ℕ) → (n == 8) ≡ true → n ≡ 8

@@ -113,9 +113,11 @@ module _ (profile : Profile) (cells : List (Option ℕ)) (marks : List Mark) (fl
   names_from zero left a = []
   names_from (suc n) left a =
       by_cell (cell_at cells a) (names_from n left (a + 1))
-      (λ b. let piece = piece_at profile cells marks flags a b in let named = is_named flags left a piece in named_here named a (names_from n (left_after named left) (a + len_of piece)))
+      (λ b. let piece = piece_at profile cells marks flags a b in let named = is_named flags left a piece in
+          named_here named a (names_from n (left_after named left) (a + len_of piece)))
 
-  set_reach : (named : Bool) (table rest : List ℕ) (a s r : ℕ) → (0 < reach_at (with_reach named table a r) s) ⊎ In s rest → (0 < reach_at table s) ⊎ In s (named_here named a rest)
+  set_reach : (named : Bool) (table rest : List ℕ) (a s r : ℕ) → (0 < reach_at (with_reach named table a r) s) ⊎ In s rest → (0 < reach_at table s)
+      ⊎ In s (named_here named a rest)
   set_reach false table rest a s r h = h
   set_reach true table rest a s r (inr there) = inr (inr there)
   set_reach true table rest a s r (inl some) = elim (eqb_tells s a) [
@@ -124,7 +126,8 @@ module _ (profile : Profile) (cells : List (Option ℕ)) (marks : List Mark) (fl
   ]
 
   -- each label of the table is one of these
-  pub reached : (n left a s : ℕ) (table : List ℕ) → 0 < reach_at (table_from profile cells marks flags n left a table) s → (0 < reach_at table s) ⊎ In s (names_from n left a)
+  pub reached : (n left a s : ℕ) (table : List ℕ) → 0 < reach_at (table_from profile cells marks flags n left a table) s → (0 < reach_at table s)
+      ⊎ In s (names_from n left a)
   unfolding table_from names_from
   reached zero left a s table h = inl h
   reached (suc n) left a s table h = on (cell_at cells a) refl h (λ l k t g. reached n l k s t g)
@@ -135,7 +138,8 @@ module _ (profile : Profile) (cells : List (Option ℕ)) (marks : List Mark) (fl
           table_from profile cells marks flags n (left_after named left) (a + len_of piece) (with_reach named table a (reach_of piece)))) s
           → ((l k : ℕ) (t : List ℕ) → 0 < reach_at (table_from profile cells marks flags n l k t) s → (0 < reach_at t s) ⊎ In s (names_from n l k))
           → (0 < reach_at table s) ⊎ In s (by_cell c (names_from n left (a + 1))
-          (λ b. let piece = piece_at profile cells marks flags a b in let named = is_named flags left a piece in named_here named a (names_from n (left_after named left) (a + len_of piece))))
+          (λ b. let piece = piece_at profile cells marks flags a b in let named = is_named flags left a piece in
+              named_here named a (names_from n (left_after named left) (a + len_of piece))))
       on None e h again = again left (a + 1) table h
       on (Some b) e h again =
           let piece : Piece = piece_at profile cells marks flags a b in

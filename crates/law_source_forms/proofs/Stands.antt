@@ -31,7 +31,9 @@ pub read_plain : (profile : Profile) (line : List ℕ) (l : Line) → read_line 
 unfolding read_line
 read_plain profile line l read = by (nat_lt 255 (length line)) (list_all is_source_byte line) refl read
   where
-    by : (long plain : Bool) → list_all is_source_byte line ≡ plain → ((if long then Err LineTooLong else if not plain then Err NotAscii else unreserved profile (option_and_then (line_of profile) (tokens_of line))) ≡ Ok l) → plain ≡ true
+    by : (long plain : Bool) → list_all is_source_byte line ≡ plain
+        → ((if long then Err LineTooLong else if not plain then Err NotAscii else unreserved profile
+        (option_and_then (line_of profile) (tokens_of line))) ≡ Ok l) → plain ≡ true
     by true plain e h = absurd cc
     by false true e h = refl
     by false false e h = absurd cc
@@ -41,7 +43,8 @@ pub record Stands (Near : Definitions → Type 0) (Final : Numbers → Type 0) (
   pub content : Content
   pub plain : IsPlain line
   pub goes_on : is_end (read_line profile line) ≡ false
-  pub laid : (names : Definitions) → Near names → layout_of (fixed_at profile a names) line ≡ Ok (placed_at a content, fixed_at profile (a + length bytes) names)
+  pub laid : (names : Definitions) → Near names → layout_of (fixed_at profile a names) line
+      ≡ Ok (placed_at a content, fixed_at profile (a + length bytes) names)
   pub size : size_of content ≡ length bytes
   pub right : (numbers : Numbers) → Final numbers → (more : List (Option AsmFaultKind)) → lowest (kinds_in (pieces_of numbers a content) ++ more) ≡ lowest more
   pub bytes_are : (numbers : Numbers) → Final numbers → line_bytes numbers (placed_at a content) ≡ bytes
@@ -63,22 +66,28 @@ place_right : (m : Map) (cells : List (Option ℕ)) (a : ℕ) (bytes : List ℕ)
 unfolding place_kinds lowest lower
 place_right m cells a bytes size spared some shown =
     let within : a + length bytes ≤ 65536 = omega (arith, shown_within cells a bytes some shown, size) in
-    rw (lt-ltb 0 (length bytes) some, le-ltb 65536 (a + length bytes) within, free_from (length bytes) a a cells (omega arith), no_port m cells a bytes spared shown) refl
+    rw (lt-ltb 0 (length bytes) some, le-ltb 65536 (a + length bytes) within, free_from (length bytes) a a cells (omega arith), no_port m cells a
+        bytes spared shown) refl
 
-module _ (Near : Definitions → Type 0) (Final : Numbers → Type 0) (m : Map) (cells : List (Option ℕ)) (size : length cells ≡ 65536) (spared : has_port_byte m cells ≡ false) where
-  pub row_right : (line : List ℕ) (a : ℕ) (bytes : List ℕ) (s : Stands Near Final m.profile line a bytes) → 0 < length bytes → Shows cells a bytes → (numbers : Numbers) → Final numbers
+module _ (Near : Definitions → Type 0) (Final : Numbers → Type 0) (m : Map) (cells : List (Option ℕ)) (size : length cells ≡ 65536)
+    (spared : has_port_byte m cells ≡ false) where
+  pub row_right : (line : List ℕ) (a : ℕ) (bytes : List ℕ) (s : Stands Near Final m.profile line a bytes) → 0 < length bytes → Shows cells a bytes
+      → (numbers : Numbers) → Final numbers
       → value_fault m numbers (below a cells) (placed_at a s.content) ≡ None
   unfolding value_fault
   row_right line a bytes s some shown numbers final =
       s.right numbers final (place_kinds m (below a cells) a (size_of s.content)) ∙ rw s.size (place_right m cells a bytes size spared some shown)
 
-  pub row_first : (line : List ℕ) (a : ℕ) (bytes : List ℕ) (names : Definitions) (lines : List (List ℕ)) → Stands Near Final m.profile line a bytes → 0 < length bytes → Shows cells a bytes → Near names
-      → Fills Final m cells (a + length bytes) (fixed_at m.profile (a + length bytes) names) lines → Fills Final m cells a (fixed_at m.profile a names) (line ∷ lines)
+  pub row_first : (line : List ℕ) (a : ℕ) (bytes : List ℕ) (names : Definitions) (lines : List (List ℕ)) → Stands Near Final m.profile line a bytes
+      → 0 < length bytes → Shows cells a bytes → Near names
+      → Fills Final m cells (a + length bytes) (fixed_at m.profile (a + length bytes) names) lines
+          → Fills Final m cells a (fixed_at m.profile a names) (line ∷ lines)
   row_first line a bytes names lines s some shown near rest = record {
     placed = placed_at a s.content ∷ rest.placed;
     after = rest.after;
     laid = (fixed_at m.profile (a + length bytes) names, s.laid names near, rest.laid);
-    made = λ numbers final. (row_right line a bytes s some shown numbers final, rw (s.bytes_are numbers final, put_below cells a bytes shown) (rest.made numbers final));
+    made = λ numbers final. (row_right line a bytes s some shown numbers final, rw (s.bytes_are numbers final, put_below cells a bytes shown)
+        (rest.made numbers final));
     plain = (s.plain, rest.plain);
     go_on = (s.goes_on, rest.go_on);
   }

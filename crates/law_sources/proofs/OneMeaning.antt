@@ -36,4 +36,5 @@ not_both : (j : Judgement) (f : AsmFault) → Ok j ≡ Err f → ⊥
 not_both j f e = cc
 
 pub image_or_fault : ImageOrFault
-image_or_fault m source image f d h = not_both (record { placed = d.placed; all = d.all; image = image }) f (sym (denotes_again m source image d) ∙ fault_again m source f h)
+image_or_fault m source image f d h = not_both (record { placed = d.placed; all = d.all; image = image }) f
+    (sym (denotes_again m source image d) ∙ fault_again m source f h)

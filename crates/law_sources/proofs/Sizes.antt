@@ -135,8 +135,10 @@ content_fills : (numbers : Numbers) (a : ℕ) (content : Content) → IsWhole co
 unfolding pieces_of size_of
 content_fills numbers a no_bytes w h = refl
 content_fills numbers a (byte_list is) w h = items_fill numbers a is h
-content_fills numbers a (word_list es) w h = words_fill (λ (e : Term). word_piece (eval_of numbers (pos a) e)) (λ e k. word_size (eval_of numbers (pos a) e) k) es h
-content_fills numbers a (word_list_high_first es) w h = words_fill (λ (e : Term). word_piece_high_first (eval_of numbers (pos a) e)) (λ e k. word_size_high_first (eval_of numbers (pos a) e) k) es h
+content_fills numbers a (word_list es) w h = words_fill (λ (e : Term). word_piece (eval_of numbers (pos a) e))
+    (λ e k. word_size (eval_of numbers (pos a) e) k) es h
+content_fills numbers a (word_list_high_first es) w h = words_fill (λ (e : Term). word_piece_high_first (eval_of numbers (pos a) e))
+    (λ e k. word_size_high_first (eval_of numbers (pos a) e) k) es h
 content_fills numbers a (code opcode mode None) w h = sym w
 content_fills numbers a (code opcode mode (Some e)) w h =
     let size = operand_size a mode (eval_of numbers (pos a) e) h.1.0 in
@@ -185,7 +187,8 @@ of_place x y h w = subst IsWholePlace (ok_same x y h) w
 only_by : (numbers : Numbers) (address : ℕ) (opcode : Option ℕ) (mode : Mode) (c : Encoding)
     → length_in mode ≡ 1
     → code_for numbers address None (option_map one (option_map (λ o. record { opcode = o; mode = mode }) opcode)) ≡ Ok c → length_in c.mode ≡ 1
-only_by numbers address (Some opcode) mode c short h = ap (λ (x : Encoding). length_in x.mode) (sym (ok_same (record { opcode = opcode; mode = mode }) c h)) ∙ short
+only_by numbers address (Some opcode) mode c short h = ap (λ (x : Encoding). length_in x.mode)
+    (sym (ok_same (record { opcode = opcode; mode = mode }) c h)) ∙ short
 only_by numbers address None mode c short h = cc
 
 code_whole : (profile : Profile) (numbers : Numbers) (address : ℕ) (m : Mnemonic)
@@ -233,7 +236,8 @@ line_at_whole : (before : Context) (l : Line) (x : PlacedAndContext) → line_at
 line_at_whole before (labelled label s) x h =
     let numbers = number_in (before.names ++ label_at before.address label) in
     let place = bind_ok (statement_at before.profile numbers before.address s) _ x h in
-    of_standing (placed_and_context before.profile (before.names ++ label_at before.address label) place.0) x place.2 (laid_whole before.profile numbers before.address s place.0 place.1)
+    of_standing (placed_and_context before.profile (before.names ++ label_at before.address label) place.0) x place.2
+        (laid_whole before.profile numbers before.address s place.0 place.1)
 line_at_whole before (definition name e) x h =
     let v = bind_ok (placing_value (eval_of (number_in before.names) (pos before.address) e)) _ x h in
     of_standing (placed_and_context before.profile (before.names ++ (name, v.0) ∷ []) (empty_and_next before.address before.address)) x v.2 tt
@@ -252,7 +256,8 @@ fixed_by false full r x h = unless_full_ok full r x h
 line_fixed_whole : (before : Context) (l : Line) (x : PlacedAndContext)
     → named_line_at before l ≡ Ok x → IsWholeStanding x
 unfolding named_line_at
-line_fixed_whole before l x h = line_at_whole before l x (fixed_by (is_defined before.names (name_of l)) (is_full before.names (name_of l)) (line_at before l) x h)
+line_fixed_whole before l x h = line_at_whole before l x (fixed_by (is_defined before.names (name_of l)) (is_full before.names (name_of l))
+    (line_at before l) x h)
 
 layout_whole : (before : Context) (line : List ℕ) (x : PlacedAndContext)
     → layout_of before line ≡ Ok x → IsWholeStanding x

@@ -75,7 +75,8 @@ appended bus value h small room = record { bus = kept; map = refl } where
     out_room = omega (arith, length-append bus.out (value ∷ []));
   }
 
-pub becomes_given : (bus : Bus) (byte : ℕ) → IsBus bus → byte < 256 → length bus.given < console_size → Becomes bus (record bus { given = bus.given ++ byte ∷ [] })
+pub becomes_given : (bus : Bus) (byte : ℕ) → IsBus bus → byte < 256 → length bus.given < console_size
+    → Becomes bus (record bus { given = bus.given ++ byte ∷ [] })
 becomes_given bus byte h small room = record { bus = kept; map = refl } where
   kept : IsBus (record bus { given = bus.given ++ byte ∷ [] })
   kept = record {
@@ -123,7 +124,8 @@ taken_one bus h waits = record { bus = kept; map = refl } where
 
 -- ---- accesses
 
-read_by : (bus : Bus) (takes waits : Bool) → IsBus bus → input_waits bus ≡ waits → Becomes bus (cond (takes && waits) (record bus { taken = bus.taken + 1 }) bus)
+read_by : (bus : Bus) (takes waits : Bool) → IsBus bus → input_waits bus ≡ waits
+    → Becomes bus (cond (takes && waits) (record bus { taken = bus.taken + 1 }) bus)
 read_by bus true true h e = let less : bus.taken < length bus.given = grind (arith, nat_tests) in taken_one bus h less
 read_by bus true false h e = stays bus h
 read_by bus false waits h e = stays bus h
@@ -148,12 +150,15 @@ read_small_by bus address true false false false waits h = omega arith
 
 pub read_small : (bus : Bus) (address : ℕ) → IsBus bus → byte_read bus address < 256
 unfolding byte_read
-read_small bus address h = read_small_by bus address (is_port bus.map address) (address == bus.map.port + 1) (address == bus.map.port + 2) (address == bus.map.port + 3) (input_waits bus) h
+read_small bus address h = read_small_by bus address (is_port bus.map address) (address == bus.map.port + 1) (address == bus.map.port + 2)
+    (address == bus.map.port + 3) (input_waits bus) h
 
 write_by : (bus : Bus) (address value : ℕ) (port first third rom : Bool) → IsBus bus → value < 256
     → is_port bus.map address ≡ port → (first && nat_le console_size (length bus.out)) ≡ false
-    → Becomes bus (cond port (cond first (record bus { out = bus.out ++ value ∷ [] }) (cond third (record bus { control = value % 2 == 1 }) bus)) (cond rom bus (bus_with_byte bus address value)))
-write_by bus address value true true third rom h small here room = let less : length bus.out < console_size = grind (arith, nat_tests) in appended bus value h small less
+    → Becomes bus (cond port (cond first (record bus { out = bus.out ++ value ∷ [] }) (cond third (record bus { control = value % 2 == 1 }) bus))
+        (cond rom bus (bus_with_byte bus address value)))
+write_by bus address value true true third rom h small here room = let less : length bus.out < console_size = grind (arith, nat_tests) in
+    appended bus value h small less
 write_by bus address value true false true rom h small here room = becomes_controlled bus (value % 2 == 1) h
 write_by bus address value true false false rom h small here room = stays bus h
 write_by bus address value false first third true h small here room = stays bus h
@@ -162,7 +167,8 @@ write_by bus address value false first third false h small here room = becomes_s
 pub becomes_written : (bus : Bus) (address value : ℕ) → IsBus bus → value < 256
     → overflows bus address ≡ false → Becomes bus (after_write bus address value)
 unfolding after_write overflows
-becomes_written bus address value h small room = write_by bus address value (is_port bus.map address) (address == bus.map.port) (address == bus.map.port + 3) (is_rom bus.map address) h small refl room
+becomes_written bus address value h small room = write_by bus address value (is_port bus.map address) (address == bus.map.port)
+    (address == bus.map.port + 3) (is_rom bus.map address) h small refl room
 
 -- a read changes neither the map nor the output
 room_by : (bus : Bus) (address : ℕ) (takes : Bool) → overflows (cond takes (record bus { taken = bus.taken + 1 }) bus) address ≡ overflows bus address
@@ -187,4 +193,5 @@ becomes_patched [] bus address h small away = stays bus h
 becomes_patched (byte ∷ bytes) bus address h small away =
     let split = neither (is_port bus.map address) (meets_port bus.map (address + 1) bytes) away in
     let one = becomes_stored bus address byte h (All-head IsByte byte bytes small) split.0 in
-    then bus (bus_with_byte bus address byte) (bus_with_patch (address + 1) bytes (bus_with_byte bus address byte)) one (becomes_patched bytes (bus_with_byte bus address byte) (address + 1) one.bus (All-tail IsByte byte bytes small) split.1)
+    then bus (bus_with_byte bus address byte) (bus_with_patch (address + 1) bytes (bus_with_byte bus address byte)) one
+        (becomes_patched bytes (bus_with_byte bus address byte) (address + 1) one.bus (All-tail IsByte byte bytes small) split.1)

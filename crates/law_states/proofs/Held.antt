@@ -64,7 +64,8 @@ gone_back_holds : (map : Map) (k : ℕ) (s : Session) → HoldsStates map s
 unfolding without_last
 gone_back_holds map k s h =
     let left = length s.earlier - k in
-    All-push (IsWith map) (take left s.earlier) (get_or (states s) left s.current) (All-take (IsWith map) left s.earlier (all_append_left (IsWith map) s.earlier (s.current ∷ []) h))
+    All-push (IsWith map) (take left s.earlier) (get_or (states s) left s.current)
+        (All-take (IsWith map) left s.earlier (all_append_left (IsWith map) s.earlier (s.current ∷ []) h))
     (all_get (IsWith map) (states s) left s.current h (current_is map s h))
 
 back_by : (map : Map) (k : ℕ) (s t : Session) (there : Bool) → HoldsStates map s
@@ -142,7 +143,8 @@ call_holds map s view h is = h
 calls_hold : (map : Map) (calls : List Call) (s : Session) → HoldsStates map s → All IsCall calls
     → HoldsStates map (after_calls s calls)
 calls_hold map [] s h all = h
-calls_hold map (call ∷ calls) s h all = calls_hold map calls (after_call s call) (call_holds map s call h (All-head IsCall call calls all)) (All-tail IsCall call calls all)
+calls_hold map (call ∷ calls) s h all = calls_hold map calls (after_call s call) (call_holds map s call h (All-head IsCall call calls all))
+    (All-tail IsCall call calls all)
 
 pub sessions_hold_states : SessionsHoldStates
 sessions_hold_states = (fresh_holds, λ map s t events h k a. accepted_holds map events s t h k a, back_holds, λ map s calls h all. calls_hold map calls s h all)

@@ -65,7 +65,8 @@ no_code profile m d h = by (opcode_of profile m d) h
 
 no_pointer : (profile : Profile) (m : Mnemonic) (op : ℕ) → opcode_of profile m IndZ ≡ Some op
     → opcode_of profile m Ind ≡ None
-no_pointer profile m op code = no_code profile m Ind (rw (has_code profile m IndZ op code) at (same_at_each (both_pointers profile) (λ m d. false) (never_both_pointers profile) m Imp))
+no_pointer profile m op code = no_code profile m Ind (rw (has_code profile m IndZ op code) at
+    (same_at_each (both_pointers profile) (λ m d. false) (never_both_pointers profile) m Imp))
 
 no_branch : (profile : Profile) (m : Mnemonic) (op : ℕ) → opcode_of profile m Zp ≡ Some op
     → opcode_of profile m Rel ≡ None
@@ -73,7 +74,8 @@ no_branch profile m op code = no_code profile m Rel (rw (has_code profile m Zp o
 
 no_branch_long : (profile : Profile) (m : Mnemonic) (op : ℕ) → opcode_of profile m Abs ≡ Some op
     → opcode_of profile m Rel ≡ None
-no_branch_long profile m op code = no_code profile m Rel (by (has_row profile m Zp) (has_row profile m Abs) (has_row profile m Rel) (has_code profile m Abs op code) (apart profile m))
+no_branch_long profile m op code = no_code profile m Rel (by (has_row profile m Zp) (has_row profile m Abs) (has_row profile m Rel)
+    (has_code profile m Abs op code) (apart profile m))
   where
     by : (a b c : Bool) → b ≡ true → ((a || b) && c) ≡ false → c ≡ false
     by true b c h e = e
@@ -187,4 +189,5 @@ pub absolute_code : (profile : Profile) (m : Mnemonic) (n : Numbers) (a v op : �
     (form_of profile m (direct false (of_number v) by)) ≡ Ok (as_coded op (absolute_mode by))
 unfolding form_of
 absolute_code profile m n a v op by large code =
-    rw (no_branch_far profile m by op code, code) (long_code n a v (in_mode profile m (zero_page_mode by)) (as_coded op (absolute_mode by)) (large_code profile m v (zero_page_mode by) large))
+    rw (no_branch_far profile m by op code, code) (long_code n a v (in_mode profile m (zero_page_mode by)) (as_coded op (absolute_mode by))
+        (large_code profile m v (zero_page_mode by) large))

@@ -64,7 +64,8 @@ pub immediate_again : (profile : Profile) (m : Mnemonic) (a op b : ℕ)
 unfolding operand_piece eval_of
 immediate_again profile m a op b code below fits =
     with_operand profile m Imm (immediate (of_number b)) (of_number b) a op _ (b ∷ [])
-    (with_number profile _ m immediate _ _ (byte_number b below) (texts.immediate_said profile m (named_of_code profile m Imm op code) _ _ _ _ (high b below) (low b)))
+    (with_number profile _ m immediate _ _ (byte_number b below)
+        (texts.immediate_said profile m (named_of_code profile m Imm op code) _ _ _ _ (high b below) (low b)))
     refl (forms.immediate_code profile m no_numbers a op (of_number b) code) (omega arith) fits (byte_again b below)
 
 zero_page_piece_of : (a : ℕ) (by : Index) (b : ℕ) → b < 256 → operand_piece a (zero_page_mode by)
@@ -118,7 +119,9 @@ branch_again_at profile m a op b here code below fits =
     let t : ℕ = target_of a b in
     let tb : t < 65536 = omega arith in
     with_operand profile m Rel (direct false (of_number t) Unindexed) (of_number t) a op _ (b ∷ [])
-    (with_number profile _ m (λ e. direct false e Unindexed) _ _ (word_number t tb) (texts.absolute_said profile m (named_of_code profile m Rel op code) _ _ _ _ _ _ _ _ (high (t / 256) (first_half t tb)) (low (t / 256)) (high (t % 256) (last_half t)) (low (t % 256))))
+    (with_number profile _ m (λ e. direct false e Unindexed) _ _ (word_number t tb)
+        (texts.absolute_said profile m (named_of_code profile m Rel op code) _ _ _ _ _ _ _ _ (high (t / 256) (first_half t tb)) (low (t / 256))
+        (high (t % 256) (last_half t)) (low (t % 256))))
     refl (forms.branch_code profile m no_numbers a op (of_number t) code) (omega arith) fits (branch_again a b here below)
 
 -- ---- modes with an address
@@ -161,13 +164,15 @@ absolute_again profile m by a op b c suffix plain marked code l h fits = on (nat
     below : b + 256 * c < 65536
     below = omega (arith, l, h)
 
-    on : (t : Bool) → (nat_lt (b + 256 * c) 256 && has_row profile m (zero_page_mode by)) ≡ t → one_line profile a (mnemonic_text m ++ (32 ∷ (absolute_text profile m (zero_page_mode by) (b + 256 * c) ++ suffix))) ≡ Ok (op ∷ b ∷ c ∷ [])
+    on : (t : Bool) → (nat_lt (b + 256 * c) 256 && has_row profile m (zero_page_mode by)) ≡ t
+        → one_line profile a (mnemonic_text m ++ (32 ∷ (absolute_text profile m (zero_page_mode by) (b + 256 * c) ++ suffix))) ≡ Ok (op ∷ b ∷ c ∷ [])
     on true t = rw t (with_operand profile m (absolute_mode by) (direct true (of_number (b + 256 * c)) by) (of_number (b + 256 * c)) a op _ (b ∷ c ∷ [])
         (with_number profile _ m (λ e. direct true e by) _ _ (word_number (b + 256 * c) below) marked)
         refl (forms.marked_code profile m no_numbers a op (of_number (b + 256 * c)) by code) (long_small by) fits (absolute_piece_of a by b c l h))
     on false t = rw t (with_operand profile m (absolute_mode by) (direct false (of_number (b + 256 * c)) by) (of_number (b + 256 * c)) a op _ (b ∷ c ∷ [])
         (with_number profile _ m (λ e. direct false e by) _ _ (word_number (b + 256 * c) below) plain)
-        refl (forms.absolute_code profile m no_numbers a (b + 256 * c) op by (large_if (b + 256 * c) (has_row profile m (zero_page_mode by)) t) code) (long_small by) fits (absolute_piece_of a by b c l h))
+        refl (forms.absolute_code profile m no_numbers a (b + 256 * c) op by (large_if (b + 256 * c) (has_row profile m (zero_page_mode by)) t) code)
+            (long_small by) fits (absolute_piece_of a by b c l h))
 
 pub pointer_again : (profile : Profile) (m : Mnemonic) (a op b c : ℕ) (text : List ℕ)
     → Read profile text m (pointer (written (word_text (b + 256 * c))))

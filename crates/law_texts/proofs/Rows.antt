@@ -38,27 +38,33 @@ Marked profile m by w suffix = Read profile (mnemonic_text m ++ (32 ∷ 33 ∷ (
 
 plain : (profile : Profile) (m : Mnemonic) (named : Named profile m) (w : ℕ) → w < 65536
     → Plain profile m Unindexed w []
-plain profile m named w below = texts.absolute_said profile m named _ _ _ _ _ _ _ _ (high (w / 256) (first_half w below)) (low (w / 256)) (high (w % 256) (last_half w)) (low (w % 256))
+plain profile m named w below = texts.absolute_said profile m named _ _ _ _ _ _ _ _ (high (w / 256) (first_half w below)) (low (w / 256))
+    (high (w % 256) (last_half w)) (low (w % 256))
 
 marked : (profile : Profile) (m : Mnemonic) (named : Named profile m) (w : ℕ) → w < 65536
     → Marked profile m Unindexed w []
-marked profile m named w below = texts.marked_said profile m named _ _ _ _ _ _ _ _ (high (w / 256) (first_half w below)) (low (w / 256)) (high (w % 256) (last_half w)) (low (w % 256))
+marked profile m named w below = texts.marked_said profile m named _ _ _ _ _ _ _ _ (high (w / 256) (first_half w below)) (low (w / 256))
+    (high (w % 256) (last_half w)) (low (w % 256))
 
 plain_by_x : (profile : Profile) (m : Mnemonic) (named : Named profile m) (w : ℕ) → w < 65536
     → Plain profile m X w (44 ∷ 88 ∷ [])
-plain_by_x profile m named w below = texts.absolute_by_x_said profile m named _ _ _ _ _ _ _ _ (high (w / 256) (first_half w below)) (low (w / 256)) (high (w % 256) (last_half w)) (low (w % 256))
+plain_by_x profile m named w below = texts.absolute_by_x_said profile m named _ _ _ _ _ _ _ _ (high (w / 256) (first_half w below)) (low (w / 256))
+    (high (w % 256) (last_half w)) (low (w % 256))
 
 marked_by_x : (profile : Profile) (m : Mnemonic) (named : Named profile m) (w : ℕ) → w < 65536
     → Marked profile m X w (44 ∷ 88 ∷ [])
-marked_by_x profile m named w below = texts.marked_by_x_said profile m named _ _ _ _ _ _ _ _ (high (w / 256) (first_half w below)) (low (w / 256)) (high (w % 256) (last_half w)) (low (w % 256))
+marked_by_x profile m named w below = texts.marked_by_x_said profile m named _ _ _ _ _ _ _ _ (high (w / 256) (first_half w below)) (low (w / 256))
+    (high (w % 256) (last_half w)) (low (w % 256))
 
 plain_by_y : (profile : Profile) (m : Mnemonic) (named : Named profile m) (w : ℕ) → w < 65536
     → Plain profile m Y w (44 ∷ 89 ∷ [])
-plain_by_y profile m named w below = texts.absolute_by_y_said profile m named _ _ _ _ _ _ _ _ (high (w / 256) (first_half w below)) (low (w / 256)) (high (w % 256) (last_half w)) (low (w % 256))
+plain_by_y profile m named w below = texts.absolute_by_y_said profile m named _ _ _ _ _ _ _ _ (high (w / 256) (first_half w below)) (low (w / 256))
+    (high (w % 256) (last_half w)) (low (w % 256))
 
 marked_by_y : (profile : Profile) (m : Mnemonic) (named : Named profile m) (w : ℕ) → w < 65536
     → Marked profile m Y w (44 ∷ 89 ∷ [])
-marked_by_y profile m named w below = texts.marked_by_y_said profile m named _ _ _ _ _ _ _ _ (high (w / 256) (first_half w below)) (low (w / 256)) (high (w % 256) (last_half w)) (low (w % 256))
+marked_by_y profile m named w below = texts.marked_by_y_said profile m named _ _ _ _ _ _ _ _ (high (w / 256) (first_half w below)) (low (w / 256))
+    (high (w % 256) (last_half w)) (low (w % 256))
 
 -- the bytes of an instruction again, from its mnemonic, its mode and its operand bytes
 instruction_again : (profile : Profile) (m : Mnemonic) (mode : Mode) (a op b c : ℕ) → a < 65536
@@ -67,18 +73,24 @@ instruction_again : (profile : Profile) (m : Mnemonic) (mode : Mode) (a op b c :
     ≡ Ok (take (length_in mode) (op ∷ b ∷ c ∷ []))
 unfolding operand_text
 instruction_again profile m Imp a op b c here code l h fits =
-    without_operand profile m Imp absent a op _ (texts.implied_said profile m (named_of_code profile m Imp op code)) refl (forms.implied_code profile m no_numbers a op code) (omega arith) fits
+    without_operand profile m Imp absent a op _ (texts.implied_said profile m (named_of_code profile m Imp op code)) refl
+        (forms.implied_code profile m no_numbers a op code) (omega arith) fits
 instruction_again profile m Acc a op b c here code l h fits =
-    without_operand profile m Acc accumulator a op _ (texts.accumulator_said profile m (named_of_code profile m Acc op code)) refl (forms.accumulator_code profile m no_numbers a op code) (omega arith) fits
+    without_operand profile m Acc accumulator a op _ (texts.accumulator_said profile m (named_of_code profile m Acc op code)) refl
+        (forms.accumulator_code profile m no_numbers a op code) (omega arith) fits
 instruction_again profile m Imm a op b c here code l h fits = immediate_again profile m a op b code l fits
-instruction_again profile m Zp a op b c here code l h fits = zero_page_again_by profile m Unindexed a op b _ (texts.zero_page_said profile m (named_of_code profile m Zp op code) _ _ _ _ (high b l) (low b)) code l fits
-instruction_again profile m ZpX a op b c here code l h fits = zero_page_again_by profile m X a op b _ (texts.zero_page_by_x_said profile m (named_of_code profile m ZpX op code) _ _ _ _ (high b l) (low b)) code l fits
-instruction_again profile m ZpY a op b c here code l h fits = zero_page_again_by profile m Y a op b _ (texts.zero_page_by_y_said profile m (named_of_code profile m ZpY op code) _ _ _ _ (high b l) (low b)) code l fits
+instruction_again profile m Zp a op b c here code l h fits =
+    zero_page_again_by profile m Unindexed a op b _ (texts.zero_page_said profile m (named_of_code profile m Zp op code) _ _ _ _ (high b l) (low b)) code l fits
+instruction_again profile m ZpX a op b c here code l h fits =
+    zero_page_again_by profile m X a op b _ (texts.zero_page_by_x_said profile m (named_of_code profile m ZpX op code) _ _ _ _ (high b l) (low b)) code l fits
+instruction_again profile m ZpY a op b c here code l h fits =
+    zero_page_again_by profile m Y a op b _ (texts.zero_page_by_y_said profile m (named_of_code profile m ZpY op code) _ _ _ _ (high b l) (low b)) code l fits
 instruction_again profile m Abs a op b c here code l h fits =
     let w : ℕ = b + 256 * c in
     let below : w < 65536 = word_below b c l h in
     let named : Named profile m = named_of_code profile m Abs op code in
-    rw (append-nil (absolute_text profile m Zp w)) at (absolute_again profile m Unindexed a op b c [] (plain profile m named w below) (marked profile m named w below) code l h fits)
+    rw (append-nil (absolute_text profile m Zp w)) at (absolute_again profile m Unindexed a op b c [] (plain profile m named w below)
+        (marked profile m named w below) code l h fits)
 instruction_again profile m AbsX a op b c here code l h fits =
     let w : ℕ = b + 256 * c in
     let below : w < 65536 = word_below b c l h in
@@ -89,15 +101,19 @@ instruction_again profile m AbsY a op b c here code l h fits =
     let below : w < 65536 = word_below b c l h in
     let named : Named profile m = named_of_code profile m AbsY op code in
     absolute_again profile m Y a op b c (44 ∷ 89 ∷ []) (plain_by_y profile m named w below) (marked_by_y profile m named w below) code l h fits
-instruction_again profile m IndX a op b c here code l h fits = pointer_by_x_again profile m a op b _ (texts.pointer_by_x_said profile m (named_of_code profile m IndX op code) _ _ _ _ (high b l) (low b)) code l fits
-instruction_again profile m IndY a op b c here code l h fits = pointer_by_y_again profile m a op b _ (texts.pointer_by_y_said profile m (named_of_code profile m IndY op code) _ _ _ _ (high b l) (low b)) code l fits
+instruction_again profile m IndX a op b c here code l h fits =
+    pointer_by_x_again profile m a op b _ (texts.pointer_by_x_said profile m (named_of_code profile m IndX op code) _ _ _ _ (high b l) (low b)) code l fits
+instruction_again profile m IndY a op b c here code l h fits =
+    pointer_by_y_again profile m a op b _ (texts.pointer_by_y_said profile m (named_of_code profile m IndY op code) _ _ _ _ (high b l) (low b)) code l fits
 instruction_again profile m Ind a op b c here code l h fits =
     let w : ℕ = b + 256 * c in
     let below : w < 65536 = word_below b c l h in
-    pointer_again profile m a op b c _ (texts.pointer_said profile m (named_of_code profile m Ind op code) _ _ _ _ _ _ _ _ (high (w / 256) (first_half w below)) (low (w / 256)) (high (w % 256) (last_half w)) (low (w % 256))) code l h fits
+    pointer_again profile m a op b c _ (texts.pointer_said profile m (named_of_code profile m Ind op code) _ _ _ _ _ _ _ _
+        (high (w / 256) (first_half w below)) (low (w / 256)) (high (w % 256) (last_half w)) (low (w % 256))) code l h fits
 instruction_again profile m Rel a op b c here code l h fits = branch_again_at profile m a op b here code l fits
 instruction_again profile m IndZ a op b c here code l h fits =
-    zero_page_pointer_again profile m a op b _ (texts.zero_page_pointer_said profile m (named_of_code profile m IndZ op code) _ _ _ _ (high b l) (low b)) code l fits
+    zero_page_pointer_again profile m a op b _ (texts.zero_page_pointer_said profile m (named_of_code profile m IndZ op code) _ _ _ _ (high b l)
+        (low b)) code l fits
 
 -- a byte that begins no instruction
 byte_row_again : (profile : Profile) (a b : ℕ) → a < 65536 → b < 256
@@ -153,8 +169,10 @@ row_again profile bs a some each here = on (row_at profile (slice_index bs 0)) r
         let long : row.len ≤ length bs = leb-true _ _ (and_left _ _ t) in
         let fits : a + row.len ≤ 65536 = leb-true _ _ (and_right _ _ t) in
         let is : IsRowOf row.mnemonic row.mode (row_at profile (slice_index bs 0)) = rw e (refl, refl) in
-        let code : opcode_of profile row.mnemonic row.mode ≡ Some (slice_index bs 0) = encoded_of_row profile row.mnemonic row.mode (slice_index bs 0) (each 0) is in
-        rw t (instruction_again profile row.mnemonic row.mode a (slice_index bs 0) (slice_index bs 1) (slice_index bs 2) here code (each 1) (each 2) (rw len at fits)
+        let code : opcode_of profile row.mnemonic row.mode ≡ Some (slice_index bs 0) =
+            encoded_of_row profile row.mnemonic row.mode (slice_index bs 0) (each 0) is in
+        rw t (instruction_again profile row.mnemonic row.mode a (slice_index bs 0) (slice_index bs 1) (slice_index bs 2) here code (each 1) (each 2)
+            (rw len at fits)
         ∙ ap (λ (x : List ℕ). Ok x) (take_front row.mode bs (rw len at long)) ∙ ap (λ (n : ℕ). Ok (take n bs)) (sym len))
     of_row row e false t = rw t (one_byte profile a bs some here each)
 

@@ -78,14 +78,16 @@ pub immediate_tokens : (a b c d e h l : ℕ) → Capital a → Capital b → Cap
     → tokens_from 0 0 (a ∷ b ∷ c ∷ 32 ∷ 35 ∷ 36 ∷ h ∷ l ∷ [])
     ≡ Some (word 0 (a ∷ b ∷ c ∷ []) ∷ symbol 4 35 ∷ number 5 (36 ∷ h ∷ l ∷ []) ∷ [])
 unfolding tokens_from token_at
-immediate_tokens a b c d e h l A B C D E = word_first a b c (32 ∷ 35 ∷ 36 ∷ h ∷ l ∷ []) A B C refl ∙ ap (λ (t : Tokens). before (word 0 (a ∷ b ∷ c ∷ [])) (before (symbol 4 35) t)) (byte_first 5 d e h l [] D E refl refl)
+immediate_tokens a b c d e h l A B C D E = word_first a b c (32 ∷ 35 ∷ 36 ∷ h ∷ l ∷ []) A B C refl
+    ∙ ap (λ (t : Tokens). before (word 0 (a ∷ b ∷ c ∷ [])) (before (symbol 4 35) t)) (byte_first 5 d e h l [] D E refl refl)
 
 pub byte_tokens : (a b c d e h l : ℕ) (rest : List ℕ) → Capital a → Capital b → Capital c
     → Digit d h → Digit e l → run_of is_hex_byte rest ≡ [] → begins is_word_byte rest ≡ false
     → tokens_from 0 0 (a ∷ b ∷ c ∷ 32 ∷ 36 ∷ h ∷ l ∷ rest) ≡ before (word 0 (a ∷ b ∷ c ∷ []))
     (before (number 4 (36 ∷ h ∷ l ∷ [])) (tokens_from 7 0 rest))
 unfolding tokens_from
-byte_tokens a b c d e h l rest A B C D E no_more behind = word_first a b c (32 ∷ 36 ∷ h ∷ l ∷ rest) A B C refl ∙ ap (before (word 0 (a ∷ b ∷ c ∷ []))) (byte_first 4 d e h l rest D E no_more behind)
+byte_tokens a b c d e h l rest A B C D E no_more behind = word_first a b c (32 ∷ 36 ∷ h ∷ l ∷ rest) A B C refl
+    ∙ ap (before (word 0 (a ∷ b ∷ c ∷ []))) (byte_first 4 d e h l rest D E no_more behind)
 
 pub address_tokens : (a b c d e f g h i j k : ℕ) (rest : List ℕ) → Capital a → Capital b → Capital c
     → Digit d h → Digit e i → Digit f j → Digit g k → run_of is_hex_byte rest ≡ []
@@ -95,7 +97,8 @@ pub address_tokens : (a b c d e f g h i j k : ℕ) (rest : List ℕ) → Capital
     (before (number 4 (36 ∷ h ∷ i ∷ j ∷ k ∷ [])) (tokens_from 9 0 rest))
 unfolding tokens_from
 address_tokens a b c d e f g h i j k rest A B C D E F G no_more behind =
-    word_first a b c (32 ∷ 36 ∷ h ∷ i ∷ j ∷ k ∷ rest) A B C refl ∙ ap (before (word 0 (a ∷ b ∷ c ∷ []))) (address_first 4 d e f g h i j k rest D E F G no_more behind)
+    word_first a b c (32 ∷ 36 ∷ h ∷ i ∷ j ∷ k ∷ rest) A B C refl
+        ∙ ap (before (word 0 (a ∷ b ∷ c ∷ []))) (address_first 4 d e f g h i j k rest D E F G no_more behind)
 
 pub marked_tokens : (a b c d e f g h i j k : ℕ) (rest : List ℕ) → Capital a → Capital b → Capital c
     → Digit d h → Digit e i → Digit f j → Digit g k → run_of is_hex_byte rest ≡ []
@@ -105,4 +108,5 @@ pub marked_tokens : (a b c d e f g h i j k : ℕ) (rest : List ℕ) → Capital 
     (before (symbol 4 33) (before (number 5 (36 ∷ h ∷ i ∷ j ∷ k ∷ [])) (tokens_from 10 0 rest)))
 unfolding tokens_from token_at
 marked_tokens a b c d e f g h i j k rest A B C D E F G no_more behind =
-    word_first a b c (32 ∷ 33 ∷ 36 ∷ h ∷ i ∷ j ∷ k ∷ rest) A B C refl ∙ ap (λ (t : Tokens). before (word 0 (a ∷ b ∷ c ∷ [])) (before (symbol 4 33) t)) (address_first 5 d e f g h i j k rest D E F G no_more behind)
+    word_first a b c (32 ∷ 33 ∷ 36 ∷ h ∷ i ∷ j ∷ k ∷ rest) A B C refl
+        ∙ ap (λ (t : Tokens). before (word 0 (a ∷ b ∷ c ∷ [])) (before (symbol 4 33) t)) (address_first 5 d e f g h i j k rest D E F G no_more behind)

@@ -37,11 +37,13 @@ word_front bytes found some h =
     elim (cases_Bool (nat_le (length (run_of is_word_byte bytes)) 31)) [
       | inl t ↦
           let k = rw t at h in
-          at_text Word bytes (run_of is_word_byte bytes) found k (record { behind = drop (length (run_of is_word_byte bytes)) bytes; spelled = run_front is_word_byte bytes; some = some })
+          at_text Word bytes (run_of is_word_byte bytes) found k
+              (record { behind = drop (length (run_of is_word_byte bytes)) bytes; spelled = run_front is_word_byte bytes; some = some })
       | inr f ↦ let k = rw f at h in not_found bytes found k
     ]
 
-number_front : (mark : List ℕ) (passes : ℕ → Bool) (bytes : List ℕ) (found : Result) → number_token mark passes bytes ≡ Some found → Front (mark ++ bytes) found.1
+number_front : (mark : List ℕ) (passes : ℕ → Bool) (bytes : List ℕ) (found : Result) → number_token mark passes bytes ≡ Some found
+    → Front (mark ++ bytes) found.1
 number_front mark passes bytes found h =
     let digits : List ℕ = run_of passes bytes in
     elim (cases_Bool (length digits == 0)) [
@@ -106,7 +108,8 @@ string_front bytes found h =
                 let m = rw t at k in
                 at_text Str (34 ∷ bytes) (34 ∷ (inside ++ 34 ∷ [])) found m (record {
                   behind = drop 1 rest;
-                  spelled = ap (λ (x : List ℕ). 34 ∷ x) (run_front is_string_byte bytes ∙ ap (λ (x : List ℕ). inside ++ x) (begins_quote rest t) ∙ sym (append_assoc inside (34 ∷ []) (drop 1 rest)));
+                  spelled = ap (λ (x : List ℕ). 34 ∷ x) (run_front is_string_byte bytes ∙ ap (λ (x : List ℕ). inside ++ x) (begins_quote rest t)
+                      ∙ sym (append_assoc inside (34 ∷ []) (drop 1 rest)));
                   some = omega arith;
                 })
             | inr g ↦ let m = rw g at k in not_found (34 ∷ bytes) found m

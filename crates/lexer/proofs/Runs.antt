@@ -48,12 +48,14 @@ decimal_is passes bytes n e =
     let z : 0 + n ≡ n = omega arith in
     rw (run_is passes bytes n e, run_length passes bytes n e, z) refl
 
-marked_is : (passes : ℕ → Bool) (mark : ℕ) (bytes : List ℕ) (n : ℕ) → n ≡ prefix_len passes bytes → number_token (mark ∷ []) passes bytes ≡ number_in 1 n (mark ∷ bytes)
+marked_is : (passes : ℕ → Bool) (mark : ℕ) (bytes : List ℕ) (n : ℕ) → n ≡ prefix_len passes bytes
+    → number_token (mark ∷ []) passes bytes ≡ number_in 1 n (mark ∷ bytes)
 marked_is passes mark bytes n e =
     let s : 1 + n ≡ suc n = omega arith in
     rw (run_is passes bytes n e, run_length passes bytes n e, s) refl
 
-pub token_decimal : (bytes rest : List ℕ) (b n : ℕ) → bytes ≡ b ∷ rest → is_letter b ≡ false → is_digit b ≡ true → n ≡ prefix_len is_digit bytes → number_in 0 n bytes ≡ token_at bytes
+pub token_decimal : (bytes rest : List ℕ) (b n : ℕ) → bytes ≡ b ∷ rest → is_letter b ≡ false → is_digit b ≡ true → n ≡ prefix_len is_digit bytes
+    → number_in 0 n bytes ≡ token_at bytes
 unfolding token_at
 token_decimal bytes rest b n e f t count = sym (decimal_is is_digit bytes n count) ∙ (rw (e, f, t) refl)
 
@@ -66,7 +68,8 @@ unfolding token_at
 token_binary bytes rest n e count = rw e (sym (marked_is is_binary_byte 37 rest n count))
 
 -- directives
-pub directive_is : (bytes : List ℕ) (n : ℕ) → bytes ≡ 46 ∷ drop 1 bytes → n ≡ prefix_len is_letter (drop 1 bytes) → (n ≡ 0 → ⊥) → Some (Directive, take (n + 1) bytes) ≡ directive_token (drop 1 bytes)
+pub directive_is : (bytes : List ℕ) (n : ℕ) → bytes ≡ 46 ∷ drop 1 bytes → n ≡ prefix_len is_letter (drop 1 bytes) → (n ≡ 0 → ⊥)
+    → Some (Directive, take (n + 1) bytes) ≡ directive_token (drop 1 bytes)
 directive_is bytes n e count some =
     let s : n + 1 ≡ suc n = omega arith in
     let text : take (suc n) bytes ≡ 46 ∷ take n (drop 1 bytes) = ap (λ (x : List ℕ). take (suc n) x) e in
@@ -79,18 +82,22 @@ quoted [] (suc n) h = absurd (false≢true h)
 quoted (b ∷ bytes) zero h = ap (λ (x : ℕ). x ∷ []) (eqb-true b 34 h)
 quoted (b ∷ bytes) (suc n) h = ap (λ (x : List ℕ). b ∷ x) (quoted bytes n h)
 
-pub string_is : (bytes : List ℕ) (n : ℕ) → bytes ≡ 34 ∷ drop 1 bytes → n ≡ prefix_len is_string_byte (drop 1 bytes) → (n ≡ 0 → ⊥) → begins (λ b. b == 34) (drop n (drop 1 bytes)) ≡ true
+pub string_is : (bytes : List ℕ) (n : ℕ) → bytes ≡ 34 ∷ drop 1 bytes → n ≡ prefix_len is_string_byte (drop 1 bytes) → (n ≡ 0 → ⊥)
+    → begins (λ b. b == 34) (drop n (drop 1 bytes)) ≡ true
     → Some (Str, take (n + 2) bytes) ≡ string_token (drop 1 bytes)
 string_is bytes n e count some quote =
     let s : n + 2 ≡ suc (suc n) = omega arith in
-    let text : take (suc (suc n)) bytes ≡ 34 ∷ (take n (drop 1 bytes) ++ 34 ∷ []) = ap (λ (x : List ℕ). take (suc (suc n)) x) e ∙ ap (λ (x : List ℕ). 34 ∷ x) (quoted (drop 1 bytes) n quote) in
+    let text : take (suc (suc n)) bytes ≡ 34 ∷ (take n (drop 1 bytes) ++ 34 ∷ []) =
+        ap (λ (x : List ℕ). take (suc (suc n)) x) e ∙ ap (λ (x : List ℕ). 34 ∷ x) (quoted (drop 1 bytes) n quote) in
     rw (run_is is_string_byte (drop 1 bytes) n count, run_length is_string_byte (drop 1 bytes) n count, ne_eqb n 0 some, s, text, quote) refl
 
 pub string_empty : (bytes : List ℕ) (n : ℕ) → n ≡ prefix_len is_string_byte (drop 1 bytes) → n ≡ 0 → None ≡ string_token (drop 1 bytes)
 string_empty bytes n count none = rw (run_is is_string_byte (drop 1 bytes) n count, run_length is_string_byte (drop 1 bytes) n count, none) refl
 
-pub string_open : (bytes : List ℕ) (n : ℕ) → n ≡ prefix_len is_string_byte (drop 1 bytes) → (n ≡ 0 → ⊥) → begins (λ b. b == 34) (drop n (drop 1 bytes)) ≡ false → None ≡ string_token (drop 1 bytes)
-string_open bytes n count some quote = rw (run_is is_string_byte (drop 1 bytes) n count, run_length is_string_byte (drop 1 bytes) n count, ne_eqb n 0 some, quote) refl
+pub string_open : (bytes : List ℕ) (n : ℕ) → n ≡ prefix_len is_string_byte (drop 1 bytes) → (n ≡ 0 → ⊥)
+    → begins (λ b. b == 34) (drop n (drop 1 bytes)) ≡ false → None ≡ string_token (drop 1 bytes)
+string_open bytes n count some quote = rw (run_is is_string_byte (drop 1 bytes) n count, run_length is_string_byte (drop 1 bytes) n count, ne_eqb n 0
+    some, quote) refl
 
 pub behind : (n : ℕ) (bytes : List ℕ) → take (length bytes - (n + 1)) (drop (n + 1) bytes) ≡ drop n (drop 1 bytes)
 behind n bytes =

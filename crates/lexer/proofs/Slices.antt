@@ -21,14 +21,16 @@ next_bytes : (line : List ℕ) (place b : ℕ) (bytes : List ℕ) → drop place
 next_bytes line place b bytes at = sym (drop-drop 1 place line) ∙ ap (λ (x : List ℕ). drop 1 x) at
 
 -- a token in front of those that follow it
-token_then : (line : List ℕ) (place : ℕ) (t : Lexeme) (behind : Tokens) (ts : List Lexeme) → place ≤ t.start → Front (drop t.start line) t.text → option_map (λ us. t ∷ us) behind ≡ Some ts
+token_then : (line : List ℕ) (place : ℕ) (t : Lexeme) (behind : Tokens) (ts : List Lexeme) → place ≤ t.start → Front (drop t.start line) t.text
+    → option_map (λ us. t ∷ us) behind ≡ Some ts
     → ((us : List Lexeme) → behind ≡ Some us → AreSlices line (t.start + length t.text) us)
     → AreSlices line place ts
 token_then line place t None ts le front h next = absurd cc
 token_then line place t (Some us) [] le front h next = absurd cc
 token_then line place t (Some us) (u ∷ vs) le front h next =
     let same : t ∷ us ≡ u ∷ vs = cc in
-    let text : take (length t.text) (drop t.start line) ≡ t.text = ap (λ (x : List ℕ). take (length t.text) x) front.spelled ∙ take_at t.text front.behind (length t.text) refl in
+    let text : take (length t.text) (drop t.start line) ≡ t.text =
+        ap (λ (x : List ℕ). take (length t.text) x) front.spelled ∙ take_at t.text front.behind (length t.text) refl in
     subst (λ x. AreSlices line place x) same (le, front.some, text, next us refl)
 
 at_token : (line : List ℕ) (place : ℕ) (bytes rest : List ℕ) (found : Found) (ts : List Lexeme) → drop place line ≡ bytes → token_at bytes ≡ found
@@ -43,7 +45,8 @@ at_token line place bytes rest (Some (kind, text)) ts at token h next =
     (subst (λ x. Front x text) (sym at) front) h
     (λ us k. subst (λ n. AreSlices line n us) e (next (length text - 1) us k))
 
-slices_from : (line : List ℕ) (place covered : ℕ) (bytes : List ℕ) (ts : List Lexeme) → drop place line ≡ bytes → tokens_from place covered bytes ≡ Some ts → AreSlices line (place + covered) ts
+slices_from : (line : List ℕ) (place covered : ℕ) (bytes : List ℕ) (ts : List Lexeme) → drop place line ≡ bytes
+    → tokens_from place covered bytes ≡ Some ts → AreSlices line (place + covered) ts
 unfolding tokens_from
 slices_from line place covered [] ts at h = ended line (place + covered) ts h
 slices_from line place (suc covered) (b ∷ bytes) ts at h =
@@ -59,7 +62,9 @@ slices_from line place zero (b ∷ bytes) ts at h =
             | inl t ↦ let m = rw t at k in ended line (place + 0) ts m
             | inr g ↦
                 let m = rw g at k in
-                earlier line place (place + 0) ts (omega arith) (at_token line place (b ∷ bytes) bytes (token_at (b ∷ bytes)) ts at refl m (λ covered us i. slices_from line (place + 1) covered bytes us next i))
+                earlier line place (place + 0) ts (omega arith)
+                    (at_token line place (b ∷ bytes) bytes (token_at (b ∷ bytes)) ts at refl m
+                    (λ covered us i. slices_from line (place + 1) covered bytes us next i))
           ]
     ]
 

@@ -11,5 +11,6 @@ bytes_alone (a ∷ b ∷ []) few = refl
 bytes_alone (a ∷ b ∷ c ∷ []) few = refl
 bytes_alone (a ∷ b ∷ c ∷ d ∷ bytes) few = absurd (omega (arith, few))
 
-pub without_padding : (bytes columns : List ℕ) (width : ℕ) → length bytes ≤ 3 → columns ≡ with_padding (with_spaces (take 3 bytes)) → width ≡ 3 * length bytes - 1 → take width columns ≡ with_spaces bytes
+pub without_padding : (bytes columns : List ℕ) (width : ℕ) → length bytes ≤ 3 → columns ≡ with_padding (with_spaces (take 3 bytes))
+    → width ≡ 3 * length bytes - 1 → take width columns ≡ with_spaces bytes
 without_padding bytes columns width few is wide = rw (is, wide) (bytes_alone bytes few)

@@ -31,7 +31,8 @@ line_done image out new spans i span lines rest line bytes total within is cut h
     rw (put, held) (append_assoc out row (rows_left image rest spans (i + 1))) ∙ ap (λ (x : List ℕ). out ++ x) (sym next) ∙ so_far
 
 -- no place is left
-pub no_place : (image : Cells) (out : List ℕ) (spans : List Span) (i : ℕ) (lines : List (List ℕ)) (total : List ℕ) → length spans ≤ i → out ++ rows_left image lines spans i ≡ total → out ≡ total
+pub no_place : (image : Cells) (out : List ℕ) (spans : List Span) (i : ℕ) (lines : List (List ℕ)) (total : List ℕ) → length spans ≤ i
+    → out ++ rows_left image lines spans i ≡ total → out ≡ total
 no_place image out spans i [] total past so_far = sym (append-nil out) ∙ so_far
 no_place image out spans i (line ∷ lines) total past so_far =
     let none : drop i spans ≡ [] = drop_all i spans past in
@@ -45,7 +46,8 @@ pub name_done : (out new : List ℕ) (names : Definitions) (i : ℕ) (name : Lis
     → Some name ≡ slice_get names i → new ≡ out ++ name_row name → out ++ names_left names i ≡ total → new ++ names_left names (i + 1) ≡ total
 name_done out new names i name total is put so_far =
     let at : slice_get names i ≡ Some name = sym is in
-    let first : drop i names ≡ name ∷ drop (i + 1) names = drop_more names i name (slice_get_within names i name at) ∙ ap (λ (x : List ℕ × ℤ). x ∷ drop (i + 1) names) (get_or_from_slice_get names i name name at) in
+    let first : drop i names ≡ name ∷ drop (i + 1) names = drop_more names i name (slice_get_within names i name at)
+        ∙ ap (λ (x : List ℕ × ℤ). x ∷ drop (i + 1) names) (get_or_from_slice_get names i name name at) in
     let next : names_left names i ≡ name_row name ++ names_left names (i + 1) = rw first refl in
     rw put (append_assoc out (name_row name) (names_left names (i + 1))) ∙ ap (λ (x : List ℕ). out ++ x) (sym next) ∙ so_far
 
@@ -56,22 +58,26 @@ no_name out names i total past so_far =
     sym (append-nil out) ∙ (rw none at so_far)
 
 -- a part of a list
-pub cells_cut : (cells : Cells) (at count : ℕ) → take (min count (length (drop (min at (length cells)) cells))) (drop (min at (length cells)) cells) ≡ take count (drop at cells)
+pub cells_cut : (cells : Cells) (at count : ℕ) → take (min count (length (drop (min at (length cells)) cells))) (drop (min at (length cells)) cells)
+    ≡ take count (drop at cells)
 cells_cut cells at count = rw (drop_min at cells) (take_min count (drop at cells))
 
 -- no more bytes than cells
 pub bytes_few : (cells : Cells) (at count : ℕ) → length (bytes_at cells at count) ≤ length cells
 bytes_few cells at count =
-    rw (length-map (take count (drop at cells)) (λ (c : Option ℕ). unwrap_or c 0), length-take count (drop at cells), length-drop at cells) (omega (arith, min-le_right count (length cells - at)))
+    rw (length-map (take count (drop at cells)) (λ (c : Option ℕ). unwrap_or c 0), length-take count (drop at cells), length-drop at cells)
+        (omega (arith, min-le_right count (length cells - at)))
 
 -- no line is left
-pub no_line : (image : Cells) (out text : List ℕ) (spans : List Span) (i : ℕ) (total : List ℕ) → length text ≡ 0 → out ++ rows_left image (lines_of text) spans i ≡ total → out ≡ total
+pub no_line : (image : Cells) (out text : List ℕ) (spans : List Span) (i : ℕ) (total : List ℕ) → length text ≡ 0
+    → out ++ rows_left image (lines_of text) spans i ≡ total → out ≡ total
 unfolding lines_from
 no_line image out [] spans i total none so_far = sym (append-nil out) ∙ so_far
 no_line image out (b ∷ text) spans i total none so_far = absurd (omega (arith, none))
 
 abbrev There : Definitions → ℕ → Type 0
-There names i = ((d : List ℕ × ℤ) × (i < length names) × (slice_get names i ≡ Some d) × (get_or names i d ≡ d)) ⊎ ((length names ≤ i) × (slice_get names i ≡ None))
+There names i = ((d : List ℕ × ℤ) × (i < length names) × (slice_get names i ≡ Some d) × (get_or names i d ≡ d))
+    ⊎ ((length names ≤ i) × (slice_get names i ≡ None))
 
 not_both : (d : List ℕ × ℤ) (a : Option (List ℕ × ℤ)) → None ≡ a → a ≡ Some d → ⊥
 not_both d a p q = cc

@@ -14,7 +14,8 @@ above : (n : ℕ) → 65535 < n → as_address (Some n) ≡ None
 above n large = grind (arith, common_steps)
 
 -- a number above 65,535 stays above it, whatever digits follow
-pub too_large : (value : ℕ → Option ℕ) (base : ℕ) → ((m d : ℕ) → m ≤ m * base + d) → (n : ℕ) (bytes : List ℕ) → 65535 < n → as_address (number_from value base n bytes) ≡ None
+pub too_large : (value : ℕ → Option ℕ) (base : ℕ) → ((m d : ℕ) → m ≤ m * base + d) → (n : ℕ) (bytes : List ℕ) → 65535 < n
+    → as_address (number_from value base n bytes) ≡ None
 too_large value base grows n [] large = above n large
 too_large value base grows n (b ∷ bytes) large =
     elim (value b) as (λ v. as_address (option_and_then (λ digit. number_from value base (n * base + digit) bytes) v) ≡ None) [

@@ -47,8 +47,10 @@ source_ends bus_map source f (Err r) (inr has) is = subst (EndsSource bus_map) (
 
 -- ---- a source whose faults are told
 
-pub told_ends : (bus_map : Map) (file source : List ℕ) (fault : AsmFault) (text : Vec ℕ Global) (told : Option (Vec ℕ Global)) → told ≡ Some text → (fault ≡ out_of_memory) ⊎ HasFault bus_map source fault
-    → (fault ≡ out_of_memory → told ≡ None) → IsToldText (shown_name file) source bus_map.profile (faults_of bus_map source) text.items → EndsSourceFile bus_map file (Faults fault text)
+pub told_ends : (bus_map : Map) (file source : List ℕ) (fault : AsmFault) (text : Vec ℕ Global) (told : Option (Vec ℕ Global)) → told ≡ Some text
+    → (fault ≡ out_of_memory) ⊎ HasFault bus_map source fault
+    → (fault ≡ out_of_memory → told ≡ None) → IsToldText (shown_name file) source bus_map.profile (faults_of bus_map source) text.items
+        → EndsSourceFile bus_map file (Faults fault text)
 told_ends bus_map file source fault text told some (inl memory) none is = absurd (no_text (none memory))
   where
     no_text : told ≡ None → ⊥
@@ -99,30 +101,37 @@ as_ends said omits bus_map (AtPort first last free) (why.Refused refusal, ends, 
     no : AtPort first last free ≡ Refused refusal → ⊥
     no e = cc
 
-memory_as_image : (said : Option Form) (omits : Bool) (bus_map : Map) (refusal : Refusal) → refusal ≡ OutOfMemory → EndsAsImage said omits bus_map (Refused refusal)
+memory_as_image : (said : Option Form) (omits : Bool) (bus_map : Map) (refusal : Refusal) → refusal ≡ OutOfMemory
+    → EndsAsImage said omits bus_map (Refused refusal)
 memory_as_image said omits bus_map refusal is = (why.Refused refusal, subst (λ r. EndsImage said (why.Refused r)) (sym is) tt, refl)
 
-pub memory_image_residual : {X : Type 0} (said : Option Form) (omits : Bool) (bus_map : Map) (refusal : Refusal) (result : Result X LoadFault) → refusal ≡ OutOfMemory → IsErrAnd result (λ f. f ≡ Refused refusal) → IfErr result (EndsAsImage said omits bus_map)
+pub memory_image_residual : {X : Type 0} (said : Option Form) (omits : Bool) (bus_map : Map) (refusal : Refusal) (result : Result X LoadFault)
+    → refusal ≡ OutOfMemory → IsErrAnd result (λ f. f ≡ Refused refusal) → IfErr result (EndsAsImage said omits bus_map)
 memory_image_residual said omits bus_map refusal (Ok x) memory is = absurd is
-memory_image_residual said omits bus_map refusal (Err fault) memory is = subst (EndsAsImage said omits bus_map) (sym is) (memory_as_image said omits bus_map refusal memory)
+memory_image_residual said omits bus_map refusal (Err fault) memory is =
+    subst (EndsAsImage said omits bus_map) (sym is) (memory_as_image said omits bus_map refusal memory)
 
-as_image : (f : FileForm) (omits : Bool) (bus_map : Map) (file : List ℕ) (fault : LoadFault) → (f ≡ form.Source → ⊥) → EndsAsImage (said_of f) omits bus_map fault → EndsFileOf f omits bus_map file fault
+as_image : (f : FileForm) (omits : Bool) (bus_map : Map) (file : List ℕ) (fault : LoadFault) → (f ≡ form.Source → ⊥)
+    → EndsAsImage (said_of f) omits bus_map fault → EndsFileOf f omits bus_map file fault
 as_image form.Source omits bus_map file fault apart ends = absurd (apart refl)
 as_image form.Records omits bus_map file fault apart ends = ends
 as_image (form.Raw address) omits bus_map file fault apart ends = ends
 as_image form.Prg omits bus_map file fault apart ends = ends
 
-image_as : (f : FileForm) (omits : Bool) (bus_map : Map) (fill : Option ℕ) (image : List (Option ℕ)) (held : Option AssemblyView) → (f ≡ form.Source → ⊥) → held ≡ None → IsSparedFile (said_of f) omits bus_map fill image → IsImageOf f omits bus_map fill image held
+image_as : (f : FileForm) (omits : Bool) (bus_map : Map) (fill : Option ℕ) (image : List (Option ℕ)) (held : Option AssemblyView)
+    → (f ≡ form.Source → ⊥) → held ≡ None → IsSparedFile (said_of f) omits bus_map fill image → IsImageOf f omits bus_map fill image held
 image_as form.Source omits bus_map fill image held apart is of_file = absurd (apart refl)
 image_as form.Records omits bus_map fill image held apart is of_file = subst (IsImageOf form.Records omits bus_map fill image) (sym is) of_file
 image_as (form.Raw address) omits bus_map fill image held apart is of_file = subst (IsImageOf (form.Raw address) omits bus_map fill image) (sym is) of_file
 image_as form.Prg omits bus_map fill image held apart is of_file = subst (IsImageOf form.Prg omits bus_map fill image) (sym is) of_file
 
-pub refused_as : {X : Type 0} (f : FileForm) (omits : Bool) (bus_map : Map) (file : List ℕ) (result : Result X LoadFault) → (f ≡ form.Source → ⊥) → IfErr result (EndsAsImage (said_of f) omits bus_map) → IfErr result (EndsFileOf f omits bus_map file)
+pub refused_as : {X : Type 0} (f : FileForm) (omits : Bool) (bus_map : Map) (file : List ℕ) (result : Result X LoadFault) → (f ≡ form.Source → ⊥)
+    → IfErr result (EndsAsImage (said_of f) omits bus_map) → IfErr result (EndsFileOf f omits bus_map file)
 refused_as f omits bus_map file (Ok x) apart ends = tt
 refused_as f omits bus_map file (Err fault) apart ends = as_image f omits bus_map file fault apart ends
 
-pub started_as : {X E : Type 0} (f : FileForm) (omits : Bool) (bus_map : Map) (fill : X → Option ℕ) (held : X → Option AssemblyView) (A B : X → List (Option ℕ) → Type 0) (result : Result X E) → (f ≡ form.Source → ⊥)
+pub started_as : {X E : Type 0} (f : FileForm) (omits : Bool) (bus_map : Map) (fill : X → Option ℕ) (held : X → Option AssemblyView)
+    (A B : X → List (Option ℕ) → Type 0) (result : Result X E) → (f ≡ form.Source → ⊥)
     → IfOk result (λ x. (image : List (Option ℕ)) × IsSparedFile (said_of f) omits bus_map (fill x) image × (held x ≡ None) × A x image × B x image)
     → IfOk result (λ x. (image : List (Option ℕ)) × IsImageOf f omits bus_map (fill x) image (held x) × A x image × B x image)
 started_as f omits bus_map fill held A B (Ok x) apart s = (s.0, image_as f omits bus_map (fill x) s.0 (held x) apart s.2 s.1, s.3, s.4)
@@ -141,12 +150,15 @@ memory_ends asked = inr (memory_by asked.form asked.omits_fill (map_of asked) as
 
 -- ---- an image with the names of a file
 
-pub image_loaded : (asked : FileAsked) (fill : Option ℕ) (image : List (Option ℕ)) → is_map asked.rom asked.port ≡ true → (asked.form ≡ form.Source → ⊥) → IsSparedFile (said_of asked.form) asked.omits_fill (map_of asked) fill image → IsLoaded asked fill image None
+pub image_loaded : (asked : FileAsked) (fill : Option ℕ) (image : List (Option ℕ)) → is_map asked.rom asked.port ≡ true
+    → (asked.form ≡ form.Source → ⊥) → IsSparedFile (said_of asked.form) asked.omits_fill (map_of asked) fill image → IsLoaded asked fill image None
 image_loaded asked fill image map apart of_file = (map, image_as asked.form asked.omits_fill (map_of asked) fill image None apart refl of_file)
 
-pub image_ends : (asked : FileAsked) (fault : LoadFault) → (asked.form ≡ form.Source → ⊥) → EndsAsImage (said_of asked.form) asked.omits_fill (map_of asked) fault → EndsLoad asked fault
+pub image_ends : (asked : FileAsked) (fault : LoadFault) → (asked.form ≡ form.Source → ⊥)
+    → EndsAsImage (said_of asked.form) asked.omits_fill (map_of asked) fault → EndsLoad asked fault
 image_ends asked fault apart ends = inr (as_image asked.form asked.omits_fill (map_of asked) asked.file fault apart ends)
 
-pub memory_residual : {X : Type 0} (asked : FileAsked) (refusal : Refusal) (result : Result X LoadFault) → refusal ≡ OutOfMemory → IsErrAnd result (λ f. f ≡ Refused refusal) → IfErr result (EndsLoad asked)
+pub memory_residual : {X : Type 0} (asked : FileAsked) (refusal : Refusal) (result : Result X LoadFault) → refusal ≡ OutOfMemory
+    → IsErrAnd result (λ f. f ≡ Refused refusal) → IfErr result (EndsLoad asked)
 memory_residual asked refusal (Ok x) memory is = absurd is
 memory_residual asked refusal (Err fault) memory is = subst (EndsLoad asked) (sym (is ∙ ap Refused memory)) (memory_ends asked)

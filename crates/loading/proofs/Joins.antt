@@ -26,13 +26,15 @@ Text = List ℕ
 
 -- ---- one file more
 
-pub joined_is : (word : Text) (image other all : Cells) → IsOfFile (form_of_other word) other → IsFirstClash image other None → IsUnion image other all → IsWith (Some word) image all
+pub joined_is : (word : Text) (image other all : Cells) → IsOfFile (form_of_other word) other → IsFirstClash image other None
+    → IsUnion image other all → IsWith (Some word) image all
 joined_is word image other all of_file agrees union = (other, of_file, agrees, union)
 
 pub none_with : (word : Option (Bor Text)) (image : Cells) → word ≡ None → IsWith (option_map (λ w. w.now) word) image image
 none_with word image is = subst (λ (o : Option (Bor Text)). IsWith (option_map (λ w. w.now) o) image image) (sym is) refl
 
-pub some_with : (word : Option (Bor Text)) (w : Bor Text) (image all : Cells) → word ≡ Some w → IsWith (Some w.now) image all → IsWith (option_map (λ w. w.now) word) image all
+pub some_with : (word : Option (Bor Text)) (w : Bor Text) (image all : Cells) → word ≡ Some w → IsWith (Some w.now) image all
+    → IsWith (option_map (λ w. w.now) word) image all
 some_with word w image all is with = subst (λ (o : Option (Bor Text)). IsWith (option_map (λ w. w.now) o) image all) (sym is) with
 
 -- ---- why images are not joined
@@ -54,16 +56,20 @@ memory_ends fault is = subst EndsJoining (sym is) (inl (None, memory_of))
 pub joining_ends : (asked : FileAsked) (others : Others) (fault : LoadFault) → EndsJoining fault → EndsSeveral asked others fault
 joining_ends asked others fault ends = inr (inl ends)
 
-pub memory_runs_out : (asked : FileAsked) (others : Others) (refusal : Refusal) (fault : LoadFault) → refusal ≡ OutOfMemory → fault ≡ Refused refusal → EndsSeveral asked others fault
+pub memory_runs_out : (asked : FileAsked) (others : Others) (refusal : Refusal) (fault : LoadFault) → refusal ≡ OutOfMemory → fault ≡ Refused refusal
+    → EndsSeveral asked others fault
 memory_runs_out asked others refusal fault memory is = inr (inl (memory_ends fault (is ∙ ap Refused memory)))
 
-pub map_ends : (asked : FileAsked) (others : Others) (refusal : Refusal) (fault : LoadFault) → IsBadMap (map_of asked) refusal → fault ≡ Refused refusal → EndsSeveral asked others fault
+pub map_ends : (asked : FileAsked) (others : Others) (refusal : Refusal) (fault : LoadFault) → IsBadMap (map_of asked) refusal
+    → fault ≡ Refused refusal → EndsSeveral asked others fault
 map_ends asked others refusal fault bad is = subst (EndsSeveral asked others) (sym is) (inl bad)
 
 pub port_ends : (asked : FileAsked) (others : Others) (bus_map : Map) (image : Cells) (first last : ℕ) (free : Option ℕ)
-    → bus_map ≡ map_of asked → first ≡ bus_map.port → last ≡ bus_map.port + 3 → IsJoined asked others image → has_port_byte bus_map image ≡ true → fill_at asked.omits_fill bus_map image ≡ None
+    → bus_map ≡ map_of asked → first ≡ bus_map.port → last ≡ bus_map.port + 3 → IsJoined asked others image → has_port_byte bus_map image ≡ true
+        → fill_at asked.omits_fill bus_map image ≡ None
     → IsFreeBase asked.rom image free → EndsSeveral asked others (AtPort first last free)
 port_ends asked others bus_map image first last free map low high joined met kept is_free =
     let at : AtPort first last free ≡ AtPort asked.port (asked.port + 3) free
     = ap (λ n. AtPort n last free) (low ∙ ap (λ (m : Map). m.port) map) ∙ ap (λ n. AtPort asked.port n free) (high ∙ ap (λ (m : Map). m.port + 3) map) in
-    inr (inr (image, free, at, joined, subst (λ (m : Map). has_port_byte m image ≡ true) map met, subst (λ (m : Map). fill_at asked.omits_fill m image ≡ None) map kept, is_free))
+    inr (inr (image, free, at, joined, subst (λ (m : Map). has_port_byte m image ≡ true) map met, subst
+        (λ (m : Map). fill_at asked.omits_fill m image ≡ None) map kept, is_free))

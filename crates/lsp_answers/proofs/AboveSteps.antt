@@ -7,12 +7,14 @@ one_above : (lines : List (List ℕ)) (less : ℕ) → is_comment (line_or_none 
 unfolding above
 one_above lines less is = rw is refl
 
-pub above_more : (lines : List (List ℕ)) (first less whole : ℕ) → first ≡ less + 1 → is_comment (line_or_none (line_of lines first)) ≡ true → above lines first ≡ whole → above lines less ≡ whole
+pub above_more : (lines : List (List ℕ)) (first less whole : ℕ) → first ≡ less + 1 → is_comment (line_or_none (line_of lines first)) ≡ true
+    → above lines first ≡ whole → above lines less ≡ whole
 above_more lines first less whole is comment so_far =
     let same : first ≡ suc less = rw (is, add-one) refl in
     sym (one_above lines less (subst (λ (n : ℕ). is_comment (line_or_none (line_of lines n)) ≡ true) same comment)) ∙ sym (ap (above lines) same) ∙ so_far
 
-pub above_here : (lines : List (List ℕ)) (first whole : ℕ) → 0 < first → is_comment (line_or_none (line_of lines first)) ≡ false → above lines first ≡ whole → first ≡ whole
+pub above_here : (lines : List (List ℕ)) (first whole : ℕ) → 0 < first → is_comment (line_or_none (line_of lines first)) ≡ false
+    → above lines first ≡ whole → first ≡ whole
 unfolding above
 above_here lines zero whole some is so_far = absurd (omega (arith, some))
 above_here lines (suc n) whole some is so_far =

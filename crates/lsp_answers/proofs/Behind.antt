@@ -19,10 +19,13 @@ module _ {A : Type 0} (g : A → Data) (ds : List Data) where
   abbrev pub AreBehind : List A → ℕ → ValueList → Type 0
   AreBehind all i list = HasValues (ds ++ map g (take i all)) list
 
-  pub next_behind : (all : List A) (i : ℕ) (e : A) (list : ValueList) → i < length all → HasValues ((ds ++ map g (take i all)) ++ g (get_or all i e) ∷ []) list → AreBehind all (i + 1) list
+  pub next_behind : (all : List A) (i : ℕ) (e : A) (list : ValueList) → i < length all
+      → HasValues ((ds ++ map g (take i all)) ++ g (get_or all i e) ∷ []) list → AreBehind all (i + 1) list
   next_behind all i e list within put =
       let more = sym (map-append g (take i all) (get_or all i e ∷ [])) ∙ sym (ap (map g) (take_more all i e within)) in
-      subst (λ (es : List Data). HasValues es list) (append_assoc ds (map g (take i all)) (g (get_or all i e) ∷ []) ∙ ap (λ (es : List Data). ds ++ es) more) put
+      subst (λ (es : List Data). HasValues es list) (append_assoc ds (map g (take i all)) (g (get_or all i e) ∷ [])
+          ∙ ap (λ (es : List Data). ds ++ es) more) put
 
   pub all_behind : (all : List A) (i : ℕ) (list : ValueList) → length all ≤ i → AreBehind all i list → HasValues (ds ++ map g all) list
-  all_behind all i list past so_far = subst (λ (es : List Data). HasValues es list) (ap (λ (es : List Data). ds ++ es) (ap (map g) (take_all i all past))) so_far
+  all_behind all i list past so_far = subst (λ (es : List Data). HasValues es list)
+      (ap (λ (es : List Data). ds ++ es) (ap (map g) (take_all i all past))) so_far

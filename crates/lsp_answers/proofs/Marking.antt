@@ -41,20 +41,24 @@ module _ {T : Type 0} (block : BlockKind T) (kind_of : T → DiagnosticKind) (li
       } in
       rw (take_more all i e within, put) (more (take i all) one ds d so_far is)
 
-  all_done : (all : List T) (i : ℕ) (ds : List Diagnostic) → length all ≤ i → AreMarked block kind_of lines (take i all) ds → AreMarked block kind_of lines all ds
+  all_done : (all : List T) (i : ℕ) (ds : List Diagnostic) → length all ≤ i → AreMarked block kind_of lines (take i all) ds
+      → AreMarked block kind_of lines all ds
   all_done all i ds past h = rw (take_all i all past) at h
 
   -- the same, where memory may have run out
-  pub put_more : (all : List T) (i : ℕ) (e : T) (found new : Result (Vec Diagnostic Global) AllocError) (number : ℕ) (kind : DiagnosticKind) (note : Result Note AllocError) (line : Option (List ℕ)) (shown : List ℕ)
+  pub put_more : (all : List T) (i : ℕ) (e : T) (found new : Result (Vec Diagnostic Global) AllocError) (number : ℕ) (kind : DiagnosticKind)
+      (note : Result Note AllocError) (line : Option (List ℕ)) (shown : List ℕ)
       → i < length all → IfOk found (λ ds. AreMarked block kind_of lines (take i all) ds.items)
       → line ≡ line_of lines (block.number (get_or all i e)) → shown ≡ line_or_none line
       → number ≡ block.number (get_or all i e) → kind ≡ kind_of (get_or all i e) → IfOk note (block.Fits (get_or all i e) shown)
       → IfOk new (λ ds. IsPut found number kind note ds.items) → IfOk new (λ ds. AreMarked block kind_of lines (take (i + 1) all) ds.items)
   put_more all i e found new number kind note line shown within so_far from same numbered kinded fits put =
-      IfOk-weaker new _ _ (λ ds p. one_more all i e p.before.items ds.items (record { line = number; kind = kind; note = p.said }) line shown within (IfOk-at_ok (λ (v : Vec Diagnostic Global). AreMarked block kind_of lines (take i all) v.items) p.had so_far) from same numbered kinded
+      IfOk-weaker new _ _ (λ ds p. one_more all i e p.before.items ds.items (record { line = number; kind = kind; note = p.said }) line shown within
+          (IfOk-at_ok (λ (v : Vec Diagnostic Global). AreMarked block kind_of lines (take i all) v.items) p.had so_far) from same numbered kinded
       (IfOk-at_ok (block.Fits (get_or all i e) shown) p.noted fits) p.all) put
 
-  pub all_put : (all : List T) (i : ℕ) (found : Result (Vec Diagnostic Global) AllocError) → length all ≤ i → IfOk found (λ ds. AreMarked block kind_of lines (take i all) ds.items)
+  pub all_put : (all : List T) (i : ℕ) (found : Result (Vec Diagnostic Global) AllocError) → length all ≤ i
+      → IfOk found (λ ds. AreMarked block kind_of lines (take i all) ds.items)
       → IfOk found (λ ds. AreMarked block kind_of lines all ds.items)
   all_put all i found past so_far = IfOk-weaker found _ _ (λ ds. all_done all i ds.items past) so_far
 

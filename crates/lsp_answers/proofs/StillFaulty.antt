@@ -16,7 +16,8 @@ not_alone false a b is = refl
 not_alone true true b is = is
 not_alone true false b is = refl
 
-by_test : (faulty : Bool) (number : ℕ) (rest : Option ℕ) → (faulty ≡ false → (n : ℕ) × (rest ≡ Some n)) → (n : ℕ) × ((if faulty then Some number else rest) ≡ Some n)
+by_test : (faulty : Bool) (number : ℕ) (rest : Option ℕ) → (faulty ≡ false → (n : ℕ) × (rest ≡ Some n)) → (n : ℕ)
+    × ((if faulty then Some number else rest) ≡ Some n)
 by_test true number rest more = (number, refl)
 by_test false number rest more = more refl
 
@@ -27,7 +28,8 @@ still_from profile word other number n [] is = absurd (none-some n is)
 still_from profile word other number n (line ∷ lines) is =
     by_test (is_faulty profile word other line) number (faulty_from profile word other (number + 1) lines)
     (λ not. still_from profile word other (number + 1) n lines
-    (subst (λ (b : Bool). (if b then Some number else faulty_from profile word word (number + 1) lines) ≡ Some n) (not_alone (is_err (read_line profile line)) (has_word word false line) (has_word other false line) not) is))
+    (subst (λ (b : Bool). (if b then Some number else faulty_from profile word word (number + 1) lines) ≡ Some n)
+        (not_alone (is_err (read_line profile line)) (has_word word false line) (has_word other false line) not) is))
 
 pub still_faulty : (profile : Profile) (source word other : List ℕ) (n : ℕ) → faulty_line profile source word word ≡ Some n
     → (m : ℕ) × (faulty_line profile source word other ≡ Some m)

@@ -16,17 +16,21 @@ cut xs i d within = rw (add-one, drop-cons xs i d) refl
 abbrev pub labels_left : Profile → Option ℕ → List (Bor (List ℕ)) → ℕ → List Fold
 labels_left profile from lines i = label_folds profile i from (texts_of (drop i lines))
 
-pub label_here : (profile : Profile) (from : Option ℕ) (i : ℕ) (lines : List (Bor (List ℕ))) (d : Bor (List ℕ)) → i < length lines → is_label_line profile (get_or lines i d).now ≡ true
+pub label_here : (profile : Profile) (from : Option ℕ) (i : ℕ) (lines : List (Bor (List ℕ))) (d : Bor (List ℕ)) → i < length lines
+    → is_label_line profile (get_or lines i d).now ≡ true
     → labels_left profile from lines i ≡ folds_to kinds.Label from i ++ labels_left profile (Some i) lines (i + 1)
 unfolding label_folds
-label_here profile from i lines d within here = ap (λ (ls : List (Bor (List ℕ))). label_folds profile i from (texts_of ls)) (cut lines i d within) ∙ rw here refl
+label_here profile from i lines d within here = ap (λ (ls : List (Bor (List ℕ))). label_folds profile i from (texts_of ls)) (cut lines i d within)
+    ∙ rw here refl
 
-pub no_label : (profile : Profile) (from : Option ℕ) (i : ℕ) (lines : List (Bor (List ℕ))) (d : Bor (List ℕ)) → i < length lines → is_label_line profile (get_or lines i d).now ≡ false
+pub no_label : (profile : Profile) (from : Option ℕ) (i : ℕ) (lines : List (Bor (List ℕ))) (d : Bor (List ℕ)) → i < length lines
+    → is_label_line profile (get_or lines i d).now ≡ false
     → labels_left profile from lines i ≡ labels_left profile from lines (i + 1)
 unfolding label_folds
 no_label profile from i lines d within none = ap (λ (ls : List (Bor (List ℕ))). label_folds profile i from (texts_of ls)) (cut lines i d within) ∙ rw none refl
 
-pub labels_end : (profile : Profile) (from : Option ℕ) (i : ℕ) (lines : List (Bor (List ℕ))) → length lines ≡ i → labels_left profile from lines i ≡ folds_to kinds.Label from (length lines)
+pub labels_end : (profile : Profile) (from : Option ℕ) (i : ℕ) (lines : List (Bor (List ℕ))) → length lines ≡ i
+    → labels_left profile from lines i ≡ folds_to kinds.Label from (length lines)
 unfolding label_folds
 labels_end profile from i lines at = rw (← at, drop_all (length lines) lines (omega arith)) refl
 
@@ -45,6 +49,7 @@ pub no_comment : (from : Option ℕ) (i : ℕ) (lines : List (Bor (List ℕ))) (
 unfolding comment_folds
 no_comment from i lines d within none = ap (λ (ls : List (Bor (List ℕ))). comment_folds i from (texts_of ls)) (cut lines i d within) ∙ rw none refl
 
-pub comments_end : (from : Option ℕ) (i : ℕ) (lines : List (Bor (List ℕ))) → length lines ≡ i → comments_left from lines i ≡ folds_to kinds.Comment from (length lines)
+pub comments_end : (from : Option ℕ) (i : ℕ) (lines : List (Bor (List ℕ))) → length lines ≡ i
+    → comments_left from lines i ≡ folds_to kinds.Comment from (length lines)
 unfolding comment_folds
 comments_end from i lines at = rw (← at, drop_all (length lines) lines (omega arith)) refl

@@ -19,7 +19,8 @@ opened profile lines between found i d within is =
     ap (λ (fs : List Found). hints_from profile lines between i (found_all fs)) (cut found i d within ∙ sym (ap (λ (f : Found). f ∷ drop (i + 1) found) is))
 
 -- a line without a fault of the layout
-pub one_line : (profile : Profile) (lines : List (List ℕ)) (between : ℕ × ℕ) (found : List Found) (i : ℕ) (d : Found) (old new whole : List Data) → i < length found → d ≡ get_or found i d
+pub one_line : (profile : Profile) (lines : List (List ℕ)) (between : ℕ × ℕ) (found : List Found) (i : ℕ) (d : Found) (old new whole : List Data)
+    → i < length found → d ≡ get_or found i d
     → is_refused (found_view d) ≡ false → new ≡ old ++ hints_at profile lines between i (found_view d) → old ++ hints_left profile lines between found i ≡ whole
     → new ++ hints_left profile lines between found (i + 1) ≡ whole
 unfolding hints_from
@@ -30,7 +31,8 @@ one_line profile lines between found i d old new whole within is right put so_fa
     ap (λ (ds : List Data). ds ++ behind) put ∙ append_assoc old piece behind ∙ sym (ap (λ (ds : List Data). old ++ ds) at) ∙ so_far
 
 -- a line with one
-pub stopped : (profile : Profile) (lines : List (List ℕ)) (between : ℕ × ℕ) (found : List Found) (i : ℕ) (d : Found) (old whole : List Data) → i < length found → d ≡ get_or found i d
+pub stopped : (profile : Profile) (lines : List (List ℕ)) (between : ℕ × ℕ) (found : List Found) (i : ℕ) (d : Found) (old whole : List Data)
+    → i < length found → d ≡ get_or found i d
     → is_refused (found_view d) ≡ true → old ++ hints_left profile lines between found i ≡ whole → old ≡ whole
 unfolding hints_from
 stopped profile lines between found i d old whole within is wrong so_far =

@@ -13,13 +13,15 @@ no_label profile [] few = refl
 no_label profile (t ∷ []) few = refl
 no_label profile (t ∷ mark ∷ ts) few = absurd (omega (arith, few))
 
-pub label_then : (profile : Profile) (tokens : List Token) (c d : Token) (named is : Bool) → 2 ≤ length tokens → named ≡ is_name_token profile (lexeme_of (get_or tokens 0 c)) → named ≡ true
+pub label_then : (profile : Profile) (tokens : List Token) (c d : Token) (named is : Bool) → 2 ≤ length tokens
+    → named ≡ is_name_token profile (lexeme_of (get_or tokens 0 c)) → named ≡ true
     → is ≡ is_symbol (get_or tokens 1 d) 58 → is ≡ is_label profile (lexemes tokens)
 label_then profile [] c d named is enough h p k = absurd (omega (arith, enough))
 label_then profile (t ∷ []) c d named is enough h p k = absurd (omega (arith, enough))
 label_then profile (t ∷ mark ∷ ts) c d named is enough h p k = rw (sym h ∙ p) k
 
-pub label_else : (profile : Profile) (tokens : List Token) (c : Token) (named : Bool) → 2 ≤ length tokens → named ≡ is_name_token profile (lexeme_of (get_or tokens 0 c)) → named ≡ false
+pub label_else : (profile : Profile) (tokens : List Token) (c : Token) (named : Bool) → 2 ≤ length tokens
+    → named ≡ is_name_token profile (lexeme_of (get_or tokens 0 c)) → named ≡ false
     → named ≡ is_label profile (lexemes tokens)
 label_else profile [] c named enough h p = absurd (omega (arith, enough))
 label_else profile (t ∷ []) c named enough h p = absurd (omega (arith, enough))
@@ -30,12 +32,14 @@ no_definition [] few = refl
 no_definition (t ∷ []) few = refl
 no_definition (t ∷ mark ∷ ts) few = absurd (omega (arith, few))
 
-pub definition_then : (tokens : List Token) (c : Token) (is : Bool) → 2 ≤ length tokens → is ≡ is_symbol (get_or tokens 1 c) 58 → is ≡ true → is ≡ starts_definition (lexemes tokens)
+pub definition_then : (tokens : List Token) (c : Token) (is : Bool) → 2 ≤ length tokens → is ≡ is_symbol (get_or tokens 1 c) 58 → is ≡ true
+    → is ≡ starts_definition (lexemes tokens)
 definition_then [] c is enough h p = absurd (omega (arith, enough))
 definition_then (t ∷ []) c is enough h p = absurd (omega (arith, enough))
 definition_then (t ∷ mark ∷ ts) c is enough h p = rw (sym h ∙ p) p
 
-pub definition_else : (tokens : List Token) (c d : Token) (is last : Bool) → 2 ≤ length tokens → is ≡ is_symbol (get_or tokens 1 c) 58 → is ≡ false → last ≡ is_symbol (get_or tokens 1 d) 61
+pub definition_else : (tokens : List Token) (c d : Token) (is last : Bool) → 2 ≤ length tokens → is ≡ is_symbol (get_or tokens 1 c) 58 → is ≡ false
+    → last ≡ is_symbol (get_or tokens 1 d) 61
     → last ≡ starts_definition (lexemes tokens)
 definition_else [] c d is last enough h p k = absurd (omega (arith, enough))
 definition_else (t ∷ []) c d is last enough h p k = absurd (omega (arith, enough))

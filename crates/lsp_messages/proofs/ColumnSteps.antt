@@ -15,13 +15,15 @@ not_here left units b (inr some) is =
     let past : (left == 0) ≡ false = search (rules, tests, some) in
     rw past refl
 
-pub reached : (left : ℕ) (line : List ℕ) (i whole : ℕ) → i < length line → is_reached left (get_or line i 0) ≡ true → whole ≡ i + column_of left (drop i line) → i ≡ whole
+pub reached : (left : ℕ) (line : List ℕ) (i whole : ℕ) → i < length line → is_reached left (get_or line i 0) ≡ true
+    → whole ≡ i + column_of left (drop i line) → i ≡ whole
 unfolding column_of
 reached left line i whole within here so_far =
     let at : column_of left (drop i line) ≡ 0 = rw (cut line i within, here) refl in
     omega (arith, at, so_far)
 
-pub passed : (left : ℕ) (line : List ℕ) (i whole more : ℕ) → i < length line → is_reached left (get_or line i 0) ≡ false → more ≡ left - units_of (get_or line i 0)
+pub passed : (left : ℕ) (line : List ℕ) (i whole more : ℕ) → i < length line → is_reached left (get_or line i 0) ≡ false
+    → more ≡ left - units_of (get_or line i 0)
     → whole ≡ i + column_of left (drop i line) → whole ≡ i + 1 + column_of more (drop (i + 1) line)
 unfolding column_of
 passed left line i whole more within not_here is so_far =

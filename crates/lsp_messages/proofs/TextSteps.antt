@@ -17,7 +17,8 @@ no_lines zero = refl
 no_lines (suc line) = no_lines line
 
 -- one line more
-pub line_more : (left : ℕ) (rest behind whole : List ℕ) → 0 < left → behind ≡ behind_line rest → from_line left rest ≡ whole → from_line (left - 1) behind ≡ whole
+pub line_more : (left : ℕ) (rest behind whole : List ℕ) → 0 < left → behind ≡ behind_line rest → from_line left rest ≡ whole
+    → from_line (left - 1) behind ≡ whole
 line_more left rest behind whole some is so_far = rw is (sym (next_line left (left - 1) rest (omega (arith, some))) ∙ so_far)
 
 -- no line, or nothing, is left
@@ -34,7 +35,8 @@ pub no_changes : (text : Option (List ℕ)) (all : List Value) (i : ℕ) → len
 unfolding changed_text
 no_changes text all i past = rw (drop_all i all past) refl
 
-pub one_change : (text made : Option (List ℕ)) (all : List Value) (i : ℕ) (e : Value) → i < length all → made ≡ changed_by text (change_of (view (get_or all i e)))
+pub one_change : (text made : Option (List ℕ)) (all : List Value) (i : ℕ) (e : Value) → i < length all
+    → made ≡ changed_by text (change_of (view (get_or all i e)))
     → changed_text text (items_view (drop i all)) ≡ changed_text made (items_view (drop (i + 1) all))
 unfolding changed_text
 one_change text made all i e within is =

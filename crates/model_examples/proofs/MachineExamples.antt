@@ -144,13 +144,15 @@ after_load pc = record no_regs { a = 0x80; pc = pc; flags = record no_flags { n 
 -- LDA #$80 sets N and takes 2 cycles
 load_immediate : step (with_memory (0xA9 ∷ 0x80 ∷ 0x8D ∷ 0x06 ∷ 0x00 ∷ 0xEA ∷ 0x00 ∷ []) no_regs 7)
     ≡ Ok (with_memory (0xA9 ∷ 0x80 ∷ 0x8D ∷ 0x06 ∷ 0x00 ∷ 0xEA ∷ 0x00 ∷ []) (after_load 2) 9)
-unfolding step attempt execution past_instruction stores after_operation load regs_after_read operand after_operand effective_address operation_of row_at find_row table documented_opcodes
+unfolding step attempt execution past_instruction stores after_operation load regs_after_read operand after_operand effective_address operation_of
+    row_at find_row table documented_opcodes
 load_immediate = refl
 
 -- STA $0006 stores A and takes 4
 store_absolute : step (with_memory (0xA9 ∷ 0x80 ∷ 0x8D ∷ 0x06 ∷ 0x00 ∷ 0xEA ∷ 0x00 ∷ []) (after_load 2) 9)
     ≡ Ok (with_memory (0xA9 ∷ 0x80 ∷ 0x8D ∷ 0x06 ∷ 0x00 ∷ 0xEA ∷ 0x80 ∷ []) (after_load 5) 13)
-unfolding step attempt execution past_instruction stores after_operation store store_value after_write overflows is_port is_rom effective_address address_at operation_of row_at find_row table documented_opcodes
+unfolding step attempt execution past_instruction stores after_operation store store_value after_write overflows is_port is_rom effective_address
+    address_at operation_of row_at find_row table documented_opcodes
 store_absolute = refl
 
 -- NOP takes 2 cycles and changes nothing else
@@ -164,13 +166,15 @@ with_x x = record no_regs { x = x }
 -- LDA $FF,X with X = 2 stays in the zero page: it reads $0001, in 4 cycles
 zero_page_wraps : step (with_memory (0xB5 ∷ 0xFF ∷ []) (with_x 2) 7)
     ≡ Ok (with_memory (0xB5 ∷ 0xFF ∷ []) (record (with_x 2) { a = 0xFF; pc = 2; flags = record no_flags { n = true } }) 11)
-unfolding step attempt execution past_instruction stores after_operation load regs_after_read operand after_operand effective_address operation_of row_at find_row table documented_opcodes is_port byte_read after_read
+unfolding step attempt execution past_instruction stores after_operation load regs_after_read operand after_operand effective_address operation_of
+    row_at find_row table documented_opcodes is_port byte_read after_read
 zero_page_wraps = refl
 
 -- LDA $12FF,X with X = 1 leaves the page: 5 cycles
 page_left : step (with_memory (0xBD ∷ 0xFF ∷ 0x12 ∷ []) (with_x 1) 7)
     ≡ Ok (with_memory (0xBD ∷ 0xFF ∷ 0x12 ∷ []) (record (with_x 1) { pc = 3; flags = record no_flags { z = true } }) 12)
-unfolding step attempt execution past_instruction stores after_operation load regs_after_read operand after_operand effective_address address_at operation_of row_at find_row table documented_opcodes is_port byte_read after_read
+unfolding step attempt execution past_instruction stores after_operation load regs_after_read operand after_operand effective_address address_at
+    operation_of row_at find_row table documented_opcodes is_port byte_read after_read
 page_left = refl
 
 -- an opcode without a row
@@ -207,12 +211,14 @@ added_opcode = refl
 -- BRA $0301 at $02FD leaves the page: 4 cycles
 branch_always : step (in_profile C (replicate 0x2FD 0 ++ 0x80 ∷ 0x02 ∷ []) (record no_regs { pc = 0x2FD }) 7)
     ≡ Ok (in_profile C (replicate 0x2FD 0 ++ 0x80 ∷ 0x02 ∷ []) (record no_regs { pc = 0x301 }) 11)
-unfolding step attempt execution past_instruction stores after_operation branch branches effective_address operation_of row_at find_row table documented_opcodes added_opcodes
+unfolding step attempt execution past_instruction stores after_operation branch branches effective_address operation_of row_at find_row table
+    documented_opcodes added_opcodes
 branch_always = refl
 
 -- STZ $03 stores 0, changes no flag and takes 3 cycles
 store_zero : step (in_profile C (0x64 ∷ 0x03 ∷ 0xFF ∷ 0xFF ∷ []) (after_load 0) 7) ≡ Ok (in_profile C (0x64 ∷ 0x03 ∷ 0xFF ∷ 0 ∷ []) (after_load 2) 10)
-unfolding step attempt execution past_instruction stores after_operation store store_value after_write overflows is_port is_rom effective_address operation_of row_at find_row table documented_opcodes added_opcodes
+unfolding step attempt execution past_instruction stores after_operation store store_value after_write overflows is_port is_rom effective_address
+    operation_of row_at find_row table documented_opcodes added_opcodes
 store_zero = refl
 
 -- memory with a pointer at $FF and $00, LDA ($FF) at $0200, and the byte that it loads at $0310
@@ -221,7 +227,8 @@ with_pointer = 0x03 ∷ replicate 0xFE 0 ++ 0x10 ∷ replicate 0x100 0 ++ 0xB2 �
 
 -- LDA ($FF) takes the pointer's high byte at $0000, in 5 cycles
 load_indirect : step (in_profile C with_pointer (record no_regs { pc = 0x200 }) 7) ≡ Ok (in_profile C with_pointer (after_load 0x202) 12)
-unfolding step attempt execution past_instruction stores after_operation load regs_after_read operand after_operand effective_address address_in_page operation_of row_at find_row table documented_opcodes added_opcodes is_port byte_read after_read
+unfolding step attempt execution past_instruction stores after_operation load regs_after_read operand after_operand effective_address address_in_page
+    operation_of row_at find_row table documented_opcodes added_opcodes is_port byte_read after_read
 load_indirect = refl
 
 -- memory with JMP ($00FF) at 0, and bytes at $00FF and $0100
@@ -231,11 +238,13 @@ with_jump = 0x6C ∷ 0xFF ∷ 0x00 ∷ replicate 0xFC 0 ++ 0x10 ∷ 0x03 ∷ []
 -- JMP ($00FF) takes the high byte at $0100 in profile C, and at $0000 in profile N, in 5 cycles
 -- both
 jump_over_page : step (in_profile C with_jump no_regs 7) ≡ Ok (in_profile C with_jump (record no_regs { pc = 0x0310 }) 12)
-unfolding step attempt execution past_instruction stores after_operation effective_address jump_target address_at operation_of row_at find_row table documented_opcodes added_opcodes
+unfolding step attempt execution past_instruction stores after_operation effective_address jump_target address_at operation_of row_at find_row table
+    documented_opcodes added_opcodes
 jump_over_page = refl
 
 jump_in_page : step (in_profile N with_jump no_regs 7) ≡ Ok (in_profile N with_jump (record no_regs { pc = 0x6C10 }) 12)
-unfolding step attempt execution past_instruction stores after_operation effective_address jump_target address_at address_in_page operation_of row_at find_row table documented_opcodes
+unfolding step attempt execution past_instruction stores after_operation effective_address jump_target address_at address_in_page operation_of row_at
+    find_row table documented_opcodes
 jump_in_page = refl
 
 -- registers at a BRK at $0200 in decimal mode, and memory after it
@@ -248,12 +257,14 @@ with_return = replicate 0x1FB 0 ++ 0x38 ∷ 0x02 ∷ 0x02 ∷ replicate 3 0
 -- BRK pushes the status with D, and then clears D in profile C and leaves it in profile N
 break_clears_decimal : step (in_profile C (replicate 0x201 0) decimal_regs 7)
     ≡ Ok (in_profile C with_return (record no_regs { s = 0xFA; flags = record no_flags { i = true } }) 14)
-unfolding step attempt execution past_instruction stores after_operation break_entry interrupt_sequence after_push status effective_address address_at operation_of row_at find_row table documented_opcodes added_opcodes
+unfolding step attempt execution past_instruction stores after_operation break_entry interrupt_sequence after_push status effective_address address_at
+    operation_of row_at find_row table documented_opcodes added_opcodes
 break_clears_decimal = refl
 
 break_keeps_decimal : step (in_profile N (replicate 0x201 0) decimal_regs 7)
     ≡ Ok (in_profile N with_return (record no_regs { s = 0xFA; flags = record no_flags { d = true; i = true } }) 14)
-unfolding step attempt execution past_instruction stores after_operation break_entry interrupt_sequence after_push status effective_address address_at operation_of row_at find_row table documented_opcodes
+unfolding step attempt execution past_instruction stores after_operation break_entry interrupt_sequence after_push status effective_address address_at
+    operation_of row_at find_row table documented_opcodes
 break_keeps_decimal = refl
 
 -- PLX pulls X, with N and Z of it, in 4 cycles
@@ -262,12 +273,15 @@ with_pulled = 0xFA ∷ replicate 0x1FD 0 ++ 0x80 ∷ []
 
 pull_into_x : step (in_profile C with_pulled (record no_regs { s = 0xFD }) 7)
     ≡ Ok (in_profile C with_pulled (record no_regs { x = 0x80; s = 0xFE; pc = 1; flags = record no_flags { n = true } }) 11)
-unfolding step attempt execution past_instruction stores after_operation pull_x stack_top after_pull effective_address operation_of row_at find_row table documented_opcodes added_opcodes
+unfolding step attempt execution past_instruction stores after_operation pull_x stack_top after_pull effective_address operation_of row_at find_row
+    table documented_opcodes added_opcodes
 pull_into_x = refl
 
 -- INC A
-increment_a : step (in_profile C (0x1A ∷ []) (record no_regs { a = 0xFF }) 7) ≡ Ok (in_profile C (0x1A ∷ []) (record no_regs { pc = 1; flags = record no_flags { z = true } }) 9)
-unfolding step attempt execution past_instruction stores after_operation modify_a modify_sum effective_address operation_of row_at find_row table documented_opcodes added_opcodes
+increment_a : step (in_profile C (0x1A ∷ []) (record no_regs { a = 0xFF }) 7)
+    ≡ Ok (in_profile C (0x1A ∷ []) (record no_regs { pc = 1; flags = record no_flags { z = true } }) 9)
+unfolding step attempt execution past_instruction stores after_operation modify_a modify_sum effective_address operation_of row_at find_row table
+    documented_opcodes added_opcodes
 increment_a = refl
 
 -- ---- the port's control byte
@@ -356,7 +370,8 @@ control_reset = refl
 
 -- the entries' vectors: the IRQ's at $FFFE, the NMI's at $FFFA
 abbrev with_vectors : Bool → State
-with_vectors nmi = record (asking true 0 false nmi) { bus = record (asking true 0 false nmi).bus { memory = replicate 0xFFFA 0 ++ 0x00 ∷ 0x03 ∷ 0x00 ∷ 0x02 ∷ 0x00 ∷ 0x04 ∷ [] } }
+with_vectors nmi = record (asking true 0 false nmi) { bus = record (asking true 0 false nmi).bus
+    { memory = replicate 0xFFFA 0 ++ 0x00 ∷ 0x03 ∷ 0x00 ∷ 0x02 ∷ 0x00 ∷ 0x04 ∷ [] } }
 
 abbrev pc_after : Result State EventFault → ℕ
 pc_after (Ok s) = s.regs.pc
@@ -467,7 +482,8 @@ print_cycles_full : fault_line event_fault.CyclesFull ≡ codes "! CYCLES FULL\n
 unfolding fault_line refused_text
 print_cycles_full = refl
 
-print_registers : register_line (with_memory [] (record no_regs { s = 0xFD; flags = record no_flags { i = true } }) 7) ≡ codes "A=00 X=00 Y=00 S=FD P=24 PC=0000 CYC=" ++ decimal 7 ++ 10 ∷ []
+print_registers : register_line (with_memory [] (record no_regs { s = 0xFD; flags = record no_flags { i = true } }) 7)
+    ≡ codes "A=00 X=00 Y=00 S=FD P=24 PC=0000 CYC=" ++ decimal 7 ++ 10 ∷ []
 unfolding register_line status
 print_registers = refl
 

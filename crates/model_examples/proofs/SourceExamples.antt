@@ -31,7 +31,8 @@ unfolding read_line tokens_of tokens_from token_at line_of statement_of
 remark = refl
 
 load : read_line N (codes "  lda #$41;") ≡ Ok (labelled None (instruction Lda (immediate (literal (Some (pos 65))))))
-unfolding read_line tokens_of tokens_from token_at line_of statement_of mnemonic_named named_among mnemonics mnemonic_text operand_of whole_expression expression_of
+unfolding read_line tokens_of tokens_from token_at line_of statement_of mnemonic_named named_among mnemonics mnemonic_text operand_of whole_expression
+    expression_of
 load = refl
 
 shift : read_line N (codes "ASL A") ≡ Ok (labelled None (instruction Asl accumulator))
@@ -65,7 +66,9 @@ unfolding line_bytes pieces_of operand_piece branch_piece eval_of
 branch = refl
 
 -- the lowest kind decides: a byte at the port comes before a division by zero
-at_the_port : value_fault (record { profile = N; rom = None; port = 0xF000 }) (number_in []) [] (record { address = 0xF000; content = code 0xA9 Imm (Some (binary operator.Divide (literal (Some (pos 1))) (literal (Some (pos 0))))) }) ≡ Some kind.PortAddress
+at_the_port : value_fault (record { profile = N; rom = None; port = 0xF000 }) (number_in []) []
+    (record { address = 0xF000; content = code 0xA9 Imm (Some (binary operator.Divide (literal (Some (pos 1))) (literal (Some (pos 0))))) })
+    ≡ Some kind.PortAddress
 unfolding value_fault pieces_of operand_piece byte_piece eval_of place_kinds has_bytes has_port is_port has_byte size_of lower lowest
 at_the_port = refl
 
@@ -84,32 +87,40 @@ unfolding read_line tokens_of tokens_from token_at line_of whole_expression expr
 reserved_name = refl
 
 -- a definition gives a name its number, and then an operand that it sizes is in the zero page
-defined : layout_of (record { profile = N; address = 0; names = [] }) (codes "zpname = $10") ≡ Ok (record { address = 0; content = no_bytes }, record { profile = N; address = 0; names = (codes "zpname", pos 16) ∷ [] })
-unfolding layout_of read_line tokens_of tokens_from token_at line_of whole_expression expression_of is_reserved mnemonic_named named_among mnemonics mnemonic_text named_line_at eval_of size_of
+defined : layout_of (record { profile = N; address = 0; names = [] }) (codes "zpname = $10")
+    ≡ Ok (record { address = 0; content = no_bytes }, record { profile = N; address = 0; names = (codes "zpname", pos 16) ∷ [] })
+unfolding layout_of read_line tokens_of tokens_from token_at line_of whole_expression expression_of is_reserved mnemonic_named named_among mnemonics
+    mnemonic_text named_line_at eval_of size_of
 defined = refl
 
 duplicate : layout_of (record { profile = N; address = 0; names = (codes "a1", pos 1) ∷ [] }) (codes "a1 = 2") ≡ Err kind.DuplicateName
-unfolding layout_of read_line tokens_of tokens_from token_at line_of whole_expression expression_of is_reserved mnemonic_named named_among mnemonics mnemonic_text named_line_at eval_of size_of
+unfolding layout_of read_line tokens_of tokens_from token_at line_of whole_expression expression_of is_reserved mnemonic_named named_among mnemonics
+    mnemonic_text named_line_at eval_of size_of
 duplicate = refl
 
 unknown_here : layout_of (record { profile = N; address = 0; names = [] }) (codes "n1 = n2") ≡ Err kind.UnknownHere
-unfolding layout_of read_line tokens_of tokens_from token_at line_of whole_expression expression_of is_reserved mnemonic_named named_among mnemonics mnemonic_text named_line_at eval_of size_of
+unfolding layout_of read_line tokens_of tokens_from token_at line_of whole_expression expression_of is_reserved mnemonic_named named_among mnemonics
+    mnemonic_text named_line_at eval_of size_of
 unknown_here = refl
 
 reserved_room : layout_of (record { profile = N; address = 65535; names = [] }) (codes "foo: .RES foo") ≡ Err kind.OriginRange
-unfolding layout_of read_line tokens_of tokens_from token_at line_of statement_of directive_of whole_expression expression_of is_reserved mnemonic_named named_among mnemonics mnemonic_text named_line_at statement_at eval_of size_of
+unfolding layout_of read_line tokens_of tokens_from token_at line_of statement_of directive_of whole_expression expression_of is_reserved
+    mnemonic_named named_among mnemonics mnemonic_text named_line_at statement_at eval_of size_of
 reserved_room = refl
 
 -- a name that a line below defines takes the absolute form, one that a line above defines the zero
 -- page form
 below_here : layout_of (record { profile = N; address = 0; names = [] }) (codes "LDA zpname")
     ≡ Ok (record { address = 0; content = code 0xAD Abs (Some (name (codes "zpname"))) }, record { profile = N; address = 3; names = [] })
-unfolding layout_of read_line tokens_of tokens_from token_at line_of statement_of operand_of expression_of is_reserved mnemonic_named named_among mnemonics mnemonic_text named_line_at statement_at form_of opcode_of find_opcode table documented_opcodes eval_of size_of
+unfolding layout_of read_line tokens_of tokens_from token_at line_of statement_of operand_of expression_of is_reserved mnemonic_named named_among
+    mnemonics mnemonic_text named_line_at statement_at form_of opcode_of find_opcode table documented_opcodes eval_of size_of
 below_here = refl
 
 above_here : layout_of (record { profile = N; address = 0; names = (codes "zpname", pos 16) ∷ [] }) (codes "LDA zpname")
-    ≡ Ok (record { address = 0; content = code 0xA5 Zp (Some (name (codes "zpname"))) }, record { profile = N; address = 2; names = (codes "zpname", pos 16) ∷ [] })
-unfolding layout_of read_line tokens_of tokens_from token_at line_of statement_of operand_of expression_of is_reserved mnemonic_named named_among mnemonics mnemonic_text named_line_at statement_at form_of opcode_of find_opcode table documented_opcodes eval_of size_of
+    ≡ Ok (record { address = 0; content = code 0xA5 Zp (Some (name (codes "zpname"))) }, record
+        { profile = N; address = 2; names = (codes "zpname", pos 16) ∷ [] })
+unfolding layout_of read_line tokens_of tokens_from token_at line_of statement_of operand_of expression_of is_reserved mnemonic_named named_among
+    mnemonics mnemonic_text named_line_at statement_at form_of opcode_of find_opcode table documented_opcodes eval_of size_of
 above_here = refl
 
 -- ---- profile C
@@ -125,28 +136,40 @@ free_by_profile = refl
 
 -- `!` takes the absolute mode
 store_zero : one_line C 0x0200 (codes "STZ !$10") ≡ Ok (0x9C ∷ 0x10 ∷ 0x00 ∷ [])
-unfolding one_line read_line tokens_of tokens_from token_at line_of statement_of mnemonic_named named_among mnemonics mnemonic_text operand_of whole_expression expression_of is_reserved named_line_at statement_at form_of opcode_of find_opcode table documented_opcodes added_opcodes eval_of size_of pieces_of operand_piece byte_piece address_piece zero_page_piece branch_piece place_kinds line_bytes lower lowest
+unfolding one_line read_line tokens_of tokens_from token_at line_of statement_of mnemonic_named named_among mnemonics mnemonic_text operand_of
+    whole_expression expression_of is_reserved named_line_at statement_at form_of opcode_of find_opcode table documented_opcodes added_opcodes eval_of
+    size_of pieces_of operand_piece byte_piece address_piece zero_page_piece branch_piece place_kinds line_bytes lower lowest
 store_zero = refl
 
 -- `(e)` is the zero page mode, but JMP's
 indirect : one_line C 0x0200 (codes "LDA ($10)") ≡ Ok (0xB2 ∷ 0x10 ∷ [])
-unfolding one_line read_line tokens_of tokens_from token_at line_of statement_of mnemonic_named named_among mnemonics mnemonic_text operand_of whole_expression expression_of is_reserved named_line_at statement_at form_of opcode_of find_opcode table documented_opcodes added_opcodes eval_of size_of pieces_of operand_piece byte_piece address_piece zero_page_piece branch_piece place_kinds line_bytes lower lowest
+unfolding one_line read_line tokens_of tokens_from token_at line_of statement_of mnemonic_named named_among mnemonics mnemonic_text operand_of
+    whole_expression expression_of is_reserved named_line_at statement_at form_of opcode_of find_opcode table documented_opcodes added_opcodes eval_of
+    size_of pieces_of operand_piece byte_piece address_piece zero_page_piece branch_piece place_kinds line_bytes lower lowest
 indirect = refl
 
 indirect_in_n : one_line N 0x0200 (codes "LDA ($10)") ≡ Err kind.NoSuchForm
-unfolding one_line read_line tokens_of tokens_from token_at line_of statement_of mnemonic_named named_among mnemonics mnemonic_text operand_of whole_expression expression_of is_reserved named_line_at statement_at form_of opcode_of find_opcode table documented_opcodes added_opcodes eval_of size_of pieces_of operand_piece byte_piece address_piece zero_page_piece branch_piece place_kinds line_bytes lower lowest
+unfolding one_line read_line tokens_of tokens_from token_at line_of statement_of mnemonic_named named_among mnemonics mnemonic_text operand_of
+    whole_expression expression_of is_reserved named_line_at statement_at form_of opcode_of find_opcode table documented_opcodes added_opcodes eval_of
+    size_of pieces_of operand_piece byte_piece address_piece zero_page_piece branch_piece place_kinds line_bytes lower lowest
 indirect_in_n = refl
 
 indirect_too_high : one_line C 0x0200 (codes "LDA ($100)") ≡ Err kind.ByteRange
-unfolding one_line read_line tokens_of tokens_from token_at line_of statement_of mnemonic_named named_among mnemonics mnemonic_text operand_of whole_expression expression_of is_reserved named_line_at statement_at form_of opcode_of find_opcode table documented_opcodes added_opcodes eval_of size_of pieces_of operand_piece byte_piece address_piece zero_page_piece branch_piece place_kinds line_bytes lower lowest
+unfolding one_line read_line tokens_of tokens_from token_at line_of statement_of mnemonic_named named_among mnemonics mnemonic_text operand_of
+    whole_expression expression_of is_reserved named_line_at statement_at form_of opcode_of find_opcode table documented_opcodes added_opcodes eval_of
+    size_of pieces_of operand_piece byte_piece address_piece zero_page_piece branch_piece place_kinds line_bytes lower lowest
 indirect_too_high = refl
 
 jump_indirect : one_line C 0x0200 (codes "JMP ($10)") ≡ Ok (0x6C ∷ 0x10 ∷ 0x00 ∷ [])
-unfolding one_line read_line tokens_of tokens_from token_at line_of statement_of mnemonic_named named_among mnemonics mnemonic_text operand_of whole_expression expression_of is_reserved named_line_at statement_at form_of opcode_of find_opcode table documented_opcodes added_opcodes eval_of size_of pieces_of operand_piece byte_piece address_piece zero_page_piece branch_piece place_kinds line_bytes lower lowest
+unfolding one_line read_line tokens_of tokens_from token_at line_of statement_of mnemonic_named named_among mnemonics mnemonic_text operand_of
+    whole_expression expression_of is_reserved named_line_at statement_at form_of opcode_of find_opcode table documented_opcodes added_opcodes eval_of
+    size_of pieces_of operand_piece byte_piece address_piece zero_page_piece branch_piece place_kinds line_bytes lower lowest
 jump_indirect = refl
 
 branch_always : one_line C 0x02FD (codes "BRA $0301") ≡ Ok (0x80 ∷ 0x02 ∷ [])
-unfolding one_line read_line tokens_of tokens_from token_at line_of statement_of mnemonic_named named_among mnemonics mnemonic_text operand_of whole_expression expression_of is_reserved named_line_at statement_at form_of opcode_of find_opcode table documented_opcodes added_opcodes eval_of size_of pieces_of operand_piece byte_piece address_piece zero_page_piece branch_piece place_kinds line_bytes lower lowest
+unfolding one_line read_line tokens_of tokens_from token_at line_of statement_of mnemonic_named named_among mnemonics mnemonic_text operand_of
+    whole_expression expression_of is_reserved named_line_at statement_at form_of opcode_of find_opcode table documented_opcodes added_opcodes eval_of
+    size_of pieces_of operand_piece byte_piece address_piece zero_page_piece branch_piece place_kinds line_bytes lower lowest
 branch_always = refl
 
 -- the same as text

@@ -17,7 +17,8 @@ unfolding tokens_of tokens_from token_at
 instruction = refl
 
 -- a directive ends at a digit
-directive_then_number : tokens_of (codes ".BYTE1,2") ≡ Some (token Directive 0 (codes ".BYTE") ∷ token Number 5 (codes "1") ∷ token Symbol 6 (codes ",") ∷ token Number 7 (codes "2") ∷ [])
+directive_then_number : tokens_of (codes ".BYTE1,2") ≡ Some (token Directive 0 (codes ".BYTE") ∷ token Number 5 (codes "1")
+    ∷ token Symbol 6 (codes ",") ∷ token Number 7 (codes "2") ∷ [])
 unfolding tokens_of tokens_from token_at
 directive_then_number = refl
 

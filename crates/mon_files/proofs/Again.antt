@@ -84,7 +84,8 @@ no_states [] h = refl
 no_states (x ∷ xs) h = absurd (omega (arith, h))
 
 -- no record tells of a state that holds none before it
-pub none_told : (start : State) (s : Session) (records : List ℕ) → records ≡ [] → length s.earlier ≡ 0 → start ≡ s.current → Tells start records s.earlier s.current
+pub none_told : (start : State) (s : Session) (records : List ℕ) → records ≡ [] → length s.earlier ≡ 0 → start ≡ s.current
+    → Tells start records s.earlier s.current
 none_told start s records none held at =
     subst (λ (x : State). Tells start records s.earlier x) at
     (subst (λ (l : List State). Tells start records l start) (sym (no_states s.earlier held))

@@ -6,7 +6,8 @@ use Rattle.mon_line_parts.specs.Reading.{Reads, SeenFlaw, after, and_then, is_em
 use Rattle.mon_line_parts.specs.Values.{is_sign, piece_of, pieces_of, quoted_by, quoted_of, term_of, terms_of, with_piece}
 use Rattle.mon_line_parts.specs.declared.values.Kind.{Kind}
 
-pub no_sign : (n : ℕ) (places : PlacesView) (kind : Kind) (total : ℤ) (text : List ℕ) → is_sign text ≡ false → terms_of n places kind total text ≡ Ok (total, text)
+pub no_sign : (n : ℕ) (places : PlacesView) (kind : Kind) (total : ℤ) (text : List ℕ) → is_sign text ≡ false
+    → terms_of n places kind total text ≡ Ok (total, text)
 unfolding terms_of
 no_sign zero places kind total text h = refl
 no_sign (suc n) places kind total text h = rw h refl
@@ -16,7 +17,8 @@ unfolding terms_of
 no_term_left zero places kind total text h = refl
 no_term_left (suc n) places kind total text h = absurd (omega (arith, h))
 
-pub term_read : (n m : ℕ) (places : PlacesView) (kind : Kind) (total sum : ℤ) (text rest : List ℕ) → n ≡ m + 1 → is_sign text ≡ true → term_of places kind total text ≡ Ok (sum, rest)
+pub term_read : (n m : ℕ) (places : PlacesView) (kind : Kind) (total sum : ℤ) (text rest : List ℕ) → n ≡ m + 1 → is_sign text ≡ true
+    → term_of places kind total text ≡ Ok (sum, rest)
     → terms_of n places kind total text ≡ terms_of m places kind sum rest
 unfolding terms_of
 term_read zero m places kind total sum text rest e h k = absurd (omega (arith, e))
@@ -24,7 +26,8 @@ term_read (suc n) m places kind total sum text rest e h k =
     let same : n ≡ m = omega (arith, e) in
     rw h (ap (λ (r : Reads ℤ). and_then r (λ sum rest. terms_of n places kind sum rest)) k ∙ ap (λ (i : ℕ). terms_of i places kind sum rest) same)
 
-pub term_refused : (n m : ℕ) (places : PlacesView) (kind : Kind) (total : ℤ) (text : List ℕ) (why : SeenFlaw) → n ≡ m + 1 → is_sign text ≡ true → term_of places kind total text ≡ Err why
+pub term_refused : (n m : ℕ) (places : PlacesView) (kind : Kind) (total : ℤ) (text : List ℕ) (why : SeenFlaw) → n ≡ m + 1 → is_sign text ≡ true
+    → term_of places kind total text ≡ Err why
     → terms_of n places kind total text ≡ Err why
 unfolding terms_of
 term_refused zero m places kind total text why e h k = absurd (omega (arith, e))
@@ -41,13 +44,17 @@ unfolding pieces_of
 pieces_suc zero m places found text more rest e k = absurd (omega (arith, e))
 pieces_suc (suc n) m places found text more rest e k =
     let same : n ≡ m = omega (arith, e) in
-    rw (← same) (rw k (elim (is_empty (past (byte ",") rest)) as (λ (b : Bool). cond b (Ok (more, past (byte ",") rest)) (pieces_of n places more (past (byte ",") rest)) ≡ next_pieces n places more rest b) [ true ↦ refl | false ↦ refl ]))
+    rw (← same) (rw k (elim (is_empty (past (byte ",") rest)) as
+        (λ (b : Bool). cond b (Ok (more, past (byte ",") rest)) (pieces_of n places more (past (byte ",") rest)) ≡ next_pieces n places more rest b)
+        [ true ↦ refl | false ↦ refl ]))
 
-pub pieces_end : (n m : ℕ) (places : PlacesView) (found text more rest : List ℕ) → n ≡ m + 1 → piece_of places found text ≡ Ok (more, rest) → is_empty (past (byte ",") rest) ≡ true
+pub pieces_end : (n m : ℕ) (places : PlacesView) (found text more rest : List ℕ) → n ≡ m + 1 → piece_of places found text ≡ Ok (more, rest)
+    → is_empty (past (byte ",") rest) ≡ true
     → pieces_of n places found text ≡ Ok (more, past (byte ",") rest)
 pieces_end n m places found text more rest e k h = pieces_suc n m places found text more rest e k ∙ ap (next_pieces m places more rest) h
 
-pub pieces_more : (n m : ℕ) (places : PlacesView) (found text more rest : List ℕ) → n ≡ m + 1 → piece_of places found text ≡ Ok (more, rest) → is_empty (past (byte ",") rest) ≡ false
+pub pieces_more : (n m : ℕ) (places : PlacesView) (found text more rest : List ℕ) → n ≡ m + 1 → piece_of places found text ≡ Ok (more, rest)
+    → is_empty (past (byte ",") rest) ≡ false
     → pieces_of n places found text ≡ pieces_of m places more (past (byte ",") rest)
 pieces_more n m places found text more rest e k h = pieces_suc n m places found text more rest e k ∙ ap (next_pieces m places more rest) h
 
@@ -56,7 +63,8 @@ unfolding pieces_of
 no_piece_left zero places found text h = refl
 no_piece_left (suc n) places found text h = absurd (omega (arith, h))
 
-pub piece_refused : (n m : ℕ) (places : PlacesView) (found text : List ℕ) (why : SeenFlaw) → n ≡ m + 1 → piece_of places found text ≡ Err why → pieces_of n places found text ≡ Err why
+pub piece_refused : (n m : ℕ) (places : PlacesView) (found text : List ℕ) (why : SeenFlaw) → n ≡ m + 1 → piece_of places found text ≡ Err why
+    → pieces_of n places found text ≡ Err why
 unfolding pieces_of
 piece_refused zero m places found text why e k = absurd (omega (arith, e))
 piece_refused (suc n) m places found text why e k = rw k refl

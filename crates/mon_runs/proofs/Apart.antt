@@ -18,7 +18,8 @@ other breaks s = record s { breaks = breaks }
 pub apart : (k : ℕ) (b : List ℕ) (s : Session) (r : Result State EventFault) → step s.current ≡ r
     → after_steps k (other b s) ≡ other b (after_steps k s)
 apart zero b s r h = after_steps-zero step (other b s) ∙ ap (other b) (sym (after_steps-zero step s))
-apart (suc k) b s (Ok t) h = after_steps-made step k (other b s) t h ∙ apart k b (with_state s t) (step t) refl ∙ ap (other b) (sym (after_steps-made step k s t h))
+apart (suc k) b s (Ok t) h = after_steps-made step k (other b s) t h ∙ apart k b (with_state s t) (step t) refl
+    ∙ ap (other b) (sym (after_steps-made step k s t h))
 apart (suc k) b s (Err f) h = after_steps-refused step k (other b s) f h ∙ ap (other b) (sym (after_steps-refused step k s f h))
 
 -- a breakpoint that is set or cleared leaves the states

@@ -17,7 +17,8 @@ use Rattle.name_uses.specs.Faulty.{faulty_from, faulty_line, has_word, is_faulty
 tail : (line : List ℕ) (i : ℕ) → take (length line - i) (drop i line) ≡ drop i line
 tail line i = take_all (length line - i) (drop i line) (omega (arith, length-drop i line))
 
-word_behind : (word : List ℕ) (behind : Bool) (b : ℕ) (bs : List ℕ) → has_word word behind (b ∷ bs) ≡ ((not behind && bytes_eq (word_at (b ∷ bs)) word) || has_word word (is_word_byte b) bs)
+word_behind : (word : List ℕ) (behind : Bool) (b : ℕ) (bs : List ℕ)
+    → has_word word behind (b ∷ bs) ≡ ((not behind && bytes_eq (word_at (b ∷ bs)) word) || has_word word (is_word_byte b) bs)
 unfolding has_word
 word_behind word behind b bs = refl
 
@@ -26,18 +27,21 @@ unfolding has_word
 word_none word behind = refl
 
 word_at_index : (word line : List ℕ) (i : ℕ) (behind : Bool) → i < length line
-    → has_word word behind (drop i line) ≡ ((not behind && bytes_eq (word_at (drop i line)) word) || has_word word (is_word_byte (get_or line i 0)) (drop (i + 1) line))
+    → has_word word behind (drop i line) ≡ ((not behind && bytes_eq (word_at (drop i line)) word)
+        || has_word word (is_word_byte (get_or line i 0)) (drop (i + 1) line))
 word_at_index word line i behind within =
     let cut : drop i line ≡ get_or line i 0 ∷ drop (i + 1) line = rw add-one (drop-cons line i 0 within) in
     rw cut (word_behind word behind (get_or line i 0) (drop (i + 1) line))
 
-pub word_found : (word line : List ℕ) (i : ℕ) (behind : Bool) → i < length line → (not behind && bytes_eq (word_at (take (length line - i) (drop i line))) word) ≡ true
+pub word_found : (word line : List ℕ) (i : ℕ) (behind : Bool) → i < length line
+    → (not behind && bytes_eq (word_at (take (length line - i) (drop i line))) word) ≡ true
     → has_word word behind (drop i line) ≡ true
 word_found word line i behind within is =
     let here : (not behind && bytes_eq (word_at (drop i line)) word) ≡ true = rw (tail line i) at is in
     rw (word_at_index word line i behind within, here) refl
 
-pub word_step : (word line : List ℕ) (i : ℕ) (behind : Bool) → i < length line → (not behind && bytes_eq (word_at (take (length line - i) (drop i line))) word) ≡ false
+pub word_step : (word line : List ℕ) (i : ℕ) (behind : Bool) → i < length line
+    → (not behind && bytes_eq (word_at (take (length line - i) (drop i line))) word) ≡ false
     → has_word word behind (drop i line) ≡ has_word word (is_word_byte (get_or line i 0)) (drop (i + 1) line)
 word_step word line i behind within is =
     let here : (not behind && bytes_eq (word_at (drop i line)) word) ≡ false = rw (tail line i) at is in
@@ -66,7 +70,8 @@ line_faulty profile word other number rest text behind whole cut is so_far =
 
 -- a line that others follow
 pub line_more : (profile : Profile) (word other : List ℕ) (number : ℕ) (rest text behind : List ℕ) (whole : Option ℕ) → lines_of rest ≡ text ∷ lines_of behind
-    → is_faulty profile word other text ≡ false → is_end (read_line profile text) ≡ false → faulty_left profile word other number rest ≡ whole → faulty_left profile word other (number + 1) behind ≡ whole
+    → is_faulty profile word other text ≡ false → is_end (read_line profile text) ≡ false → faulty_left profile word other number rest ≡ whole
+        → faulty_left profile word other (number + 1) behind ≡ whole
 unfolding faulty_from
 line_more profile word other number rest text behind whole cut is more so_far =
     let at : faulty_left profile word other number rest ≡ faulty_left profile word other (number + 1) behind = rw (cut, more, is) refl in
@@ -84,7 +89,8 @@ no_lines : (text : List ℕ) → length text ≡ 0 → lines_of text ≡ []
 unfolding lines_from
 no_lines text empty = rw (nil_from_length text empty) refl
 
-pub lines_done : (profile : Profile) (word other : List ℕ) (number : ℕ) (rest : List ℕ) (whole : Option ℕ) → length rest ≡ 0 → faulty_left profile word other number rest ≡ whole → None ≡ whole
+pub lines_done : (profile : Profile) (word other : List ℕ) (number : ℕ) (rest : List ℕ) (whole : Option ℕ) → length rest ≡ 0
+    → faulty_left profile word other number rest ≡ whole → None ≡ whole
 unfolding faulty_from
 lines_done profile word other number rest whole empty so_far =
     let none : faulty_left profile word other number rest ≡ None = rw (no_lines rest empty) refl in

@@ -65,7 +65,8 @@ module _ (profile : Profile) where
   texts_are : (number : ℕ) (d : Bool) (ts : List Lexeme) → map (λ u. u.text) (uses_in profile number d ts) ≡ texts_in ts
   unfolding uses_in texts_in
   texts_are number d [] = refl
-  texts_are number d (t ∷ ts) = text_of (is_name_token profile t) (use_of number d t) (uses_in profile number false ts) (uses_in profile number d ts) (texts_in ts) (texts_are number false ts) (texts_are number d ts)
+  texts_are number d (t ∷ ts) = text_of (is_name_token profile t) (use_of number d t) (uses_in profile number false ts) (uses_in profile number d ts)
+      (texts_in ts) (texts_are number false ts) (texts_are number d ts)
 
   texts-append : (xs ys : List Lexeme) → texts_in (xs ++ ys) ≡ texts_in xs ++ texts_in ys
   unfolding texts_in
@@ -120,7 +121,8 @@ module _ (profile : Profile) where
   a_none t h = go t.kind t.text h
     where
       go : (kind : TokenKind) (text : List ℕ) → is_word_in kind text (codes "A") ≡ true → is_name_in profile kind text ≡ false
-      go Word text h = rw h (or_a (is_some (mnemonic_named profile text)) (bytes_eq (str_to_ascii_uppercase text) (codes "X")) (bytes_eq (str_to_ascii_uppercase text) (codes "Y")))
+      go Word text h = rw h (or_a (is_some (mnemonic_named profile text)) (bytes_eq (str_to_ascii_uppercase text) (codes "X"))
+          (bytes_eq (str_to_ascii_uppercase text) (codes "Y")))
       go Directive text h = refl
       go Number text h = refl
       go Char text h = refl
@@ -132,7 +134,8 @@ module _ (profile : Profile) where
   x_none t h = go t.kind t.text h
     where
       go : (kind : TokenKind) (text : List ℕ) → is_word_in kind text (codes "X") ≡ true → is_name_in profile kind text ≡ false
-      go Word text h = rw h (or_x (is_some (mnemonic_named profile text)) (bytes_eq (str_to_ascii_uppercase text) (codes "A")) (bytes_eq (str_to_ascii_uppercase text) (codes "Y")))
+      go Word text h = rw h (or_x (is_some (mnemonic_named profile text)) (bytes_eq (str_to_ascii_uppercase text) (codes "A"))
+          (bytes_eq (str_to_ascii_uppercase text) (codes "Y")))
       go Directive text h = refl
       go Number text h = refl
       go Char text h = refl
@@ -144,7 +147,8 @@ module _ (profile : Profile) where
   y_none t h = go t.kind t.text h
     where
       go : (kind : TokenKind) (text : List ℕ) → is_word_in kind text (codes "Y") ≡ true → is_name_in profile kind text ≡ false
-      go Word text h = rw h (or_y (is_some (mnemonic_named profile text)) (bytes_eq (str_to_ascii_uppercase text) (codes "A")) (bytes_eq (str_to_ascii_uppercase text) (codes "X")))
+      go Word text h = rw h (or_y (is_some (mnemonic_named profile text)) (bytes_eq (str_to_ascii_uppercase text) (codes "A"))
+          (bytes_eq (str_to_ascii_uppercase text) (codes "X")))
       go Directive text h = refl
       go Number text h = refl
       go Char text h = refl
@@ -214,7 +218,8 @@ module _ (profile : Profile) where
   derived (single h) free = derived h free
   derived (chain t {op = op} {a = a} {b = b} {ls = ls} {rs = rs} o h k) free =
       around ls t rs (operator_none t op o)
-      ∙ both_are (texts_in ls) (texts_in rs) (names_in a) (names_in b) (derived h (or_left (term_reserves profile a) (term_reserves profile b) free)) (derived k (or_right (term_reserves profile a) (term_reserves profile b) free))
+      ∙ both_are (texts_in ls) (texts_in rs) (names_in a) (names_in b) (derived h (or_left (term_reserves profile a) (term_reserves profile b) free))
+          (derived k (or_right (term_reserves profile a) (term_reserves profile b) free))
   derived (bare h) free = derived h free
   derived (low_byte t {ts = ts} o h) free = skipped t ts (symbol_none t 60 o) ∙ derived h free
   derived (high_byte t {ts = ts} o h) free = skipped t ts (symbol_none t 62 o) ∙ derived h free
@@ -230,7 +235,8 @@ module _ (profile : Profile) where
   in_front : (ts us : List Lexeme) → texts_in us ≡ [] → texts_in (ts ++ us) ≡ texts_in ts
   in_front ts us h = texts-append ts us ∙ ap (λ (x : List (List ℕ)). texts_in ts ++ x) h ∙ append-nil (texts_in ts)
 
-  three : (a b c : Lexeme) → is_name_token profile a ≡ false → is_name_token profile b ≡ false → is_name_token profile c ≡ false → texts_in (a ∷ b ∷ c ∷ []) ≡ []
+  three : (a b c : Lexeme) → is_name_token profile a ≡ false → is_name_token profile b ≡ false → is_name_token profile c ≡ false
+      → texts_in (a ∷ b ∷ c ∷ []) ≡ []
   unfolding texts_in
   three a b c p q r = skipped a (b ∷ c ∷ []) p ∙ skipped b (c ∷ []) q ∙ skipped c [] r
 
@@ -241,7 +247,8 @@ module _ (profile : Profile) where
   operands (after_hash hash {ts = ts} h d) free = skipped hash ts (symbol_none hash 35 h) ∙ derived d free
   operands (plain {ts = ts} {us = us} a d i) free = in_front ts us (indexed i) ∙ derived d free
   operands (after_mark mark {ts = ts} {us = us} h d i) free = skipped mark (ts ++ us) (symbol_none mark 33 h) ∙ in_front ts us (indexed i) ∙ derived d free
-  operands (in_brackets opening closing {ts = ts} h d c) free = skipped opening (ts ++ closing ∷ []) (symbol_none opening 40 h) ∙ behind ts closing (symbol_none closing 41 c) ∙ derived d free
+  operands (in_brackets opening closing {ts = ts} h d c) free =
+      skipped opening (ts ++ closing ∷ []) (symbol_none opening 40 h) ∙ behind ts closing (symbol_none closing 41 c) ∙ derived d free
   operands (in_brackets_by_x opening comma x closing {ts = ts} h d m w c) free =
       skipped opening (ts ++ comma ∷ x ∷ closing ∷ []) (symbol_none opening 40 h)
       ∙ in_front ts (comma ∷ x ∷ closing ∷ []) (three comma x closing (symbol_none comma 44 m) (x_none x w) (symbol_none closing 41 c)) ∙ derived d free
@@ -257,7 +264,8 @@ module _ (profile : Profile) where
   listed Is reserving named one (last {a = a} {ts = ts} h) free = one a ts h (or_left (reserving a) false free) ∙ sym (append-nil (named a))
   listed Is reserving named one (more {a = a} {as' = as'} {ts = ts} {us = us} comma h c k) free =
       around ts comma us (symbol_none comma 44 c)
-      ∙ both_are (texts_in ts) (texts_in us) (named a) (flat_map named as') (one a ts h (or_left (reserving a) (list_any reserving as') free)) (listed Is reserving named one k (or_right (reserving a) (list_any reserving as') free))
+      ∙ both_are (texts_in ts) (texts_in us) (named a) (flat_map named as') (one a ts h (or_left (reserving a) (list_any reserving as') free))
+          (listed Is reserving named one k (or_right (reserving a) (list_any reserving as') free))
 
   terms : (e : Term) (ts : List Lexeme) → IsExpression e ts → term_reserves profile e ≡ false → texts_in ts ≡ names_in e
   terms e ts h free = derived h free
@@ -278,8 +286,10 @@ module _ (profile : Profile) where
   operations : {s : Statement} {ts : List Lexeme} → IsOperation profile s ts → reserves profile s ≡ false → texts_in ts ≡ names_in_statement s
   unfolding texts_in
   operations (by_mnemonic t {m = m} {ts = ts} k n o) free = skipped t ts (mnemonic_none t m k n) ∙ operands o free
-  operations (sets_address star equals {ts = ts} s e d) free = skipped star (equals ∷ ts) (symbol_none star 42 s) ∙ skipped equals ts (symbol_none equals 61 e) ∙ derived d free
-  operations (byte_directive t {items = is} {ts = ts} d l) free = skipped t ts (directive_none _ t d) ∙ listed IsItem (item_reserves profile) names_in_item items l free
+  operations (sets_address star equals {ts = ts} s e d) free =
+      skipped star (equals ∷ ts) (symbol_none star 42 s) ∙ skipped equals ts (symbol_none equals 61 e) ∙ derived d free
+  operations (byte_directive t {items = is} {ts = ts} d l) free =
+      skipped t ts (directive_none _ t d) ∙ listed IsItem (item_reserves profile) names_in_item items l free
   operations (word_directive t {ts = ts} d l) free = skipped t ts (directive_none _ t d) ∙ listed IsExpression (term_reserves profile) names_in terms l free
   operations (dbyte_directive t {ts = ts} d l) free = skipped t ts (directive_none _ t d) ∙ listed IsExpression (term_reserves profile) names_in terms l free
   operations (res_directive t {ts = ts} d e) free = skipped t ts (directive_none _ t d) ∙ derived e free
@@ -296,10 +306,12 @@ module _ (profile : Profile) where
   lines (no_label r) free = rests r free
   lines (label w colon {s = s} {ts = ts} k c r) free =
       taken w (colon ∷ ts) (word_named w k (or_left (is_reserved profile w.text) (reserves profile s) free))
-      ∙ ap (λ (x : List (List ℕ)). w.text ∷ x) (skipped colon ts (symbol_none colon 58 c) ∙ rests r (or_right (is_reserved profile w.text) (reserves profile s) free))
+      ∙ ap (λ (x : List (List ℕ)). w.text ∷ x) (skipped colon ts (symbol_none colon 58 c)
+          ∙ rests r (or_right (is_reserved profile w.text) (reserves profile s) free))
   lines (defines w equals {e = e} {ts = ts} k q d) free =
       taken w (equals ∷ ts) (word_named w k (or_left (is_reserved profile w.text) (term_reserves profile e) free))
-      ∙ ap (λ (x : List (List ℕ)). w.text ∷ x) (skipped equals ts (symbol_none equals 61 q) ∙ derived d (or_right (is_reserved profile w.text) (term_reserves profile e) free))
+      ∙ ap (λ (x : List (List ℕ)). w.text ∷ x) (skipped equals ts (symbol_none equals 61 q)
+          ∙ derived d (or_right (is_reserved profile w.text) (term_reserves profile e) free))
 
   record WasRead (ts : List Lexeme) (l : Line) : Type 0 where
     is : line_of profile ts ≡ Some l
@@ -309,7 +321,8 @@ module _ (profile : Profile) where
   was_read ts l None is h = cc
   was_read ts l (Some x) is h = by (line_reserves profile x) refl h
     where
-      by : (b : Bool) → line_reserves profile x ≡ b → (if b then Err Rattle.model.specs.declared.source_fault.AsmFaultKind.TheVariants.ReservedName else Ok x) ≡ Ok l → WasRead ts l
+      by : (b : Bool) → line_reserves profile x ≡ b → (if b then Err
+          Rattle.model.specs.declared.source_fault.AsmFaultKind.TheVariants.ReservedName else Ok x) ≡ Ok l → WasRead ts l
       by true e k = cc
       by false e k =
           let same : x ≡ l = cc in

@@ -30,8 +30,10 @@ is_y text = bytes_eq (str_to_ascii_uppercase text) (codes "Y")
 
 registers : (text : List ℕ) → (is_a text || is_x text || is_y text) ≡ is_register text
 registers [] = refl
-registers (b ∷ []) = or_three _ _ _ _ _ _ (and-true (to_ascii_uppercase b == 65)) (and-true (to_ascii_uppercase b == 88)) (and-true (to_ascii_uppercase b == 89))
-registers (b ∷ c ∷ text) = or_three _ _ _ false false false (and-false (to_ascii_uppercase b == 65)) (and-false (to_ascii_uppercase b == 88)) (and-false (to_ascii_uppercase b == 89))
+registers (b ∷ []) = or_three _ _ _ _ _ _ (and-true (to_ascii_uppercase b == 65)) (and-true (to_ascii_uppercase b == 88))
+    (and-true (to_ascii_uppercase b == 89))
+registers (b ∷ c ∷ text) = or_three _ _ _ false false false (and-false (to_ascii_uppercase b == 65)) (and-false (to_ascii_uppercase b == 88))
+    (and-false (to_ascii_uppercase b == 89))
 
 grouped : (m a x y : Bool) → (m || a || x || y) ≡ (m || (a || x || y))
 grouped true a x y = refl
@@ -40,4 +42,5 @@ grouped false a x y = refl
 -- a reserved word is a mnemonic or one of the three
 pub reserved_by : (profile : Profile) (text : List ℕ) → is_reserved profile text ≡ (is_some (mnemonic_named profile text) || is_register text)
 unfolding is_reserved
-reserved_by profile text = grouped (is_some (mnemonic_named profile text)) (is_a text) (is_x text) (is_y text) ∙ ap (λ (b : Bool). is_some (mnemonic_named profile text) || b) (registers text)
+reserved_by profile text = grouped (is_some (mnemonic_named profile text)) (is_a text) (is_x text) (is_y text)
+    ∙ ap (λ (b : Bool). is_some (mnemonic_named profile text) || b) (registers text)

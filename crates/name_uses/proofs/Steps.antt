@@ -25,19 +25,23 @@ opened profile number i defines tokens d within =
 
 -- a token that is no name
 pub no_name : (profile : Profile) (number i : ℕ) (defines : Bool) (tokens : List Token) (d : Token) (found whole : List Use) → i < length tokens
-    → is_name_token profile (lexeme_of (get_or tokens i d)) ≡ false → found ++ uses_left profile number defines tokens i ≡ whole → found ++ uses_left profile number defines tokens (i + 1) ≡ whole
+    → is_name_token profile (lexeme_of (get_or tokens i d)) ≡ false → found ++ uses_left profile number defines tokens i ≡ whole
+        → found ++ uses_left profile number defines tokens (i + 1) ≡ whole
 unfolding uses_in
 no_name profile number i defines tokens d found whole within other so_far =
-    let at : uses_left profile number defines tokens i ≡ uses_left profile number defines tokens (i + 1) = opened profile number i defines tokens d within ∙ rw other refl in
+    let at : uses_left profile number defines tokens i ≡ uses_left profile number defines tokens (i + 1) =
+        opened profile number i defines tokens d within ∙ rw other refl in
     sym (ap (λ (us : List Use). found ++ us) at) ∙ so_far
 
 -- a name
-pub one_name : (profile : Profile) (number i : ℕ) (defines : Bool) (tokens : List Token) (d : Token) (old new : List NameUse) (u : NameUse) (whole : List Use) → i < length tokens
+pub one_name : (profile : Profile) (number i : ℕ) (defines : Bool) (tokens : List Token) (d : Token) (old new : List NameUse) (u : NameUse)
+    (whole : List Use) → i < length tokens
     → is_name_token profile (lexeme_of (get_or tokens i d)) ≡ true → new ≡ old ++ u ∷ [] → use_view u ≡ use_of number defines (lexeme_of (get_or tokens i d))
     → use_views old ++ uses_left profile number defines tokens i ≡ whole → use_views new ++ uses_left profile number false tokens (i + 1) ≡ whole
 unfolding uses_in
 one_name profile number i defines tokens d old new u whole within named put same so_far =
-    let at : uses_left profile number defines tokens i ≡ use_of number defines (lexeme_of (get_or tokens i d)) ∷ uses_left profile number false tokens (i + 1) = opened profile number i defines tokens d within ∙ rw named refl in
+    let at : uses_left profile number defines tokens i ≡ use_of number defines (lexeme_of (get_or tokens i d))
+        ∷ uses_left profile number false tokens (i + 1) = opened profile number i defines tokens d within ∙ rw named refl in
     let left = uses_left profile number false tokens (i + 1) in
     let pushed : use_views new ≡ use_views old ++ use_view u ∷ [] = ap use_views put ∙ map-append use_view old (u ∷ []) in
     ap (λ (us : List Use). us ++ left) pushed ∙ append_assoc (use_views old) (use_view u ∷ []) left
@@ -61,16 +65,19 @@ unfolding uses_of read_lines
 starts profile source found none = rw none refl
 
 -- a line that others follow
-pub line_more : (profile : Profile) (number : ℕ) (rest text behind : List ℕ) (old new whole : List Use) → lines_of rest ≡ text ∷ lines_of behind → is_end (read_line profile text) ≡ false
+pub line_more : (profile : Profile) (number : ℕ) (rest text behind : List ℕ) (old new whole : List Use) → lines_of rest ≡ text ∷ lines_of behind
+    → is_end (read_line profile text) ≡ false
     → new ≡ old ++ line_uses profile number text → old ++ lines_left profile number rest ≡ whole → new ++ lines_left profile (number + 1) behind ≡ whole
 unfolding uses_from
 line_more profile number rest text behind old new whole cut more put so_far =
     let at : lines_left profile number rest ≡ line_uses profile number text ++ lines_left profile (number + 1) behind = rw (cut, more) refl in
-    ap (λ (us : List Use). us ++ lines_left profile (number + 1) behind) put ∙ append_assoc old (line_uses profile number text) (lines_left profile (number + 1) behind)
+    ap (λ (us : List Use). us ++ lines_left profile (number + 1) behind) put
+        ∙ append_assoc old (line_uses profile number text) (lines_left profile (number + 1) behind)
     ∙ sym (ap (λ (us : List Use). old ++ us) at) ∙ so_far
 
 -- the line of `.END`
-pub line_last : (profile : Profile) (number : ℕ) (rest text behind : List ℕ) (old new whole : List Use) → lines_of rest ≡ text ∷ lines_of behind → is_end (read_line profile text) ≡ true
+pub line_last : (profile : Profile) (number : ℕ) (rest text behind : List ℕ) (old new whole : List Use) → lines_of rest ≡ text ∷ lines_of behind
+    → is_end (read_line profile text) ≡ true
     → new ≡ old ++ line_uses profile number text → old ++ lines_left profile number rest ≡ whole → new ≡ whole
 unfolding uses_from
 line_last profile number rest text behind old new whole cut last put so_far =
@@ -81,7 +88,8 @@ no_lines : (text : List ℕ) → length text ≡ 0 → lines_of text ≡ []
 unfolding lines_from
 no_lines text empty = rw (nil_from_length text empty) refl
 
-pub lines_done : (profile : Profile) (number : ℕ) (rest : List ℕ) (found whole : List Use) → length rest ≡ 0 → found ++ lines_left profile number rest ≡ whole → found ≡ whole
+pub lines_done : (profile : Profile) (number : ℕ) (rest : List ℕ) (found whole : List Use) → length rest ≡ 0
+    → found ++ lines_left profile number rest ≡ whole → found ≡ whole
 unfolding uses_from
 lines_done profile number rest found whole empty so_far =
     let none : lines_left profile number rest ≡ [] = rw (no_lines rest empty) refl in

@@ -11,14 +11,17 @@ use Rattle.name_uses.specs.declared.picks.Part.TheVariants.{All}
 use Rattle.name_uses.specs.Renaming.{renamed, replaced, uses_named}
 
 -- those that were picked are the name's
-pub named_as : (name source : List ℕ) (p q : Profile) (all given found : List NameUse) → p ≡ q → use_views all ≡ uses_of p source → given ≡ all → use_views found ≡ picked All name (use_views given)
+pub named_as : (name source : List ℕ) (p q : Profile) (all given found : List NameUse) → p ≡ q → use_views all ≡ uses_of p source → given ≡ all
+    → use_views found ≡ picked All name (use_views given)
     → use_views found ≡ uses_named q source name
 unfolding uses_named
 named_as name source p q all given found e whole same h =
-    h ∙ ap (λ (g : List NameUse). picked All name (use_views g)) same ∙ ap (λ (us : List Use). picked All name us) whole ∙ ap (λ (r : Profile). picked All name (uses_of r source)) e
+    h ∙ ap (λ (g : List NameUse). picked All name (use_views g)) same ∙ ap (λ (us : List Use). picked All name us) whole
+        ∙ ap (λ (r : Profile). picked All name (uses_of r source)) e
 
 -- and the text with another name there
-pub renamed_as : (source old new : List ℕ) (q : Profile) (found given : List NameUse) (text : List ℕ) → use_views found ≡ uses_named q source old → given ≡ found → text ≡ replaced new (use_views given) 1 0 0 source
+pub renamed_as : (source old new : List ℕ) (q : Profile) (found given : List NameUse) (text : List ℕ) → use_views found ≡ uses_named q source old
+    → given ≡ found → text ≡ replaced new (use_views given) 1 0 0 source
     → text ≡ renamed q source old new
 unfolding renamed
 renamed_as source old new q found given text named same h =

@@ -14,7 +14,8 @@ bytes_of l = take l.count l.bytes
 abbrev made : List ℕ → Result (List ℕ) AsmFault
 made bytes = Ok bytes
 
-pub right : (r : Result Line AsmFault) (bytes : List ℕ) (given : Result (List ℕ) AsmFaultKind) → given ≡ Ok bytes → AnswersSource bytes_of r (on_line 1 given) → IfOk r (λ l. bytes_of l ≡ bytes)
+pub right : (r : Result Line AsmFault) (bytes : List ℕ) (given : Result (List ℕ) AsmFaultKind) → given ≡ Ok bytes
+    → AnswersSource bytes_of r (on_line 1 given) → IfOk r (λ l. bytes_of l ≡ bytes)
 right (Ok l) bytes given is says = let same : made bytes ≡ Ok (bytes_of l) = rw is at says in cc
 right (Err f) bytes given is says = tt
 
@@ -23,6 +24,7 @@ no_fault : (f : AsmFault) (bytes : List ℕ) → (f ≡ out_of_memory) ⊎ (made
 no_fault f bytes (inl memory) = memory
 no_fault f bytes (inr never) = cc
 
-pub only_memory : (r : Result Line AsmFault) (bytes : List ℕ) (given : Result (List ℕ) AsmFaultKind) → given ≡ Ok bytes → AnswersSource bytes_of r (on_line 1 given) → IfErr r (λ f. f ≡ out_of_memory)
+pub only_memory : (r : Result Line AsmFault) (bytes : List ℕ) (given : Result (List ℕ) AsmFaultKind) → given ≡ Ok bytes
+    → AnswersSource bytes_of r (on_line 1 given) → IfErr r (λ f. f ≡ out_of_memory)
 only_memory (Ok l) bytes given is says = tt
 only_memory (Err f) bytes given is says = no_fault f bytes (rw is at says)

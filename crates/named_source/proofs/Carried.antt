@@ -45,14 +45,17 @@ put_has : (bytes : List ℕ) (cells : List (Option ℕ)) (a : ℕ) → a + lengt
 put_has [] cells a inside = tt
 put_has (b ∷ bytes) cells a inside =
     let here : a < length cells = omega (arith, inside) in
-    (put_keeps bytes (slice_set cells a (Some b)) (a + 1) a (b, get_or-set_same cells a (Some b) None here), put_has bytes (slice_set cells a (Some b)) (a + 1) (omega (arith, inside, length-set cells a (Some b))))
+    (put_keeps bytes (slice_set cells a (Some b)) (a + 1) a (b, get_or-set_same cells a (Some b) None here), put_has bytes
+        (slice_set cells a (Some b)) (a + 1) (omega (arith, inside, length-set cells a (Some b))))
 
-makes_keeps : (m : Map) (numbers : Numbers) (placed : List PlacedLine) (image final : List (Option ℕ)) (x : ℕ) → Makes m numbers image placed final → Has image x → Has final x
+makes_keeps : (m : Map) (numbers : Numbers) (placed : List PlacedLine) (image final : List (Option ℕ)) (x : ℕ) → Makes m numbers image placed final
+    → Has image x → Has final x
 makes_keeps m numbers [] image final x made h = rw made h
 makes_keeps m numbers (p ∷ ps) image final x made h =
     makes_keeps m numbers ps (with_bytes image p.address (line_bytes numbers p)) final x made.1 (put_keeps (line_bytes numbers p) image p.address x h)
 
-makes_keep_all : (m : Map) (numbers : Numbers) (placed : List PlacedLine) (image final : List (Option ℕ)) (n a : ℕ) → Makes m numbers image placed final → HasAll image a n → HasAll final a n
+makes_keep_all : (m : Map) (numbers : Numbers) (placed : List PlacedLine) (image final : List (Option ℕ)) (n a : ℕ)
+    → Makes m numbers image placed final → HasAll image a n → HasAll final a n
 makes_keep_all m numbers placed image final zero a made h = tt
 makes_keep_all m numbers placed image final (suc n) a made h =
     (makes_keeps m numbers placed image final a made h.0, makes_keep_all m numbers placed image final n (a + 1) made h.1)
@@ -70,34 +73,42 @@ not_past a s past some =
     let behind : nat_lt 65536 (a + s) ≡ false = rw there at past in
     omega (arith, ltb-false 65536 (a + s) behind)
 
-same_fault : (m n : Map) (numbers : Numbers) (image : List (Option ℕ)) (p : PlacedLine) → has_port m p.address (size_of p.content) ≡ false → has_port n p.address (size_of p.content) ≡ false
+same_fault : (m n : Map) (numbers : Numbers) (image : List (Option ℕ)) (p : PlacedLine) → has_port m p.address (size_of p.content) ≡ false
+    → has_port n p.address (size_of p.content) ≡ false
     → value_fault m numbers image p ≡ None → value_fault n numbers image p ≡ None
 unfolding value_fault place_kinds
 same_fault m n numbers image p one other right = rw other (rw one at right)
 
-line_spared : (m n : Map) (numbers : Numbers) (ps : List PlacedLine) (image final : List (Option ℕ)) (p : PlacedLine) (size : ℕ) → size ≡ size_of p.content → length image ≡ 65536 → length (line_bytes numbers p) ≡ size
-    → value_fault m numbers image p ≡ None → Makes m numbers (with_bytes image p.address (line_bytes numbers p)) ps final → has_port_byte n final ≡ false → has_port n p.address size ≡ false
+line_spared : (m n : Map) (numbers : Numbers) (ps : List PlacedLine) (image final : List (Option ℕ)) (p : PlacedLine) (size : ℕ)
+    → size ≡ size_of p.content → length image ≡ 65536 → length (line_bytes numbers p) ≡ size
+    → value_fault m numbers image p ≡ None → Makes m numbers (with_bytes image p.address (line_bytes numbers p)) ps final
+        → has_port_byte n final ≡ false → has_port n p.address size ≡ false
 unfolding has_port
 line_spared m n numbers ps image final p zero is full long right made spared = refl
 line_spared m n numbers ps image final p (suc k) is full long right made spared =
     let placed : IsPlaced m image p = placed_right m numbers image p right in
     let room : p.address + suc k ≤ 65536 = not_past p.address (suc k) (rw (sym is) at placed.past) (omega arith) in
-    let all : HasAll (with_bytes image p.address (line_bytes numbers p)) p.address (length (line_bytes numbers p)) = put_has (line_bytes numbers p) image p.address (omega (arith, room, long, full)) in
-    let there : HasAll final p.address (suc k) = makes_keep_all m numbers ps (with_bytes image p.address (line_bytes numbers p)) final (suc k) p.address made (rw long at all) in
+    let all : HasAll (with_bytes image p.address (line_bytes numbers p)) p.address (length (line_bytes numbers p)) =
+        put_has (line_bytes numbers p) image p.address (omega (arith, room, long, full)) in
+    let there : HasAll final p.address (suc k) = makes_keep_all m numbers ps (with_bytes image p.address (line_bytes numbers p)) final (suc k)
+        p.address made (rw long at all) in
     no_port_all n final (suc k) p.address spared there
 
 -- ---- all lines
 
-carried : (m n : Map) (fill : BytesFillTheirSize) (numbers : Numbers) (final : List (Option ℕ)) → has_port_byte n final ≡ false → (lines : List (List ℕ)) (placed : List PlacedLine) (before after : Context) (image : List (Option ℕ))
+carried : (m n : Map) (fill : BytesFillTheirSize) (numbers : Numbers) (final : List (Option ℕ)) → has_port_byte n final ≡ false
+    → (lines : List (List ℕ)) (placed : List PlacedLine) (before after : Context) (image : List (Option ℕ))
     → length image ≡ 65536 → IsLaidOut before lines placed after → Makes m numbers image placed final → Makes n numbers image placed final
 carried m n fill numbers final spared [] [] before after image full laid made = made
 carried m n fill numbers final spared [] (p ∷ ps) before after image full laid made = let never : p ∷ ps ≡ [] = laid.0 in absurd cc
 carried m n fill numbers final spared (line ∷ lines) [] before after image full laid made = absurd laid
 carried m n fill numbers final spared (line ∷ lines) (p ∷ ps) before after image full laid made =
     let long : length (line_bytes numbers p) ≡ size_of p.content = fill m numbers image before laid.0 line p laid.1 made.0 in
-    let other : has_port n p.address (size_of p.content) ≡ false = line_spared m n numbers ps image final p (size_of p.content) refl full long made.0 made.1 spared in (
+    let other : has_port n p.address (size_of p.content) ≡ false =
+        line_spared m n numbers ps image final p (size_of p.content) refl full long made.0 made.1 spared in (
       same_fault m n numbers image p (placed_right m numbers image p made.0).port other made.0,
-      carried m n fill numbers final spared lines ps laid.0 after (with_bytes image p.address (line_bytes numbers p)) (put_length (line_bytes numbers p) image p.address ∙ full) laid.2 made.1,
+      carried m n fill numbers final spared lines ps laid.0 after (with_bytes image p.address (line_bytes numbers p))
+          (put_length (line_bytes numbers p) image p.address ∙ full) laid.2 made.1,
     )
 
 empty_is : (n : ℕ) → n ≡ 65536 → replicate {A = Option ℕ} n None ≡ empty_image
@@ -107,11 +118,13 @@ empty_is n e = ap (λ (k : ℕ). replicate {A = Option ℕ} k None) e
 empty_size : (n : ℕ) → n ≡ 65536 → length empty_image ≡ n
 empty_size n e = sym (ap (λ (cells : List (Option ℕ)). length cells) (empty_is n e)) ∙ length-replicate {A = Option ℕ} n None
 
-pub denotes_under : (fill : BytesFillTheirSize) (m n : Map) (source : List ℕ) (image : List (Option ℕ)) → n.profile ≡ m.profile → has_port_byte n image ≡ false → Denotes m source image → Denotes n source image
+pub denotes_under : (fill : BytesFillTheirSize) (m n : Map) (source : List ℕ) (image : List (Option ℕ)) → n.profile ≡ m.profile
+    → has_port_byte n image ≡ false → Denotes m source image → Denotes n source image
 denotes_under fill m n source image same spared d = record {
   size = d.size;
   placed = d.placed;
   all = d.all;
   laid = subst (λ (q : Profile). IsLaidOut (first_context q) (read_lines q source) d.placed d.all) (sym same) d.laid;
-  made = carried m n fill (number_in d.all.names) image spared (read_lines m.profile source) d.placed (first_context m.profile) d.all empty_image (empty_size 65536 refl) d.laid d.made;
+  made = carried m n fill (number_in d.all.names) image spared (read_lines m.profile source) d.placed (first_context m.profile) d.all empty_image
+      (empty_size 65536 refl) d.laid d.made;
 }

@@ -14,7 +14,8 @@ use Rattle.named_source.proofs.Tables.{one_more}
 some_more : (i : ℕ) → nat_lt 0 (i + 1) ≡ true
 some_more i = lt-ltb 0 (i + 1) (omega arith)
 
-same_by : (b : Bool) (t : List ℕ × ℤ → Bool) (i : ℕ) (d : List ℕ × ℤ) (ds : Definitions) → nat_lt 0 (one_more (position_from t (i + 1) ds)) ≡ is_some (find t ds)
+same_by : (b : Bool) (t : List ℕ × ℤ → Bool) (i : ℕ) (d : List ℕ × ℤ) (ds : Definitions)
+    → nat_lt 0 (one_more (position_from t (i + 1) ds)) ≡ is_some (find t ds)
     → nat_lt 0 (one_more (cond b (Some i) (position_from t (i + 1) ds))) ≡ is_some (cond b (Some d) (find t ds))
 same_by true t i d ds later = some_more i
 same_by false t i d ds later = later
@@ -31,7 +32,8 @@ has_name : (names : Definitions) (a : ℕ) → nat_lt 0 (index_of names a) ≡ i
 unfolding name_of index_of
 has_name names a = same_test (gives_name a) 0 (looked_at names) ∙ sym (is_mapped (λ d. d.0) (find (gives_name a) (looked_at names)))
 
-flags_by : (names : Definitions) (a : ℕ) (table : List ℕ) (flags : List Bool) → length flags ≡ length table → ((i : ℕ) → i < length flags → slice_index table i ≡ index_of names (a + i)) → flagged_by table flags ≡ with_named names a flags
+flags_by : (names : Definitions) (a : ℕ) (table : List ℕ) (flags : List Bool) → length flags ≡ length table
+    → ((i : ℕ) → i < length flags → slice_index table i ≡ index_of names (a + i)) → flagged_by table flags ≡ with_named names a flags
 unfolding flagged_by with_named
 flags_by names a table [] long each = refl
 flags_by names a [] (f ∷ flags) long each = absurd (omega (arith, long))
@@ -40,10 +42,12 @@ flags_by names a (i ∷ table) (f ∷ flags) long each =
     let here : a + 0 ≡ a = omega arith in
     let named : nat_lt 0 i ≡ is_some (name_of names a) = rw (first, here) (has_name names a) in
     let rest : flagged_by table flags ≡ with_named names (a + 1) flags =
-    flags_by names (a + 1) table flags (omega (arith, long)) (λ k h. let next : a + 1 + k ≡ a + suc k = omega arith in rw next (each (suc k) (omega (arith, h)))) in
+    flags_by names (a + 1) table flags (omega (arith, long))
+        (λ k h. let next : a + 1 + k ≡ a + suc k = omega arith in rw next (each (suc k) (omega (arith, h)))) in
     ap₂ (λ (g : Bool) (gs : List Bool). (f || g) ∷ gs) named rest
 
-pub flagged_names : (names : Definitions) (table : List ℕ) (flags : List Bool) → IsTable names table → length flags ≡ 65536 → flagged_by table flags ≡ with_named names 0 flags
+pub flagged_names : (names : Definitions) (table : List ℕ) (flags : List Bool) → IsTable names table → length flags ≡ 65536
+    → flagged_by table flags ≡ with_named names 0 flags
 flagged_names names table flags is long =
     flags_by names 0 table flags (long ∙ sym is.size) (λ i h. let here : 0 + i ≡ i = omega arith in rw here (is.each i (omega (arith, h, long))))
 
@@ -71,7 +75,8 @@ set_behind true i f flags = refl
 set_behind false i f flags = refl
 
 one_set : (b : Bool) (i : ℕ) (table : List ℕ) (flags : List Bool) → i < length table → nat_lt 0 (slice_index table i) ≡ b
-    → take (suc i) (set_by b i flags) ++ flagged_by (drop (suc i) table) (drop (suc i) (set_by b i flags)) ≡ take i flags ++ flagged_by (drop i table) (drop i flags)
+    → take (suc i) (set_by b i flags) ++ flagged_by (drop (suc i) table) (drop (suc i) (set_by b i flags)) ≡ take i flags
+        ++ flagged_by (drop i table) (drop i flags)
 unfolding flagged_by
 one_set b i [] flags h is = absurd (omega (arith, h))
 one_set b zero (n ∷ table) [] h is = rw (nothing_set b 0) refl
@@ -86,7 +91,8 @@ pub record Flags (table : List ℕ) (flags initial : List Bool) (i : ℕ) : Type
   pub size : length flags ≡ length initial
   pub same : take i flags ++ flagged_by (drop i table) (drop i flags) ≡ flagged_by table initial
 
-pub flag_more : (table : List ℕ) (flags initial new : List Bool) (i : ℕ) (b : Bool) → i < length table → nat_lt 0 (slice_index table i) ≡ b → new ≡ set_by b i flags → Flags table flags initial i → Flags table new initial (i + 1)
+pub flag_more : (table : List ℕ) (flags initial new : List Bool) (i : ℕ) (b : Bool) → i < length table → nat_lt 0 (slice_index table i) ≡ b
+    → new ≡ set_by b i flags → Flags table flags initial i → Flags table new initial (i + 1)
 flag_more table flags initial new i b h is new_is f = rw (new_is, add-one) (record {
   size = kept b ∙ f.size;
   same = one_set b i table flags h is ∙ f.same;

@@ -15,21 +15,25 @@ use Rattle.source_forms.specs.declared.mark.Mark.{Mark}
 abbrev pub Means : Profile → List (Option ℕ) → List ℕ → Type 0
 Means profile image text = (bus_map : Map) → bus_map.profile ≡ profile → has_port_byte bus_map image ≡ false → Denotes bus_map text image
 
-pub text_means : (law : LabelledSourceDenotes) (profile : Profile) (image : List (Option ℕ)) (marks : List Mark) (text : List ℕ) → IsImage image → text ≡ labelled_source profile image marks → Means profile image text
+pub text_means : (law : LabelledSourceDenotes) (profile : Profile) (image : List (Option ℕ)) (marks : List Mark) (text : List ℕ) → IsImage image
+    → text ≡ labelled_source profile image marks → Means profile image text
 text_means law profile image marks text is written bus_map same spared =
     let e : text ≡ labelled_source bus_map.profile image marks = rw same written in
     rw e (law bus_map image marks is spared)
 
-pub written_means : {X E : Type 0} (items : X → List ℕ) (law : LabelledSourceDenotes) (profile : Profile) (image : List (Option ℕ)) (marks : List Mark) (r : Result X E) → IsImage image
+pub written_means : {X E : Type 0} (items : X → List ℕ) (law : LabelledSourceDenotes) (profile : Profile) (image : List (Option ℕ))
+    (marks : List Mark) (r : Result X E) → IsImage image
     → IfOk r (λ x. items x ≡ labelled_source profile image marks) → IfOk r (λ x. Means profile image (items x))
 written_means items law profile image marks (Ok x) is written = text_means law profile image marks (items x) is written
 written_means items law profile image marks (Err e) is written = tt
 
-pub flagged_means : {X E : Type 0} (items : X → List ℕ) (law : FlaggedSourceDenotes) (profile : Profile) (image : List (Option ℕ)) (marks : List Mark) (flags : List Bool) (r : Result X E) → IsImage image
+pub flagged_means : {X E : Type 0} (items : X → List ℕ) (law : FlaggedSourceDenotes) (profile : Profile) (image : List (Option ℕ)) (marks : List Mark)
+    (flags : List Bool) (r : Result X E) → IsImage image
     → IfOk r (λ x. items x ≡ flagged_source profile image marks flags) → IfOk r (λ x. Means profile image (items x))
 flagged_means items law profile image marks flags (Err e) is written = tt
 flagged_means items law profile image marks flags (Ok x) is written =
-    λ bus_map same spared. let e : items x ≡ flagged_source bus_map.profile image marks flags = rw same written in rw e (law bus_map image marks flags is spared)
+    λ bus_map same spared. let e : items x ≡ flagged_source bus_map.profile image marks flags = rw same written in
+        rw e (law bus_map image marks flags is spared)
 
 pub same_image : (r : Result AssemblyView AsmFault) (image : List (Option ℕ)) → IsImageOrMemory r image → IfOk r (λ a. a.image ≡ image)
 same_image (Ok a) image h = h

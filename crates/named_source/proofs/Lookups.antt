@@ -12,7 +12,8 @@ pub record StandsAt (t : List ℕ × ℤ → Bool) (ds : Definitions) (i k : ℕ
   pub behind : i ≤ k
   pub here : slice_get ds (k - i) ≡ find t ds
 
-stands_by : (b : Bool) (t : List ℕ × ℤ → Bool) (i k : ℕ) (d : List ℕ × ℤ) (ds : Definitions) → t d ≡ b → (position_from t (i + 1) ds ≡ Some k → StandsAt t ds (i + 1) k)
+stands_by : (b : Bool) (t : List ℕ × ℤ → Bool) (i k : ℕ) (d : List ℕ × ℤ) (ds : Definitions) → t d ≡ b
+    → (position_from t (i + 1) ds ≡ Some k → StandsAt t ds (i + 1) k)
     → cond b (Some i) (position_from t (i + 1) ds) ≡ Some k → StandsAt t (d ∷ ds) i k
 stands_by true t i k d ds is later e =
     let same : i ≡ k = cc in
@@ -46,7 +47,8 @@ none_named : (t : List ℕ × ℤ → Bool) (ds : Definitions) (p : Option ℕ) 
 none_named t ds None is e = none_stands t 0 ds is
 none_named t ds (Some k) is e = absurd (omega (arith, e))
 
-named_at : (t : List ℕ × ℤ → Bool) (n : ℕ) (ds : Definitions) (p : Option ℕ) (i : ℕ) → position_from t 0 (take n ds) ≡ p → one_more p ≡ i → 0 < i → i ≤ n → slice_get ds (i - 1) ≡ find t (take n ds)
+named_at : (t : List ℕ × ℤ → Bool) (n : ℕ) (ds : Definitions) (p : Option ℕ) (i : ℕ) → position_from t 0 (take n ds) ≡ p → one_more p ≡ i → 0 < i
+    → i ≤ n → slice_get ds (i - 1) ≡ find t (take n ds)
 named_at t n ds None i is e some few = absurd (omega (arith, e, some))
 named_at t n ds (Some k) i is e some few =
     let s : StandsAt t (take n ds) 0 k = stands t 0 k (take n ds) is in
@@ -58,9 +60,12 @@ named_at t n ds (Some k) i is e some few =
 pub no_name : (names : Definitions) (table : List ℕ) (a : ℕ) → IsTable names table → a < 65536 → slice_index table a ≡ 0 → name_of names a ≡ None
 unfolding name_of index_of looked_at
 no_name names table a is below e =
-    ap (λ (r : Option (List ℕ × ℤ)). option_map (λ d. d.0) r) (none_named (gives_name a) (take 65535 names) (position_from (gives_name a) 0 (take 65535 names)) refl (sym (is.each a below) ∙ e))
+    ap (λ (r : Option (List ℕ × ℤ)). option_map (λ d. d.0) r)
+        (none_named (gives_name a) (take 65535 names) (position_from (gives_name a) 0 (take 65535 names)) refl (sym (is.each a below) ∙ e))
 
-pub a_name : (names : Definitions) (table : List ℕ) (a i : ℕ) → IsTable names table → a < 65536 → slice_index table a ≡ i → 0 < i → i < 65536 → option_map (λ d. d.0) (slice_get names (i - 1)) ≡ name_of names a
+pub a_name : (names : Definitions) (table : List ℕ) (a i : ℕ) → IsTable names table → a < 65536 → slice_index table a ≡ i → 0 < i → i < 65536
+    → option_map (λ d. d.0) (slice_get names (i - 1)) ≡ name_of names a
 unfolding name_of index_of looked_at
 a_name names table a i is below e some few =
-    ap (λ (r : Option (List ℕ × ℤ)). option_map (λ d. d.0) r) (named_at (gives_name a) 65535 names (position_from (gives_name a) 0 (take 65535 names)) i refl (sym (is.each a below) ∙ e) some (omega (arith, few)))
+    ap (λ (r : Option (List ℕ × ℤ)). option_map (λ d. d.0) r)
+        (named_at (gives_name a) 65535 names (position_from (gives_name a) 0 (take 65535 names)) i refl (sym (is.each a below) ∙ e) some (omega (arith, few)))

@@ -72,7 +72,8 @@ by_move register_op.Iny profile mode place state = refl
 by_move register_op.Inx profile mode place state = refl
 by_move register_op.Nop profile mode place state = refl
 
-by_branch : (op : BranchOp) (profile : Profile) (mode : Mode) (place : EffectiveAddress) (state : State) (is_taken : Bool) → branches op state.regs.flags ≡ is_taken
+by_branch : (op : BranchOp) (profile : Profile) (mode : Mode) (place : EffectiveAddress) (state : State) (is_taken : Bool)
+    → branches op state.regs.flags ≡ is_taken
     → KeepsOthers (changed_by profile (operation.Branch op)) (operation.Branch op) mode place state
 unfolding after_operation branch
 by_branch op profile mode place state true is = rw is refl

@@ -29,10 +29,13 @@ pub code_is : (profile : Profile) (m : Mnemonic) (d : Mode) → within profile (
 code_is profile = same_at_each (λ m d. within profile (code_of m d)) (opcode_of profile) (all_codes profile)
 
 -- what holds of the opcode of a mnemonic in a mode
-pub found : (profile : Profile) (m : Mnemonic) (d : Mode) (code : Option ℕ) → code ≡ opcode_of profile m d → IfSome code (λ opcode. IsRowOf m d (row_at profile opcode))
+pub found : (profile : Profile) (m : Mnemonic) (d : Mode) (code : Option ℕ) → code ≡ opcode_of profile m d
+    → IfSome code (λ opcode. IsRowOf m d (row_at profile opcode))
 found profile m d code is =
-    IfSome_then code (subst (λ r. IfSome r (λ opcode. (opcode < 256) × IsRowOf m d (row_at profile opcode))) (sym is) (row_of_encoded profile m d)) (λ opcode h. h.1)
+    IfSome_then code (subst (λ r. IfSome r (λ opcode. (opcode < 256) × IsRowOf m d (row_at profile opcode))) (sym is) (row_of_encoded profile m d))
+        (λ opcode h. h.1)
 
-pub none : (profile : Profile) (m : Mnemonic) (d : Mode) (code : Option ℕ) → code ≡ opcode_of profile m d → IfNone code ((opcode : ℕ) → opcode < 256 → ¬ IsRowOf m d (row_at profile opcode))
+pub none : (profile : Profile) (m : Mnemonic) (d : Mode) (code : Option ℕ) → code ≡ opcode_of profile m d
+    → IfNone code ((opcode : ℕ) → opcode < 256 → ¬ IsRowOf m d (row_at profile opcode))
 none profile m d None is = λ opcode below row. let e : opcode_of profile m d ≡ Some opcode = encoded_of_row profile m d opcode below row in cc
 none profile m d (Some code) is = tt

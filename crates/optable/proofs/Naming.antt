@@ -71,7 +71,8 @@ none_named profile text other = sym (none_among text (mnemonics profile) other)
 
 -- ---- texts of three bytes
 
-pub capitals_is : (text : List ℕ) (d : ℕ) → length text ≡ 3 → to_ascii_uppercase (get_or text 0 d) ∷ to_ascii_uppercase (get_or text 1 d) ∷ to_ascii_uppercase (get_or text 2 d) ∷ [] ≡ str_to_ascii_uppercase text
+pub capitals_is : (text : List ℕ) (d : ℕ) → length text ≡ 3 → to_ascii_uppercase (get_or text 0 d) ∷ to_ascii_uppercase (get_or text 1 d)
+    ∷ to_ascii_uppercase (get_or text 2 d) ∷ [] ≡ str_to_ascii_uppercase text
 capitals_is [] d len = absurd (omega arith)
 capitals_is (p ∷ []) d len = absurd (omega arith)
 capitals_is (p ∷ q ∷ []) d len = absurd (omega arith)

@@ -46,10 +46,12 @@ pub record Differs (handed : List ℕ) (at : List ℕ) (s t : State) : Type 0 wh
 
 -- ---- forwards and back
 
-pub flags_forth : (s t : State) → flags_of_byte (bit_xor (status false s.regs.flags) (bit_xor (status false s.regs.flags) (status false t.regs.flags))) ≡ t.regs.flags
+pub flags_forth : (s t : State) → flags_of_byte (bit_xor (status false s.regs.flags)
+    (bit_xor (status false s.regs.flags) (status false t.regs.flags))) ≡ t.regs.flags
 flags_forth s t = ap flags_of_byte (xor_again (status false s.regs.flags) (status false t.regs.flags)) ∙ flags_again t.regs.flags
 
-pub flags_back : (s t : State) → flags_of_byte (bit_xor (status false t.regs.flags) (bit_xor (status false s.regs.flags) (status false t.regs.flags))) ≡ s.regs.flags
+pub flags_back : (s t : State) → flags_of_byte (bit_xor (status false t.regs.flags) (bit_xor (status false s.regs.flags) (status false t.regs.flags)))
+    ≡ s.regs.flags
 flags_back s t = ap flags_of_byte (xor_back (status false s.regs.flags) (status false t.regs.flags)) ∙ flags_again s.regs.flags
 
 pending_gone : (b : Bool) → flipped b b ≡ false
@@ -121,14 +123,16 @@ leads_back given s t h =
 
 -- where it has stored, by whether an entry was due
 step_by : (s t : State) (full nmi irq : Bool) → InRange s → s.nmi ≡ nmi
-    → cond full (Err CyclesFull) (cond nmi (Ok (interrupt_entry (record s { nmi = false }) 0xFFFA)) (cond irq (Ok (interrupt_entry s 0xFFFE)) (attempt (row_here s) s))) ≡ Ok t
+    → cond full (Err CyclesFull) (cond nmi (Ok (interrupt_entry (record s { nmi = false }) 0xFFFA))
+        (cond irq (Ok (interrupt_entry s 0xFFFE)) (attempt (row_here s) s))) ≡ Ok t
     → Steps (stored_by (nmi || irq) s.regs.s (stores_here s)) s t
 step_by s t true nmi irq h is made = cc
 step_by s t false true irq h is made =
     let none : State = record s { nmi = false } in
     let same : interrupt_entry none 0xFFFA ≡ t = cc in
     let entry = entry_steps none 0xFFFA h.s refl in
-    let whole : Steps (entry_stores s.regs.s) s (interrupt_entry none 0xFFFA) = record { bus = entry.bus; irq = entry.irq; nmi = entry.nmi; from = entry.from; to = entry.to } in
+    let whole : Steps (entry_stores s.regs.s) s (interrupt_entry none 0xFFFA) =
+        record { bus = entry.bus; irq = entry.irq; nmi = entry.nmi; from = entry.from; to = entry.to } in
     subst (λ (x : State). Steps (entry_stores s.regs.s) s x) same whole
 step_by s t false false true h is made =
     let same : interrupt_entry s 0xFFFE ≡ t = cc in
@@ -138,17 +142,20 @@ step_by s t false false false h is made = attempted_steps s t h is made
 steps : (s t : State) → InRange s → step s ≡ Ok t → Steps (step_stores s t) s t
 unfolding step
 steps s t h made =
-    let all : Steps (stored_by (entry_due s) s.regs.s (stores_here s)) s t = step_by s t (nat_lt most_cycles s.cycles) s.nmi (irq_asked s && not s.regs.flags.i) h refl made in
+    let all : Steps (stored_by (entry_due s) s.regs.s (stores_here s)) s t =
+        step_by s t (nat_lt most_cycles s.cycles) s.nmi (irq_asked s && not s.regs.flags.i) h refl made in
     subst (λ (b : Bool). Steps (stored_by b s.regs.s (stores_here s)) s t) (sym (entered_is s t all.bus.given)) all
 
 -- ---- where input was handed in before
 
-target_given : (profile : Profile) (bus : Bus) (given : List ℕ) (pointer : ℕ) → jump_target profile (record bus { given = given }) pointer ≡ jump_target profile bus pointer
+target_given : (profile : Profile) (bus : Bus) (given : List ℕ) (pointer : ℕ)
+    → jump_target profile (record bus { given = given }) pointer ≡ jump_target profile bus pointer
 unfolding jump_target address_at address_in_page
 target_given N bus given pointer = refl
 target_given C bus given pointer = refl
 
-place_given : (bus : Bus) (given : List ℕ) (regs : Regs) (mode : Mode) → effective_address (record bus { given = given }) regs mode ≡ effective_address bus regs mode
+place_given : (bus : Bus) (given : List ℕ) (regs : Regs) (mode : Mode)
+    → effective_address (record bus { given = given }) regs mode ≡ effective_address bus regs mode
 unfolding effective_address address_at address_in_page
 place_given bus given regs Imp = refl
 place_given bus given regs Acc = refl
@@ -161,13 +168,15 @@ place_given bus given regs AbsX = refl
 place_given bus given regs AbsY = refl
 place_given bus given regs IndX = refl
 place_given bus given regs IndY = refl
-place_given bus given regs Ind = ap (λ (address : ℕ). record { address = address; crossed = false }) (target_given bus.map.profile bus given (address_at bus ((regs.pc + 1) % 65536)))
+place_given bus given regs Ind = ap (λ (address : ℕ). record { address = address; crossed = false })
+    (target_given bus.map.profile bus given (address_at bus ((regs.pc + 1) % 65536)))
 place_given bus given regs Rel = refl
 place_given bus given regs IndZ = refl
 
 access_given : (row : Option Row) (s : State) (given : List ℕ) → access_by row (record s { bus = record s.bus { given = given } }) ≡ access_by row s
 access_given None s given = refl
-access_given (Some row) s given = ap (λ (place : EffectiveAddress). access_of (operation_of row.mnemonic) row.mode place.address) (place_given s.bus given s.regs row.mode)
+access_given (Some row) s given = ap (λ (place : EffectiveAddress). access_of (operation_of row.mnemonic) row.mode place.address)
+    (place_given s.bus given s.regs row.mode)
 
 stores_given : (s : State) (given : List ℕ) → stores_here (with_input given s) ≡ stores_here s
 unfolding stores_here access_here
@@ -234,7 +243,8 @@ past_end (x ∷ xs) = past_end xs
 
 one_more : (xs whole more : List ℕ) → whole ≡ xs ++ more → length more ≤ 1 → whole ≡ xs ++ option_to_list (slice_get whole (length xs))
 one_more xs whole [] e short = e ∙ ap (λ (o : Option ℕ). xs ++ option_to_list o) (sym (past_end xs) ∙ ap (λ (l : List ℕ). slice_get l (length xs)) (sym e))
-one_more xs whole (y ∷ []) e short = e ∙ ap (λ (o : Option ℕ). xs ++ option_to_list o) (sym (at_end xs y) ∙ ap (λ (l : List ℕ). slice_get l (length xs)) (sym e))
+one_more xs whole (y ∷ []) e short = e ∙ ap (λ (o : Option ℕ). xs ++ option_to_list o)
+    (sym (at_end xs y) ∙ ap (λ (l : List ℕ). slice_get l (length xs)) (sym e))
 one_more xs whole (y ∷ z ∷ more) e short = absurd (omega (arith, short))
 
 -- ---- all of it

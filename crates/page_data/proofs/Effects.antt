@@ -82,7 +82,8 @@ read_leads : (at : List ℕ) (bus : Bus) (address : ℕ) → Leads 1 0 at bus (a
 unfolding after_read
 read_leads at bus address = read_by at bus ((address == bus.map.port + 1) && input_waits bus)
 
-byte_leads : (n m : ℕ) (at : List ℕ) (bus : Bus) (address value : ℕ) → ((k : ℕ) → Outside k at → k ≢ address) → Leads n m at bus (bus_with_byte bus address value)
+byte_leads : (n m : ℕ) (at : List ℕ) (bus : Bus) (address value : ℕ) → ((k : ℕ) → Outside k at → k ≢ address)
+    → Leads n m at bus (bus_with_byte bus address value)
 byte_leads n m at bus address value within = record {
   map = refl;
   given = refl;
@@ -94,7 +95,8 @@ byte_leads n m at bus address value within = record {
 }
 
 write_by : (at : List ℕ) (bus : Bus) (address value : ℕ) (port first third rom : Bool) → ((k : ℕ) → Outside k at → k ≢ address)
-    → Leads 0 1 at bus (cond port (cond first (record bus { out = bus.out ++ value ∷ [] }) (cond third (record bus { control = value % 2 == 1 }) bus)) (cond rom bus (bus_with_byte bus address value)))
+    → Leads 0 1 at bus (cond port (cond first (record bus { out = bus.out ++ value ∷ [] }) (cond third (record bus { control = value % 2 == 1 }) bus))
+        (cond rom bus (bus_with_byte bus address value)))
 write_by at bus address value true true third rom within = record {
   map = refl;
   given = refl;
@@ -119,7 +121,8 @@ write_by at bus address value false first third false within = byte_leads 0 1 at
 
 write_leads : (at : List ℕ) (bus : Bus) (address value : ℕ) → ((k : ℕ) → Outside k at → k ≢ address) → Leads 0 1 at bus (after_write bus address value)
 unfolding after_write
-write_leads at bus address value within = write_by at bus address value (is_port bus.map address) (address == bus.map.port) (address == bus.map.port + 3) (is_rom bus.map address) within
+write_leads at bus address value within = write_by at bus address value (is_port bus.map address) (address == bus.map.port)
+    (address == bus.map.port + 3) (is_rom bus.map address) within
 
 -- ---- a state that an operation leads to
 
@@ -313,7 +316,8 @@ executed_by row place s t false small none few made =
     } in
     subst (λ (x : State). Steps at s x) same whole
 
-attempted_by : (row : Option Row) (opcode : ℕ) (s t : State) → s.regs.s < 256 → s.nmi ≡ false → opcode < 256 → row_at s.bus.map.profile opcode ≡ row → attempt row s ≡ Ok t
+attempted_by : (row : Option Row) (opcode : ℕ) (s t : State) → s.regs.s < 256 → s.nmi ≡ false → opcode < 256 → row_at s.bus.map.profile opcode ≡ row
+    → attempt row s ≡ Ok t
     → Steps (stores_by (access_by row s) s.regs.s) s t
 unfolding attempt execution
 attempted_by None opcode s t small none byte is made = cc

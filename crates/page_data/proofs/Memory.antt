@@ -17,7 +17,8 @@ abbrev pub AreApart : List ℕ → Type 0
 AreApart [] = Unit {0}
 AreApart (a ∷ addresses) = Outside a addresses × AreApart addresses
 
-cells_set : (s t : List ℕ) (a value : ℕ) (addresses : List ℕ) → Outside a addresses → cells_between s t addresses ≡ cells_between (slice_set s a value) t addresses
+cells_set : (s t : List ℕ) (a value : ℕ) (addresses : List ℕ) → Outside a addresses
+    → cells_between s t addresses ≡ cells_between (slice_set s a value) t addresses
 cells_set s t a value [] apart = refl
 cells_set s t a value (b ∷ addresses) apart =
     let same : slice_index (slice_set s a value) b ≡ slice_index s b = get_or-set_other s a b value 0 (λ e. apart.0 (sym e)) in
@@ -33,7 +34,8 @@ at_set s t a size = elim (cases_lt a (length s)) [
       ∙ sym (get_or_past (slice_set s a (slice_index t a)) a 0 (omega (arith, past, length-set s a (slice_index t a))))
 ]
 
-pub flipped_is : (s t : List ℕ) (addresses : List ℕ) → length t ≡ length s → ((k : ℕ) → Outside k addresses → slice_index t k ≡ slice_index s k) → AreApart addresses
+pub flipped_is : (s t : List ℕ) (addresses : List ℕ) → length t ≡ length s → ((k : ℕ) → Outside k addresses → slice_index t k ≡ slice_index s k)
+    → AreApart addresses
     → flipped_memory s (cells_between s t addresses) ≡ t
 unfolding flipped_memory
 flipped_is s t [] size same apart = sym (ext_get_or 0 t s size (λ i within. same i tt))
@@ -53,7 +55,8 @@ cells_turned s t (a ∷ addresses) =
     ap (λ x. (a, x) ∷ cells_between s t addresses) (xor_comm (slice_index s a) (slice_index t a))
     ∙ ap (λ cells. (a, bit_xor (slice_index t a) (slice_index s a)) ∷ cells) (cells_turned s t addresses)
 
-pub flipped_back : (s t : List ℕ) (addresses : List ℕ) → length t ≡ length s → ((k : ℕ) → Outside k addresses → slice_index t k ≡ slice_index s k) → AreApart addresses
+pub flipped_back : (s t : List ℕ) (addresses : List ℕ) → length t ≡ length s → ((k : ℕ) → Outside k addresses → slice_index t k ≡ slice_index s k)
+    → AreApart addresses
     → flipped_memory t (cells_between s t addresses) ≡ s
 flipped_back s t addresses size same apart =
     ap (flipped_memory t) (cells_turned s t addresses) ∙ flipped_is t s addresses (sym size) (λ k out. sym (same k out)) apart

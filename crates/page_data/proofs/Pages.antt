@@ -5,14 +5,16 @@ use Rattle.std.proofs.lemmas.Bool.{eq-eqb, ne_eqb}
 use Rattle.std.proofs.lemmas.List.{drop-drop, ext_get_or, get_or-drop, get_or-take, length-drop, length-take}
 use Rattle.page_data.specs.Start.{is_blank, page, pages}
 
-pub page_all : (cells memory : List ℕ) (number : ℕ) → length cells ≡ 256 → length memory ≡ 65536 → number < 256 → ((k : ℕ) → k < 256 → get_or cells k 0 ≡ get_or memory (256 * number + k) 0)
+pub page_all : (cells memory : List ℕ) (number : ℕ) → length cells ≡ 256 → length memory ≡ 65536 → number < 256
+    → ((k : ℕ) → k < 256 → get_or cells k 0 ≡ get_or memory (256 * number + k) 0)
     → cells ≡ take 256 (drop (256 * number) memory)
 page_all cells memory number size all below same =
     let rest = drop (256 * number) memory in
     ext_get_or 0 cells (take 256 rest) (omega (arith, size, all, below, length-take 256 rest, length-drop (256 * number) memory))
     (λ i within. same i (omega (arith, within, size)) ∙ sym (get_or-take 256 rest i 0 (omega (arith, within, size)) ∙ get_or-drop (256 * number) memory i 0))
 
-pages_by : (n i : ℕ) (memory : List ℕ) → n ≡ 256 * i → (k j : ℕ) → k ≡ suc j → pages k (drop n memory) ≡ page (take 256 (drop n memory)) ++ pages j (drop 256 (drop n memory))
+pages_by : (n i : ℕ) (memory : List ℕ) → n ≡ 256 * i → (k j : ℕ) → k ≡ suc j
+    → pages k (drop n memory) ≡ page (take 256 (drop n memory)) ++ pages j (drop 256 (drop n memory))
 unfolding pages
 pages_by n i memory e k j is = ap (λ m. pages m (drop n memory)) is
 

@@ -18,7 +18,8 @@ use Rattle.page_data.proofs.Between.{leads_back, leads_forth, step_differs, step
 use Rattle.page_data.proofs.Memory.{cells_are}
 use Rattle.page_data.proofs.Telling.{told_more}
 
-stored_are : (b : Bool) (s t : State) → cells_after t.bus.memory (stored_cells b (cells_of s.bus.memory (entry_stores s.regs.s)) (cells_of s.bus.memory (stores_here s)))
+stored_are : (b : Bool) (s t : State) → cells_after t.bus.memory
+    (stored_cells b (cells_of s.bus.memory (entry_stores s.regs.s)) (cells_of s.bus.memory (stores_here s)))
     ≡ cells_between s.bus.memory t.bus.memory (stored_by b s.regs.s (stores_here s))
 stored_are true s t = cells_are s.bus.memory t.bus.memory (entry_stores s.regs.s)
 stored_are false s t = cells_are s.bus.memory t.bus.memory (stores_here s)
@@ -67,20 +68,23 @@ step_told given ahead s t start front old new earlier few e h sound made told =
     let c = change_of given s t in
     let differs = step_differs given s t sound made in
     let grown : (front ++ old) ++ bytes_of c ≡ front ++ new =
-    append_assoc front old (bytes_of c) ∙ ap (λ (l : List ℕ). front ++ (old ++ l)) (sym (ap bytes_of (change_is given ahead s t h))) ∙ ap (λ (l : List ℕ). front ++ l) (sym e) in
+    append_assoc front old (bytes_of c) ∙ ap (λ (l : List ℕ). front ++ (old ++ l)) (sym (ap bytes_of (change_is given ahead s t h)))
+        ∙ ap (λ (l : List ℕ). front ++ l) (sym e) in
     subst (λ (l : List ℕ). Tells start l (earlier ++ s ∷ []) t × (changes_in l ≡ changes_in (front ++ old) ++ c ∷ [])) grown
     (told_more start s t (front ++ old) earlier c (step_small given s t sound few made) (leads_forth given s t differs) (leads_back given s t differs) told)
 
 -- ---- a record, part by part
 
-pub parts_joined : (old a b c d e f : List ℕ) (x m : ℕ) (present reads stores out given : List ℕ) → a ≡ old ++ x ∷ [] → b ≡ a ++ m ∷ present → c ≡ b ++ reads → d ≡ c ++ stores → e ≡ d ++ out → f ≡ e ++ given
+pub parts_joined : (old a b c d e f : List ℕ) (x m : ℕ) (present reads stores out given : List ℕ) → a ≡ old ++ x ∷ [] → b ≡ a ++ m ∷ present
+    → c ≡ b ++ reads → d ≡ c ++ stores → e ≡ d ++ out → f ≡ e ++ given
     → f ≡ old ++ x ∷ m ∷ (present ++ (reads ++ (stores ++ (out ++ given))))
 parts_joined old a b c d e f x m present reads stores out given ea eb ec ed ee ef =
     ef ∙ ap (λ (l : List ℕ). l ++ given) ee ∙ append_assoc d out given
     ∙ ap (λ (l : List ℕ). l ++ (out ++ given)) ed ∙ append_assoc c stores (out ++ given)
     ∙ ap (λ (l : List ℕ). l ++ (stores ++ (out ++ given))) ec ∙ append_assoc b reads (stores ++ (out ++ given))
     ∙ ap (λ (l : List ℕ). l ++ (reads ++ (stores ++ (out ++ given)))) eb ∙ append_assoc a (m ∷ present) (reads ++ (stores ++ (out ++ given)))
-    ∙ ap (λ (l : List ℕ). l ++ m ∷ (present ++ (reads ++ (stores ++ (out ++ given))))) ea ∙ append_assoc old (x ∷ []) (m ∷ (present ++ (reads ++ (stores ++ (out ++ given)))))
+    ∙ ap (λ (l : List ℕ). l ++ m ∷ (present ++ (reads ++ (stores ++ (out ++ given))))) ea
+        ∙ append_assoc old (x ∷ []) (m ∷ (present ++ (reads ++ (stores ++ (out ++ given)))))
 
 pub any_is : (bytes : List ℕ) → not (length bytes == 0) ≡ is_any bytes
 any_is [] = refl
@@ -91,13 +95,17 @@ pub on_ok : {X E : Type 0} (r : Result X E) (P Q : Type 0) → OnOk r P → (P �
 on_ok (Ok x) P Q h f = f h
 on_ok (Err e) P Q h f = tt
 
-pub record_pushed : (given : List ℕ) (ahead : Ahead) (t : State) (old a b c d e f eight : List ℕ) (x : ℕ) → a ≡ old ++ x ∷ [] → x ≡ head (change_from given ahead t) → eight ≡ eight_of (change_from given ahead t)
+pub record_pushed : (given : List ℕ) (ahead : Ahead) (t : State) (old a b c d e f eight : List ℕ) (x : ℕ) → a ≡ old ++ x ∷ []
+    → x ≡ head (change_from given ahead t) → eight ≡ eight_of (change_from given ahead t)
     → b ≡ a ++ marks eight ∷ without_zeros eight → c ≡ b ++ flat_map word (read_by (entered ahead.moment t) ahead.moment.nmi ahead.reads.items)
     → d ≡ c ++ flat_map cell (cells_after t.bus.memory (stored_cells (entered ahead.moment t) ahead.pushes.items ahead.stores.items))
     → e ≡ d ++ option_to_list (slice_get t.bus.out ahead.shown) → f ≡ e ++ counted given → f ≡ old ++ bytes_of (change_from given ahead t)
 unfolding change_by bytes_of
 record_pushed given ahead t old a b c d e f eight x ea first changed eb ec ed ee ef =
     let change = change_from given ahead t in
-    parts_joined old a b c d e f x (marks eight) (without_zeros eight) (flat_map word change.reads) (flat_map cell change.stores) (option_to_list change.out) (counted given) ea eb ec ed ee ef
-    ∙ ap (λ (y : ℕ). old ++ y ∷ marks eight ∷ (without_zeros eight ++ (flat_map word change.reads ++ (flat_map cell change.stores ++ (option_to_list change.out ++ counted given))))) first
-    ∙ ap (λ (l : List ℕ). old ++ head change ∷ marks l ∷ (without_zeros l ++ (flat_map word change.reads ++ (flat_map cell change.stores ++ (option_to_list change.out ++ counted given))))) changed
+    parts_joined old a b c d e f x (marks eight) (without_zeros eight) (flat_map word change.reads) (flat_map cell change.stores)
+        (option_to_list change.out) (counted given) ea eb ec ed ee ef
+    ∙ ap (λ (y : ℕ). old ++ y ∷ marks eight ∷ (without_zeros eight
+        ++ (flat_map word change.reads ++ (flat_map cell change.stores ++ (option_to_list change.out ++ counted given))))) first
+    ∙ ap (λ (l : List ℕ). old ++ head change ∷ marks l ∷ (without_zeros l
+        ++ (flat_map word change.reads ++ (flat_map cell change.stores ++ (option_to_list change.out ++ counted given))))) changed

@@ -84,7 +84,8 @@ padding_safe zero = refl
 padding_safe (suc n) = padding_safe n
 
 pub encoded_safe : (bytes : List ℕ) → ((k : ℕ) → get_or bytes k 0 < 256) → is_safe_text (encode_of standard bytes) ≡ true
-encoded_safe bytes small = safe_both (encode_symbols symbols bytes) (replicate (padding_len (length bytes)) 61) (symbols_safe bytes small) (padding_safe (padding_len (length bytes)))
+encoded_safe bytes small = safe_both (encode_symbols symbols bytes) (replicate (padding_len (length bytes)) 61) (symbols_safe bytes small)
+    (padding_safe (padding_len (length bytes)))
 
 -- ---- pieces of whole groups
 

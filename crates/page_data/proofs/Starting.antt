@@ -14,7 +14,8 @@ use Rattle.page_data.proofs.Xor.{flags_again}
 
 -- ---- memory
 
-zero_first : (b : ℕ) (cells : List ℕ) (t : Bool) → (b == 0) ≡ t → (t && is_blank cells) ≡ true → (is_blank cells ≡ true → cells ≡ replicate (length cells) 0) → b ∷ cells ≡ 0 ∷ replicate (length cells) 0
+zero_first : (b : ℕ) (cells : List ℕ) (t : Bool) → (b == 0) ≡ t → (t && is_blank cells) ≡ true
+    → (is_blank cells ≡ true → cells ≡ replicate (length cells) 0) → b ∷ cells ≡ 0 ∷ replicate (length cells) 0
 zero_first b cells true is rest next = ap (λ (x : ℕ). x ∷ cells) (eqb-true b 0 is) ∙ ap (λ (l : List ℕ). 0 ∷ l) (next rest)
 zero_first b cells false is rest next = absurd (false≢true rest)
 
@@ -26,7 +27,8 @@ zeros (b ∷ cells) e = zero_first b cells (b == 0) refl e (λ rest. zeros cells
 abbrev behind : List ℕ → List ℕ × List ℕ → List ℕ × List ℕ
 behind front rest = (front ++ rest.0, rest.1)
 
-page_by : (blank : Bool) (n : ℕ) (cells rest : List ℕ) → is_blank cells ≡ blank → length cells ≡ 256 → memory_at (suc n) (cond blank (0 ∷ []) (1 ∷ cells) ++ rest) ≡ behind cells (memory_at n rest)
+page_by : (blank : Bool) (n : ℕ) (cells rest : List ℕ) → is_blank cells ≡ blank → length cells ≡ 256
+    → memory_at (suc n) (cond blank (0 ∷ []) (1 ∷ cells) ++ rest) ≡ behind cells (memory_at n rest)
 unfolding memory_at
 page_by true n cells rest is size =
     ap (λ (l : List ℕ). behind l (memory_at n rest)) (ap (λ (k : ℕ). replicate k 0) (sym size) ∙ sym (zeros cells is))
@@ -111,7 +113,8 @@ begins : (map : Map) (bytes : List ℕ) → start_at map bytes ≡ from_memory m
 unfolding start_at whole from_out from_taken from_cycles from_memory
 begins map bytes = refl
 
-assembled : (s : State) (more rest : List ℕ) → whole s.bus.map s.bus.memory (registers_of s ++ more) s.cycles (lines_of s) s.bus.taken s.bus.out (s.bus.given, rest) ≡ (s, rest)
+assembled : (s : State) (more rest : List ℕ) → whole s.bus.map s.bus.memory (registers_of s ++ more) s.cycles (lines_of s) s.bus.taken s.bus.out
+    (s.bus.given, rest) ≡ (s, rest)
 unfolding whole registers_of
 assembled s more rest =
     let control = has_control false false s.bus.control s.irq s.nmi false false in
@@ -170,7 +173,8 @@ start_again s rest h =
 
 -- ---- written part by part
 
-pub start_joined : (old a b c d e f g memory regs cycles taken out given : List ℕ) (lines : ℕ) → a ≡ old ++ memory → b ≡ a ++ regs → c ≡ b ++ cycles → d ≡ c ++ lines ∷ [] → e ≡ d ++ taken → f ≡ e ++ out → g ≡ f ++ given
+pub start_joined : (old a b c d e f g memory regs cycles taken out given : List ℕ) (lines : ℕ) → a ≡ old ++ memory → b ≡ a ++ regs → c ≡ b ++ cycles
+    → d ≡ c ++ lines ∷ [] → e ≡ d ++ taken → f ≡ e ++ out → g ≡ f ++ given
     → g ≡ old ++ (memory ++ (regs ++ (cycles ++ lines ∷ (taken ++ (out ++ given)))))
 start_joined old a b c d e f g memory regs cycles taken out given lines ea eb ec ed ee ef eg =
     let x1 = out ++ given in
@@ -186,7 +190,8 @@ start_joined old a b c d e f g memory regs cycles taken out given lines ea eb ec
     ∙ ap (λ (l : List ℕ). l ++ x5) ea ∙ append_assoc old memory x5
 
 pub start_pushed : (s : State) (old a b c d e f g : List ℕ) (taken : ℕ) → taken ≡ s.bus.taken
-    → a ≡ old ++ pages 256 s.bus.memory → b ≡ a ++ registers_of s → c ≡ b ++ number s.cycles → d ≡ c ++ lines_of s ∷ [] → e ≡ d ++ number taken → f ≡ e ++ listed s.bus.out → g ≡ f ++ listed s.bus.given
+    → a ≡ old ++ pages 256 s.bus.memory → b ≡ a ++ registers_of s → c ≡ b ++ number s.cycles → d ≡ c ++ lines_of s ∷ [] → e ≡ d ++ number taken
+        → f ≡ e ++ listed s.bus.out → g ≡ f ++ listed s.bus.given
     → g ≡ old ++ start_bytes s
 unfolding start_bytes
 start_pushed s old a b c d e f g taken is_taken ea eb ec ed ee ef eg =

@@ -41,7 +41,8 @@ states_back : (next : State) (c : Change) (changes : List Change) → states_by 
 unfolding states_by
 states_back next c changes = refl
 
-pub told_more : (start now next : State) (bytes : List ℕ) (earlier : List State) (c : Change) → IsSmall c → forth c now ≡ next → back c next ≡ now → Tells start bytes earlier now
+pub told_more : (start now next : State) (bytes : List ℕ) (earlier : List State) (c : Change) → IsSmall c → forth c now ≡ next → back c next ≡ now
+    → Tells start bytes earlier now
     → Tells start (bytes ++ bytes_of c) (earlier ++ now ∷ []) next × (changes_in (bytes ++ bytes_of c) ≡ changes_in bytes ++ c ∷ [])
 told_more start now next bytes earlier c small ahead behind h =
     let changes = changes_in bytes in

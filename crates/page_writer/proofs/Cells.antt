@@ -7,7 +7,8 @@ cells_suc : (profile : Profile) (n : ℕ) → opcode_cells profile (suc n) ≡ o
 unfolding opcode_cells
 cells_suc profile n = refl
 
-pub cells_more : (profile : Profile) (n : ℕ) (before : List ℕ) → (before ++ opcode_cells profile n) ++ opcode_cell profile n ≡ before ++ opcode_cells profile (n + 1)
+pub cells_more : (profile : Profile) (n : ℕ) (before : List ℕ)
+    → (before ++ opcode_cells profile n) ++ opcode_cell profile n ≡ before ++ opcode_cells profile (n + 1)
 cells_more profile n before = append_assoc before (opcode_cells profile n) (opcode_cell profile n)
     ∙ ap (λ (l : List ℕ). before ++ l) (sym (cells_suc profile n)) ∙ ap (λ (k : ℕ). before ++ opcode_cells profile k) (sym (add-one n))
 

@@ -32,14 +32,16 @@ none_in = refl
 pub no_records : (start : State) → AreRecords start [] []
 no_records start = record { changes = none_in; told = told_none start }
 
-pub one_record : (start s t : State) (given : List ℕ) (steps : List Made) (records old new : List ℕ) → AreRecords start steps records → last_of start steps ≡ s → IsMade given s t old new
+pub one_record : (start s t : State) (given : List ℕ) (steps : List Made) (records old new : List ℕ) → AreRecords start steps records
+    → last_of start steps ≡ s → IsMade given s t old new
     → AreRecords start (steps ++ record { before = s; given = given; after = t } ∷ []) (records ++ bytes_of (change_of given s t))
 one_record start s t given steps records old new h last step =
     let m : Made = record { before = s; given = given; after = t } in
     let c = change_of given s t in
     let differs = step_differs given s t step.sound step.made in
     let told : Tells start records (map before_of steps) s = subst (Tells start records (map before_of steps)) last h.told in
-    let more = told_more start s t records (map before_of steps) c (step_small given s t step.sound step.few step.made) (leads_forth given s t differs) (leads_back given s t differs) told in
+    let more = told_more start s t records (map before_of steps) c (step_small given s t step.sound step.few step.made)
+        (leads_forth given s t differs) (leads_back given s t differs) told in
     record {
       changes = more.1 ∙ ap (λ (l : List Change). l ++ c ∷ []) h.changes ∙ sym (map_more change_in steps m);
       told = subst (λ (l : List State). Tells start (records ++ bytes_of c) l (last_of start (steps ++ m ∷ []))) (sym (map_more before_of steps m))

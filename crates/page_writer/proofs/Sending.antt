@@ -22,7 +22,8 @@ none_sent a bytes = record {
 }
 
 -- More waits.
-pub more_waits : (a b : Option (List ℕ)) (bytes waiting now more : List ℕ) → IsSentSafely a b bytes waiting → now ≡ waiting ++ more → IsSentSafely a b (bytes ++ more) now
+pub more_waits : (a b : Option (List ℕ)) (bytes waiting now more : List ℕ) → IsSentSafely a b bytes waiting → now ≡ waiting ++ more
+    → IsSentSafely a b (bytes ++ more) now
 more_waits a b bytes waiting now more h is = record {
   sent = record {
     sent = h.sent.sent;
@@ -34,7 +35,8 @@ more_waits a b bytes waiting now more h is = record {
 }
 
 -- One record more waits.
-pub more_recorded : (a b : Option (List ℕ)) (first records more waiting now : List ℕ) → IsSentSafely a b (first ++ records) waiting → now ≡ waiting ++ more → IsSentSafely a b (first ++ (records ++ more)) now
+pub more_recorded : (a b : Option (List ℕ)) (first records more waiting now : List ℕ) → IsSentSafely a b (first ++ records) waiting
+    → now ≡ waiting ++ more → IsSentSafely a b (first ++ (records ++ more)) now
 more_recorded a b first records more waiting now h is =
     subst (λ (l : List ℕ). IsSentSafely a b l now) (append_assoc first records more) (more_waits a b (first ++ records) waiting now more h is)
 
@@ -57,7 +59,8 @@ three_both : (n m : ℕ) → n % 3 ≡ 0 → m % 3 ≡ 0 → (n + m) % 3 ≡ 0
 three_both n m a b = omega (arith, a, b)
 
 -- What waited was written in part.
-pub more_sent : (a b c : Option (List ℕ)) (bytes waiting now : List ℕ) → IsSentSafely a b bytes waiting → IsSentSafely b c waiting now → IsSentSafely a c bytes now
+pub more_sent : (a b c : Option (List ℕ)) (bytes waiting now : List ℕ) → IsSentSafely a b bytes waiting → IsSentSafely b c waiting now
+    → IsSentSafely a c bytes now
 more_sent a b c bytes waiting now h g =
     let front = h.sent.sent in
     let more = g.sent.sent in
@@ -73,11 +76,13 @@ more_sent a b c bytes waiting now h g =
     }
 
 -- The rest was written.
-pub all_sent : (a b c : Option (List ℕ)) (bytes waiting : List ℕ) → IsSentSafely a b bytes waiting → ((k : ℕ) → get_or waiting k 0 < 256) → Appends b c (encode_of standard waiting)
+pub all_sent : (a b c : Option (List ℕ)) (bytes waiting : List ℕ) → IsSentSafely a b bytes waiting → ((k : ℕ) → get_or waiting k 0 < 256)
+    → Appends b c (encode_of standard waiting)
     → Appends a c (encode_of standard bytes) × (is_safe_text (encode_of standard bytes) ≡ true)
 all_sent a b c bytes waiting h small ends =
     let front = h.sent.sent in
-    let joined : encode_of standard bytes ≡ encode_of standard front ++ encode_of standard waiting = ap (encode_of standard) h.sent.parts ∙ encoded_joined front waiting h.sent.whole in (
+    let joined : encode_of standard bytes ≡ encode_of standard front ++ encode_of standard waiting =
+        ap (encode_of standard) h.sent.parts ∙ encoded_joined front waiting h.sent.whole in (
       subst (Appends a c) (sym joined) (Appends-trans a b c (encode_of standard front) (encode_of standard waiting) h.sent.appends ends),
       ap is_safe_text joined ∙ safe_both (encode_of standard front) (encode_of standard waiting) h.safe (encoded_safe waiting small),
     )

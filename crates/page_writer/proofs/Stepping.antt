@@ -9,8 +9,10 @@ use Rattle.page_writer.specs.Steps.{Made, made_in, steps_after, steps_of}
 use Rattle.page_writer.proofs.Turning.{turn_line}
 
 -- So far: whatever comes after what was told, these are the steps, and then those of the rest.
-pub record StepsOn (until : Option ℕ) (limit : ℕ) (s : Session) (first : Known) (told : List ℕ) (over : Bool) (steps : ℕ) (t : Session) (memo : Known) (done : List Made) : Type 0 where
-  pub are : (rest : List ℕ) → MayCome over rest → steps_of until limit (play_at s first (told ++ rest)) ≡ done ++ steps_of until (limit - steps) (play_at t memo rest)
+pub record StepsOn (until : Option ℕ) (limit : ℕ) (s : Session) (first : Known) (told : List ℕ) (over : Bool) (steps : ℕ) (t : Session) (memo : Known)
+    (done : List Made) : Type 0 where
+  pub are : (rest : List ℕ) → MayCome over rest → steps_of until limit (play_at s first (told ++ rest)) ≡ done
+      ++ steps_of until (limit - steps) (play_at t memo rest)
 
 pub none_made : (until : Option ℕ) (limit : ℕ) (s : Session) (first : Known) (over : Bool) → StepsOn until limit s first [] over 0 s first []
 none_made until limit s first over = record {
@@ -29,7 +31,8 @@ may_all : (over over2 : Bool) (told2 rest : List ℕ) → EndsOnce over over2 to
 may_all over over2 told2 rest once may is =
     let ends = once is in ap (λ l. l ++ rest) ends.0 ∙ may ends.1
 
-pub all_made : (until : Option ℕ) (limit : ℕ) (s : Session) (first : Known) (told : List ℕ) (over : Bool) (steps : ℕ) (t : Session) (memo : Known) (done : List Made) → StepsOn until limit s first told over steps t memo done → limit ≤ steps
+pub all_made : (until : Option ℕ) (limit : ℕ) (s : Session) (first : Known) (told : List ℕ) (over : Bool) (steps : ℕ) (t : Session) (memo : Known)
+    (done : List Made) → StepsOn until limit s first told over steps t memo done → limit ≤ steps
     → (rest : List ℕ) → MayCome over rest → steps_of until limit (play_at s first (told ++ rest)) ≡ done
 all_made until limit s first told over steps t memo done h full rest may =
     h.are rest may ∙ ap (λ (l : List Made). done ++ l) (no_more until (limit - steps) (play_at t memo rest) (omega (arith, full))) ∙ append-nil done
@@ -54,10 +57,13 @@ module _ (until : Option ℕ) (limit : ℕ) (s : Session) (first : Known) (told 
       ∙ ap (λ (x : Turn). done ++ next (play_at t memo (told2 ++ rest)) x) (turn rest may)
 
   -- the step of the turn
-  is_made : TurnsTo t memo told2 over2 None u memo2 → (rest : List ℕ) → MayCome over2 rest → made_in (play_at t memo (told2 ++ rest)) (turn_to None u memo2 rest) ≡ made
-  is_made turn rest may = ap (λ (l : List ℕ). record { before = t.current; given = l; after = u.current }) (turn_line t u memo memo2 told2 rest None (turn rest may))
+  is_made : TurnsTo t memo told2 over2 None u memo2 → (rest : List ℕ) → MayCome over2 rest
+      → made_in (play_at t memo (told2 ++ rest)) (turn_to None u memo2 rest) ≡ made
+  is_made turn rest may = ap (λ (l : List ℕ). record { before = t.current; given = l; after = u.current })
+      (turn_line t u memo memo2 told2 rest None (turn rest may))
 
-  pub made_on : TurnsTo t memo told2 over2 None u memo2 → is_at until u.current ≡ false → StepsOn until limit s first (told ++ told2) over2 (steps + 1) u memo2 (done ++ made ∷ [])
+  pub made_on : TurnsTo t memo told2 over2 None u memo2 → is_at until u.current ≡ false
+      → StepsOn until limit s first (told ++ told2) over2 (steps + 1) u memo2 (done ++ made ∷ [])
   made_on turn off = record {
     are = λ rest may.
         let later = steps_of until (limit - (steps + 1)) (play_at u memo2 rest) in

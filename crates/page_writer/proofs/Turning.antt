@@ -39,7 +39,8 @@ for_by : (asked : Bool) (state : State) (input : List ℕ)
 for_by true state input = line_front (room_of state) input
 for_by false state input = (refl, omega arith)
 
-line_for_front : (memo : Memo) (state : State) (input : List ℕ) → (line_for memo state input ≡ take (length (line_for memo state input)) input) × (length (line_for memo state input) ≤ room_of state)
+line_for_front : (memo : Memo) (state : State) (input : List ℕ) → (line_for memo state input ≡ take (length (line_for memo state input)) input)
+    × (length (line_for memo state input) ≤ room_of state)
 line_for_front memo state input = for_by (asks memo state) state input
 
 -- the input before what is left is the line
@@ -62,10 +63,12 @@ unfolding turn_of
 turn_left p =
     let line = line_for p.memo p.session.current p.input in
     let q = with_line line p in
-    left_by (ending_here p.memo p.written (asks p.memo p.session.current) (came line) q.session.current) q (asks p.memo p.session.current) (came line) (step q.session.current)
+    left_by (ending_here p.memo p.written (asks p.memo p.session.current) (came line) q.session.current) q (asks p.memo p.session.current) (came line)
+        (step q.session.current)
 
 -- the line of a turn is what was read
-pub turn_line : (s t : Session) (k after : Known) (told rest : List ℕ) (ending : Option Ending) → turn_of (play_at s k (told ++ rest)) ≡ turn_to ending t after rest
+pub turn_line : (s t : Session) (k after : Known) (told rest : List ℕ) (ending : Option Ending)
+    → turn_of (play_at s k (told ++ rest)) ≡ turn_to ending t after rest
     → line_for k.memo s.current (told ++ rest) ≡ told
 turn_line s t k after told rest ending turn =
     let p = play_at s k (told ++ rest) in
@@ -77,7 +80,8 @@ turn_line s t k after told rest ending turn =
 none_some : {A : Type 0} (x : A) → Some x ≡ None → ⊥
 none_some x e = absurd cc
 
-stepped_to : (e : Option Ending) (q : Play) (asked some : Bool) (r : Result State EventFault) (t : Session) → (unless_ended e q (stepped q asked some r)).ending ≡ None
+stepped_to : (e : Option Ending) (q : Play) (asked some : Bool) (r : Result State EventFault) (t : Session)
+    → (unless_ended e q (stepped q asked some r)).ending ≡ None
     → (unless_ended e q (stepped q asked some r)).play.session ≡ t → r ≡ Ok t.current
 stepped_to (Some why) q asked some r t none is = absurd (none_some why none)
 stepped_to None q asked some (Ok state) t none is = ap (λ (u : Session). Ok u.current) is
@@ -89,7 +93,8 @@ unfolding turn_of
 turn_steps p t none is =
     let line = line_for p.memo p.session.current p.input in
     let q = with_line line p in
-    stepped_to (ending_here p.memo p.written (asks p.memo p.session.current) (came line) q.session.current) q (asks p.memo p.session.current) (came line) (step q.session.current) t none is
+    stepped_to (ending_here p.memo p.written (asks p.memo p.session.current) (came line) q.session.current) q (asks p.memo p.session.current)
+        (came line) (step q.session.current) t none is
 
 -- ---- input that has room
 

@@ -16,6 +16,7 @@ pub ran_whole : (until : Option ℕ) (limit : ℕ) (s t : Session) (first memo :
 ran_whole until limit s t first memo input told left steps why all ran =
     ran_as (played until limit (play_at s first input)) steps why t memo left (ap (λ (l : List ℕ). played until limit (play_at s first l)) all ∙ ran)
 
-pub three_parts : (a b c d : Option (List ℕ)) (first second third : List ℕ) → Appends a b first → Appends b c second → Appends c d third → Appends a d (first ++ (second ++ third))
+pub three_parts : (a b c d : Option (List ℕ)) (first second third : List ℕ) → Appends a b first → Appends b c second → Appends c d third
+    → Appends a d (first ++ (second ++ third))
 three_parts a b c d first second third one two three =
     Appends-trans a b d first (second ++ third) one (Appends-trans b c d second third two three)

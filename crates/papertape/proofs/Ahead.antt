@@ -29,12 +29,14 @@ covered_ahead (suc n) [] a h = absurd (omega arith)
 covered_ahead (suc n) (c ∷ cells) a h = covered_ahead n cells (a + 1) (omega arith) ∙ ap (λ k. cuts k 0 (drop n cells)) (omega arith)
 
 -- a cell with nothing is passed
-none_ahead : (cells : List (Option ℕ)) (i : ℕ) → i < length cells → first_cell (drop i cells) ≡ None → cuts i 0 (drop i cells) ≡ cuts (i + 1) 0 (drop (i + 1) cells)
+none_ahead : (cells : List (Option ℕ)) (i : ℕ) → i < length cells → first_cell (drop i cells) ≡ None
+    → cuts i 0 (drop i cells) ≡ cuts (i + 1) 0 (drop (i + 1) cells)
 none_ahead cells i h e =
     ap (cuts i 0) (drop_first cells i h) ∙ ap (λ (c : Option ℕ). cuts i 0 (c ∷ drop (i + 1) cells)) e
 
 -- a piece begins at a byte
-some_ahead : (cells : List (Option ℕ)) (i b from : ℕ) → length cells ≡ 65536 → i < 65536 → from ≤ i → first_cell (drop i cells) ≡ Some b → cuts from 0 (drop from cells) ≡ cuts i 0 (drop i cells)
+some_ahead : (cells : List (Option ℕ)) (i b from : ℕ) → length cells ≡ 65536 → i < 65536 → from ≤ i → first_cell (drop i cells) ≡ Some b
+    → cuts from 0 (drop from cells) ≡ cuts i 0 (drop i cells)
     → ComesNext cells from (i, front_bytes 24 (drop i cells))
 some_ahead cells i b from len lt le e same =
     let r : List (Option ℕ) = drop (i + 1) cells in
@@ -77,11 +79,13 @@ copied_all (suc n) (None ∷ cells) e = refl
 copied_all (suc n) (Some b ∷ cells) e = absurd cc
 
 -- the same two, by the test of the code
-pub starts : (cells : List (Option ℕ)) (o : Option ℕ) (i from : ℕ) → length cells ≡ 65536 → i < 65536 → from ≤ i → o ≡ first_cell (drop i cells) → is_some o ≡ true → cuts from 0 (drop from cells) ≡ cuts i 0 (drop i cells)
+pub starts : (cells : List (Option ℕ)) (o : Option ℕ) (i from : ℕ) → length cells ≡ 65536 → i < 65536 → from ≤ i → o ≡ first_cell (drop i cells)
+    → is_some o ≡ true → cuts from 0 (drop from cells) ≡ cuts i 0 (drop i cells)
     → ComesNext cells from (i, front_bytes 24 (drop i cells))
 starts cells (Some b) i from len lt le e is same = some_ahead cells i b from len lt le (sym e) same
 starts cells None i from len lt le e is same = absurd cc
 
-pub passes : (cells : List (Option ℕ)) (o : Option ℕ) (i : ℕ) → i < length cells → o ≡ first_cell (drop i cells) → is_some o ≡ false → cuts i 0 (drop i cells) ≡ cuts (i + 1) 0 (drop (i + 1) cells)
+pub passes : (cells : List (Option ℕ)) (o : Option ℕ) (i : ℕ) → i < length cells → o ≡ first_cell (drop i cells) → is_some o ≡ false
+    → cuts i 0 (drop i cells) ≡ cuts (i + 1) 0 (drop (i + 1) cells)
 passes cells None i lt e is = none_ahead cells i lt (sym e)
 passes cells (Some b) i lt e is = absurd cc

@@ -25,12 +25,14 @@ fault_from text (Ok image) h = tt
 fault_from text (Err f) (inl m) = inl m
 fault_from text (Err f) (inr h) = inr (subst (λ (x : Read). SoundRead text x) h (read_sound text))
 
-pub only_from : (text : List ℕ) (r : Read) → AnswersReading r (read_of text) → (cells : List (Option ℕ)) → TapeDenotes text cells → (r ≡ Ok cells) ⊎ (r ≡ Err out_of_memory)
+pub only_from : (text : List ℕ) (r : Read) → AnswersReading r (read_of text) → (cells : List (Option ℕ)) → TapeDenotes text cells → (r ≡ Ok cells)
+    ⊎ (r ≡ Err out_of_memory)
 only_from text (Ok image) h cells d = inl (sym h ∙ read_again text cells d)
 only_from text (Err f) (inl m) cells d = inr (ap Err m)
 only_from text (Err f) (inr h) cells d = inl (sym h ∙ read_again text cells d)
 
-pub refused_from : (text : List ℕ) (r : Read) → AnswersReading r (read_of text) → (kind : TapeFaultKind) (offset : ℕ) → FirstFault text kind offset → (r ≡ Err (record { offset = offset; kind = kind })) ⊎ (r ≡ Err out_of_memory)
+pub refused_from : (text : List ℕ) (r : Read) → AnswersReading r (read_of text) → (kind : TapeFaultKind) (offset : ℕ) → FirstFault text kind offset
+    → (r ≡ Err (record { offset = offset; kind = kind })) ⊎ (r ≡ Err out_of_memory)
 refused_from text (Ok image) h kind offset f = inl (sym h ∙ fault_again text kind offset f)
 refused_from text (Err e) (inl m) kind offset f = inr (ap Err m)
 refused_from text (Err e) (inr h) kind offset f = inl (sym h ∙ fault_again text kind offset f)

@@ -38,7 +38,8 @@ later x c = record {
 }
 
 -- one digit changed is one byte changed
-one_byte : (digits : List ℕ) (j d n : ℕ) → length digits ≡ 2 * n → j < length digits → digit_value d ≢ digit_value (slice_index digits j) → Changed (bytes_of_digits digits) (bytes_of_digits (set digits j d))
+one_byte : (digits : List ℕ) (j d n : ℕ) → length digits ≡ 2 * n → j < length digits → digit_value d ≢ digit_value (slice_index digits j)
+    → Changed (bytes_of_digits digits) (bytes_of_digits (set digits j d))
 one_byte [] j d n len lt other = absurd (omega arith)
 one_byte (a ∷ []) j d n len lt other = absurd (omega arith)
 one_byte (a ∷ b ∷ digits) zero d n len lt other = record {
@@ -63,7 +64,8 @@ one_byte (a ∷ b ∷ digits) (suc zero) d n len lt other = record {
   old_small = omega (arith, value_small a, value_small b);
   new_small = omega (arith, value_small a, value_small d);
 }
-one_byte (a ∷ b ∷ digits) (suc (suc j)) d n len lt other = later (digit_value a * 16 + digit_value b) (one_byte digits j d (n - 1) (omega arith) (omega arith) other)
+one_byte (a ∷ b ∷ digits) (suc (suc j)) d n len lt other = later (digit_value a * 16 + digit_value b)
+    (one_byte digits j d (n - 1) (omega arith) (omega arith) other)
 
 -- ---- what the byte changes
 
@@ -123,7 +125,8 @@ wrong n front back y x other ys xs lt right now =
           ]
     ]
 
-wrong_claim : (n : ℕ) (bs cs : List ℕ) → length bs ≡ 4 + n → Changed bs cs → (claim_in (n ∷ bs)).sum ≡ (claim_in (n ∷ bs)).checksum → (claim_in (n ∷ cs)).sum ≢ (claim_in (n ∷ cs)).checksum
+wrong_claim : (n : ℕ) (bs cs : List ℕ) → length bs ≡ 4 + n → Changed bs cs → (claim_in (n ∷ bs)).sum ≡ (claim_in (n ∷ bs)).checksum
+    → (claim_in (n ∷ cs)).sum ≢ (claim_in (n ∷ cs)).checksum
 wrong_claim n bs cs len c right now =
     let room : length (n ∷ c.front) < 5 + n = omega (arith, len, ap length c.was, length-append c.front (c.old ∷ c.back)) in
     wrong n (n ∷ c.front) c.back c.old c.new c.other c.old_small c.new_small room
@@ -140,19 +143,23 @@ all_set (x ∷ digits) (suc k) d h hex =
     and_from (is_hex_byte x) (list_all is_hex_byte (set digits k d)) p.0 (all_set digits k d p.1 hex)
 
 -- what is refused after pieces
-refused_there : (pieces : List Part) (digits more : List ℕ) → AllByRecursion IsPiece pieces → AreAllDigits digits → (claim_of digits).sum ≢ (claim_of digits).checksum
+refused_there : (pieces : List Part) (digits more : List ℕ) → AllByRecursion IsPiece pieces → AreAllDigits digits
+    → (claim_of digits).sum ≢ (claim_of digits).checksum
     → FirstFault (front_of pieces ++ (59 ∷ digits ++ more)) BadChecksum (length (front_of pieces))
 refused_there pieces digits more each all wrong_sum =
-    record { pieces = pieces; rest = 59 ∷ digits ++ more; place = 0; spelled = refl; each = each; breaks = (digits, more, refl, all, wrong_sum, refl); there = omega arith }
+    record { pieces = pieces; rest = 59 ∷ digits ++ more; place = 0; spelled = refl; each = each; breaks =
+        (digits, more, refl, all, wrong_sum, refl); there = omega arith }
 
 -- a record of a text that denotes an image has the right checksum
-right_there : (pieces : List Part) (digits more : List ℕ) (cells : List (Option ℕ)) → AllByRecursion IsPiece pieces → AreAllDigits digits → TapeDenotes (front_of pieces ++ (59 ∷ digits ++ more)) cells → (claim_of digits).sum ≡ (claim_of digits).checksum
+right_there : (pieces : List Part) (digits more : List ℕ) (cells : List (Option ℕ)) → AllByRecursion IsPiece pieces → AreAllDigits digits
+    → TapeDenotes (front_of pieces ++ (59 ∷ digits ++ more)) cells → (claim_of digits).sum ≡ (claim_of digits).checksum
 right_there pieces digits more cells each all d =
     elim (cases_eq (claim_of digits).sum (claim_of digits).checksum) [
       | inl e ↦ e
       | inr ne ↦
           let text = front_of pieces ++ (59 ∷ digits ++ more) in
-          absurd (not_both (sym (read_again text cells d) ∙ fault_again text BadChecksum (length (front_of pieces)) (refused_there pieces digits more each all ne)))
+          absurd (not_both (sym (read_again text cells d) ∙ fault_again text BadChecksum (length (front_of pieces))
+              (refused_there pieces digits more each all ne)))
     ] where
       not_both : {A : Type 0} {x : A} {f : TapeFault} → Ok x ≡ Err f → ⊥
       not_both e = cc
@@ -165,7 +172,8 @@ still_all (a ∷ b ∷ digits) (suc zero) d all two hex = absurd (omega arith)
 still_all (a ∷ b ∷ digits) (suc (suc j)) d all two hex =
     (all_set (a ∷ b ∷ digits) (suc (suc j)) d all.0 hex, omega (arith, all.1, length-set digits j d))
 
-then_wrong : (digits : List ℕ) (k d : ℕ) → AreAllDigits digits → 2 ≤ k → k < length digits → digit_value d ≢ digit_value (slice_index digits k) → (claim_of digits).sum ≡ (claim_of digits).checksum
+then_wrong : (digits : List ℕ) (k d : ℕ) → AreAllDigits digits → 2 ≤ k → k < length digits → digit_value d ≢ digit_value (slice_index digits k)
+    → (claim_of digits).sum ≡ (claim_of digits).checksum
     → (claim_of (set digits k d)).sum ≢ (claim_of (set digits k d)).checksum
 unfolding claim_of
 then_wrong [] k d all two lt other right = absurd (omega (arith, lt))
@@ -175,7 +183,8 @@ then_wrong (a ∷ b ∷ digits) (suc zero) d all two lt other right = absurd (om
 then_wrong (a ∷ b ∷ digits) (suc (suc j)) d all two lt other right =
     let n = digit_value a * 16 + digit_value b in
     let len : length digits ≡ 2 * (4 + n) = omega (arith, all.1) in
-    wrong_claim n (bytes_of_digits digits) (bytes_of_digits (set digits j d)) (length-bytes_of digits (4 + n) len) (one_byte digits j d (4 + n) len (omega (arith, lt)) other) right
+    wrong_claim n (bytes_of_digits digits) (bytes_of_digits (set digits j d)) (length-bytes_of digits (4 + n) len)
+        (one_byte digits j d (4 + n) len (omega (arith, lt)) other) right
 
 pub one_digit : OneDigitIsRefused
 one_digit text cells pieces digits more k d den spelled each all two lt hex other =

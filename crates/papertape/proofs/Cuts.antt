@@ -28,12 +28,14 @@ front_short (suc n) (None ∷ cells) = omega arith
 front_short (suc n) (Some b ∷ cells) = let h = front_short n cells in omega (arith, h)
 
 -- bytes with_bytes where nothing is
-stored_front : (bytes : List ℕ) (front : List (Option ℕ)) (n address : ℕ) → length front ≡ address → with_bytes (front ++ none (length bytes + n)) address bytes ≡ front ++ (some bytes ++ none n)
+stored_front : (bytes : List ℕ) (front : List (Option ℕ)) (n address : ℕ) → length front ≡ address
+    → with_bytes (front ++ none (length bytes + n)) address bytes ≡ front ++ (some bytes ++ none n)
 stored_front [] front n address h = ap (λ k. front ++ none k) (omega arith)
 stored_front (b ∷ bytes) front n address h =
     let k : length (b ∷ bytes) + n ≡ suc (length bytes + n) = omega arith in
     let one : set (front ++ none (length (b ∷ bytes) + n)) address (Some b) ≡ (front ++ Some b ∷ []) ++ none (length bytes + n) =
-    ap (λ m. set (front ++ none m) address (Some b)) k ∙ set_at front None (none (length bytes + n)) (Some b) address h ∙ sym (append_assoc front (Some b ∷ []) (none (length bytes + n))) in
+    ap (λ m. set (front ++ none m) address (Some b)) k ∙ set_at front None (none (length bytes + n)) (Some b) address h
+        ∙ sym (append_assoc front (Some b ∷ []) (none (length bytes + n))) in
     ap (λ (x : List (Option ℕ)). with_bytes x (address + 1) bytes) one
     ∙ stored_front bytes (front ++ Some b ∷ []) n (address + 1) (omega (arith, length-append front (Some b ∷ [])))
     ∙ append_assoc front (Some b ∷ []) (some bytes ++ none n)

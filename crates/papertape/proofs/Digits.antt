@@ -15,7 +15,8 @@ pair_of : (high low i : ℕ) → is_hex_byte high ≡ true → is_hex_byte low �
 pair_of high low i h l =
     rw (some_value high i (hex_digit_value high) h, some_value low (i + 1) (hex_digit_value low) l) refl
 
-pub decode_pairs-digits : (i : ℕ) (digits : List ℕ) (n : ℕ) → length digits ≡ 2 * n → list_all is_hex_byte digits ≡ true → decode_pairs i digits ≡ Ok (bytes_of_digits digits)
+pub decode_pairs-digits : (i : ℕ) (digits : List ℕ) (n : ℕ) → length digits ≡ 2 * n → list_all is_hex_byte digits ≡ true
+    → decode_pairs i digits ≡ Ok (bytes_of_digits digits)
 unfolding decode_pairs
 decode_pairs-digits i [] n len h = refl
 decode_pairs-digits i (d ∷ []) n len h = absurd (omega arith)
@@ -24,7 +25,8 @@ decode_pairs-digits i (high ∷ low ∷ digits) n len h =
     let q = and_parts _ _ p.1 in
     rw (pair_of high low i p.0 q.0, decode_pairs-digits (i + 2) digits (n - 1) (omega arith) q.1) refl
 
-pub decode_sized-digits : (digits : List ℕ) (n : ℕ) → length digits ≡ 2 * n → list_all is_hex_byte digits ≡ true → decode_sized digits n ≡ Ok (bytes_of_digits digits)
+pub decode_sized-digits : (digits : List ℕ) (n : ℕ) → length digits ≡ 2 * n → list_all is_hex_byte digits ≡ true
+    → decode_sized digits n ≡ Ok (bytes_of_digits digits)
 decode_sized-digits digits n len h =
     let even : length digits % 2 ≡ 0 = omega arith in
     let half : length digits / 2 ≡ n = omega arith in
@@ -37,7 +39,8 @@ length-bytes_of (high ∷ low ∷ digits) n len = let e = length-bytes_of digits
 
 pub value_small : (d : ℕ) → digit_value d ≤ 15
 value_small d =
-    cond_both (leb 65 d && leb d 70) (Some (d - 55)) (cond (leb 97 d && leb d 102) (Some (d - 87)) (cond (leb 48 d && leb d 57) (Some (d - 48)) None)) (λ (o : Option ℕ). unwrap_or o 0 ≤ 15)
+    cond_both (leb 65 d && leb d 70) (Some (d - 55)) (cond (leb 97 d && leb d 102) (Some (d - 87)) (cond (leb 48 d && leb d 57) (Some (d - 48)) None))
+        (λ (o : Option ℕ). unwrap_or o 0 ≤ 15)
     (λ e. let p = leb-true d 70 (and_parts (leb 65 d) (leb d 70) e).1 in omega (arith, p))
     (λ n. cond_both (leb 97 d && leb d 102) (Some (d - 87)) (cond (leb 48 d && leb d 57) (Some (d - 48)) None) (λ (o : Option ℕ). unwrap_or o 0 ≤ 15)
     (λ e. let p = leb-true d 102 (and_parts (leb 97 d) (leb d 102) e).1 in omega (arith, p))
@@ -57,7 +60,8 @@ half_of (d ∷ []) e = omega arith
 half_of (high ∷ low ∷ digits) e = omega arith
 
 -- one digit more is not one too many
-pub just_needed : (digits : List ℕ) (b : ℕ) → length digits < needed digits → needed (digits ++ b ∷ []) ≤ length (digits ++ b ∷ []) → length (digits ++ b ∷ []) ≡ needed (digits ++ b ∷ [])
+pub just_needed : (digits : List ℕ) (b : ℕ) → length digits < needed digits → needed (digits ++ b ∷ []) ≤ length (digits ++ b ∷ [])
+    → length (digits ++ b ∷ []) ≡ needed (digits ++ b ∷ [])
 just_needed [] b few le = absurd (omega arith)
 just_needed (d ∷ []) b few le = absurd (omega arith)
 just_needed (high ∷ low ∷ digits) b few le = omega (arith, length-append digits (b ∷ []))

@@ -89,7 +89,8 @@ fault_in : (r : Fed) (f : TapeFault) → answer_of r ≡ Err f → r ≡ Err f
 fault_in (Ok t) f e = absurd cc
 fault_in (Err g) f e = cc
 
-pub stops : (front : List ℕ) (r s : Fed) (answer : Answer) (f : TapeFault) → Told → Cut → r ≡ nothing_fed → s ≡ fed r front → answer ≡ answer_of s → answer ≡ Err f
+pub stops : (front : List ℕ) (r s : Fed) (answer : Answer) (f : TapeFault) → Told → Cut → r ≡ nothing_fed → s ≡ fed r front → answer ≡ answer_of s
+    → answer ≡ Err f
     → (false ≡ true) ↔ GoesOn (with_next front)
 stops front r s answer f told cut new is said err =
     let e = in_pieces front r s cut new is ∙ ap (λ q. fed q (59 ∷ [])) (fault_in s f (sym said ∙ err)) ∙ failed longest (59 ∷ []) f in

@@ -26,11 +26,13 @@ few_before [] b es e = omega arith
 few_before (d ∷ []) b es e = omega arith
 few_before (high ∷ low ∷ ds) b es e = omega (arith, length-append ds (b ∷ es))
 
-pub step_few : (offset b : ℕ) (s : Progress) → s.place ≡ Within → is_hex_byte b ≡ true → length (s.digits ++ b ∷ []) < needed (s.digits ++ b ∷ []) → step offset s b ≡ Ok (record s { digits = s.digits ++ b ∷ [] })
+pub step_few : (offset b : ℕ) (s : Progress) → s.place ≡ Within → is_hex_byte b ≡ true → length (s.digits ++ b ∷ []) < needed (s.digits ++ b ∷ [])
+    → step offset s b ≡ Ok (record s { digits = s.digits ++ b ∷ [] })
 unfolding step with_digit
 step_few offset b s place hex few = rw (place, hex, lt-ltb _ _ few) refl
 
-step_last : (offset b : ℕ) (s : Progress) → s.place ≡ Within → is_hex_byte b ≡ true → needed (s.digits ++ b ∷ []) ≤ length (s.digits ++ b ∷ []) → step offset s b ≡ after_record s (claim_of (s.digits ++ b ∷ []))
+step_last : (offset b : ℕ) (s : Progress) → s.place ≡ Within → is_hex_byte b ≡ true → needed (s.digits ++ b ∷ []) ≤ length (s.digits ++ b ∷ [])
+    → step offset s b ≡ after_record s (claim_of (s.digits ++ b ∷ []))
 unfolding step with_digit
 step_last offset b s place hex all = rw (place, hex, le-ltb _ _ all) refl
 
@@ -42,10 +44,12 @@ bind-Ok : (r : Result Progress TapeFault) → (r >>= λ t. Ok t) ≡ r
 bind-Ok (Ok t) = refl
 bind-Ok (Err f) = refl
 
-pub digits_run : (es : List ℕ) (b offset : ℕ) (s : Progress) → s.place ≡ Within → list_all is_hex_byte (b ∷ es) ≡ true → length (s.digits ++ b ∷ es) ≡ needed (s.digits ++ b ∷ es)
+pub digits_run : (es : List ℕ) (b offset : ℕ) (s : Progress) → s.place ≡ Within → list_all is_hex_byte (b ∷ es) ≡ true
+    → length (s.digits ++ b ∷ es) ≡ needed (s.digits ++ b ∷ es)
     → run offset s (b ∷ es) ≡ after_record s (claim_of (s.digits ++ b ∷ es))
 digits_run [] b offset s place hexes len =
-    ap (λ (r : Result Progress TapeFault). r >>= λ t. Ok t) (step_last offset b s place (and_parts (is_hex_byte b) true hexes).0 (omega (arith, len))) ∙ bind-Ok _
+    ap (λ (r : Result Progress TapeFault). r >>= λ t. Ok t) (step_last offset b s place (and_parts (is_hex_byte b) true hexes).0 (omega (arith, len)))
+        ∙ bind-Ok _
 digits_run (c ∷ es) b offset s place hexes len =
     let h = and_parts (is_hex_byte b) (list_all is_hex_byte (c ∷ es)) hexes in
     let t : Progress = record s { digits = s.digits ++ b ∷ [] } in
@@ -58,7 +62,8 @@ digits_run (c ∷ es) b offset s place hexes len =
     ∙ ap (λ (ds : List ℕ). after_record s (claim_of ds)) same
 
 -- all digits of a record after its `;`
-pub record_run : (ds : List ℕ) (offset : ℕ) (s : Progress) → s.place ≡ Between → AreAllDigits ds → run offset s (59 ∷ ds) ≡ after_record (record s { place = Within; start = offset }) (claim_of ds)
+pub record_run : (ds : List ℕ) (offset : ℕ) (s : Progress) → s.place ≡ Between → AreAllDigits ds
+    → run offset s (59 ∷ ds) ≡ after_record (record s { place = Within; start = offset }) (claim_of ds)
 unfolding step after_record
 record_run [] offset s place all = absurd (omega (arith, all.1))
 record_run (b ∷ es) offset s place all =
@@ -84,15 +89,19 @@ tail_run (b ∷ tail) offset s place h =
 
 -- the state after a data record
 abbrev after_data : ℕ → Progress → List ℕ → Progress
-after_data offset s ds = record { cells = with_bytes s.cells (claim_of ds).address (claim_of ds).bytes; count = next_count s.count; place = Between; start = offset; digits = [] }
+after_data offset s ds = record { cells = with_bytes s.cells (claim_of ds).address (claim_of ds).bytes; count = next_count s.count; place =
+    Between; start = offset; digits = [] }
 
-data_settled : (ds : List ℕ) (offset : ℕ) (s : Progress) → IsData ds → after_record (record s { place = Within; start = offset }) (claim_of ds) ≡ Ok (after_data offset s ds)
+data_settled : (ds : List ℕ) (offset : ℕ) (s : Progress) → IsData ds
+    → after_record (record s { place = Within; start = offset }) (claim_of ds) ≡ Ok (after_data offset s ds)
 unfolding after_record
 data_settled ds offset s h = rw (eq-eqb _ _ h.checked, ne_eqb (claim_of ds).length 0 (λ e. omega (arith, e, h.some)), le-leb _ _ h.fits) refl
 
-pub end_settled : (ds : List ℕ) (count offset : ℕ) (s : Progress) → IsEnd count ds → s.count ≡ min 65536 count → after_record (record s { place = Within; start = offset }) (claim_of ds) ≡ Ok (record s { place = After; start = offset; digits = [] })
+pub end_settled : (ds : List ℕ) (count offset : ℕ) (s : Progress) → IsEnd count ds → s.count ≡ min 65536 count
+    → after_record (record s { place = Within; start = offset }) (claim_of ds) ≡ Ok (record s { place = After; start = offset; digits = [] })
 unfolding after_record
-end_settled ds count offset s h e = rw (eq-eqb _ _ h.checked, eq-eqb _ _ h.none, eq-eqb (claim_of ds).address s.count (omega (arith, h.counted, e, address_small ds))) refl
+end_settled ds count offset s h e = rw (eq-eqb _ _ h.checked, eq-eqb _ _ h.none, eq-eqb (claim_of ds).address s.count
+    (omega (arith, h.counted, e, address_small ds))) refl
 
 -- where pieces lead
 pub record Led (offset : ℕ) (s : Progress) (pieces : List Part) (n : ℕ) : Type 0 where
@@ -102,7 +111,8 @@ pub record Led (offset : ℕ) (s : Progress) (pieces : List Part) (n : ℕ) : Ty
   pub cells : state.cells ≡ with_records s.cells pieces
   pub count : state.count ≡ min 65536 (n + count_of pieces)
 
-pub front_run : (pieces : List Part) (offset : ℕ) (s : Progress) (n : ℕ) → AllByRecursion IsPiece pieces → s.place ≡ Between → s.count ≡ min 65536 n → Led offset s pieces n
+pub front_run : (pieces : List Part) (offset : ℕ) (s : Progress) (n : ℕ) → AllByRecursion IsPiece pieces → s.place ≡ Between → s.count ≡ min 65536 n
+    → Led offset s pieces n
 front_run [] offset s n each place count = record { state = s; ran = refl; place = place; cells = refl; count = omega (arith, count) }
 front_run (gap b ∷ pieces) offset s n each place count =
     let l = front_run pieces (offset + 1) s n each.1 place count in
@@ -119,7 +129,8 @@ front_run (record_of ds ∷ pieces) offset s n each place count =
     record {
       state = l.state;
       ran = run-append (59 ∷ ds) (front_of pieces) offset s
-          ∙ ap (λ (r : Result Progress TapeFault). r >>= λ u. run (offset + length (59 ∷ ds)) u (front_of pieces)) (record_run ds offset s place each.0.all ∙ data_settled ds offset s each.0)
+          ∙ ap (λ (r : Result Progress TapeFault). r >>= λ u. run (offset + length (59 ∷ ds)) u (front_of pieces))
+              (record_run ds offset s place each.0.all ∙ data_settled ds offset s each.0)
           ∙ l.ran;
       place = l.place;
       cells = l.cells;
@@ -136,9 +147,11 @@ read_again text cells d =
     let l = front_run d.pieces 0 start 0 d.each refl refl in
     let n = 0 + length (front_of d.pieces) in
     let s : Progress = record l.state { place = After; start = n; digits = [] } in
-    let ended : run n l.state (59 ∷ d.digits) ≡ Ok s = record_run d.digits n l.state l.place d.end.all ∙ end_settled d.digits (count_of d.pieces) n l.state d.end (omega (arith, l.count)) in
+    let ended : run n l.state (59 ∷ d.digits) ≡ Ok s = record_run d.digits n l.state l.place d.end.all
+        ∙ end_settled d.digits (count_of d.pieces) n l.state d.end (omega (arith, l.count)) in
     let behind : run n l.state (59 ∷ d.digits ++ d.tail) ≡ Ok s =
-    run-append (59 ∷ d.digits) d.tail n l.state ∙ ap (λ (r : Result Progress TapeFault). r >>= λ u. run (n + length (59 ∷ d.digits)) u d.tail) ended ∙ tail_run d.tail (n + length (59 ∷ d.digits)) s refl d.rest in
+    run-append (59 ∷ d.digits) d.tail n l.state ∙ ap (λ (r : Result Progress TapeFault). r >>= λ u. run (n + length (59 ∷ d.digits)) u d.tail) ended
+        ∙ tail_run d.tail (n + length (59 ∷ d.digits)) s refl d.rest in
     let all : run 0 start text ≡ Ok s =
     ap (run 0 start) d.spelled ∙ run-append (front_of d.pieces) (59 ∷ d.digits ++ d.tail) 0 start
     ∙ ap (λ (r : Result Progress TapeFault). r >>= λ u. run n u (59 ∷ d.digits ++ d.tail)) l.ran ∙ behind in

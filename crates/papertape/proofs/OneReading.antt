@@ -13,7 +13,8 @@ Read = Result (List (Option ℕ)) TapeFault
 
 pub each_text : EachTextIsRead
 each_text text = go (read_of text) (read_sound text) where
-  go : (r : Read) → SoundRead text r → ((cells : List (Option ℕ)) × TapeDenotes text cells) ⊎ ((kind : TapeFaultKind) × (offset : ℕ) × FirstFault text kind offset)
+  go : (r : Read) → SoundRead text r → ((cells : List (Option ℕ)) × TapeDenotes text cells)
+      ⊎ ((kind : TapeFaultKind) × (offset : ℕ) × FirstFault text kind offset)
   go (Ok cells) h = inl (cells, h)
   go (Err f) h = inr (f.kind, f.offset, h)
 
@@ -37,4 +38,5 @@ not_both : (cells : List (Option ℕ)) (f : TapeFault) → Ok cells ≡ Err f �
 not_both cells f e = cc
 
 pub image_or_fault : TapeImageOrFault
-image_or_fault text cells kind offset d f = not_both cells (record { kind = kind; offset = offset }) (sym (read_again text cells d) ∙ fault_again text kind offset f)
+image_or_fault text cells kind offset d f = not_both cells (record { kind = kind; offset = offset })
+    (sym (read_again text cells d) ∙ fault_again text kind offset f)

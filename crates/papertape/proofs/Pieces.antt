@@ -15,7 +15,8 @@ pub fed-Err : (limit : ℕ) (xs : List ℕ) (f : TapeFault) → fed_up_to limit 
 fed-Err limit [] f = refl
 fed-Err limit (x ∷ xs) f = fed-Err limit xs f
 
-pub fed-run : (limit : ℕ) (xs : List ℕ) (n : ℕ) (s : Progress) → n + length xs ≤ limit → fed_up_to limit (Ok (n, s)) xs ≡ (run n s xs >>= λ t. Ok (n + length xs, t))
+pub fed-run : (limit : ℕ) (xs : List ℕ) (n : ℕ) (s : Progress) → n + length xs ≤ limit
+    → fed_up_to limit (Ok (n, s)) xs ≡ (run n s xs >>= λ t. Ok (n + length xs, t))
 fed-run limit [] n s h = ap (λ k. Ok (k, s)) (omega arith)
 fed-run limit (x ∷ xs) n s h = ap (λ (r : Fed). fed_up_to limit r xs) short ∙ go (step n s x) (λ t. fed-run limit xs (n + 1) t (omega arith)) where
   short : fed_byte limit (n, s) x ≡ (step n s x >>= λ t. Ok (n + 1, t))
@@ -36,7 +37,8 @@ whole_fed limit text h = ap end_of_feeding (fed-run limit text 0 start (omega ar
 -- ---- a list of pieces
 
 -- the next one
-pub each_next : {A : Type 0} (f : A → List ℕ) (ps : List A) (i : ℕ) (d : A) (reader : Fed) (all : List ℕ) → i < length ps → fed reader (concat (map f (drop i ps))) ≡ fed nothing_fed all
+pub each_next : {A : Type 0} (f : A → List ℕ) (ps : List A) (i : ℕ) (d : A) (reader : Fed) (all : List ℕ) → i < length ps
+    → fed reader (concat (map f (drop i ps))) ≡ fed nothing_fed all
     → fed (fed reader (f (get_or ps i d))) (concat (map f (drop (i + 1) ps))) ≡ fed nothing_fed all
 each_next {A = A} f ps i d reader all below h =
     let next : drop i ps ≡ get_or ps i d ∷ drop (i + 1) ps = rw (add-one, drop-cons ps i d) refl in

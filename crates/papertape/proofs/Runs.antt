@@ -21,7 +21,8 @@ abbrev rest_of : ℕ → List (Option ℕ) → List Stretch
 rest_of address cells = flat_map pieces_within (runs_after true address cells)
 
 abbrev Within : List (Option ℕ) → ℕ → Type 0
-Within cells address = (covered taken : ℕ) → covered ≡ min taken (length (front_run cells)) → cuts address covered cells ≡ pieces_after taken address (front_run cells) ++ rest_of address cells
+Within cells address = (covered taken : ℕ) → covered ≡ min taken (length (front_run cells))
+    → cuts address covered cells ≡ pieces_after taken address (front_run cells) ++ rest_of address cells
 
 abbrev Outside : List (Option ℕ) → ℕ → Type 0
 Outside cells address = cuts address 0 cells ≡ flat_map pieces_within (runs_after false address cells)

@@ -28,6 +28,7 @@ skipped_are_fed (b ∷ bytes) limit offset s ne le h =
     ∙ ap (λ (n : ℕ). Ok (n, s)) (omega arith)
 
 -- so a reader that has not failed only counts them
-pub skipped_are_counted : (failed : Option TapeFault) (limit offset : ℕ) (s : Progress) (bytes : List ℕ) → failed ≡ None → s.place ≢ Within → length bytes ≤ limit - offset
+pub skipped_are_counted : (failed : Option TapeFault) (limit offset : ℕ) (s : Progress) (bytes : List ℕ) → failed ≡ None → s.place ≢ Within
+    → length bytes ≤ limit - offset
     → list_all is_skipped bytes ≡ true → fed_of failed (offset + length bytes) s ≡ fed_up_to limit (fed_of failed offset s) bytes
 skipped_are_counted failed limit offset s bytes none ne le h = rw none (sym (skipped_are_fed bytes limit offset s ne le h))

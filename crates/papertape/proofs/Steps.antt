@@ -13,12 +13,14 @@ list_all-append test [] ys h k = k
 list_all-append test (x ∷ xs) ys h k =
     let p = and_parts _ _ h in and_from (test x) (list_all test (xs ++ ys)) p.0 (list_all-append test xs ys p.1 k)
 
-pub pushed : (held b n : ℕ) (digits : List ℕ) → length digits ≡ 520 → HoldsDigits held digits → is_hex_byte b ≡ true → n ≡ needed (take (held + 1) (set digits held b)) → held + 1 < n → HoldsDigits (held + 1) (set digits held b)
+pub pushed : (held b n : ℕ) (digits : List ℕ) → length digits ≡ 520 → HoldsDigits held digits → is_hex_byte b ≡ true
+    → n ≡ needed (take (held + 1) (set digits held b)) → held + 1 < n → HoldsDigits (held + 1) (set digits held b)
 pushed held b n digits len h hex e lt =
     let below : held < length digits = omega (arith, h.room) in
     let t : take (held + 1) (set digits held b) ≡ take held digits ++ b ∷ [] = take_more_set digits held b below in
     let small = needed_small (take (held + 1) (set digits held b)) in
-    let count : length (take (held + 1) (set digits held b)) ≡ held + 1 = length-take-le (held + 1) (set digits held b) (omega (arith, length-set digits held b)) in
+    let count : length (take (held + 1) (set digits held b)) ≡ held + 1 =
+        length-take-le (held + 1) (set digits held b) (omega (arith, length-set digits held b)) in
     record {
       room = omega (arith, small);
       few = (
@@ -27,11 +29,14 @@ pushed held b n digits len h hex e lt =
       );
     }
 
-pub digit_done : (held b : ℕ) (digits : List ℕ) (s : Progress) (claim : Claim) → s.digits ≡ take held digits → held < length digits → needed (take (held + 1) (set digits held b)) ≤ held + 1
+pub digit_done : (held b : ℕ) (digits : List ℕ) (s : Progress) (claim : Claim) → s.digits ≡ take held digits → held < length digits
+    → needed (take (held + 1) (set digits held b)) ≤ held + 1
     → claim ≡ claim_of (take (held + 1) (set digits held b)) → after_record (record s { digits = [] }) claim ≡ with_digit s b
 unfolding with_digit after_record
 digit_done held b digits s claim e below le c =
     let t : take (held + 1) (set digits held b) ≡ s.digits ++ b ∷ [] = take_more_set digits held b below ∙ ap (λ (ds : List ℕ). ds ++ b ∷ []) (sym e) in
-    let count : length (take (held + 1) (set digits held b)) ≡ held + 1 = length-take-le (held + 1) (set digits held b) (omega (arith, length-set digits held b)) in
+    let count : length (take (held + 1) (set digits held b)) ≡ held + 1 =
+        length-take-le (held + 1) (set digits held b) (omega (arith, length-set digits held b)) in
     let ge : needed (s.digits ++ b ∷ []) ≤ length (s.digits ++ b ∷ []) = rw (← t) (omega (arith, count)) in
-    ap (λ (x : Claim). after_record s x) (c ∙ ap claim_of t) ∙ sym (cond-false (ltb (length (s.digits ++ b ∷ [])) (needed (s.digits ++ b ∷ []))) _ (after_record s (claim_of (s.digits ++ b ∷ []))) (le-ltb _ _ ge))
+    ap (λ (x : Claim). after_record s x) (c ∙ ap claim_of t)
+        ∙ sym (cond-false (ltb (length (s.digits ++ b ∷ [])) (needed (s.digits ++ b ∷ []))) _ (after_record s (claim_of (s.digits ++ b ∷ []))) (le-ltb _ _ ge))

@@ -34,7 +34,8 @@ goes_on front e = (short, λ fault tells. not_said fault (ap answer_of (sym ((to
 -- what was fed is refused, and so is each text that begins so
 pub refused_already : (front : List ℕ) (fault : TapeFault) → fed nothing_fed front ≡ Err fault → IsRefusedAlready front fault
 refused_already front fault e =
-    λ more. (refused_in_pieces (front ++ more) fault).0 (ap end_of_feeding (fed-append longest front more nothing_fed) ∙ ap (λ (s : Fed). end_of_feeding (fed s more)) e ∙ ap end_of_feeding (fed-Err longest more fault))
+    λ more. (refused_in_pieces (front ++ more) fault).0 (ap end_of_feeding (fed-append longest front more nothing_fed)
+        ∙ ap (λ (s : Fed). end_of_feeding (fed s more)) e ∙ ap end_of_feeding (fed-Err longest more fault))
 
 still : (a b c : Option (List ℕ)) (front : List ℕ) → Consumes a b front → Consumes b c [] → Consumes a c front
 still a b c front p q = subst (Consumes a c) (append-nil front) (Consumes-trans a b c front [] p q)
@@ -46,7 +47,8 @@ reads_nothing a (Ok image) f h memory = absurd h
 reads_nothing a (Err e) f h memory = subst (λ (x : TapeReadFault). Reads a a (failed x)) (sym h) ([], Consumes-nil a, inl (memory, refl))
 
 pub reads_refused : (a b c : Option (List ℕ)) (answer : Answer) (f : TapeFault) (front bytes : List ℕ) (reader : Fed) → IsErrAnd answer (λ e. e ≡ Tape f)
-    → Consumes a b front → Consumes b c bytes → length bytes ≤ 4096 → reader ≡ fed nothing_fed front → answer_of reader ≡ said_ok → fed reader bytes ≡ Err f → Reads a c answer
+    → Consumes a b front → Consumes b c bytes → length bytes ≤ 4096 → reader ≡ fed nothing_fed front → answer_of reader ≡ said_ok
+        → fed reader bytes ≡ Err f → Reads a c answer
 reads_refused a b c (Ok image) f front bytes reader h p q short same on refused = absurd h
 reads_refused a b c (Err e) f front bytes reader h p q short same on refused =
     subst (λ (x : TapeReadFault). Reads a c (failed x)) (sym h) (
@@ -73,7 +75,8 @@ pub reads_image : (a b c : Option (List ℕ)) (image : Image) (front : List ℕ)
     → Consumes a b front → Consumes b c [] → IsAtEnd c → reader ≡ fed nothing_fed front → end_of_feeding reader ≡ Ok image → Reads a c (Ok image)
 reads_image a b c image front reader p q end same read = (front, still a b c front p q, (end, (in_pieces front image).0 (ap end_of_feeding (sym same) ∙ read)))
 
-pub reads_failed : (a b c : Option (List ℕ)) (front : List ℕ) (reader : Fed) → Consumes a b front → Keeps b c → reader ≡ fed nothing_fed front → answer_of reader ≡ said_ok → Reads a c (Err Read)
+pub reads_failed : (a b c : Option (List ℕ)) (front : List ℕ) (reader : Fed) → Consumes a b front → Keeps b c → reader ≡ fed nothing_fed front
+    → answer_of reader ≡ said_ok → Reads a c (Err Read)
 reads_failed a b c front reader p q same on = (front, Consumes-kept a b c front p q, goes_on front (ap answer_of (sym same) ∙ on))
 
 -- ---- what that says of a text that is known
@@ -110,7 +113,8 @@ refusal_known text f h = subst (λ t. IsRefusedInPieces t f) (sym h.1) h.2
 abbrev Is : Answer → Answer → Type 0
 Is answer wanted = (answer ≡ wanted) ⊎ ((answer ≡ failed Read) ⊎ (answer ≡ failed (Tape out_of_memory)))
 
-only_image : (text : List ℕ) (answer : Answer) → IfOk answer (IsImageOf (Some text)) → IfErr answer (EndsReading (Some text)) → (cells : Image) → IsReadInPieces text cells → Is answer (Ok cells)
+only_image : (text : List ℕ) (answer : Answer) → IfOk answer (IsImageOf (Some text)) → IfErr answer (EndsReading (Some text)) → (cells : Image)
+    → IsReadInPieces text cells → Is answer (Ok cells)
 only_image text (Ok image) found fault cells r = inl (ap (λ (i : Image). image_answer i) (one_image text image cells (image_known text image found) r)) where
   image_answer : Image → Answer
   image_answer i = Ok i
@@ -118,16 +122,19 @@ only_image text (Err Read) found fault cells r = inr (inl refl)
 only_image text (Err (Tape f)) found (inl memory) cells r = inr (inr (ap (λ (x : TapeFault). failed (Tape x)) memory))
 only_image text (Err (Tape f)) found (inr refused) cells r = absurd (read_or_refused text cells f r (refusal_known text f refused))
 
-only_fault : (text : List ℕ) (answer : Answer) → IfOk answer (IsImageOf (Some text)) → IfErr answer (EndsReading (Some text)) → (fault : TapeFault) → IsRefusedInPieces text fault → Is answer (Err (Tape fault))
+only_fault : (text : List ℕ) (answer : Answer) → IfOk answer (IsImageOf (Some text)) → IfErr answer (EndsReading (Some text)) → (fault : TapeFault)
+    → IsRefusedInPieces text fault → Is answer (Err (Tape fault))
 only_fault text (Ok image) found fault f r = absurd (read_or_refused text image f (image_known text image found) r)
 only_fault text (Err Read) found fault f r = inr (inl refl)
 only_fault text (Err (Tape g)) found (inl memory) f r = inr (inr (ap (λ (x : TapeFault). failed (Tape x)) memory))
 only_fault text (Err (Tape g)) found (inr refused) f r = inl (ap (λ (x : TapeFault). failed (Tape x)) (one_refusal text g f (refusal_known text g refused) r))
 
-pub only_read : (a b : Option (List ℕ)) (answer : Answer) → Reads a b answer → IfSome a (λ text. (cells : Image) → IsReadInPieces text cells → Is answer (Ok cells))
+pub only_read : (a b : Option (List ℕ)) (answer : Answer) → Reads a b answer
+    → IfSome a (λ text. (cells : Image) → IsReadInPieces text cells → Is answer (Ok cells))
 only_read None b answer h = tt
 only_read (Some text) b answer h = only_image text answer (image_read (Some text) b answer h) (ends_reading (Some text) b answer h)
 
-pub refused_read : (a b : Option (List ℕ)) (answer : Answer) → Reads a b answer → IfSome a (λ text. (fault : TapeFault) → IsRefusedInPieces text fault → Is answer (Err (Tape fault)))
+pub refused_read : (a b : Option (List ℕ)) (answer : Answer) → Reads a b answer
+    → IfSome a (λ text. (fault : TapeFault) → IsRefusedInPieces text fault → Is answer (Err (Tape fault)))
 refused_read None b answer h = tt
 refused_read (Some text) b answer h = only_fault text answer (image_read (Some text) b answer h) (ends_reading (Some text) b answer h)

@@ -59,7 +59,8 @@ alone n b [] h = refl
 alone n b (run ∷ rest) h = rw (ne_eqb run.0 (n + 1) (λ e. omega (arith, h, e))) refl
 
 Counted : List (Option ℕ) → Type 0
-Counted cells = ((n : ℕ) → runs n cells ≡ runs_after false n cells) × ((n b : ℕ) → runs n (Some b ∷ cells) ≡ (n, b ∷ front_run cells) ∷ runs_after true (n + 1) cells)
+Counted cells = ((n : ℕ) → runs n cells ≡ runs_after false n cells)
+    × ((n b : ℕ) → runs n (Some b ∷ cells) ≡ (n, b ∷ front_run cells) ∷ runs_after true (n + 1) cells)
 
 counted : (cells : List (Option ℕ)) → Counted cells
 unfolding Counted
@@ -113,8 +114,10 @@ cut (suc most) address (b ∷ bytes) h =
     ap (λ m. map (λ k. piece_of_run (address, b ∷ bytes) k) (range_with_len 0 m)) count
     ∙ ap (λ a. (a, b ∷ take 23 bytes) ∷ map (λ k. piece_of_run (address, b ∷ bytes) k) (range_with_len 1 n)) start
     ∙ ap (λ (ps : List Stretch). (address, b ∷ take 23 bytes) ∷ ps)
-    (shifted address (b ∷ bytes) n 0 ∙ cut most (address + 24) left (omega (arith, long, h)) ∙ ap (λ a. pieces_after 0 a left) there ∙ sym (skipped 23 (address + 1) bytes))
+    (shifted address (b ∷ bytes) n 0 ∙ cut most (address + 24) left (omega (arith, long, h)) ∙ ap (λ a. pieces_after 0 a left) there
+        ∙ sym (skipped 23 (address + 1) bytes))
 
 pub pieces_are : (rs : List Stretch) → flat_map pieces_of_run rs ≡ flat_map pieces_within rs
 pieces_are [] = refl
-pieces_are (run ∷ rs) = ap (λ (ps : List Stretch). ps ++ flat_map pieces_of_run rs) (cut (length run.1) run.0 run.1 (omega arith)) ∙ ap (λ (ps : List Stretch). pieces_within run ++ ps) (pieces_are rs)
+pieces_are (run ∷ rs) = ap (λ (ps : List Stretch). ps ++ flat_map pieces_of_run rs) (cut (length run.1) run.0 run.1 (omega arith))
+    ∙ ap (λ (ps : List Stretch). pieces_within run ++ ps) (pieces_are rs)

@@ -15,7 +15,8 @@ encode-append [] ys = refl
 encode-append (x ∷ xs) ys = ap (λ (t : List ℕ). slice_index upper_digits (x / 16) ∷ slice_index upper_digits (x % 16) ∷ t) (encode-append xs ys)
 
 -- one byte more
-pub pushed_byte : (bytes start out more : List ℕ) (b i : ℕ) (rest : List ℕ) → drop i bytes ≡ b ∷ rest → out ++ encode_upper (drop i bytes) ≡ start → more ≡ out ++ encode_upper (b ∷ []) → more ++ encode_upper rest ≡ start
+pub pushed_byte : (bytes start out more : List ℕ) (b i : ℕ) (rest : List ℕ) → drop i bytes ≡ b ∷ rest → out ++ encode_upper (drop i bytes) ≡ start
+    → more ≡ out ++ encode_upper (b ∷ []) → more ++ encode_upper rest ≡ start
 pushed_byte bytes start out more b i rest e same pushed =
     ap (λ (t : List ℕ). t ++ encode_upper rest) pushed ∙ append_assoc out (encode_upper (b ∷ [])) (encode_upper rest)
     ∙ ap (λ (t : List ℕ). out ++ t) (sym (encode-append (b ∷ []) rest) ∙ ap encode_upper (sym e)) ∙ same
@@ -32,7 +33,8 @@ pushed_all bytes out start i h same =
       drop_all (x ∷ xs) zero le = absurd (omega arith)
       drop_all (x ∷ xs) (suc k) le = drop_all xs k (omega arith)
 
-pub pushed_word : {E : Type 0} (r : Result Unit E) (a b c : List ℕ) (n : ℕ) → b ≡ a ++ encode_upper (n / 256 ∷ []) → IfOk r (λ _. c ≡ b ++ encode_upper (n % 256 ∷ [])) → IfOk r (λ _. c ≡ a ++ encode_upper (word n))
+pub pushed_word : {E : Type 0} (r : Result Unit E) (a b c : List ℕ) (n : ℕ) → b ≡ a ++ encode_upper (n / 256 ∷ [])
+    → IfOk r (λ _. c ≡ b ++ encode_upper (n % 256 ∷ [])) → IfOk r (λ _. c ≡ a ++ encode_upper (word n))
 pushed_word (Err e) a b c n h k = tt
 pushed_word (Ok u) a b c n h k =
     k ∙ ap (λ (t : List ℕ). t ++ encode_upper (n % 256 ∷ [])) h ∙ append_assoc a (encode_upper (n / 256 ∷ [])) (encode_upper (n % 256 ∷ []))
@@ -59,7 +61,8 @@ pub record_text : (n number check : ℕ) (bytes a b c d e f : List ℕ) → chec
 record_text n number check bytes a b c d e f sum_is hb hc hd he hf =
     let s = sum (n ∷ word number ++ bytes) % 65536 in
     let sum_same : check ≡ s = sum_is ∙ ap (λ (k : ℕ). k % 65536) (sym (record_sum n number bytes)) in
-    let digits : encode_upper (n ∷ []) ++ (encode_upper (word number) ++ (encode_upper bytes ++ encode_upper (word s))) ≡ encode_upper (with_sum (n ∷ word number ++ bytes)) =
+    let digits : encode_upper (n ∷ []) ++ (encode_upper (word number) ++ (encode_upper bytes ++ encode_upper (word s)))
+        ≡ encode_upper (with_sum (n ∷ word number ++ bytes)) =
     ap (λ (t : List ℕ). encode_upper (n ∷ []) ++ (encode_upper (word number) ++ t)) (sym (encode-append bytes (word s)))
     ∙ ap (λ (t : List ℕ). encode_upper (n ∷ []) ++ t) (sym (encode-append (word number) (bytes ++ word s)))
     ∙ sym (encode-append (n ∷ []) (word number ++ (bytes ++ word s))) in
@@ -76,9 +79,11 @@ ended (Ok u) f g t h k = h ∙ k
 
 -- no piece is left
 pub text_done : (cells : List (Option ℕ)) (out new : List ℕ) (from count : ℕ) → IsNext cells from None
-    → out ++ flat_map data_line (cuts from 0 (drop from cells)) ≡ flat_map data_line (cuts 0 0 cells) → count + length (cuts from 0 (drop from cells)) ≡ length (cuts 0 0 cells)
+    → out ++ flat_map data_line (cuts from 0 (drop from cells)) ≡ flat_map data_line (cuts 0 0 cells)
+        → count + length (cuts from 0 (drop from cells)) ≡ length (cuts 0 0 cells)
     → new ≡ out ++ end_line count → new ≡ tape_text cells
 text_done cells out new from count none text number e =
-    let all : out ≡ flat_map data_line (cuts 0 0 cells) = sym (append-nil out) ∙ ap (λ (ps : List (ℕ × List ℕ)). out ++ flat_map data_line ps) (sym none) ∙ text in
+    let all : out ≡ flat_map data_line (cuts 0 0 cells) = sym (append-nil out)
+        ∙ ap (λ (ps : List (ℕ × List ℕ)). out ++ flat_map data_line ps) (sym none) ∙ text in
     let every : count ≡ length (cuts 0 0 cells) = omega (arith, number, ap length none) in
     e ∙ ap (λ (t : List ℕ). t ++ end_line count) all ∙ ap (λ (k : ℕ). flat_map data_line (cuts 0 0 cells) ++ end_line k) every ∙ ap cut_text (cuts_pieces cells)

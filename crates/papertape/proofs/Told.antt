@@ -69,14 +69,16 @@ not_both r cells f e h = cc
 read_failed : (text more : List ℕ) (f : TapeFault) → run 0 start text ≡ Err f → read_of (text ++ more) ≡ Err f
 unfolding read_of
 read_failed text more f e =
-    ap (λ (r : Run). r >>= λ u. result_at (length (text ++ more)) u) (run-append text more 0 start ∙ ap (λ (r : Run). r >>= λ u. run (0 + length text) u more) e)
+    ap (λ (r : Run). r >>= λ u. result_at (length (text ++ more)) u)
+        (run-append text more 0 start ∙ ap (λ (r : Run). r >>= λ u. run (0 + length text) u more) e)
 
 read_went_on : (text : List ℕ) (s : Progress) → run 0 start text ≡ Ok s → read_of text ≡ result_at (length text) s
 unfolding read_of
 read_went_on text s e = ap (λ (r : Run). r >>= λ u. result_at (length text) u) e
 
 -- one byte more
-read_one : (text : List ℕ) (b : ℕ) (s : Progress) → run 0 start text ≡ Ok s → read_of (text ++ b ∷ []) ≡ ((step (length text) s b >>= λ t. Ok t) >>= λ u. result_at (length (text ++ b ∷ [])) u)
+read_one : (text : List ℕ) (b : ℕ) (s : Progress) → run 0 start text ≡ Ok s
+    → read_of (text ++ b ∷ []) ≡ ((step (length text) s b >>= λ t. Ok t) >>= λ u. result_at (length (text ++ b ∷ [])) u)
 unfolding read_of
 read_one text b s e =
     ap (λ (r : Run). r >>= λ u. result_at (length (text ++ b ∷ [])) u)
@@ -122,15 +124,18 @@ tells_not : (text : List ℕ) (f : TapeFault) (s : Progress) (p : Place) → s.p
 tells_not text f s After place h e =
     not_both (read_of text) s.cells f (read_went_on text s e ∙ finished_is (length text) s After place) (told_now text f h)
 tells_not text f s Within place h e =
-    let now = same_fault (read_of text) (at kinds.Truncated (length text)) f (read_went_on text s e ∙ finished_is (length text) s Within place) (told_now text f h) in
+    let now = same_fault (read_of text) (at kinds.Truncated (length text)) f (read_went_on text s e ∙ finished_is (length text) s Within place)
+        (told_now text f h) in
     let then = same_fault (read_of (text ++ 71 ∷ [])) (at kinds.BadHex (length text)) f
-    (read_one text 71 s e ∙ ap (λ (r : Run). (r >>= λ t. Ok t) >>= λ u. result_at (length (text ++ 71 ∷ [])) u) (bad_digit (length text) s place)) (told_again text (71 ∷ []) f h) in
+    (read_one text 71 s e ∙ ap (λ (r : Run). (r >>= λ t. Ok t) >>= λ u. result_at (length (text ++ 71 ∷ [])) u) (bad_digit (length text) s place))
+        (told_again text (71 ∷ []) f h) in
     not_hex f (length text) (length text) now then
 tells_not text f s Between place h e =
     let now = offset_between (length text) s f (sym (finished_is (length text) s Between place) ∙ sym (read_went_on text s e) ∙ told_now text f h) in
     let more = length (text ++ 0 ∷ []) in
     let then = offset_between more s f (sym (finished_is more s Between place)
-    ∙ sym (read_one text 0 s e ∙ ap (λ (r : Run). (r >>= λ t. Ok t) >>= λ u. result_at more u) (skipped_zero (length text) s place)) ∙ told_again text (0 ∷ []) f h) in
+    ∙ sym (read_one text 0 s e ∙ ap (λ (r : Run). (r >>= λ t. Ok t) >>= λ u. result_at more u) (skipped_zero (length text) s place))
+        ∙ told_again text (0 ∷ []) f h) in
     omega (arith, now, then, length-append text (0 ∷ []))
 
 pub tells_failed : (text : List ℕ) (f : TapeFault) → Tells text f → run 0 start text ≡ Err f
@@ -142,7 +147,8 @@ tells_failed text f h = go (run 0 start text) refl where
 -- ---- texts that are not too long
 
 pub told : (text : List ℕ) (f : TapeFault) → length text ≤ longest → (fed nothing_fed text ≡ Err f) ↔ Tells text f
-told text f short = (λ e. failed_tells text f (back (run 0 start text) (sym ran_fed ∙ e)), λ h. ran_fed ∙ ap (λ (r : Run). r >>= λ t. Ok (0 + length text, t)) (tells_failed text f h)) where
+told text f short = (λ e. failed_tells text f (back (run 0 start text) (sym ran_fed ∙ e)), λ h. ran_fed
+    ∙ ap (λ (r : Run). r >>= λ t. Ok (0 + length text, t)) (tells_failed text f h)) where
   ran_fed : fed nothing_fed text ≡ (run 0 start text >>= λ t. Ok (0 + length text, t))
   ran_fed = fed-run longest text 0 start (omega (arith, short))
 
@@ -161,27 +167,34 @@ past_limit limit n t b e = rw (le-leb limit n (omega (arith, e))) (ap (λ (k : �
   fed_fail : ℕ → Fed
   fed_fail k = Err (at kinds.TooLong k)
 
-over_fed : (limit : ℕ) (front more : List ℕ) → length front ≡ limit → 0 < length more → fed_up_to limit nothing_fed (front ++ more) ≡ over limit (run 0 start front)
+over_fed : (limit : ℕ) (front more : List ℕ) → length front ≡ limit → 0 < length more
+    → fed_up_to limit nothing_fed (front ++ more) ≡ over limit (run 0 start front)
 over_fed limit front more full some =
-    fed-append limit front more nothing_fed ∙ ap (λ (r : Fed). fed_up_to limit r more) (fed-run limit front 0 start (omega (arith, full))) ∙ go (run 0 start front) more some where
+    fed-append limit front more nothing_fed ∙ ap (λ (r : Fed). fed_up_to limit r more) (fed-run limit front 0 start (omega (arith, full)))
+        ∙ go (run 0 start front) more some where
       go : (r : Run) (bytes : List ℕ) → 0 < length bytes → fed_up_to limit (r >>= λ t. Ok (0 + length front, t)) bytes ≡ over limit r
       go (Err f) bytes h = fed-Err limit bytes f
       go (Ok t) [] h = absurd (omega arith)
-      go (Ok t) (b ∷ bytes) h = ap (λ (r : Fed). fed_up_to limit r bytes) (past_limit limit (0 + length front) t b (omega (arith, full))) ∙ fed-Err limit bytes (at kinds.TooLong limit)
+      go (Ok t) (b ∷ bytes) h = ap (λ (r : Fed). fed_up_to limit r bytes) (past_limit limit (0 + length front) t b (omega (arith, full)))
+          ∙ fed-Err limit bytes (at kinds.TooLong limit)
 
 abbrev Cut : ℕ → List ℕ → Type 0
 Cut limit text = (front : List ℕ) × (more : List ℕ) × (text ≡ front ++ more) × (length front ≡ limit) × (0 < length more)
 
 cut : (limit : ℕ) (text : List ℕ) → limit < length text → Cut limit text
-cut limit text h = (take limit text, drop limit text, sym (take-append-drop limit text), length-take-le limit text (omega (arith, h)), omega (arith, h, length-drop limit text))
+cut limit text h = (take limit text, drop limit text, sym (take-append-drop limit text), length-take-le limit text (omega (arith, h)), omega
+    (arith, h, length-drop limit text))
 
-over_told : (front : List ℕ) (f : TapeFault) → end_of_feeding (over longest (run 0 start front)) ≡ Err f → Tells front f ⊎ (((other : TapeFault) → Tells front other → ⊥) × (f ≡ too_long))
+over_told : (front : List ℕ) (f : TapeFault) → end_of_feeding (over longest (run 0 start front)) ≡ Err f → Tells front f
+    ⊎ (((other : TapeFault) → Tells front other → ⊥) × (f ≡ too_long))
 over_told front f e = go (run 0 start front) refl e where
-  go : (r : Run) → run 0 start front ≡ r → end_of_feeding (over longest r) ≡ Err f → Tells front f ⊎ (((other : TapeFault) → Tells front other → ⊥) × (f ≡ too_long))
+  go : (r : Run) → run 0 start front ≡ r → end_of_feeding (over longest r) ≡ Err f → Tells front f
+      ⊎ (((other : TapeFault) → Tells front other → ⊥) × (f ≡ too_long))
   go (Err g) h k = inl (subst (λ x. Tells front x) (ap (fault_of f) k) (failed_tells front g h))
   go (Ok t) h k = inr (λ other o. ran_not t other (sym h ∙ tells_failed front other o), ap (fault_of f) (sym k))
 
-over_again : (front : List ℕ) (f : TapeFault) → Tells front f ⊎ (((other : TapeFault) → Tells front other → ⊥) × (f ≡ too_long)) → end_of_feeding (over longest (run 0 start front)) ≡ Err f
+over_again : (front : List ℕ) (f : TapeFault) → Tells front f ⊎ (((other : TapeFault) → Tells front other → ⊥) × (f ≡ too_long))
+    → end_of_feeding (over longest (run 0 start front)) ≡ Err f
 over_again front f (inl h) = ap (λ (r : Run). end_of_feeding (over longest r)) (tells_failed front f h)
 over_again front f (inr (none, e)) = go (run 0 start front) refl where
   go : (r : Run) → run 0 start front ≡ r → end_of_feeding (over longest r) ≡ Err f
@@ -206,7 +219,8 @@ over_said text h e =
 -- ---- what feeding and ending give
 
 pub in_pieces : (text : List ℕ) (cells : List (Option ℕ)) → (end_of_feeding (fed nothing_fed text) ≡ Ok cells) ↔ IsReadInPieces text cells
-in_pieces text cells = (λ e. elim (cases_lt longest (length text)) [ inl h ↦ absurd (long h e) | inr h ↦ short h e ], λ r. whole_fed longest text r.short ∙ read_again text cells r.denoted) where
+in_pieces text cells = (λ e. elim (cases_lt longest (length text)) [ inl h ↦ absurd (long h e) | inr h ↦ short h e ], λ r.
+    whole_fed longest text r.short ∙ read_again text cells r.denoted) where
   long : longest < length text → end_of_feeding (fed nothing_fed text) ≡ Ok cells → ⊥
   long h e =
       let c = cut longest text h in
@@ -226,7 +240,8 @@ refused_in_pieces text f = (λ e. elim (cases_lt longest (length text)) [ inl h 
         spelled = c.2;
         full = c.3;
         some = c.4;
-        told = over_told c.0 f (ap end_of_feeding (sym (over_fed longest c.0 c.1 c.3 c.4)) ∙ ap (λ (t : List ℕ). end_of_feeding (fed nothing_fed t)) (sym c.2) ∙ e);
+        told = over_told c.0 f (ap end_of_feeding (sym (over_fed longest c.0 c.1 c.3 c.4))
+            ∙ ap (λ (t : List ℕ). end_of_feeding (fed nothing_fed t)) (sym c.2) ∙ e);
       }
 
   short : length text ≤ longest → end_of_feeding (fed nothing_fed text) ≡ Err f → FirstFault text f.kind f.offset
@@ -234,7 +249,8 @@ refused_in_pieces text f = (λ e. elim (cases_lt longest (length text)) [ inl h 
 
   again : IsRefusedInPieces text f → end_of_feeding (fed nothing_fed text) ≡ Err f
   again (inl (h, first)) = whole_fed longest text h ∙ fault_again text f.kind f.offset first
-  again (inr l) = ap (λ (t : List ℕ). end_of_feeding (fed nothing_fed t)) l.spelled ∙ ap end_of_feeding (over_fed longest l.front l.more l.full l.some) ∙ over_again l.front f l.told
+  again (inr l) = ap (λ (t : List ℕ). end_of_feeding (fed nothing_fed t)) l.spelled
+      ∙ ap end_of_feeding (over_fed longest l.front l.more l.full l.some) ∙ over_again l.front f l.told
 
 -- ---- from an answer to what it says of the text
 
@@ -242,17 +258,20 @@ pub found_in_pieces : (text : List ℕ) (r : Read) → AnswersReading r (end_of_
 found_in_pieces text (Ok image) h = (in_pieces text image).0 h
 found_in_pieces text (Err f) h = tt
 
-pub only_in_pieces : (text : List ℕ) (r : Read) → AnswersReading r (end_of_feeding (fed nothing_fed text)) → (cells : List (Option ℕ)) → IsReadInPieces text cells → (r ≡ Ok cells) ⊎ (r ≡ Err out_of_memory)
+pub only_in_pieces : (text : List ℕ) (r : Read) → AnswersReading r (end_of_feeding (fed nothing_fed text)) → (cells : List (Option ℕ))
+    → IsReadInPieces text cells → (r ≡ Ok cells) ⊎ (r ≡ Err out_of_memory)
 only_in_pieces text (Ok image) h cells d = inl (sym h ∙ (in_pieces text cells).1 d)
 only_in_pieces text (Err f) (inl m) cells d = inr (ap Err m)
 only_in_pieces text (Err f) (inr h) cells d = inl (sym h ∙ (in_pieces text cells).1 d)
 
-pub fault_in_pieces : (text : List ℕ) (r : Read) → AnswersReading r (end_of_feeding (fed nothing_fed text)) → IfErr r (λ f. (f ≡ out_of_memory) ⊎ IsRefusedInPieces text f)
+pub fault_in_pieces : (text : List ℕ) (r : Read) → AnswersReading r (end_of_feeding (fed nothing_fed text))
+    → IfErr r (λ f. (f ≡ out_of_memory) ⊎ IsRefusedInPieces text f)
 fault_in_pieces text (Ok image) h = tt
 fault_in_pieces text (Err f) (inl m) = inl m
 fault_in_pieces text (Err f) (inr h) = inr ((refused_in_pieces text f).0 h)
 
-pub answered_in_pieces : (text : List ℕ) (r : Read) → AnswersReading r (end_of_feeding (fed nothing_fed text)) → (fault : TapeFault) → IsRefusedInPieces text fault → (r ≡ Err fault) ⊎ (r ≡ Err out_of_memory)
+pub answered_in_pieces : (text : List ℕ) (r : Read) → AnswersReading r (end_of_feeding (fed nothing_fed text)) → (fault : TapeFault)
+    → IsRefusedInPieces text fault → (r ≡ Err fault) ⊎ (r ≡ Err out_of_memory)
 answered_in_pieces text (Ok image) h fault d = inl (sym h ∙ (refused_in_pieces text fault).1 d)
 answered_in_pieces text (Err f) (inl m) fault d = inr (ap Err m)
 answered_in_pieces text (Err f) (inr h) fault d = inl (sym h ∙ (refused_in_pieces text fault).1 d)

@@ -104,7 +104,8 @@ are_cuts (None ∷ cells) address zero h le = are_cuts cells (address + 1) 0 h.1
 are_cuts (Some b ∷ cells) address zero h le =
     let short = front_short 23 cells in
     let few = front_few 23 cells in
-    (record { some = omega arith; few = omega (arith, few); bytes = (h.0, front_fits 23 cells h.1); fits = omega (arith, short) }, are_cuts cells (address + 1) (length (front_bytes 23 cells)) h.1 (omega arith))
+    (record { some = omega arith; few = omega (arith, few); bytes = (h.0, front_fits 23 cells h.1); fits = omega (arith, short) }, are_cuts cells
+        (address + 1) (length (front_bytes 23 cells)) h.1 (omega arith))
 
 -- there are at most as many cuts as cells that are not covered
 cuts_few : (cells : List (Option ℕ)) (address covered : ℕ) → covered ≤ length cells → length (cuts address covered cells) + covered ≤ length cells
@@ -144,7 +145,8 @@ pieces_each : (cs : List (ℕ × List ℕ)) → AllByRecursion IsCut cs → AllB
 pieces_each [] h = tt
 pieces_each (c ∷ cs) h =
     let l = line_of_cut c h.0 in
-    (record { all = l.all; some = omega (arith, l.length, h.0.some); checked = l.checked; fits = omega (arith, l.address, l.length, h.0.fits) }, (refl, (refl, pieces_each cs h.1)))
+    (record { all = l.all; some = omega (arith, l.length, h.0.some); checked = l.checked; fits = omega (arith, l.address, l.length, h.0.fits) },
+        (refl, (refl, pieces_each cs h.1)))
 
 pieces_count : (cs : List (ℕ × List ℕ)) → count_of (pieces_of cs) ≡ length cs
 pieces_count [] = refl
@@ -161,7 +163,8 @@ pieces_write (c ∷ cs) cells h =
 pieces_front : (cs : List (ℕ × List ℕ)) → front_of (pieces_of cs) ≡ flat_map data_line cs
 pieces_front [] = refl
 pieces_front (c ∷ cs) =
-    ap (λ (t : List ℕ). 59 ∷ (piece_digits c ++ (13 ∷ 10 ∷ t))) (pieces_front cs) ∙ sym (append_assoc (59 ∷ piece_digits c) (13 ∷ 10 ∷ []) (flat_map data_line cs))
+    ap (λ (t : List ℕ). 59 ∷ (piece_digits c ++ (13 ∷ 10 ∷ t))) (pieces_front cs)
+        ∙ sym (append_assoc (59 ∷ piece_digits c) (13 ∷ 10 ∷ []) (flat_map data_line cs))
 
 -- ---- an image
 

@@ -33,7 +33,8 @@ Inner d inner = (tokens : List Lexeme) → Inside d tokens (inner tokens)
 
 -- ---- primaries
 
-closed_derived : (d : ℕ) (t : Lexeme) (tokens : List Lexeme) (r : Read) → symbol_of t ≡ Some 91 → Inside d tokens r → Of primary d (t ∷ tokens) (option_and_then (λ p. closed_by p.0 p.1) r)
+closed_derived : (d : ℕ) (t : Lexeme) (tokens : List Lexeme) (r : Read) → symbol_of t ≡ Some 91 → Inside d tokens r
+    → Of primary d (t ∷ tokens) (option_and_then (λ p. closed_by p.0 p.1) r)
 closed_derived d t tokens None o h = tt
 closed_derived d t tokens (Some p) o h = go p.1 h.cut where
   go : (rest : List Lexeme) → tokens ≡ h.front ++ rest → Of primary d (t ∷ tokens) (closed_by p.0 rest)
@@ -64,7 +65,8 @@ plain_derived : (d : ℕ) (tokens : List Lexeme) (r : Read) → Of primary d tok
 plain_derived d tokens None h = tt
 plain_derived d tokens (Some p) h = record { front = h.front; cut = h.cut; derived = plain h.derived }
 
-minus_derived : (d : ℕ) (t : Lexeme) (tokens : List Lexeme) (r : Read) → symbol_of t ≡ Some 45 → Of primary d tokens r → Of unary d (t ∷ tokens) (option_map (λ p. (negated p.0, p.1)) r)
+minus_derived : (d : ℕ) (t : Lexeme) (tokens : List Lexeme) (r : Read) → symbol_of t ≡ Some 45 → Of primary d tokens r
+    → Of unary d (t ∷ tokens) (option_map (λ p. (negated p.0, p.1)) r)
 minus_derived d t tokens None o h = tt
 minus_derived d t tokens (Some p) o h = record { front = t ∷ h.front; cut = ap (λ xs. t ∷ xs) h.cut; derived = minus t o h.derived }
 
@@ -80,9 +82,11 @@ unary_derived d inner h (t ∷ ts) = go (is_symbol 45 t) refl where
 -- an operator and its right side make a longer sum
 abbrev pub Longer : ℕ → List Lexeme → Option (Operator × Term × List Lexeme) → Type 0
 Longer d tokens None = Unit {0}
-Longer d tokens (Some q) = (front : List Lexeme) × (tokens ≡ front ++ q.2) × ((a : Term) (ls : List Lexeme) → Derives sum d a ls → Derives sum d (binary q.0 a q.1) (ls ++ front))
+Longer d tokens (Some q) = (front : List Lexeme) × (tokens ≡ front ++ q.2)
+    × ((a : Term) (ls : List Lexeme) → Derives sum d a ls → Derives sum d (binary q.0 a q.1) (ls ++ front))
 
-right_derived : (d : ℕ) (t : Lexeme) (ts : List Lexeme) (op : Operator) (r : Read) → operator_of t ≡ Some op → Of unary d ts r → Longer d (t ∷ ts) (option_map (λ p. (op, p.0, p.1)) r)
+right_derived : (d : ℕ) (t : Lexeme) (ts : List Lexeme) (op : Operator) (r : Read) → operator_of t ≡ Some op → Of unary d ts r
+    → Longer d (t ∷ ts) (option_map (λ p. (op, p.0, p.1)) r)
 right_derived d t ts op None o h = tt
 right_derived d t ts op (Some p) o h = (t ∷ h.front, ap (λ xs. t ∷ xs) h.cut, λ a ls k. chain t o k h.derived)
 
@@ -96,7 +100,8 @@ next_derived d inner h (t ∷ ts) = go (operator_of t) refl where
 more_derived : (d : ℕ) (inner : List Lexeme → Read) → Inner d inner → (n : ℕ) (e : Term) (front tokens : List Lexeme) → Derives sum d e front
     → Spelled sum d (more_with inner n e tokens).0 (front ++ tokens) (more_with inner n e tokens).1
 more_derived d inner h zero e front tokens k = record { front = front; cut = refl; derived = k }
-more_derived d inner h (suc n) e front tokens k = go (next_with inner tokens) (next_derived d inner h tokens) (λ x xs ts y. more_derived d inner h n x xs ts y) where
+more_derived d inner h (suc n) e front tokens k = go (next_with inner tokens) (next_derived d inner h tokens)
+    (λ x xs ts y. more_derived d inner h n x xs ts y) where
   go : (o : Option (Operator × Term × List Lexeme)) → Longer d tokens o
       → ((x : Term) (xs ts : List Lexeme) → Derives sum d x xs → Spelled sum d (more_with inner n x ts).0 (xs ++ ts) (more_with inner n x ts).1)
       → Spelled sum d (went_on (λ x xs. more_with inner n x xs) e tokens o).0 (front ++ tokens) (went_on (λ x xs. more_with inner n x xs) e tokens o).1
@@ -105,7 +110,8 @@ more_derived d inner h (suc n) e front tokens k = go (next_with inner tokens) (n
       let s = again (binary q.0 e q.1) (front ++ l.0) q.2 (l.2 e front k) in
       record { front = s.front; cut = ap (λ xs. front ++ xs) l.1 ∙ sym (append_assoc front l.0 q.2) ∙ s.cut; derived = s.derived }
 
-sum_of_unary : (d : ℕ) (inner : List Lexeme → Read) → Inner d inner → (tokens : List Lexeme) (r : Read) → Of unary d tokens r → Of sum d tokens (option_map (λ p. more_with inner (length p.1) p.0 p.1) r)
+sum_of_unary : (d : ℕ) (inner : List Lexeme → Read) → Inner d inner → (tokens : List Lexeme) (r : Read) → Of unary d tokens r
+    → Of sum d tokens (option_map (λ p. more_with inner (length p.1) p.0 p.1) r)
 sum_of_unary d inner h tokens None u = tt
 sum_of_unary d inner h tokens (Some p) u =
     let s = more_derived d inner h (length p.1) p.0 u.front p.1 (single u.derived) in
@@ -130,11 +136,13 @@ bare_derived : (d : ℕ) (tokens : List Lexeme) (r : Read) → Of sum d tokens r
 bare_derived d tokens None h = tt
 bare_derived d tokens (Some p) h = record { front = h.front; cut = h.cut; derived = bare h.derived }
 
-low_derived : (d : ℕ) (t : Lexeme) (tokens : List Lexeme) (r : Read) → symbol_of t ≡ Some 60 → Of sum d tokens r → Of whole d (t ∷ tokens) (option_map (λ p. (low p.0, p.1)) r)
+low_derived : (d : ℕ) (t : Lexeme) (tokens : List Lexeme) (r : Read) → symbol_of t ≡ Some 60 → Of sum d tokens r
+    → Of whole d (t ∷ tokens) (option_map (λ p. (low p.0, p.1)) r)
 low_derived d t tokens None o h = tt
 low_derived d t tokens (Some p) o h = record { front = t ∷ h.front; cut = ap (λ xs. t ∷ xs) h.cut; derived = low_byte t o h.derived }
 
-high_derived : (d : ℕ) (t : Lexeme) (tokens : List Lexeme) (r : Read) → symbol_of t ≡ Some 62 → Of sum d tokens r → Of whole d (t ∷ tokens) (option_map (λ p. (high p.0, p.1)) r)
+high_derived : (d : ℕ) (t : Lexeme) (tokens : List Lexeme) (r : Read) → symbol_of t ≡ Some 62 → Of sum d tokens r
+    → Of whole d (t ∷ tokens) (option_map (λ p. (high p.0, p.1)) r)
 high_derived d t tokens None o h = tt
 high_derived d t tokens (Some p) o h = record { front = t ∷ h.front; cut = ap (λ xs. t ∷ xs) h.cut; derived = high_byte t o h.derived }
 

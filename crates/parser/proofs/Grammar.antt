@@ -61,17 +61,20 @@ close_is_no_operator t e = rw e refl
 finds_atom : (d : ℕ) (t : Lexeme) (e : Term) → atom_of t ≡ Some e → Finds primary d e (t ∷ [])
 finds_atom d t e h rest = rw (other_symbol 91 refl t e h, h) refl
 
-finds_group : (d : ℕ) (t close : Lexeme) (e : Term) (ts : List Lexeme) → symbol_of t ≡ Some 91 → symbol_of close ≡ Some 93 → Finds sum d e ts → Finds primary (suc d) e (t ∷ ts ++ close ∷ [])
+finds_group : (d : ℕ) (t close : Lexeme) (e : Term) (ts : List Lexeme) → symbol_of t ≡ Some 91 → symbol_of close ≡ Some 93 → Finds sum d e ts
+    → Finds primary (suc d) e (t ∷ ts ++ close ∷ [])
 finds_group d t close e ts o c f rest =
     let p = f (close ∷ rest) in
-    let q : sum_with (inner_at d) (ts ++ close ∷ rest) ≡ Some (e, close ∷ rest) = p.2 ∙ ap Some (stops (inner_at d) p.0 e close rest (close_is_no_operator close c)) in
+    let q : sum_with (inner_at d) (ts ++ close ∷ rest) ≡ Some (e, close ∷ rest) =
+        p.2 ∙ ap Some (stops (inner_at d) p.0 e close rest (close_is_no_operator close c)) in
     rw (is_symbol_from 91 t o, append_assoc ts (close ∷ []) rest, q, is_symbol_from 93 close c) refl
 
 -- a primary that stands alone is a unary
 atom_unary : (d : ℕ) (t : Lexeme) (e : Term) → atom_of t ≡ Some e → Finds unary d e (t ∷ [])
 atom_unary d t e h rest = rw (other_symbol 45 refl t e h) (finds_atom d t e h rest)
 
-group_unary : (d : ℕ) (t u : Lexeme) (e : Term) (ts : List Lexeme) → symbol_of t ≡ Some 91 → symbol_of u ≡ Some 93 → Finds sum d e ts → Finds unary (suc d) e (t ∷ ts ++ u ∷ [])
+group_unary : (d : ℕ) (t u : Lexeme) (e : Term) (ts : List Lexeme) → symbol_of t ≡ Some 91 → symbol_of u ≡ Some 93 → Finds sum d e ts
+    → Finds unary (suc d) e (t ∷ ts ++ u ∷ [])
 group_unary d t u e ts o c f rest =
     let m : is_symbol 45 t ≡ false = rw o refl in
     rw m (finds_group d t u e ts o c f rest)
@@ -82,7 +85,8 @@ finds_minus d t e ts h f rest = rw (is_symbol_from 45 t h, f rest) refl
 finds_single : (d : ℕ) (e : Term) (ts : List Lexeme) → Finds unary d e ts → Finds sum d e ts
 finds_single d e ts f rest = (length rest, omega arith, ap (option_map (λ p. more_with (inner_at d) (length p.1) p.0 p.1)) (f rest))
 
-finds_chain : (d : ℕ) (t : Lexeme) (op : Operator) (a b : Term) (ls rs : List Lexeme) → operator_of t ≡ Some op → Finds sum d a ls → Finds unary d b rs → Finds sum d (binary op a b) (ls ++ t ∷ rs)
+finds_chain : (d : ℕ) (t : Lexeme) (op : Operator) (a b : Term) (ls rs : List Lexeme) → operator_of t ≡ Some op → Finds sum d a ls
+    → Finds unary d b rs → Finds sum d (binary op a b) (ls ++ t ∷ rs)
 finds_chain d t op a b ls rs h f g rest = go (f (t ∷ (rs ++ rest))).0 (f (t ∷ (rs ++ rest))).1 (f (t ∷ (rs ++ rest))).2 where
   go : (n : ℕ) → length (t ∷ (rs ++ rest)) ≤ n → sum_with (inner_at d) (ls ++ t ∷ (rs ++ rest)) ≡ Some (more_with (inner_at d) n a (t ∷ (rs ++ rest)))
       → (m : ℕ) × (length rest ≤ m) × (sum_with (inner_at d) ((ls ++ t ∷ rs) ++ rest) ≡ Some (more_with (inner_at d) m (binary op a b) rest))
@@ -109,7 +113,8 @@ mutual
 -- ---- a whole expression
 
 -- a sum does not begin with a symbol other than `*`, `[` and `-`
-sum_begins : (inner : List Lexeme → Read) (b : ℕ) (t : Lexeme) (ts : List Lexeme) → star_term b ≡ None → (b == 91) ≡ false → (b == 45) ≡ false → symbol_of t ≡ Some b → sum_with inner (t ∷ ts) ≡ None
+sum_begins : (inner : List Lexeme → Read) (b : ℕ) (t : Lexeme) (ts : List Lexeme) → star_term b ≡ None → (b == 91) ≡ false → (b == 45) ≡ false
+    → symbol_of t ≡ Some b → sum_with inner (t ∷ ts) ≡ None
 sum_begins inner b t ts n g m h =
     let minus : is_symbol 45 t ≡ false = rw h m in
     let group : is_symbol 91 t ≡ false = rw h g in
@@ -121,7 +126,8 @@ is_symbol_back b None h = absurd (no_yes h) where
   no_yes h = cc
 is_symbol_back b (Some x) h = ap Some (eqb-true x b h)
 
-no_such_sum : (inner : List Lexeme → Read) (b : ℕ) (t : Lexeme) (ts : List Lexeme) (p : Term × List Lexeme) → star_term b ≡ None → (b == 91) ≡ false → (b == 45) ≡ false
+no_such_sum : (inner : List Lexeme → Read) (b : ℕ) (t : Lexeme) (ts : List Lexeme) (p : Term × List Lexeme) → star_term b ≡ None → (b == 91) ≡ false
+    → (b == 45) ≡ false
     → is_symbol b t ≡ true → sum_with inner (t ∷ ts) ≡ Some p → ⊥
 no_such_sum inner b t ts p n g m s h = none_read_some (sym (sum_begins inner b t ts n g m (is_symbol_back b (symbol_of t) s)) ∙ h)
 

@@ -10,7 +10,8 @@ use Rattle.parser.proofs.Derived.{Inner, Longer, next_derived, inside_at}
 use Rattle.parser.proofs.Whole.{found_spelled}
 
 -- more operators only take tokens away
-more_takes : (d : ℕ) (inner : List Lexeme → Read) → Inner d inner → (n : ℕ) (e : Term) (tokens : List Lexeme) → length (more_with inner n e tokens).1 ≤ length tokens
+more_takes : (d : ℕ) (inner : List Lexeme → Read) → Inner d inner → (n : ℕ) (e : Term) (tokens : List Lexeme)
+    → length (more_with inner n e tokens).1 ≤ length tokens
 more_takes d inner h zero e tokens = omega arith
 more_takes d inner h (suc n) e tokens = go (next_with inner tokens) (next_derived d inner h tokens) (λ x xs. more_takes d inner h n x xs) where
   go : (o : Option (Operator × Term × List Lexeme)) → Longer d tokens o → ((x : Term) (xs : List Lexeme) → length (more_with inner n x xs).1 ≤ length xs)
@@ -82,7 +83,8 @@ none_left inner zero e = refl
 none_left inner (suc n) e = refl
 
 whole_is : (e : Term) (ts : List Lexeme) → FindsWhole e ts [] → whole_with (inner_at 8) (ts ++ []) ≡ Some (e, [])
-whole_is e ts f = f.found ∙ ap (λ (m : Term × List Lexeme). Some (f.around m.0, m.1)) (none_left (inner_at 8) f.count f.inside) ∙ ap (λ x. Some (x, [])) (sym f.is)
+whole_is e ts f = f.found ∙ ap (λ (m : Term × List Lexeme). Some (f.around m.0, m.1)) (none_left (inner_at 8) f.count f.inside)
+    ∙ ap (λ x. Some (x, [])) (sym f.is)
 
 abbrev term_or : Term → Read → Term
 term_or other None = other

@@ -13,7 +13,8 @@ inner_below (suc d) ts h = let e : suc d - 1 ≡ d = omega arith in rw e refl
 
 -- ---- operators
 
-pub more_step : (inner : List Lexeme → Read) (n i : ℕ) (e : Term) (ts : List Lexeme) (op : Operator) (b : Term) (rest : List Lexeme) → i < n → next_with inner ts ≡ Some (op, b, rest)
+pub more_step : (inner : List Lexeme → Read) (n i : ℕ) (e : Term) (ts : List Lexeme) (op : Operator) (b : Term) (rest : List Lexeme) → i < n
+    → next_with inner ts ≡ Some (op, b, rest)
     → more_with inner (n - (i + 1)) (binary op e b) rest ≡ more_with inner (n - i) e ts
 more_step inner n i e ts op b rest lt h =
     let s : n - i ≡ suc (n - (i + 1)) = omega arith in

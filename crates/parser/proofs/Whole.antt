@@ -25,7 +25,8 @@ rest_within tokens rest e h =
     let b = (behind s.front (lexemes tokens) (lexemes rest) s.cut).0 in
     rw (length-map rest lexeme_of, length-map tokens lexeme_of) at b
 
-pub rest_dropped : (tokens rest : List Token) (e : Term) → Some (e, lexemes rest) ≡ expression_of (lexemes tokens) → drop (length tokens - length rest) (lexemes tokens) ≡ lexemes rest
+pub rest_dropped : (tokens rest : List Token) (e : Term) → Some (e, lexemes rest) ≡ expression_of (lexemes tokens)
+    → drop (length tokens - length rest) (lexemes tokens) ≡ lexemes rest
 rest_dropped tokens rest e h =
     let s = found_spelled (lexemes tokens) e (lexemes rest) (sym h) in
     let b = (behind s.front (lexemes tokens) (lexemes rest) s.cut).1 in

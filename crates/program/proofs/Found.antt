@@ -52,27 +52,33 @@ refused (Err e) words fault is misfit = subst (IsRightRefusal words) (sym is) (r
 -- ---- words that clap takes
 
 -- what was found of the subcommand
-pub found_asked : (app : App) (words : List Text) (found : Option (Text × List Row)) → app ≡ mos65 → found ≡ subcommand_of app words → asked_of found ≡ asked words
+pub found_asked : (app : App) (words : List Text) (found : Option (Text × List Row)) → app ≡ mos65 → found ≡ subcommand_of app words
+    → asked_of found ≡ asked words
 found_asked app words found is parse = ap asked_of (parse ∙ ap (λ (a : App). subcommand_of a words) is)
 
-firsts : {A : Type 0} (f : A → Text) (g : A → List Row) (o : Option A) → option_map f o ≡ option_map (λ (p : Text × List Row). p.0) (option_map (λ b. (f b, g b)) o)
+firsts : {A : Type 0} (f : A → Text) (g : A → List Row) (o : Option A)
+    → option_map f o ≡ option_map (λ (p : Text × List Row). p.0) (option_map (λ b. (f b, g b)) o)
 firsts f g None = refl
 firsts f g (Some b) = refl
 
 -- the subcommand's name
 name_among : (m : ArgMatches) → subcommand_name_of m ≡ option_map (λ (p : Text × List Row). p.0) (subcommand_rows_of m)
-name_among m = firsts (λ b. (out-SubCommand (box_value b)).name.now) (λ b. rows_of (found_of (out-SubCommand (box_value b)).matches)) (out-ArgMatches m).subcommand
+name_among m = firsts (λ b. (out-SubCommand (box_value b)).name.now) (λ b. rows_of (found_of (out-SubCommand (box_value b)).matches))
+    (out-ArgMatches m).subcommand
 
-both_are : (found : Option (Text × List Row)) (name : Text) (rows : List Row) → option_map (λ (p : Text × List Row). p.0) found ≡ Some name → option_map (λ (p : Text × List Row). p.1) found ≡ Some rows → found ≡ Some (name, rows)
+both_are : (found : Option (Text × List Row)) (name : Text) (rows : List Row) → option_map (λ (p : Text × List Row). p.0) found ≡ Some name
+    → option_map (λ (p : Text × List Row). p.1) found ≡ Some rows → found ≡ Some (name, rows)
 both_are None name rows h k = cc
 both_are (Some p) name rows h k =
     ap₂ (λ (n : Text) (r : List Row). Some (n, r)) (ap (λ (o : Option Text). unwrap_or o name) h) (ap (λ (o : Option (List Row)). unwrap_or o rows) k)
 
 asm_by_rows : (f : Found) → asm_asked (first_value f) ≡ asm_asked (λ name. first_of name (rows_of f))
-asm_by_rows f = rw (first_value-rows f (codes "SOURCE"), first_value-rows f (codes "TAPE"), first_value-rows f (codes "listing"), first_value-rows f (codes "port"), first_value-rows f (codes "profile")) refl
+asm_by_rows f = rw (first_value-rows f (codes "SOURCE"), first_value-rows f (codes "TAPE"), first_value-rows f (codes "listing"), first_value-rows f
+    (codes "port"), first_value-rows f (codes "profile")) refl
 
 dis_by_rows : (f : Found) → dis_asked (first_value f) ≡ dis_asked (λ name. first_of name (rows_of f))
-dis_by_rows f = rw (first_value-rows f (codes "TAPE"), first_value-rows f (codes "LO"), first_value-rows f (codes "HI"), first_value-rows f (codes "profile")) refl
+dis_by_rows f = rw (first_value-rows f (codes "TAPE"), first_value-rows f (codes "LO"), first_value-rows f (codes "HI"), first_value-rows f
+    (codes "profile")) refl
 
 debug_by_rows : (f : Found) → debug_asked (first_value f) ≡ debug_asked (λ name. first_of name (rows_of f))
 debug_by_rows f =
@@ -85,17 +91,23 @@ debug_by_rows f =
       first_value-rows f (codes "profile"),
     ) refl
 
-pub asm_found : (m : ArgMatches) (f : Found) (name : Text) → Some name ≡ subcommand_name_of m → Some (rows_of f) ≡ option_map (λ (p : Text × List Row). p.1) (subcommand_rows_of m) → name ≡ codes "asm"
+pub asm_found : (m : ArgMatches) (f : Found) (name : Text) → Some name ≡ subcommand_name_of m
+    → Some (rows_of f) ≡ option_map (λ (p : Text × List Row). p.1) (subcommand_rows_of m) → name ≡ codes "asm"
     → option_map asm (asm_asked (first_value f)) ≡ asked_of (subcommand_rows_of m)
 asm_found m f name names rows is =
-    ap (option_map asm) (asm_by_rows f) ∙ ap asked_of (sym (both_are (subcommand_rows_of m) (codes "asm") (rows_of f) (sym (name_among m) ∙ sym names ∙ ap (λ t. Some t) is) (sym rows)))
+    ap (option_map asm) (asm_by_rows f) ∙ ap asked_of (sym (both_are (subcommand_rows_of m) (codes "asm") (rows_of f)
+        (sym (name_among m) ∙ sym names ∙ ap (λ t. Some t) is) (sym rows)))
 
-pub dis_found : (m : ArgMatches) (f : Found) (name : Text) → Some name ≡ subcommand_name_of m → Some (rows_of f) ≡ option_map (λ (p : Text × List Row). p.1) (subcommand_rows_of m) → name ≡ codes "dis"
+pub dis_found : (m : ArgMatches) (f : Found) (name : Text) → Some name ≡ subcommand_name_of m
+    → Some (rows_of f) ≡ option_map (λ (p : Text × List Row). p.1) (subcommand_rows_of m) → name ≡ codes "dis"
     → option_map dis (dis_asked (first_value f)) ≡ asked_of (subcommand_rows_of m)
 dis_found m f name names rows is =
-    ap (option_map dis) (dis_by_rows f) ∙ ap asked_of (sym (both_are (subcommand_rows_of m) (codes "dis") (rows_of f) (sym (name_among m) ∙ sym names ∙ ap (λ t. Some t) is) (sym rows)))
+    ap (option_map dis) (dis_by_rows f) ∙ ap asked_of (sym (both_are (subcommand_rows_of m) (codes "dis") (rows_of f)
+        (sym (name_among m) ∙ sym names ∙ ap (λ t. Some t) is) (sym rows)))
 
-pub debug_found : (m : ArgMatches) (f : Found) (name : Text) → Some name ≡ subcommand_name_of m → Some (rows_of f) ≡ option_map (λ (p : Text × List Row). p.1) (subcommand_rows_of m) → name ≡ codes "debug"
+pub debug_found : (m : ArgMatches) (f : Found) (name : Text) → Some name ≡ subcommand_name_of m
+    → Some (rows_of f) ≡ option_map (λ (p : Text × List Row). p.1) (subcommand_rows_of m) → name ≡ codes "debug"
     → option_map debug (debug_asked (first_value f)) ≡ asked_of (subcommand_rows_of m)
 debug_found m f name names rows is =
-    ap (option_map debug) (debug_by_rows f) ∙ ap asked_of (sym (both_are (subcommand_rows_of m) (codes "debug") (rows_of f) (sym (name_among m) ∙ sym names ∙ ap (λ t. Some t) is) (sym rows)))
+    ap (option_map debug) (debug_by_rows f) ∙ ap asked_of (sym
+        (both_are (subcommand_rows_of m) (codes "debug") (rows_of f) (sym (name_among m) ∙ sym names ∙ ap (λ t. Some t) is) (sym rows)))

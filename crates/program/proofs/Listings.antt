@@ -18,5 +18,6 @@ pub one_asked : {V : Type 0} (items : V → List ℕ) (found : Option V) (is_lis
     → option_map items found ≡ (if is_listed then Some whole else None) → IsListing m source whole
     → IfSome found (λ l. (other : List ℕ) → IsListing m source other → items l ≡ other)
 one_asked items None is_listed m source whole assigned imaged is listed = tt
-one_asked items (Some l) true m source whole assigned imaged is listed = λ other h. ap (λ o. unwrap_or o []) is ∙ one_listing assigned imaged m source whole other listed h
+one_asked items (Some l) true m source whole assigned imaged is listed =
+    λ other h. ap (λ o. unwrap_or o []) is ∙ one_listing assigned imaged m source whole other listed h
 one_asked items (Some l) false m source whole assigned imaged is listed = absurd cc

@@ -32,7 +32,8 @@ not_zero (WriteFile why) e = omega arith
 
 -- The transcript of the input was written, from some image on the map.
 abbrev pub IsTranscript : Option (List ℕ) → Option (List ℕ) → Option (List ℕ) → DebugAsked → Type 0
-IsTranscript input held now d = (image : List (Option ℕ)) × IfSome input (λ given. Appends held now (transcript (new_session d.history (start (record { profile = d.profile; rom = d.rom; port = d.port }) image)) given).written)
+IsTranscript input held now d = (image : List (Option ℕ)) × IfSome input
+    (λ given. Appends held now (transcript (new_session d.history (start (record { profile = d.profile; rom = d.rom; port = d.port }) image)) given).written)
 
 pub ended_served : (v d : DebugAsked) (input left held now : Option (List ℕ)) (Alone : Type 0) (outcome : Result ⊤ Refusal) (status : ℕ) → v ≡ d
     → IsServed (record { profile = v.profile; rom = v.rom; port = v.port }) v.history input left held now outcome Alone
@@ -45,7 +46,8 @@ bad_status : (outcome : Result ⊤ Refusal) (status : ℕ) → outcome ≡ Err (
 bad_status outcome status bad is = subst (λ (o : Result ⊤ Refusal). IsStatus o status) bad is
 
 -- Nothing else has it once the words are right.
-not_two : (is_tape : Bool) (map : MapView) (refusal : Refusal) (status : ℕ) → EndsDebug is_tape map refusal → status ≡ status_of refusal → is_map map.rom map.port ≡ true → status ≡ 2 → ⊥
+not_two : (is_tape : Bool) (map : MapView) (refusal : Refusal) (status : ℕ) → EndsDebug is_tape map refusal → status ≡ status_of refusal
+    → is_map map.rom map.port ≡ true → status ≡ 2 → ⊥
 not_two is_tape map Words status ends is makes two = absurd ends
 not_two is_tape map (Map fault) status ends is makes two = let no : true ≡ false = sym makes ∙ ends.1 in absurd cc
 not_two is_tape map (Source fault) status ends is makes two = omega (arith, is, two)
@@ -56,14 +58,16 @@ not_two is_tape map (Read why) status ends is makes two = omega (arith, is, two)
 not_two is_tape map Write status ends is makes two = omega (arith, is, two)
 not_two is_tape map (WriteFile why) status ends is makes two = absurd ends
 
-right_status : (is_tape : Bool) (map : MapView) (outcome : Result ⊤ Refusal) (status : ℕ) → IfErr outcome (EndsDebug is_tape map) → IsStatus outcome status → is_map map.rom map.port ≡ true → status ≡ 2 → ⊥
+right_status : (is_tape : Bool) (map : MapView) (outcome : Result ⊤ Refusal) (status : ℕ) → IfErr outcome (EndsDebug is_tape map)
+    → IsStatus outcome status → is_map map.rom map.port ≡ true → status ≡ 2 → ⊥
 right_status is_tape map (Ok done) status ends is makes two = omega (arith, is, two)
 right_status is_tape map (Err refusal) status ends is makes two = not_two is_tape map refusal status ends is makes two
 
 -- What `debug` did for words that ask for this.
 pub runs_debug : (v d : DebugAsked) (streams : Streams) (Alone : Type 0) (outcome : Result ⊤ Refusal) (status : ℕ) → v ≡ d
     → (is_map v.rom v.port ≡ false → outcome ≡ Err (Map BadMap)) → IfErr outcome (EndsDebug v.is_tape (map_asked v))
-    → IsServed (map_asked v) v.history streams.given streams.left streams.held streams.now outcome Alone → IsStatus outcome status → RunsDebug d streams status Alone
+    → IsServed (map_asked v) v.history streams.given streams.left streams.held streams.now outcome Alone → IsStatus outcome status
+        → RunsDebug d streams status Alone
 runs_debug v d streams Alone outcome status same bad ends served is = subst (λ (a : DebugAsked). RunsDebug a streams status Alone) same (record {
   tells = record { bad = λ no. inl (bad_status outcome status (bad no) is); right = right_status v.is_tape (map_asked v) outcome status ends is };
   serves = (outcome, is, served);

@@ -24,11 +24,13 @@ pub letters_are : (n : ℕ) → n ≡ 65536 → replicate {A = Bool} n false ≡
 unfolding no_letters
 letters_are n e = ap (λ (k : ℕ). replicate {A = Bool} k false) e
 
-pub letters_none : (profile : Profile) (image : List (Option ℕ)) (marks : List Mark) (routines : List Inline) (reached : List Bool) → letters_to profile image marks routines reached 0 ≡ no_letters
+pub letters_none : (profile : Profile) (image : List (Option ℕ)) (marks : List Mark) (routines : List Inline) (reached : List Bool)
+    → letters_to profile image marks routines reached 0 ≡ no_letters
 unfolding letters_to
 letters_none profile image marks routines reached = refl
 
-pub letters_more : (profile : Profile) (image : List (Option ℕ)) (marks : List Mark) (routines : List Inline) (reached letters new : List Bool) (n : ℕ) → letters ≡ letters_to profile image marks routines reached n
+pub letters_more : (profile : Profile) (image : List (Option ℕ)) (marks : List Mark) (routines : List Inline) (reached letters new : List Bool)
+    (n : ℕ) → letters ≡ letters_to profile image marks routines reached n
     → new ≡ with_string letters (reached_string profile image marks routines reached n) → new ≡ letters_to profile image marks routines reached (n + 1)
 unfolding letters_to
 letters_more profile image marks routines reached letters new n so_far put =

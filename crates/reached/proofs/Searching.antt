@@ -99,7 +99,8 @@ module _ (profile : Profile) (cells : List (Option ℕ)) (marks : List Mark) (ro
   pub found_one : (begun done : ℕ) (s : Seen) (a : ℕ) → Is begun done s → a < 65536 → CanReach a → Is begun done (with_address s (Some a))
   found_one begun done s a h below way = added begun done s a (is_reached s.flags a) refl h below way
 
-  found_way : (begun done : ℕ) (s : Seen) (way : Option ℕ) → Is begun done s → IfSome way (λ a. a < 65536) → ((a : ℕ) → way ≡ Some a → CanReach a) → Is begun done (with_address s way)
+  found_way : (begun done : ℕ) (s : Seen) (way : Option ℕ) → Is begun done s → IfSome way (λ a. a < 65536) → ((a : ℕ) → way ≡ Some a → CanReach a)
+      → Is begun done (with_address s way)
   found_way begun done s None h below can = h
   found_way begun done s (Some a) h below can = found_one begun done s a h below (can a refl)
 
@@ -112,21 +113,25 @@ module _ (profile : Profile) (cells : List (Option ℕ)) (marks : List Mark) (ro
   added_here s a true e below = e
   added_here s a false e below = set_here s.flags a below
 
-  keeps : (s : Seen) (way : Option ℕ) (b : ℕ) → length s.flags ≡ 65536 → IfSome way (λ a. a < 65536) → is_reached s.flags b ≡ true → is_reached (with_address s way).flags b ≡ true
+  keeps : (s : Seen) (way : Option ℕ) (b : ℕ) → length s.flags ≡ 65536 → IfSome way (λ a. a < 65536) → is_reached s.flags b ≡ true
+      → is_reached (with_address s way).flags b ≡ true
   keeps s None b size below h = h
   keeps s (Some a) b size below h = added_keeps s a b (is_reached s.flags a) (omega (arith, below, size)) h
 
-  here : (s : Seen) (way : Option ℕ) (b : ℕ) → length s.flags ≡ 65536 → IfSome way (λ a. a < 65536) → way ≡ Some b → is_reached (with_address s way).flags b ≡ true
+  here : (s : Seen) (way : Option ℕ) (b : ℕ) → length s.flags ≡ 65536 → IfSome way (λ a. a < 65536) → way ≡ Some b
+      → is_reached (with_address s way).flags b ≡ true
   here s None b size below e = absurd cc
   here s (Some a) b size below e =
       let same : a ≡ b = cc in
       subst (λ (k : ℕ). is_reached (with_address s (Some a)).flags k ≡ true) same (added_here s a (is_reached s.flags a) refl (omega (arith, below, size)))
 
-  added_found : (s : Seen) (a i : ℕ) (x : Bool) → i < length s.found → (i < length (Added s a x).found) × (slice_index (Added s a x).found i ≡ slice_index s.found i)
+  added_found : (s : Seen) (a i : ℕ) (x : Bool) → i < length s.found → (i < length (Added s a x).found)
+      × (slice_index (Added s a x).found i ≡ slice_index s.found i)
   added_found s a i true lt = (lt, refl)
   added_found s a i false lt = (omega (arith, lt, length-append s.found (a ∷ [])), get_or_append_left s.found (a ∷ []) 0 i lt)
 
-  same_found : (s : Seen) (way : Option ℕ) (i : ℕ) → i < length s.found → (i < length (with_address s way).found) × (slice_index (with_address s way).found i ≡ slice_index s.found i)
+  same_found : (s : Seen) (way : Option ℕ) (i : ℕ) → i < length s.found → (i < length (with_address s way).found)
+      × (slice_index (with_address s way).found i ≡ slice_index s.found i)
   same_found s None i lt = (lt, refl)
   same_found s (Some a) i lt = added_found s a i (is_reached s.flags a) lt
 
@@ -144,7 +149,8 @@ module _ (profile : Profile) (cells : List (Option ℕ)) (marks : List Mark) (ro
     closed = λ i a lt lead. absurd (omega (arith, lt));
   }
 
-  pub began : (s new : Seen) (index a : ℕ) → Is index 0 s → index < length starts → a ≡ slice_index starts index → a < 65536 → new ≡ with_address s (Some a) → Is (index + 1) 0 new
+  pub began : (s new : Seen) (index a : ℕ) → Is index 0 s → index < length starts → a ≡ slice_index starts index → a < 65536
+      → new ≡ with_address s (Some a) → Is (index + 1) 0 new
   unfolding Reaches
   began s new index a h within is below e =
       let more : Is index 0 (with_address s (Some a)) = found_one index 0 s a h below (0, (index, within, sym is)) in
@@ -165,14 +171,17 @@ module _ (profile : Profile) (cells : List (Option ℕ)) (marks : List Mark) (ro
 
   -- ---- where control goes from an address
 
-  pub went : (begun done address : ℕ) (ways : Ways) (s t new : Seen) → Is begun done s → done < length s.found → address ≡ slice_index s.found done → ways ≡ ways_at profile cells marks routines address
-      → IfSome ways.target (λ a. a < 65536) → IfSome ways.next (λ a. a < 65536) → t ≡ with_address s ways.target → new ≡ with_address t ways.next → Is begun (done + 1) new
+  pub went : (begun done address : ℕ) (ways : Ways) (s t new : Seen) → Is begun done s → done < length s.found → address ≡ slice_index s.found done
+      → ways ≡ ways_at profile cells marks routines address
+      → IfSome ways.target (λ a. a < 65536) → IfSome ways.next (λ a. a < 65536) → t ≡ with_address s ways.target → new ≡ with_address t ways.next
+          → Is begun (done + 1) new
   unfolding Reaches
   went begun done address ways s t new h within is leads first second to on =
       let came : CanReach address = rw is (h.reaches (slice_index s.found done) (h.flagged done within)) in
       let can : (a : ℕ) → LeadTo ways a → CanReach a = λ a lead. (suc came.0, (address, came.1, subst (λ (w : Ways). LeadTo w a) leads lead)) in
       let one : Is begun done (with_address s ways.target) = found_way begun done s ways.target h first (λ a e. can a (inl e)) in
-      let two : Is begun done (with_address (with_address s ways.target) ways.next) = found_way begun done (with_address s ways.target) ways.next one second (λ a e. can a (inr e)) in
+      let two : Is begun done (with_address (with_address s ways.target) ways.next) =
+          found_way begun done (with_address s ways.target) ways.next one second (λ a e. can a (inr e)) in
       let f = same_found s ways.target done within in
       let g = same_found (with_address s ways.target) ways.next done f.0 in
       rw (on, to) (record {
@@ -185,8 +194,10 @@ module _ (profile : Profile) (cells : List (Option ℕ)) (marks : List Mark) (ro
         starts_in = two.starts_in;
         closed = λ i b lt lead. elim (eqb_tells i done) [
           | inl same ↦
-              let there : slice_index (with_address (with_address s ways.target) ways.next).found i ≡ address = ap (λ (k : ℕ). slice_index (with_address (with_address s ways.target) ways.next).found k) same.1 ∙ g.1 ∙ f.1 ∙ sym is in
-              let from : LeadTo (ways_at profile cells marks routines address) b = subst (λ (k : ℕ). LeadTo (ways_at profile cells marks routines k) b) there lead in
+              let there : slice_index (with_address (with_address s ways.target) ways.next).found i ≡ address =
+                  ap (λ (k : ℕ). slice_index (with_address (with_address s ways.target) ways.next).found k) same.1 ∙ g.1 ∙ f.1 ∙ sym is in
+              let from : LeadTo (ways_at profile cells marks routines address) b =
+                  subst (λ (k : ℕ). LeadTo (ways_at profile cells marks routines k) b) there lead in
               elim (subst (λ (w : Ways). LeadTo w b) (sym leads) from) [
                 | inl e ↦ keeps (with_address s ways.target) ways.next b one.size second (here s ways.target b h.size first e)
                 | inr e ↦ here (with_address s ways.target) ways.next b one.size second e

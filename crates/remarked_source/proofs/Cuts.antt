@@ -8,5 +8,6 @@ behind_cut text at = drop_min at text
 pub front_cut : (text : List ℕ) (count : ℕ) → take (min count (length text)) text ≡ take count text
 front_cut text count = take_min count text
 
-pub text_cut : (text : List ℕ) (at count : ℕ) → take (min count (length (drop (min at (length text)) text))) (drop (min at (length text)) text) ≡ take count (drop at text)
+pub text_cut : (text : List ℕ) (at count : ℕ) → take (min count (length (drop (min at (length text)) text))) (drop (min at (length text)) text)
+    ≡ take count (drop at text)
 text_cut text at count = rw (drop_min at text) (take_min count (drop at text))

@@ -4,10 +4,12 @@ use Rattle.std.specs.Prelude.{find, slice_get}
 use Rattle.assembler.specs.Lines.{LineView}
 use Rattle.remarked_source.proofs.Lines.{cut}
 
-pub found_here : (p : LineView → Bool) (ls : List LineView) (i : ℕ) (l : LineView) (whole : Option LineView) → slice_get ls i ≡ Some l → p l ≡ true → find p (drop i ls) ≡ whole → Some l ≡ whole
+pub found_here : (p : LineView → Bool) (ls : List LineView) (i : ℕ) (l : LineView) (whole : Option LineView) → slice_get ls i ≡ Some l → p l ≡ true
+    → find p (drop i ls) ≡ whole → Some l ≡ whole
 found_here p ls i l whole is holds so_far = let here : find p (drop i ls) ≡ Some l = ap (find p) (cut ls i l is) ∙ rw holds refl in sym here ∙ so_far
 
-pub found_more : (p : LineView → Bool) (ls : List LineView) (i : ℕ) (l : LineView) (whole : Option LineView) → slice_get ls i ≡ Some l → p l ≡ false → find p (drop i ls) ≡ whole → find p (drop (i + 1) ls) ≡ whole
+pub found_more : (p : LineView → Bool) (ls : List LineView) (i : ℕ) (l : LineView) (whole : Option LineView) → slice_get ls i ≡ Some l → p l ≡ false
+    → find p (drop i ls) ≡ whole → find p (drop (i + 1) ls) ≡ whole
 found_more p ls i l whole is other so_far =
     let next : find p (drop i ls) ≡ find p (drop (suc i) ls) = ap (find p) (cut ls i l is) ∙ rw other refl in
     rw add-one (sym next ∙ so_far)

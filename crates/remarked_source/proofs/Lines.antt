@@ -15,12 +15,14 @@ there [] i h e = omega (arith, h)
 there (x ∷ ls) zero h e = cc
 there (x ∷ ls) (suc i) h e = there ls i (omega (arith, h)) e
 
-pub line_more : (b : Beside) (image : List (Option ℕ)) (from i : ℕ) (ls : List LineView) (l : LineView) (out new whole : List ℕ) → slice_get ls i ≡ Some l → new ≡ out ++ rows_of b image from l
+pub line_more : (b : Beside) (image : List (Option ℕ)) (from i : ℕ) (ls : List LineView) (l : LineView) (out new whole : List ℕ)
+    → slice_get ls i ≡ Some l → new ≡ out ++ rows_of b image from l
     → out ++ rows_from b image from (drop i ls) ≡ whole → new ++ rows_from b image (behind from l) (drop (i + 1) ls) ≡ whole
 unfolding rows_from
 line_more b image from i ls l out new whole is put w =
     rw (put, add-one) (append_assoc out (rows_of b image from l) (rows_from b image (behind from l) (drop (suc i) ls)) ∙ rw (cut ls i l is) at w)
 
-pub lines_end : (b : Beside) (image : List (Option ℕ)) (from i : ℕ) (ls : List LineView) (out : List ℕ) → length ls ≤ i → out ++ rows_from b image from (drop i ls) ≡ out
+pub lines_end : (b : Beside) (image : List (Option ℕ)) (from i : ℕ) (ls : List LineView) (out : List ℕ) → length ls ≤ i
+    → out ++ rows_from b image from (drop i ls) ≡ out
 unfolding rows_from
 lines_end b image from i ls out h = rw (drop_of_length-le ls h) (append-nil out)

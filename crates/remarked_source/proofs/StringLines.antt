@@ -8,13 +8,15 @@ use Rattle.source_forms.specs.declared.mark.Mark.TheVariants.{Text}
 use Rattle.remarked_source.proofs.Lines.{cut}
 use Rattle.remarked_source.specs.Strings.{joined_from, joined_line, last_end, text_count}
 
-pub line_more : (marks : List Mark) (before : Option LineView) (i : ℕ) (ls : List LineView) (l : LineView) (out new whole : List ℕ) → slice_get ls i ≡ Some l → new ≡ out ++ joined_line marks before l
+pub line_more : (marks : List Mark) (before : Option LineView) (i : ℕ) (ls : List LineView) (l : LineView) (out new whole : List ℕ)
+    → slice_get ls i ≡ Some l → new ≡ out ++ joined_line marks before l
     → out ++ joined_from marks before (drop i ls) ≡ whole → new ++ joined_from marks (Some l) (drop (i + 1) ls) ≡ whole
 unfolding joined_from
 line_more marks before i ls l out new whole is put w =
     rw (put, add-one) (append_assoc out (joined_line marks before l) (joined_from marks (Some l) (drop (suc i) ls)) ∙ rw (cut ls i l is) at w)
 
-pub lines_end : (marks : List Mark) (before : Option LineView) (i : ℕ) (ls : List LineView) (out new whole : List ℕ) → length ls ≤ i → new ≡ out ++ last_end before
+pub lines_end : (marks : List Mark) (before : Option LineView) (i : ℕ) (ls : List LineView) (out new whole : List ℕ) → length ls ≤ i
+    → new ≡ out ++ last_end before
     → out ++ joined_from marks before (drop i ls) ≡ whole → new ≡ whole
 unfolding joined_from
 lines_end marks before i ls out new whole h put w = put ∙ rw (drop_of_length-le ls h) at w

@@ -53,14 +53,18 @@ unfolding after_input
 after_none s = refl
 
 -- one byte after another
-pub after_at : (s : Session) (bytes : List ℕ) (i : ℕ) → i < length bytes → after_input s (drop i bytes) ≡ after_input (after_input s (get_or bytes i 0 ∷ [])) (drop (i + 1) bytes)
+pub after_at : (s : Session) (bytes : List ℕ) (i : ℕ) → i < length bytes
+    → after_input s (drop i bytes) ≡ after_input (after_input s (get_or bytes i 0 ∷ [])) (drop (i + 1) bytes)
 after_at s bytes i h = rw (drop-cons bytes i 0, ← add-one) (after_first s (get_or bytes i 0) (drop (i + 1) bytes))
 
-pub given_at : (before now more : List ℕ) (bytes : List ℕ) (i : ℕ) → i < length bytes → now ≡ before ++ take i bytes → more ≡ now ++ get_or bytes i 0 ∷ [] → more ≡ before ++ take (i + 1) bytes
+pub given_at : (before now more : List ℕ) (bytes : List ℕ) (i : ℕ) → i < length bytes → now ≡ before ++ take i bytes
+    → more ≡ now ++ get_or bytes i 0 ∷ [] → more ≡ before ++ take (i + 1) bytes
 given_at before now more bytes i h e f =
-    f ∙ ap (λ l. l ++ get_or bytes i 0 ∷ []) e ∙ append_assoc before (take i bytes) (get_or bytes i 0 ∷ []) ∙ ap (λ l. before ++ l) (sym (take_more bytes i 0 h))
+    f ∙ ap (λ l. l ++ get_or bytes i 0 ∷ []) e ∙ append_assoc before (take i bytes) (get_or bytes i 0 ∷ [])
+        ∙ ap (λ l. before ++ l) (sym (take_more bytes i 0 h))
 
-pub room_at : (before now : List ℕ) (bytes : List ℕ) (i : ℕ) → i < length bytes → length before + length bytes ≤ 65536 → now ≡ before ++ take i bytes → length now + 1 ≤ 65536
+pub room_at : (before now : List ℕ) (bytes : List ℕ) (i : ℕ) → i < length bytes → length before + length bytes ≤ 65536 → now ≡ before ++ take i bytes
+    → length now + 1 ≤ 65536
 room_at before now bytes i h room e =
     let size : length now ≡ length before + length (take i bytes) = ap length e ∙ length-append before (take i bytes) in
     omega (arith, h, room, size, length-take i bytes)

@@ -25,10 +25,12 @@ pub spaced_more : (memory : List ℕ) (first n : ℕ) → first + n < length mem
 unfolding spaced_from spaced_bytes
 spaced_more memory first n within =
     let inside : n < length (drop first memory) = omega (arith, length-drop first memory) in
-    ap (flat_map (λ b. 32 ∷ hex_byte b)) (take_more (drop first memory) n 0 inside ∙ ap (λ b. take n (drop first memory) ++ b ∷ []) (get_or-drop first memory n 0))
+    ap (flat_map (λ b. 32 ∷ hex_byte b)) (take_more (drop first memory) n 0 inside
+        ∙ ap (λ b. take n (drop first memory) ++ b ∷ []) (get_or-drop first memory n 0))
     ∙ flat_map-append (λ b. 32 ∷ hex_byte b) (take n (drop first memory)) (get_or memory (first + n) 0 ∷ [])
 
-pub row_is : (memory : List ℕ) (first last n : ℕ) → n ≡ last + 1 - first → memory_row memory first last ≡ hex_address first ++ 32 ∷ spaced_from memory first n ++ 10 ∷ []
+pub row_is : (memory : List ℕ) (first last n : ℕ) → n ≡ last + 1 - first
+    → memory_row memory first last ≡ hex_address first ++ 32 ∷ spaced_from memory first n ++ 10 ∷ []
 unfolding spaced_from memory_row
 row_is memory first last n e = ap (λ k. hex_address first ++ 32 ∷ spaced_bytes (take k (drop first memory)) ++ 10 ∷ []) (sym e)
 
@@ -77,12 +79,14 @@ unfolding parts_to row_of memory_rows
 rows_all memory first last n e = ap (λ k. flat_map (row_of memory first last) (range_with_len 0 k)) (sym e)
 
 -- The row of a number, as the code finds it.
-pub row_at : (memory : List ℕ) (first last k start end : ℕ) → start ≡ first + 16 * k → end ≡ min last (start + 15) → memory_row memory start end ≡ row_of memory first last k
+pub row_at : (memory : List ℕ) (first last k start end : ℕ) → start ≡ first + 16 * k → end ≡ min last (start + 15)
+    → memory_row memory start end ≡ row_of memory first last k
 unfolding row_of
 row_at memory first last k start end e f = ap (memory_row memory start) f ∙ ap (λ s. memory_row memory s (min last (s + 15))) e
 
 -- One more byte of a row.
-pub row_step : (memory : List ℕ) (first address byte : ℕ) (items spaced new : List ℕ) → first ≤ address → address < length memory → byte ≡ get_or memory address 0
+pub row_step : (memory : List ℕ) (first address byte : ℕ) (items spaced new : List ℕ) → first ≤ address → address < length memory
+    → byte ≡ get_or memory address 0
     → items ≡ hex_address first ++ 32 ∷ spaced_from memory first (address - first) → spaced ≡ items ++ 32 ∷ [] → new ≡ spaced ++ hex_byte byte
     → new ≡ hex_address first ++ 32 ∷ spaced_from memory first (address + 1 - first)
 row_step memory first address byte items spaced new le within value before e f =
@@ -91,7 +95,8 @@ row_step memory first address byte items spaced new le within value before e f =
     let next : address - first + 1 ≡ address + 1 - first = omega arith in
     let inside : first + n < length memory = omega arith in
     let more : spaced_from memory first n ++ 32 ∷ hex_byte byte ≡ spaced_from memory first (address + 1 - first) =
-    ap (λ v. spaced_from memory first n ++ 32 ∷ hex_byte v) (value ∙ ap (λ a. get_or memory a 0) (sym at)) ∙ sym (spaced_more memory first n inside) ∙ ap (spaced_from memory first) next in
+    ap (λ v. spaced_from memory first n ++ 32 ∷ hex_byte v) (value ∙ ap (λ a. get_or memory a 0) (sym at)) ∙ sym (spaced_more memory first n inside)
+        ∙ ap (spaced_from memory first) next in
     f ∙ ap (λ l. l ++ hex_byte byte) (e ∙ ap (λ l. l ++ 32 ∷ []) before)
     ∙ ap (λ l. hex_address first ++ 32 ∷ l) (append_assoc (spaced_from memory first n) (32 ∷ []) (hex_byte byte) ∙ more)
 
@@ -163,4 +168,5 @@ output_all out n e = ap (λ k. flat_map (output_part out) (range_with_len 0 k)) 
 -- The line before them, and then the rows.
 pub output_whole : (out : List ℕ) → (codes "OUT " ++ decimal (length out) ++ 10 ∷ []) ++ output_rows out ≡ output_text out
 unfolding output_rows output_text
-output_whole out = ap (λ l. codes "OUT " ++ l) (append_assoc (decimal (length out)) (10 ∷ []) (flat_map (λ k. output_row out (32 * k)) (range_with_len 0 ((length out + 31) / 32))))
+output_whole out = ap (λ l. codes "OUT " ++ l) (append_assoc (decimal (length out)) (10 ∷ [])
+    (flat_map (λ k. output_row out (32 * k)) (range_with_len 0 ((length out + 31) / 32))))

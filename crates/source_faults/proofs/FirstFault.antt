@@ -67,7 +67,8 @@ record Step (n : ℕ) (before : Context) (line : List ℕ) (lines : Lines) (ps :
   later : layout_from (n + 1) first.1 lines ≡ Ok (rest, all)
   parts : ps ≡ first.0 ∷ rest
 
-step : (n : ℕ) (before : Context) (line : List ℕ) (lines : Lines) (ps : List PlacedLine) (all : Context) → layout_from n before (line ∷ lines) ≡ Ok (ps, all) → Step n before line lines ps all
+step : (n : ℕ) (before : Context) (line : List ℕ) (lines : Lines) (ps : List PlacedLine) (all : Context)
+    → layout_from n before (line ∷ lines) ≡ Ok (ps, all) → Step n before line lines ps all
 step n before line lines ps all e = by (layout_of before line) refl e
   where
     onward : (s : PlacedAndContext) → layout_of before line ≡ Ok s → (r : Result Laid AsmFault) → layout_from (n + 1) s.1 lines ≡ r
@@ -91,17 +92,21 @@ step n before line lines ps all e = by (layout_of before line) refl e
 -- ---- a fault of the layout
 
 layout_first : (m : Map) (lines : Lines) (n : ℕ) (before : Context) (na nb : Numbers) (ma mb : Made) (fault : AsmFault) → layout_from n before lines ≡ Err fault
-    → slice_get (told_by layout_told n (judged_found m na ma (found_lines smallest before lines)) (judged_found m nb mb (found_lines largest before lines))) 0 ≡ Some fault
+    → slice_get (told_by layout_told n (judged_found m na ma (found_lines smallest before lines))
+        (judged_found m nb mb (found_lines largest before lines))) 0 ≡ Some fault
 unfolding in_both
 layout_first m [] n before na nb ma mb fault e = absurd (ok_err ([], before) fault e)
-layout_first m (line ∷ lines) n before na nb ma mb fault e = by (λ s xa xb later. layout_first m lines (n + 1) s.1 na nb xa xb fault later) (layout_of before line) e
+layout_first m (line ∷ lines) n before na nb ma mb fault e =
+    by (λ s xa xb later. layout_first m lines (n + 1) s.1 na nb xa xb fault later) (layout_of before line) e
   where
-    onward : (s : PlacedAndContext) (r : Result Laid AsmFault) → layout_from (n + 1) s.1 lines ≡ r → (r >>= λ rest. Ok (behind s.0 rest)) ≡ Err fault → layout_from (n + 1) s.1 lines ≡ Err fault
+    onward : (s : PlacedAndContext) (r : Result Laid AsmFault) → layout_from (n + 1) s.1 lines ≡ r → (r >>= λ rest. Ok (behind s.0 rest)) ≡ Err fault
+        → layout_from (n + 1) s.1 lines ≡ Err fault
     onward s (Ok l) later e = absurd (ok_err (s.0 ∷ l.0, l.1) fault e)
     onward s (Err f) later e = later ∙ ap (λ (x : AsmFault). Err x) (err_same {A = Laid} f fault (Err f) (Err fault) refl refl e)
 
     by : ((s : PlacedAndContext) (xa xb : Made) → layout_from (n + 1) s.1 lines ≡ Err fault
-        → slice_get (told_by layout_told (n + 1) (judged_found m na xa (found_lines smallest s.1 lines)) (judged_found m nb xb (found_lines largest s.1 lines))) 0 ≡ Some fault)
+        → slice_get (told_by layout_told (n + 1) (judged_found m na xa (found_lines smallest s.1 lines))
+            (judged_found m nb xb (found_lines largest s.1 lines))) 0 ≡ Some fault)
         → (r : Result PlacedAndContext AsmFaultKind) → (on_line n r >>= λ p. layout_from (n + 1) p.1 lines >>= λ rest. Ok (behind p.0 rest)) ≡ Err fault
         → slice_get (told_by layout_told n (judged_found m na ma (found_line before line r ∷ found_lines smallest (fixed_after smallest before line r) lines))
         (judged_found m nb mb (found_line before line r ∷ found_lines largest (fixed_after largest before line r) lines))) 0 ≡ Some fault
@@ -112,20 +117,24 @@ layout_first m (line ∷ lines) n before na nb ma mb fault e = by (λ s xa xb la
 
 -- ---- no fault of the layout
 
-found_same : (lines : Lines) (n : ℕ) (before : Context) (ps : List PlacedLine) (all : Context) → layout_from n before lines ≡ Ok (ps, all) → found_lines largest before lines ≡ found_lines smallest before lines
+found_same : (lines : Lines) (n : ℕ) (before : Context) (ps : List PlacedLine) (all : Context) → layout_from n before lines ≡ Ok (ps, all)
+    → found_lines largest before lines ≡ found_lines smallest before lines
 found_same [] n before ps all e = refl
 found_same (line ∷ lines) n before ps all e =
     let s = step n before line lines ps all e in
     rw s.here (ap (λ (x : List Found). found_line before line (Ok s.first) ∷ x) (found_same lines (n + 1) s.first.1 s.rest all s.later))
 
-fixed_same : (m : Mending) (lines : Lines) (n : ℕ) (before : Context) (ps : List PlacedLine) (all : Context) → layout_from n before lines ≡ Ok (ps, all) → fixed_by m before lines ≡ all
+fixed_same : (m : Mending) (lines : Lines) (n : ℕ) (before : Context) (ps : List PlacedLine) (all : Context)
+    → layout_from n before lines ≡ Ok (ps, all) → fixed_by m before lines ≡ all
 fixed_same m [] n before ps all e = ap (λ (x : Laid). x.1) (ok_same ([], before) (ps, all) (Ok ([], before)) (Ok (ps, all)) refl refl e)
 fixed_same m (line ∷ lines) n before ps all e =
     let s = step n before line lines ps all e in
     rw s.here (fixed_same m lines (n + 1) s.first.1 s.rest all s.later)
 
-no_layout : (m : Map) (lines : Lines) (n : ℕ) (before : Context) (ps : List PlacedLine) (all : Context) (numbers : Numbers) (made : Made) → layout_from n before lines ≡ Ok (ps, all)
-    → told_by layout_told n (judged_found m numbers made (found_lines smallest before lines)) (judged_found m numbers made (found_lines smallest before lines)) ≡ []
+no_layout : (m : Map) (lines : Lines) (n : ℕ) (before : Context) (ps : List PlacedLine) (all : Context) (numbers : Numbers) (made : Made)
+    → layout_from n before lines ≡ Ok (ps, all)
+    → told_by layout_told n (judged_found m numbers made (found_lines smallest before lines))
+        (judged_found m numbers made (found_lines smallest before lines)) ≡ []
 unfolding in_both
 no_layout m [] n before ps all numbers made e = refl
 no_layout m (line ∷ lines) n before ps all numbers made e =
@@ -150,7 +159,8 @@ abbrev Agrees : Result Cells AsmFault → List AsmFault → Type 0
 Agrees (Ok image) told = told ≡ []
 Agrees (Err fault) told = slice_get told 0 ≡ Some fault
 
-values_agree : (m : Map) (lines : Lines) (n : ℕ) (before : Context) (ps : List PlacedLine) (all : Context) (numbers : Numbers) (image : Cells) → layout_from n before lines ≡ Ok (ps, all)
+values_agree : (m : Map) (lines : Lines) (n : ℕ) (before : Context) (ps : List PlacedLine) (all : Context) (numbers : Numbers) (image : Cells)
+    → layout_from n before lines ≡ Ok (ps, all)
     → Agrees (image_from m numbers n image ps) (values m numbers n image (found_lines smallest before lines))
 unfolding image_with_line value_kind image_after in_both
 values_agree m [] n before ps all numbers image e =
@@ -158,12 +168,16 @@ values_agree m [] n before ps all numbers image e =
     rw (sym none) refl
 values_agree m (line ∷ lines) n before ps all numbers image e =
     let s = step n before line lines ps all e in
-    rw (s.parts, s.here) (by s.first s.rest (λ i. values_agree m lines (n + 1) s.first.1 s.rest all numbers i s.later) (value_fault m numbers image s.first.0) refl)
+    rw (s.parts, s.here) (by s.first s.rest (λ i. values_agree m lines (n + 1) s.first.1 s.rest all numbers i s.later)
+        (value_fault m numbers image s.first.0) refl)
   where
-    by : (s : PlacedAndContext) (rest : List PlacedLine) → ((i : Cells) → Agrees (image_from m numbers (n + 1) i rest) (values m numbers (n + 1) i (found_lines smallest s.1 lines))) → (kind : Option AsmFaultKind) → value_fault m numbers image s.0 ≡ kind
+    by : (s : PlacedAndContext) (rest : List PlacedLine) → ((i : Cells)
+        → Agrees (image_from m numbers (n + 1) i rest) (values m numbers (n + 1) i (found_lines smallest s.1 lines))) → (kind : Option AsmFaultKind)
+        → value_fault m numbers image s.0 ≡ kind
         → Agrees (image_from m numbers n image (s.0 ∷ rest)) (values m numbers n image (found_line before line (Ok s) ∷ found_lines smallest s.1 lines))
     by s rest later None is =
-        rw (is, eq-eqb s.0.address s.0.address refl, never (found_line before line (Ok s)).begins) (later (with_bytes image s.0.address (line_bytes numbers s.0)))
+        rw (is, eq-eqb s.0.address s.0.address refl, never (found_line before line (Ok s)).begins)
+            (later (with_bytes image s.0.address (line_bytes numbers s.0)))
     by s rest later (Some kind) is =
         rw (is, eq-eqb s.0.address s.0.address refl, eq-eqb (source_fault_number kind) (source_fault_number kind) refl) refl
 
@@ -189,16 +203,20 @@ lines_tell : (m : Map) (lines : Lines) → Tells (judging.judgement_of_lines m l
 unfolding judging.judgement_of_lines judged_lines
 lines_tell m lines = by (layout_from 1 (first_context m.profile) lines) refl
   where
-    on : (l : Laid) (r : Result Cells AsmFault) (xs ys : List AsmFault) → xs ≡ [] → Agrees r ys → Tells (r >>= λ image. Ok (judgement_as l.0 l.1 image)) (xs ++ ys)
+    on : (l : Laid) (r : Result Cells AsmFault) (xs ys : List AsmFault) → xs ≡ [] → Agrees r ys
+        → Tells (r >>= λ image. Ok (judgement_as l.0 l.1 image)) (xs ++ ys)
     on l (Ok image) xs ys none agree = rw (none, agree) refl
     on l (Err fault) xs ys none agree = rw none agree
 
     by : (r : Result Laid AsmFault) → layout_from 1 (first_context m.profile) lines ≡ r
-        → Tells (continued m r) (told (judged_found m (number_in (fixed_by smallest (first_context m.profile) lines).names) nothing_made (found_lines smallest (first_context m.profile) lines))
-        (judged_found m (number_in (fixed_by largest (first_context m.profile) lines).names) nothing_made (found_lines largest (first_context m.profile) lines)))
+        → Tells (continued m r) (told (judged_found m (number_in (fixed_by smallest (first_context m.profile) lines).names) nothing_made
+            (found_lines smallest (first_context m.profile) lines))
+        (judged_found m (number_in (fixed_by largest (first_context m.profile) lines).names) nothing_made
+            (found_lines largest (first_context m.profile) lines)))
     by (Err fault) e =
         head_stays _ _ fault
-        (layout_first m lines 1 (first_context m.profile) (number_in (fixed_by smallest (first_context m.profile) lines).names) (number_in (fixed_by largest (first_context m.profile) lines).names)
+        (layout_first m lines 1 (first_context m.profile) (number_in (fixed_by smallest (first_context m.profile) lines).names)
+            (number_in (fixed_by largest (first_context m.profile) lines).names)
         nothing_made nothing_made fault e)
     by (Ok l) e =
         let start = first_context m.profile in

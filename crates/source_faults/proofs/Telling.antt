@@ -22,17 +22,21 @@ nothing_after (f ∷ fs) = ap (λ (y : List AsmFault). f ∷ y) (nothing_after f
 abbrev pub so_on : Rule → List AsmFault → ℕ → List Judged → List Judged → List AsmFault
 so_on rule faults i xs ys = faults ++ told_by rule (i + 1) (judged_views (drop i xs)) (judged_views (drop i ys))
 
-opened : (rule : Rule) (faults : List AsmFault) (i : ℕ) (xs ys : List Judged) (x y : Judged) → i < length xs → i < length ys → x ≡ get_or xs i x → y ≡ get_or ys i y
-    → so_on rule faults i xs ys ≡ faults ++ before_told (i + 1) (rule (judged_view x) (judged_view y)) (told_by rule (i + 1 + 1) (judged_views (drop (i + 1) xs)) (judged_views (drop (i + 1) ys)))
+opened : (rule : Rule) (faults : List AsmFault) (i : ℕ) (xs ys : List Judged) (x y : Judged) → i < length xs → i < length ys → x ≡ get_or xs i x
+    → y ≡ get_or ys i y
+    → so_on rule faults i xs ys ≡ faults ++ before_told (i + 1) (rule (judged_view x) (judged_view y))
+        (told_by rule (i + 1 + 1) (judged_views (drop (i + 1) xs)) (judged_views (drop (i + 1) ys)))
 opened rule faults i xs ys x y in_xs in_ys is_x is_y = rw (first_left xs i x in_xs is_x, first_left ys i y in_ys is_y) refl
 
 -- a line of which nothing is told
-pub passes : (rule : Rule) (faults : List AsmFault) (i : ℕ) (xs ys : List Judged) (x y : Judged) (total : List AsmFault) → i < length xs → i < length ys → x ≡ get_or xs i x → y ≡ get_or ys i y
+pub passes : (rule : Rule) (faults : List AsmFault) (i : ℕ) (xs ys : List Judged) (x y : Judged) (total : List AsmFault) → i < length xs
+    → i < length ys → x ≡ get_or xs i x → y ≡ get_or ys i y
     → rule (judged_view x) (judged_view y) ≡ None → so_on rule faults i xs ys ≡ total → so_on rule faults (i + 1) xs ys ≡ total
 passes rule faults i xs ys x y total in_xs in_ys is_x is_y none so_far = sym (opened rule faults i xs ys x y in_xs in_ys is_x is_y ∙ rw none refl) ∙ so_far
 
 -- a line with a fault
-pub tells : (rule : Rule) (faults : List AsmFault) (i : ℕ) (xs ys : List Judged) (x y : Judged) (kind : AsmFaultKind) (total : List AsmFault) → i < length xs → i < length ys
+pub tells : (rule : Rule) (faults : List AsmFault) (i : ℕ) (xs ys : List Judged) (x y : Judged) (kind : AsmFaultKind) (total : List AsmFault)
+    → i < length xs → i < length ys
     → x ≡ get_or xs i x → y ≡ get_or ys i y → rule (judged_view x) (judged_view y) ≡ Some kind → so_on rule faults i xs ys ≡ total
     → so_on rule (faults ++ record { line = i + 1; kind = kind } ∷ []) (i + 1) xs ys ≡ total
 tells rule faults i xs ys x y kind total in_xs in_ys is_x is_y some so_far =
@@ -40,11 +44,13 @@ tells rule faults i xs ys x y kind total in_xs in_ys is_x is_y some so_far =
     ∙ sym (opened rule faults i xs ys x y in_xs in_ys is_x is_y ∙ rw some refl) ∙ so_far
 
 -- no line is left in the first
-pub done : (rule : Rule) (faults : List AsmFault) (i : ℕ) (xs ys : List Judged) (total : List AsmFault) → length xs ≤ i → so_on rule faults i xs ys ≡ total → faults ≡ total
+pub done : (rule : Rule) (faults : List AsmFault) (i : ℕ) (xs ys : List Judged) (total : List AsmFault) → length xs ≤ i
+    → so_on rule faults i xs ys ≡ total → faults ≡ total
 done rule faults i xs ys total past so_far = sym (nothing_after faults) ∙ sym (rw (drop_all i xs past) refl) ∙ so_far
 
 -- no line is left in the second
-pub done_second : (rule : Rule) (faults : List AsmFault) (i : ℕ) (xs ys : List Judged) (total : List AsmFault) → length ys ≤ i → so_on rule faults i xs ys ≡ total → faults ≡ total
+pub done_second : (rule : Rule) (faults : List AsmFault) (i : ℕ) (xs ys : List Judged) (total : List AsmFault) → length ys ≤ i
+    → so_on rule faults i xs ys ≡ total → faults ≡ total
 done_second rule faults i xs ys total past so_far = by (judged_views (drop i xs)) refl
   where
     by : (js : List all.Judged) → judged_views (drop i xs) ≡ js → faults ≡ total

@@ -45,15 +45,18 @@ fault_kind kind made (Some k) e = same k kind (Err k) refl e
     same : (a b : AsmFaultKind) (r : Result Cells AsmFaultKind) → r ≡ Err a → r ≡ Err b → Some a ≡ Some b
     same a b r p q = cc
 
-pub put_kind : (m : Map) (numbers : Numbers) (image new : Cells) (p : PlacedLine) → image_with_line m numbers image p ≡ Ok new → value_kind m numbers (made_of image false) p ≡ None
+pub put_kind : (m : Map) (numbers : Numbers) (image new : Cells) (p : PlacedLine) → image_with_line m numbers image p ≡ Ok new
+    → value_kind m numbers (made_of image false) p ≡ None
 unfolding image_with_line value_kind
 put_kind m numbers image new p e = right_kind new (with_bytes image p.address (line_bytes numbers p)) (value_fault m numbers image p) e
 
-pub put_image : (m : Map) (numbers : Numbers) (image new : Cells) (p : PlacedLine) → image_with_line m numbers image p ≡ Ok new → new ≡ image_after numbers (made_of image false) p None
+pub put_image : (m : Map) (numbers : Numbers) (image new : Cells) (p : PlacedLine) → image_with_line m numbers image p ≡ Ok new
+    → new ≡ image_after numbers (made_of image false) p None
 unfolding image_with_line image_after
 put_image m numbers image new p e = right_image new (with_bytes image p.address (line_bytes numbers p)) (value_fault m numbers image p) e
 
-pub put_fault : (m : Map) (numbers : Numbers) (image : Cells) (p : PlacedLine) (kind : AsmFaultKind) → image_with_line m numbers image p ≡ Err kind → value_kind m numbers (made_of image false) p ≡ Some kind
+pub put_fault : (m : Map) (numbers : Numbers) (image : Cells) (p : PlacedLine) (kind : AsmFaultKind) → image_with_line m numbers image p ≡ Err kind
+    → value_kind m numbers (made_of image false) p ≡ Some kind
 unfolding image_with_line value_kind
 put_fault m numbers image p kind e = fault_kind kind (with_bytes image p.address (line_bytes numbers p)) (value_fault m numbers image p) e
 
@@ -93,7 +96,8 @@ nothing_after (j ∷ js) = ap (λ (y : List all.Judged). j ∷ y) (nothing_after
 first_left : (fs : List Found) (i : ℕ) (f : Found) → i < length fs → f ≡ get_or fs i f → drop i fs ≡ f ∷ drop (i + 1) fs
 first_left fs i f within is = drop_more fs i f within ∙ ap (λ (y : Found). y ∷ drop (i + 1) fs) (sym is)
 
-pub goes_on : (m : Map) (numbers : Numbers) (made next : all.Made) (js : List Judged) (j : Judged) (fs : List Found) (i : ℕ) (f : Found) (total : List all.Judged)
+pub goes_on : (m : Map) (numbers : Numbers) (made next : all.Made) (js : List Judged) (j : Judged) (fs : List Found) (i : ℕ) (f : Found)
+    (total : List all.Judged)
     → i < length fs → f ≡ get_or fs i f
     → judged_view j ≡ judged_line (found_view f) (value_kind m numbers made (found_view f).place)
     → next ≡ made_after numbers made (found_view f) (value_kind m numbers made (found_view f).place)
@@ -108,12 +112,14 @@ done m numbers made js fs i total past so_far = sym (nothing_after (judged_views
 
 -- ---- what a line leaves
 
-pub moved_kind : (m : Map) (numbers : Numbers) (image : Cells) (moved : Bool) (p : PlacedLine) (kind answer : Option AsmFaultKind) → moved ≡ true → kind ≡ value_fault m numbers image p
+pub moved_kind : (m : Map) (numbers : Numbers) (image : Cells) (moved : Bool) (p : PlacedLine) (kind answer : Option AsmFaultKind) → moved ≡ true
+    → kind ≡ value_fault m numbers image p
     → answer ≡ but_of_place kind → answer ≡ value_kind m numbers (made_of image moved) p
 unfolding value_kind
 moved_kind m numbers image moved p kind answer is found answered = rw (is, answered, found) refl
 
-pub moved_image : (numbers : Numbers) (image : Cells) (moved : Bool) (p : PlacedLine) (kind : Option AsmFaultKind) → moved ≡ true → image ≡ image_after numbers (made_of image moved) p kind
+pub moved_image : (numbers : Numbers) (image : Cells) (moved : Bool) (p : PlacedLine) (kind : Option AsmFaultKind) → moved ≡ true
+    → image ≡ image_after numbers (made_of image moved) p kind
 unfolding image_after
 moved_image numbers image moved p None is = rw is refl
 moved_image numbers image moved p (Some kind) is = refl
@@ -129,7 +135,8 @@ pub refused_judged : (m : Map) (numbers : Numbers) (made : all.Made) (address : 
     → judged_so address (Some kind) None ≡ judged_line (refused_at address kind) (value_kind m numbers made (plain address))
 refused_judged m numbers made address kind = ap (judged_so address (Some kind)) (sym (plain_kind m numbers made address))
 
-pub plain_judged : (m : Map) (numbers : Numbers) (made : all.Made) (address : ℕ) → judged_so address None None ≡ judged_so address None (value_kind m numbers made (plain address))
+pub plain_judged : (m : Map) (numbers : Numbers) (made : all.Made) (address : ℕ)
+    → judged_so address None None ≡ judged_so address None (value_kind m numbers made (plain address))
 plain_judged m numbers made address = ap (judged_so address None) (sym (plain_kind m numbers made address))
 
 -- a line that is refused

@@ -36,5 +36,6 @@ len_of : (found : Option Undocumented) → small found ≡ true → IfSome found
 len_of None h = tt
 len_of (Some u) h = leb-true u.len 3 h
 
-pub len_at : (opcode : ℕ) → opcode < 2 ^ 8 → (found : Option Undocumented) → found ≡ find_undocumented opcode undocumented_opcodes → IfSome found (λ u. u.len ≤ 3)
+pub len_at : (opcode : ℕ) → opcode < 2 ^ 8 → (found : Option Undocumented) → found ≡ find_undocumented opcode undocumented_opcodes
+    → IfSome found (λ u. u.len ≤ 3)
 len_at opcode below found is = len_of found (ap small is ∙ is_small opcode below)

@@ -42,10 +42,12 @@ piece_made program rows begun shown made new address h b s e l =
           ∙ (sym (ap (λ (ps : List Row). made ++ ps) (one_piece program rows address (65536 - address) (65536 - (address + 1)) (omega (arith, h)))) ∙ l.all));
     }
 
-none_left : (program : Program) (rows : List DebugRow) (made whole : List Row) (address count : ℕ) → count ≡ 0 → made ++ pieces_from program rows address count ≡ whole → made ≡ whole
+none_left : (program : Program) (rows : List DebugRow) (made whole : List Row) (address count : ℕ) → count ≡ 0
+    → made ++ pieces_from program rows address count ≡ whole → made ≡ whole
 unfolding pieces_from
 none_left program rows made whole address count none e =
     sym (append-nil made) ∙ (sym (ap (λ (n : ℕ). made ++ pieces_from program rows address n) none) ∙ e)
 
-pub all_pieces : (program : Program) (rows : List DebugRow) (made : List Row) (address : ℕ) → address ≡ 65536 → Left program rows made address → made ≡ pieces_of program rows
+pub all_pieces : (program : Program) (rows : List DebugRow) (made : List Row) (address : ℕ) → address ≡ 65536 → Left program rows made address
+    → made ≡ pieces_of program rows
 all_pieces program rows made address e l = none_left program rows made (pieces_of program rows) address (65536 - address) (omega (arith, e)) l.all

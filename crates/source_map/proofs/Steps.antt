@@ -5,19 +5,23 @@ use Rattle.std.specs.Prelude.{slice_get}
 use Rattle.std.specs.List.{flat_map, zip}
 use Rattle.std.specs.Option.{option_to_list}
 
-taken_suc : {X Y : Type 0} (f : X → List Y) (xs : List X) (i : ℕ) → flat_map f (take (suc i) xs) ≡ flat_map f (take i xs) ++ flat_map f (option_to_list (slice_get xs i))
+taken_suc : {X Y : Type 0} (f : X → List Y) (xs : List X) (i : ℕ)
+    → flat_map f (take (suc i) xs) ≡ flat_map f (take i xs) ++ flat_map f (option_to_list (slice_get xs i))
 taken_suc f [] zero = refl
 taken_suc f [] (suc i) = refl
 taken_suc f (x ∷ xs) zero = refl
-taken_suc f (x ∷ xs) (suc i) = ap (λ ys. f x ++ ys) (taken_suc f xs i) ∙ sym (append_assoc (f x) (flat_map f (take i xs)) (flat_map f (option_to_list (slice_get xs i))))
+taken_suc f (x ∷ xs) (suc i) = ap (λ ys. f x ++ ys) (taken_suc f xs i)
+    ∙ sym (append_assoc (f x) (flat_map f (take i xs)) (flat_map f (option_to_list (slice_get xs i))))
 
 -- what one more element gives
 pub one_more : {X Y : Type 0} (f : X → List Y) (xs : List X) (i : ℕ) (before : List Y)
     → (before ++ flat_map f (take i xs)) ++ flat_map f (option_to_list (slice_get xs i)) ≡ before ++ flat_map f (take (i + 1) xs)
-one_more f xs i before = rw add-one (append_assoc before (flat_map f (take i xs)) (flat_map f (option_to_list (slice_get xs i))) ∙ ap (λ ys. before ++ ys) (sym (taken_suc f xs i)))
+one_more f xs i before = rw add-one (append_assoc before (flat_map f (take i xs)) (flat_map f (option_to_list (slice_get xs i)))
+    ∙ ap (λ ys. before ++ ys) (sym (taken_suc f xs i)))
 
 -- what stands in two lists at an index
-pub zip_at : {X Y : Type 0} (xs : List X) (ys : List Y) (i : ℕ) (x : X) (y : Y) → slice_get xs i ≡ Some x → slice_get ys i ≡ Some y → slice_get (zip xs ys) i ≡ Some (x, y)
+pub zip_at : {X Y : Type 0} (xs : List X) (ys : List Y) (i : ℕ) (x : X) (y : Y) → slice_get xs i ≡ Some x → slice_get ys i ≡ Some y
+    → slice_get (zip xs ys) i ≡ Some (x, y)
 zip_at [] ys i x y e f = absurd cc
 zip_at (a ∷ xs) [] i x y e f = absurd cc
 zip_at (a ∷ xs) (b ∷ ys) zero x y e f = cc

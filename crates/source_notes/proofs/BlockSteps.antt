@@ -7,7 +7,8 @@ use Rattle.source_notes.specs.declared.note.Note.{Note}
 
 module _ {T : Type 0} (kind : BlockKind T) (file : List ℕ) (lines : List (List ℕ)) where
   -- one block more
-  more : (all : List T) (one : T) (text block : List ℕ) → AreBlocks kind file lines all text → IsBlock kind file lines one block → AreBlocks kind file lines (all ++ one ∷ []) (text ++ block)
+  more : (all : List T) (one : T) (text block : List ℕ) → AreBlocks kind file lines all text → IsBlock kind file lines one block
+      → AreBlocks kind file lines (all ++ one ∷ []) (text ++ block)
   more [] one text block e is = (block, [], is, rw e (sym (append-nil block)), refl)
   more (first ∷ all) one text block h is =
       (h.0, h.1 ++ block, h.2, ap (λ (x : List ℕ). x ++ block) h.3 ∙ append_assoc h.0 h.1 block, more all one h.1 block h.4 is)

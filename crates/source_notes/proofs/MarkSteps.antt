@@ -49,7 +49,8 @@ pub shown_end : (left at : ℕ) (line text whole : List ℕ) → length line ≤
 shown_end left at line text whole past h =
     sym (append-nil text) ∙ (ap (λ t. text ++ t) (sym (nothing_shown left)) ∙ (ap (λ l. text ++ shown_from left l) (sym (drop_all at line past)) ∙ h))
 
-blanks_first : (left n m : ℕ) (bytes : List ℕ) → n ≡ m + 1 → blanks_under left n bytes ≡ blank_under left bytes ++ blanks_under (left_after left bytes) m (drop 1 bytes)
+blanks_first : (left n m : ℕ) (bytes : List ℕ) → n ≡ m + 1 → blanks_under left n bytes ≡ blank_under left bytes
+    ++ blanks_under (left_after left bytes) m (drop 1 bytes)
 unfolding blanks_under
 blanks_first left zero m bytes e = absurd (omega (arith, e))
 blanks_first left (suc n) m bytes e =

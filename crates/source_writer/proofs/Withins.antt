@@ -24,7 +24,8 @@ unfolding flagged_within
 none flags at = refl
 
 -- an instruction's stretch begins with its first byte
-pub some_code : (cells : List (Option ℕ)) (marks : List Mark) (a b : ℕ) → cell_at cells a ≡ Some b → kind_of (mark_at marks a) b ≡ Code → 0 < length (stretch cells marks Code 3 a)
+pub some_code : (cells : List (Option ℕ)) (marks : List Mark) (a b : ℕ) → cell_at cells a ≡ Some b → kind_of (mark_at marks a) b ≡ Code
+    → 0 < length (stretch cells marks Code 3 a)
 unfolding stretch
 some_code cells marks a b here kind = rw (here, kind) (omega arith)
 

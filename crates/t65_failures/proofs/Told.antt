@@ -20,7 +20,8 @@ use Rattle.t65_failures.specs.Failures.{about_text, if_done, is_back, refusal_te
 
 module _ (about : List ℕ) (values : Values) (items : List Item) (i : ℕ) (s : Session) where
   told-next : (item : Item) → i < length items → refusal_text about values (drop i items) s
-      ≡ if_done (untaken_text (get_or items i item) (number_of values s.current.bus.memory (get_or items i item).value) ++ about) (refusal_text about values (drop (i + 1) items)) (given_one values (get_or items i item) s)
+      ≡ if_done (untaken_text (get_or items i item) (number_of values s.current.bus.memory (get_or items i item).value) ++ about)
+          (refusal_text about values (drop (i + 1) items)) (given_one values (get_or items i item) s)
   unfolding refusal_text
   told-next item h = rw (drop_more items i item h) refl
 
@@ -29,7 +30,8 @@ module _ (about : List ℕ) (values : Values) (items : List Item) (i : ℕ) (s :
       → given_one values (get_or items i item) s ≡ Some next → refusal_text about values (drop i items) s ≡ whole
       → refusal_text about values (drop (i + 1) items) next ≡ whole
   one_taken item next whole h taken left =
-      sym (told-next item h ∙ ap (if_done (untaken_text (get_or items i item) (number_of values s.current.bus.memory (get_or items i item).value) ++ about) (refusal_text about values (drop (i + 1) items))) taken) ∙ left
+      sym (told-next item h ∙ ap (if_done (untaken_text (get_or items i item) (number_of values s.current.bus.memory (get_or items i item).value)
+          ++ about) (refusal_text about values (drop (i + 1) items))) taken) ∙ left
 
   -- The next item cannot be given.
   pub one_refused : (item : Item) (number : ℕ) (whole : List ℕ) → i < length items
@@ -38,18 +40,21 @@ module _ (about : List ℕ) (values : Values) (items : List Item) (i : ℕ) (s :
       → untaken_text (get_or items i item) number ++ about ≡ whole
   one_refused item number whole h number_is refused left =
       ap (λ (n : ℕ). untaken_text (get_or items i item) n ++ about) number_is
-      ∙ (sym (told-next item h ∙ ap (if_done (untaken_text (get_or items i item) (number_of values s.current.bus.memory (get_or items i item).value) ++ about) (refusal_text about values (drop (i + 1) items))) refused) ∙ left)
+      ∙ (sym (told-next item h ∙ ap (if_done (untaken_text (get_or items i item) (number_of values s.current.bus.memory (get_or items i item).value)
+          ++ about) (refusal_text about values (drop (i + 1) items))) refused) ∙ left)
 
 module _ (values : Values) (items : List Item) (i : ℕ) (s : Session) where
   -- The next item was given, of all.
   pub given_on : (item : Item) (next : Session) (whole : Option Session) → i < length items → given_one values (get_or items i item) s ≡ Some next
       → given_all values (drop i items) s ≡ whole → given_all values (drop (i + 1) items) next ≡ whole
-  given_on item next whole h taken left = sym (given_more values items i s item h ∙ ap (λ (g : Option Session). if_given g (given_all values (drop (i + 1) items))) taken) ∙ left
+  given_on item next whole h taken left = sym (given_more values items i s item h
+      ∙ ap (λ (g : Option Session). if_given g (given_all values (drop (i + 1) items))) taken) ∙ left
 
   -- The next item cannot be given, so not all can.
   pub given_off : (item : Item) (whole : Option Session) → i < length items → given_one values (get_or items i item) s ≡ None
       → given_all values (drop i items) s ≡ whole → whole ≡ None
-  given_off item whole h refused left = sym left ∙ (given_more values items i s item h ∙ ap (λ (g : Option Session). if_given g (given_all values (drop (i + 1) items))) refused)
+  given_off item whole h refused left = sym left ∙ (given_more values items i s item h
+      ∙ ap (λ (g : Option Session). if_given g (given_all values (drop (i + 1) items))) refused)
 
   pub all_given : (whole : Option Session) → length items ≤ i → given_all values (drop i items) s ≡ whole → whole ≡ Some s
   all_given whole h left = sym left ∙ given_end values items i s h
@@ -71,16 +76,20 @@ unpicked false e l x y h = refl
 
 module _ (values : Values) (wanted : List Item) (s t : Session) (end : CallEnd) (ran : Result (CallEnd × Session) SessionFault) (b : Bool) where
   -- A call passes.
-  pub call_passes : ran ≡ Ok (end, t) → b ≡ (is_back s.current.regs.s end.end.why t.current.regs && list_all (item_holds values s.current t.current) wanted) → b ≡ true
+  pub call_passes : ran ≡ Ok (end, t) → b ≡ (is_back s.current.regs.s end.end.why t.current.regs
+      && list_all (item_holds values s.current t.current) wanted) → b ≡ true
       → passed_after values wanted s ran ≡ Some t
   call_passes is told passed_all = ap (passed_after values wanted s) is
-      ∙ picked (is_return end.end.why) (t.current.regs.s == s.current.regs.s) (list_all (item_holds values s.current t.current) wanted) (Some t) None (sym told ∙ passed_all)
+      ∙ picked (is_return end.end.why) (t.current.regs.s == s.current.regs.s) (list_all (item_holds values s.current t.current) wanted) (Some t) None
+          (sym told ∙ passed_all)
 
   -- A call fails.
-  pub call_fails : ran ≡ Ok (end, t) → b ≡ (is_back s.current.regs.s end.end.why t.current.regs && list_all (item_holds values s.current t.current) wanted) → b ≡ false
+  pub call_fails : ran ≡ Ok (end, t) → b ≡ (is_back s.current.regs.s end.end.why t.current.regs
+      && list_all (item_holds values s.current t.current) wanted) → b ≡ false
       → passed_after values wanted s ran ≡ None
   call_fails is told failed_one = ap (passed_after values wanted s) is
-      ∙ unpicked (is_return end.end.why) (t.current.regs.s == s.current.regs.s) (list_all (item_holds values s.current t.current) wanted) (Some t) None (sym told ∙ failed_one)
+      ∙ unpicked (is_return end.end.why) (t.current.regs.s == s.current.regs.s) (list_all (item_holds values s.current t.current) wanted) (Some t)
+          None (sym told ∙ failed_one)
 
 -- ---- rows
 

@@ -62,19 +62,23 @@ within_more : (n : ℕ) (names : Definitions) (letters : Letters) (side : Side) 
 unfolding items_within
 within_more n names letters side text h = rw h (go (item_of names letters side text))
   where
-    go : (item : Items) → and_then item (λ items rest. before items (items_within n names letters side rest)) ≡ then_items item (items_within n names letters side)
+    go : (item : Items) → and_then item (λ items rest. before items (items_within n names letters side rest))
+        ≡ then_items item (items_within n names letters side)
     go (Ok (items, rest)) = refl
     go (Err fault) = refl
 
-pub item_read : (n m : ℕ) (names : Definitions) (letters : Letters) (side : Side) (text rest : List ℕ) (front found : List Item) → n ≡ m + 1 → is_over side text ≡ false
+pub item_read : (n m : ℕ) (names : Definitions) (letters : Letters) (side : Side) (text rest : List ℕ) (front found : List Item) → n ≡ m + 1
+    → is_over side text ≡ false
     → before front (item_of names letters side text) ≡ Ok (found, rest)
     → before found (items_within m names letters side rest) ≡ before front (items_within n names letters side text)
 item_read zero m names letters side text rest front found e h k = absurd (omega arith)
 item_read (suc n) m names letters side text rest front found e h k =
     let same : n ≡ m = omega arith in
-    rw (← same) (sym (ap (before front) (within_more n names letters side text h) ∙ read_item front found rest (item_of names letters side text) (items_within n names letters side) k))
+    rw (← same) (sym (ap (before front) (within_more n names letters side text h)
+        ∙ read_item front found rest (item_of names letters side text) (items_within n names letters side) k))
 
-pub item_refused : (n m : ℕ) (names : Definitions) (letters : Letters) (side : Side) (text : List ℕ) (front : List Item) (fault : RowFault) → n ≡ m + 1 → is_over side text ≡ false
+pub item_refused : (n m : ℕ) (names : Definitions) (letters : Letters) (side : Side) (text : List ℕ) (front : List Item) (fault : RowFault)
+    → n ≡ m + 1 → is_over side text ≡ false
     → item_of names letters side text ≡ Err fault
     → before front (items_within n names letters side text) ≡ Err fault
 unfolding before

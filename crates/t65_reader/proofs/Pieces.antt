@@ -56,15 +56,18 @@ unfolding pieces_after
 pieces_suc zero m names letters start found text e h = absurd (omega (arith, e))
 pieces_suc (suc n) m names letters start found text e h =
     let same : n ≡ m = omega (arith, e) in
-    rw h (ap (λ (i : ℕ). and_then (piece_of names letters start found (skip_blanks (drop 1 text))) (λ more rest. pieces_after i names letters start more rest)) same)
+    rw h (ap (λ (i : ℕ). and_then (piece_of names letters start found (skip_blanks (drop 1 text)))
+        (λ more rest. pieces_after i names letters start more rest)) same)
 
-pub piece_read : (n m : ℕ) (names : Definitions) (letters : Letters) (start : ℕ) (found more : List Value) (text rest : List ℕ) → n ≡ m + 1 → is_last text ≡ false
+pub piece_read : (n m : ℕ) (names : Definitions) (letters : Letters) (start : ℕ) (found more : List Value) (text rest : List ℕ) → n ≡ m + 1
+    → is_last text ≡ false
     → piece_of names letters start found (skip_blanks (drop 1 text)) ≡ Ok (more, rest)
     → pieces_after m names letters start more rest ≡ pieces_after n names letters start found text
 piece_read n m names letters start found more text rest e h k = sym (pieces_suc n m names letters start found text e h
     ∙ ap (λ (read : Sequence). and_then read (λ found rest. pieces_after m names letters start found rest)) k)
 
-pub piece_refused : (n m : ℕ) (names : Definitions) (letters : Letters) (start : ℕ) (found : List Value) (text : List ℕ) (fault : RowFault) → n ≡ m + 1 → is_last text ≡ false
+pub piece_refused : (n m : ℕ) (names : Definitions) (letters : Letters) (start : ℕ) (found : List Value) (text : List ℕ) (fault : RowFault)
+    → n ≡ m + 1 → is_last text ≡ false
     → piece_of names letters start found (skip_blanks (drop 1 text)) ≡ Err fault
     → pieces_after n names letters start found text ≡ Err fault
 piece_refused n m names letters start found text fault e h k = pieces_suc n m names letters start found text e h

@@ -15,7 +15,8 @@ unfolding rows_after
 line_pushed front line (Ok lines) = ap (λ (x : List SeenLine). Ok x) (sym (append_assoc front (line ∷ []) lines))
 line_pushed front line (Err fault) = refl
 
-pub line_more : (asking : SeenAsking) (names : Definitions) (number : ℕ) (line : List ℕ) (lines : List (List ℕ)) → rows_from asking names number (line ∷ lines) ≡ line_before number line (line_of asking names line) (rows_from asking names (number + 1) lines)
+pub line_more : (asking : SeenAsking) (names : Definitions) (number : ℕ) (line : List ℕ) (lines : List (List ℕ))
+    → rows_from asking names number (line ∷ lines) ≡ line_before number line (line_of asking names line) (rows_from asking names (number + 1) lines)
 unfolding rows_from
 line_more asking names number line lines = refl
 
@@ -23,7 +24,8 @@ pub after_fault : (front : List SeenLine) (rows : Rows) (fault : TextFault) → 
 unfolding rows_after
 after_fault front rows fault h = rw h refl
 
-pub at_end : (asking : SeenAsking) (names : Definitions) (number : ℕ) (front : List SeenLine) (text : List ℕ) → length text ≡ 0 → rows_after front (rows_from asking names number (lines_of text)) ≡ Ok front
+pub at_end : (asking : SeenAsking) (names : Definitions) (number : ℕ) (front : List SeenLine) (text : List ℕ) → length text ≡ 0
+    → rows_after front (rows_from asking names number (lines_of text)) ≡ Ok front
 unfolding rows_from rows_after lines_from
 at_end asking names number front (b ∷ text) h = absurd (omega arith)
 at_end asking names number front [] h = ap (λ (x : List SeenLine). Ok x) (append-nil front)

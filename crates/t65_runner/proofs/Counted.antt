@@ -60,18 +60,22 @@ same_place : (s t : Session) (state : State) → t ≡ with_state s state → (s
 same_place s t state is = ap (λ (u : Session). u.current.regs.pc == return_address) (sym is)
 
 -- The call goes on after a step.
-pub goes_on : (s t : Session) (state : State) (before : Moment) (counts new : Counts) (back : Bool) (next : Next) → event_of s.current Step ≡ Ok state → t ≡ with_state s state → before ≡ moment_of s.current
+pub goes_on : (s t : Session) (state : State) (before : Moment) (counts new : Counts) (back : Bool) (next : Next) → event_of s.current Step ≡ Ok state
+    → t ≡ with_state s state → before ≡ moment_of s.current
     → new ≡ (if entered before t.current then counts else noted counts before.regs.pc 0) → back ≡ (t.current.regs.pc == return_address) → not back ≡ true
     → counted_on (counted_at s counts) next (step s.current) ≡ next (counted_at t new)
 goes_on s t state before counts new back next made is moment told back_is on =
-    step_on s state counts next made (same_place s t state is ∙ (sym back_is ∙ not_true back on)) ∙ ap next (noted_step s t state before counts new is moment told)
+    step_on s state counts next made (same_place s t state is ∙ (sym back_is ∙ not_true back on))
+        ∙ ap next (noted_step s t state before counts new is moment told)
 
 -- The call ends with a step.
-pub ends : (s t : Session) (state : State) (before : Moment) (counts new : Counts) (back : Bool) (next : Next) → event_of s.current Step ≡ Ok state → t ≡ with_state s state → before ≡ moment_of s.current
+pub ends : (s t : Session) (state : State) (before : Moment) (counts new : Counts) (back : Bool) (next : Next) → event_of s.current Step ≡ Ok state
+    → t ≡ with_state s state → before ≡ moment_of s.current
     → new ≡ (if entered before t.current then counts else noted counts before.regs.pc 0) → back ≡ (t.current.regs.pc == return_address) → not back ≡ false
     → counted_on (counted_at s counts) next (step s.current) ≡ (None, counted_at t new)
 ends s t state before counts new back next made is moment told back_is on =
-    step_back s state counts next made (same_place s t state is ∙ (sym back_is ∙ not_false back on)) ∙ ap (λ (c : Counted). (None, c)) (noted_step s t state before counts new is moment told)
+    step_back s state counts next made (same_place s t state is ∙ (sym back_is ∙ not_false back on))
+        ∙ ap (λ (c : Counted). (None, c)) (noted_step s t state before counts new is moment told)
 
 module _ (awaited : Option Awaited) (c : Counted) where
   -- An interrupt is due.
@@ -109,27 +113,33 @@ module _ (values : Values) (rows : List (Bor (ℕ × Row))) (i : ℕ) (s : Sessi
   rest c = rows_counted values (drop (i + 1) (rows_seen rows)) c
 
   call-next : (row : Bor (ℕ × Row)) → i < length rows → row ≡ get_or rows i row
-      → rows_counted values (drop i (rows_seen rows)) (counted_at s counts) ≡ if_returned counts rest (call_counted values (row_seen row).1.call (counted_at s counts))
+      → rows_counted values (drop i (rows_seen rows)) (counted_at s counts)
+          ≡ if_returned counts rest (call_counted values (row_seen row).1.call (counted_at s counts))
   unfolding rows_counted
   call-next row h is = rw (seen_next rows i row h is) refl
 
   -- The next call is not made.
-  pub unmade : (row : Bor (ℕ × Row)) (whole : Counts) → i < length rows → row ≡ get_or rows i row → call_counted values (row_seen row).1.call (counted_at s counts) ≡ None
+  pub unmade : (row : Bor (ℕ × Row)) (whole : Counts) → i < length rows → row ≡ get_or rows i row
+      → call_counted values (row_seen row).1.call (counted_at s counts) ≡ None
       → rows_counted values (drop i (rows_seen rows)) (counted_at s counts) ≡ whole → counts ≡ whole
   unmade row whole h is none left = sym (call-next row h is ∙ ap (λ (c : Option Counted). if_returned counts rest c) none) ∙ left
 
   -- The next call does not return.
-  pub stuck : (row : Bor (ℕ × Row)) (t : Session) (new whole : Counts) → i < length rows → row ≡ get_or rows i row → call_counted values (row_seen row).1.call (counted_at s counts) ≡ Some (counted_at t new)
+  pub stuck : (row : Bor (ℕ × Row)) (t : Session) (new whole : Counts) → i < length rows → row ≡ get_or rows i row
+      → call_counted values (row_seen row).1.call (counted_at s counts) ≡ Some (counted_at t new)
       → (t.current.regs.pc == return_address) ≡ false → rows_counted values (drop i (rows_seen rows)) (counted_at s counts) ≡ whole → new ≡ whole
   stuck row t new whole h is made off left =
-      sym (call-next row h is ∙ (ap (λ (c : Option Counted). if_returned counts rest c) made ∙ not_chosen (t.current.regs.pc == return_address) (rest (counted_at t new)) new off)) ∙ left
+      sym (call-next row h is ∙ (ap (λ (c : Option Counted). if_returned counts rest c) made
+          ∙ not_chosen (t.current.regs.pc == return_address) (rest (counted_at t new)) new off)) ∙ left
 
   -- The next call returns.
-  pub returned : (row : Bor (ℕ × Row)) (t : Session) (new whole : Counts) → i < length rows → row ≡ get_or rows i row → call_counted values (row_seen row).1.call (counted_at s counts) ≡ Some (counted_at t new)
+  pub returned : (row : Bor (ℕ × Row)) (t : Session) (new whole : Counts) → i < length rows → row ≡ get_or rows i row
+      → call_counted values (row_seen row).1.call (counted_at s counts) ≡ Some (counted_at t new)
       → (t.current.regs.pc == return_address) ≡ true → rows_counted values (drop i (rows_seen rows)) (counted_at s counts) ≡ whole
       → rows_counted values (drop (i + 1) (rows_seen rows)) (counted_at t new) ≡ whole
   returned row t new whole h is made back left =
-      sym (call-next row h is ∙ (ap (λ (c : Option Counted). if_returned counts rest c) made ∙ chosen (t.current.regs.pc == return_address) (rest (counted_at t new)) new back)) ∙ left
+      sym (call-next row h is ∙ (ap (λ (c : Option Counted). if_returned counts rest c) made
+          ∙ chosen (t.current.regs.pc == return_address) (rest (counted_at t new)) new back)) ∙ left
 
   pub no_call : length rows ≤ i → rows_counted values (drop i (rows_seen rows)) (counted_at s counts) ≡ counts
   unfolding rows_counted
@@ -143,7 +153,8 @@ module _ (at : ℕ → Values) (one last : Values → Counts → Counts) (failed
   last_values zero m k counts e h = absurd (omega arith)
   last_values (suc n) m k counts e h = rw h refl
 
-  pub next_values : (n m k : ℕ) (counts : Counts) → n ≡ m + 1 → is_last failed (at k) ≡ false → counted_in at one last failed m (k + 1) (one (at k) counts) ≡ counted_in at one last failed n k counts
+  pub next_values : (n m k : ℕ) (counts : Counts) → n ≡ m + 1 → is_last failed (at k) ≡ false
+      → counted_in at one last failed m (k + 1) (one (at k) counts) ≡ counted_in at one last failed n k counts
   unfolding counted_in
   next_values zero m k counts e h = absurd (omega arith)
   next_values (suc n) m k counts e h =

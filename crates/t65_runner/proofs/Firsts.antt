@@ -60,10 +60,12 @@ module _ (values : Values) (rows : List (Bor (ℕ × Row))) (i : ℕ) (s : Sessi
   pub one_fails : (row : Bor (ℕ × Row)) (whole : Option Session) → i < length rows → row ≡ get_or rows i row → passed values (row_seen row).1.call s ≡ None
       → all_passed values (drop i (rows_seen rows)) s ≡ whole → false ≡ is_some whole
   one_fails row whole h is fails left =
-      sym (ap (λ (p : Option Session). is_some p) (sym left ∙ (passed-next row h is ∙ ap (λ (p : Option Session). if_given p (all_passed values (drop (i + 1) (rows_seen rows)))) fails)))
+      sym (ap (λ (p : Option Session). is_some p) (sym left ∙
+          (passed-next row h is ∙ ap (λ (p : Option Session). if_given p (all_passed values (drop (i + 1) (rows_seen rows)))) fails)))
 
   -- The next call passes.
-  pub one_passes : (row : Bor (ℕ × Row)) (next : Session) (whole : Option Session) → i < length rows → row ≡ get_or rows i row → passed values (row_seen row).1.call s ≡ Some next
+  pub one_passes : (row : Bor (ℕ × Row)) (next : Session) (whole : Option Session) → i < length rows → row ≡ get_or rows i row
+      → passed values (row_seen row).1.call s ≡ Some next
       → all_passed values (drop i (rows_seen rows)) s ≡ whole → all_passed values (drop (i + 1) (rows_seen rows)) next ≡ whole
   one_passes row next whole h is passes left =
       sym (passed-next row h is ∙ ap (λ (p : Option Session). if_given p (all_passed values (drop (i + 1) (rows_seen rows)))) passes) ∙ left
@@ -93,22 +95,26 @@ module _ (values : Values) (rows : List (Bor (ℕ × Row))) (i : ℕ) (s : Sessi
       → rows_seen (take i rows) ++ rows_run values (drop i (rows_seen rows)) s ≡ whole → rows_seen (take (i + 1) rows) ≡ whole
   run_ends row whole h is fails left =
       one_more row h is
-      ∙ (ap (λ (t : List (ℕ × SeenRow)). rows_seen (take i rows) ++ t) (sym (run-next row h is ∙ ap (λ (p : Option Session). row_seen row ∷ run_after p rest_run) fails)) ∙ left)
+      ∙ (ap (λ (t : List (ℕ × SeenRow)). rows_seen (take i rows) ++ t)
+          (sym (run-next row h is ∙ ap (λ (p : Option Session). row_seen row ∷ run_after p rest_run) fails)) ∙ left)
 
   -- The next call passes.
-  pub run_goes_on : (row : Bor (ℕ × Row)) (next : Session) (whole : List (ℕ × SeenRow)) → i < length rows → row ≡ get_or rows i row → passed values (row_seen row).1.call s ≡ Some next
+  pub run_goes_on : (row : Bor (ℕ × Row)) (next : Session) (whole : List (ℕ × SeenRow)) → i < length rows → row ≡ get_or rows i row
+      → passed values (row_seen row).1.call s ≡ Some next
       → rows_seen (take i rows) ++ rows_run values (drop i (rows_seen rows)) s ≡ whole → rows_seen (take (i + 1) rows) ++ rest_run next ≡ whole
   run_goes_on row next whole h is passes left =
       ap (λ (t : List (ℕ × SeenRow)). t ++ rest_run next) (one_more row h is)
       ∙ (append_assoc (rows_seen (take i rows)) (row_seen row ∷ []) (rest_run next)
-      ∙ (ap (λ (t : List (ℕ × SeenRow)). rows_seen (take i rows) ++ t) (sym (run-next row h is ∙ ap (λ (p : Option Session). row_seen row ∷ run_after p rest_run) passes)) ∙ left))
+      ∙ (ap (λ (t : List (ℕ × SeenRow)). rows_seen (take i rows) ++ t)
+          (sym (run-next row h is ∙ ap (λ (p : Option Session). row_seen row ∷ run_after p rest_run) passes)) ∙ left))
 
   run-end : length rows ≤ i → rows_run values (drop i (rows_seen rows)) s ≡ []
   unfolding rows_run
   run-end h = rw (seen_end rows i h) refl
 
   -- All calls pass.
-  pub run_whole : (whole : List (ℕ × SeenRow)) → length rows ≤ i → rows_seen (take i rows) ++ rows_run values (drop i (rows_seen rows)) s ≡ whole → rows_seen rows ≡ whole
+  pub run_whole : (whole : List (ℕ × SeenRow)) → length rows ≤ i → rows_seen (take i rows) ++ rows_run values (drop i (rows_seen rows)) s ≡ whole
+      → rows_seen rows ≡ whole
   run_whole whole h left =
       ap (λ (r : List (Bor (ℕ × Row))). rows_seen r) (sym (take_all i rows h))
       ∙ (sym (append-nil (rows_seen (take i rows))) ∙ (ap (λ (t : List (ℕ × SeenRow)). rows_seen (take i rows) ++ t) (sym (run-end h)) ∙ left))
@@ -128,6 +134,7 @@ later seed n x y is next =
     let same : suc n ≡ n + 1 = omega arith in
     next ∙ (ap (λ (z : ℕ). four_later z) is ∙ (sym (number_next seed n) ∙ ap (number_before seed) same))
 
-pub values_here : (ranges : Ranges) (choice : Choice) (n number : ℕ) (values : Values) → values ≡ values_by ranges choice n number → number ≡ number_before (seed_of choice) n
+pub values_here : (ranges : Ranges) (choice : Choice) (n number : ℕ) (values : Values) → values ≡ values_by ranges choice n number
+    → number ≡ number_before (seed_of choice) n
     → values ≡ values_at ranges choice n
 values_here ranges choice n number values is number_is = is ∙ ap (λ (x : ℕ). values_by ranges choice n x) number_is

@@ -52,7 +52,8 @@ since_state s now state since =
           ∙ (first_pushed now.earlier now.current state ∙ since.first (omega (arith, fits, room)));
       number = λ few.
           let fits : length now.earlier + 1 ≤ now.history = omega (arith, few, count, room) in
-          let long : length (keep_last now.history (now.earlier ++ now.current ∷ [])) ≡ length now.earlier + 1 = ap length (all_kept now.history now.earlier now.current fits) ∙ pushed now.earlier now.current in
+          let long : length (keep_last now.history (now.earlier ++ now.current ∷ [])) ≡ length now.earlier + 1 =
+              ap length (all_kept now.history now.earlier now.current fits) ∙ pushed now.earlier now.current in
           ap (λ n. (n + 1) % 1024) (since.number (omega (arith, fits, room)))
           ∙ (mod-add-mod (length now.earlier) 1024 1 ∙ ap (λ n. n % 1024) (sym long));
       replayed = since.replayed;
@@ -73,7 +74,8 @@ since_events : (s : State) (now : Session) (events : List Event) → IsSince s n
 since_events s now [] since = since
 since_events s now (event ∷ events) since = since_events s (after_event now event) events (since_event s now event since)
 
-since_step : (s : State) (now : Session) (result : Result State EventFault) (next : Session → Session) → ((t : Session) → IsSince s t → IsSince s (next t)) → IsSince s now
+since_step : (s : State) (now : Session) (result : Result State EventFault) (next : Session → Session)
+    → ((t : Session) → IsSince s t → IsSince s (next t)) → IsSince s now
     → IsSince s (after_step now result next)
 since_step s now (Ok state) next on since = on (with_state now state) (since_state s now state since)
 since_step s now (Err fault) next on since = since
@@ -115,7 +117,8 @@ breaks_events : (now : Session) (events : List Event) → (after_events now even
 breaks_events now [] = refl
 breaks_events now (event ∷ events) = breaks_events (after_event now event) events ∙ breaks_event now event
 
-breaks_step : (now : Session) (result : Result State EventFault) (next : Session → Session) → ((t : Session) → (next t).breaks ≡ t.breaks) → (after_step now result next).breaks ≡ now.breaks
+breaks_step : (now : Session) (result : Result State EventFault) (next : Session → Session) → ((t : Session) → (next t).breaks ≡ t.breaks)
+    → (after_step now result next).breaks ≡ now.breaks
 breaks_step now (Ok state) next on = on (with_state now state)
 breaks_step now (Err fault) next on = refl
 
@@ -134,7 +137,8 @@ set_alone : (address : ℕ) (s : Session) → s.breaks ≡ [] → break_set addr
 unfolding break_set table_with
 set_alone address s none = rw none refl
 
-call_alone : (address limit : ℕ) (s : Session) → s.breaks ≡ [] → call_of address limit s ≡ Ok (run_end limit (called address (record s { breaks = return_address ∷ [] })), after_call address limit s)
+call_alone : (address limit : ℕ) (s : Session) → s.breaks ≡ []
+    → call_of address limit s ≡ Ok (run_end limit (called address (record s { breaks = return_address ∷ [] })), after_call address limit s)
 unfolding call_of
 call_alone address limit s none = ap (λ (x : Result Session SessionFault). run_by return_address limit (called address) s x) (set_alone return_address s none)
 
@@ -153,11 +157,13 @@ breaks_called : (address : ℕ) (now : Session) → (called address now).breaks 
 unfolding called
 breaks_called address now = breaks_events now (jsr_events address now.current.regs.s)
 
-pub since_call : (s : State) (address limit : ℕ) (now t : Session) (end : RunEnd) → now.breaks ≡ [] → call_of address limit now ≡ Ok (end, t) → IsSince s now → IsSince s t
+pub since_call : (s : State) (address limit : ℕ) (now t : Session) (end : RunEnd) → now.breaks ≡ [] → call_of address limit now ≡ Ok (end, t)
+    → IsSince s now → IsSince s t
 since_call s address limit now t end none h since =
     let ready = called address (record now { breaks = return_address ∷ [] }) in
     subst (IsSince s) (sym (called_is address limit now t end none h))
-    (since_without s return_address (after_run limit ready) (since_steps s step (run_end limit ready).did ready (since_called s address (record now { breaks = return_address ∷ [] }) (since_breaks s now (return_address ∷ []) since))))
+    (since_without s return_address (after_run limit ready) (since_steps s step (run_end limit ready).did ready
+        (since_called s address (record now { breaks = return_address ∷ [] }) (since_breaks s now (return_address ∷ []) since))))
 
 cleared_alone : (address : ℕ) (now : Session) → now.breaks ≡ 65535 ∷ [] → (without_break 65535 now).breaks ≡ []
 unfolding without_break break_cleared table_without
@@ -167,7 +173,8 @@ pub breaks_call : (address limit : ℕ) (now t : Session) (end : RunEnd) → now
 breaks_call address limit now t end none h =
     let ready = called address (record now { breaks = return_address ∷ [] }) in
     ap (λ (x : Session). x.breaks) (called_is address limit now t end none h)
-    ∙ cleared_alone address (after_run limit ready) (breaks_steps step (run_end limit ready).did ready ∙ breaks_called address (record now { breaks = return_address ∷ [] }))
+    ∙ cleared_alone address (after_run limit ready) (breaks_steps step (run_end limit ready).did ready
+        ∙ breaks_called address (record now { breaks = return_address ∷ [] }))
 
 -- ---- an interrupt
 
@@ -184,7 +191,8 @@ pub since_arrival : (s : State) (signal : Signal) (now : Session) → IsSince s 
 unfolding after_arrival
 since_arrival s signal now since = since_events s now (arrival_events signal) since
 
-pub arrived_irq : (s a b t : Session) → a ≡ after_event s (event.Irq true) → b ≡ after_event a event.Step → t ≡ after_event b (event.Irq false) → t ≡ after_arrival Irq s
+pub arrived_irq : (s a b t : Session) → a ≡ after_event s (event.Irq true) → b ≡ after_event a event.Step → t ≡ after_event b (event.Irq false)
+    → t ≡ after_arrival Irq s
 unfolding after_arrival
 arrived_irq s a b t e1 e2 e3 = rw (e3, e2, e1) refl
 
@@ -200,18 +208,21 @@ breaks_arrival signal now = breaks_events now (arrival_events signal)
 abbrev after_run_back : ℕ → Session → Session
 after_run_back limit s = without_break return_address (after_run limit (record s { breaks = return_address ∷ [] }))
 
-run_alone : (limit : ℕ) (s : Session) → s.breaks ≡ [] → run_to_of return_address limit s ≡ Ok (run_end limit (record s { breaks = return_address ∷ [] }), after_run_back limit s)
+run_alone : (limit : ℕ) (s : Session) → s.breaks ≡ [] → run_to_of return_address limit s
+    ≡ Ok (run_end limit (record s { breaks = return_address ∷ [] }), after_run_back limit s)
 unfolding run_to_of
 run_alone limit s none = ap (λ (x : Result Session SessionFault). run_by return_address limit (λ t. t) s x) (set_alone return_address s none)
 
 run_is : (limit : ℕ) (s t : Session) (end : RunEnd) → s.breaks ≡ [] → run_to_of return_address limit s ≡ Ok (end, t) → t ≡ after_run_back limit s
 run_is limit s t end none h = ap (λ (x : Result (RunEnd × Session) SessionFault). session_of x s) (sym h ∙ run_alone limit s none)
 
-pub since_run : (s : State) (limit : ℕ) (now t : Session) (end : RunEnd) → now.breaks ≡ [] → run_to_of return_address limit now ≡ Ok (end, t) → IsSince s now → IsSince s t
+pub since_run : (s : State) (limit : ℕ) (now t : Session) (end : RunEnd) → now.breaks ≡ [] → run_to_of return_address limit now ≡ Ok (end, t)
+    → IsSince s now → IsSince s t
 since_run s limit now t end none h since =
     let ready = record now { breaks = return_address ∷ [] } in
     subst (IsSince s) (sym (run_is limit now t end none h))
-    (since_without s return_address (after_run limit ready) (since_steps s step (run_end limit ready).did ready (since_breaks s now (return_address ∷ []) since)))
+    (since_without s return_address (after_run limit ready) (since_steps s step (run_end limit ready).did ready
+        (since_breaks s now (return_address ∷ []) since)))
 
 pub breaks_run : (limit : ℕ) (now t : Session) (end : RunEnd) → now.breaks ≡ [] → run_to_of return_address limit now ≡ Ok (end, t) → t.breaks ≡ []
 breaks_run limit now t end none h =
@@ -259,7 +270,8 @@ back_to_start map image now since none few =
     let k = length now.earlier in
     let zero_left : k - k ≡ 0 = omega arith in
     let number : number_back k now.number ≡ 0 = ap (number_back k) (since.number few) ∙ number_zero k in
-    let first : get_or (states now) (k - k) now.current ≡ start map image = ap (λ n. get_or (states now) n now.current) zero_left ∙ (first_state now.earlier now.current ∙ since.first few) in
+    let first : get_or (states now) (k - k) now.current ≡ start map image =
+        ap (λ n. get_or (states now) n now.current) zero_left ∙ (first_state now.earlier now.current ∙ since.first few) in
     let emptied : take (k - k) now.earlier ≡ [] = ap (λ n. take n now.earlier) zero_left in
     let replayed : (if k == 0 then now.replayed else number_back k now.number) ≡ 0 = chosen (k == 0) since.replayed number in
     same_record since.history none since.watches emptied first number replayed

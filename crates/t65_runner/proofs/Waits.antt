@@ -32,13 +32,16 @@ unfolding event_of
 goes_on did s state next made on = rw (made, on) refl
 
 -- A step leads back.
-pub leads_back : (did : ℕ) (s t : Session) (state : State) (next : Next) → event_of s.current Step ≡ Ok state → t ≡ with_state s state → (t.current.regs.pc == return_address) ≡ true
+pub leads_back : (did : ℕ) (s t : Session) (state : State) (next : Next) → event_of s.current Step ≡ Ok state → t ≡ with_state s state
+    → (t.current.regs.pc == return_address) ≡ true
     → waited_on did s next (step s.current) ≡ (Ended (record { did = did + 1; why = Break return_address }), t)
 leads_back did s t state next made is back =
-    back_on did s state next made (same_place s t state is ∙ back) ∙ ap (λ (u : Session). (Ended (record { did = did + 1; why = Break return_address }), u)) (sym is)
+    back_on did s state next made (same_place s t state is ∙ back)
+        ∙ ap (λ (u : Session). (Ended (record { did = did + 1; why = Break return_address }), u)) (sym is)
 
 -- A step leads on.
-pub leads_on : (did : ℕ) (s t : Session) (state : State) (next : Next) → event_of s.current Step ≡ Ok state → t ≡ with_state s state → (t.current.regs.pc == return_address) ≡ false
+pub leads_on : (did : ℕ) (s t : Session) (state : State) (next : Next) → event_of s.current Step ≡ Ok state → t ≡ with_state s state
+    → (t.current.regs.pc == return_address) ≡ false
     → waited_on did s next (step s.current) ≡ next t
 leads_on did s t state next made is on = goes_on did s state next made (same_place s t state is ∙ on) ∙ ap next (sym is)
 

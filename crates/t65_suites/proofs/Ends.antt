@@ -26,7 +26,8 @@ use Rattle.t65_suites.specs.declared.fault.TestFault.TheVariants.{Rows, TooLarge
 pub head_ends : (text : List ℕ) (fault : TextFault) → head_from 1 (lines_of text) ≡ Err fault → EndsAnyTest (Rows fault)
 head_ends text fault refused = λ reading. inl (text, refused, refl)
 
-pub no_test : (asking : SeenAsking) (names : Definitions) (next : ℕ) (lines : List (List ℕ)) (rows : List SeenLine) → rows_from asking names next lines ≡ Ok rows → tests_of rows ≡ []
+pub no_test : (asking : SeenAsking) (names : Definitions) (next : ℕ) (lines : List (List ℕ)) (rows : List SeenLine)
+    → rows_from asking names next lines ≡ Ok rows → tests_of rows ≡ []
     → EndsRows asking names next lines NoRow
 no_test asking names next lines rows read none = (rows, read, none)
 
@@ -46,14 +47,18 @@ pub map_ends : (text : List ℕ) (head : SeenHead) (next : ℕ) (lines : List (L
 map_ends text head next lines fault headed is none =
     subst EndsAnyTest (sym is) (λ reading. (headed_file text head next lines headed, refl, none, refl))
 
-pub program_ends : (reading : ReadingAsked) (text : List ℕ) (head : SeenHead) (next : ℕ) (lines : List (List ℕ)) (path : String Global) (name : List ℕ) (fault : NamedFault) (points : ℕ)
-    → head_from 1 (lines_of text) ≡ Ok (head, next, lines) → name ≡ string_bytes path → EndsProgram (file_asked reading head name) reading.symbols fault → points ≡ points_of reading.only lines
+pub program_ends : (reading : ReadingAsked) (text : List ℕ) (head : SeenHead) (next : ℕ) (lines : List (List ℕ)) (path : String Global)
+    (name : List ℕ) (fault : NamedFault) (points : ℕ)
+    → head_from 1 (lines_of text) ≡ Ok (head, next, lines) → name ≡ string_bytes path
+        → EndsProgram (file_asked reading head name) reading.symbols fault → points ≡ points_of reading.only lines
     → EndsFile reading points (InProgram path fault)
 program_ends reading text head next lines path name fault points headed named ends are =
     (headed_file text head next lines headed, subst (λ n. EndsProgram (file_asked reading head n) reading.symbols fault) named ends, are)
 
-pub rows_end : (reading : ReadingAsked) (text : List ℕ) (head : SeenHead) (next : ℕ) (lines : List (List ℕ)) (path : List ℕ) (assembly : AssemblyView) (steps : ℕ) (fault : TestFault) (points : ℕ)
-    → head_from 1 (lines_of text) ≡ Ok (head, next, lines) → IsProgram (file_asked reading head path) reading.symbols assembly → EndsRows (asking_of steps reading) assembly.names next lines fault → points ≡ points_of reading.only lines
+pub rows_end : (reading : ReadingAsked) (text : List ℕ) (head : SeenHead) (next : ℕ) (lines : List (List ℕ)) (path : List ℕ) (assembly : AssemblyView)
+    (steps : ℕ) (fault : TestFault) (points : ℕ)
+    → head_from 1 (lines_of text) ≡ Ok (head, next, lines) → IsProgram (file_asked reading head path) reading.symbols assembly
+        → EndsRows (asking_of steps reading) assembly.names next lines fault → points ≡ points_of reading.only lines
     → EndsTest reading points fault
 rows_end reading text head next lines path assembly steps (Rows fault) points headed program ends are =
     inr (record {
@@ -82,7 +87,8 @@ rows_end reading text head next lines path assembly steps NoRow points headed pr
 rows_end reading text head next lines path assembly steps (Refused refusal) points headed program ends are = subst (EndsTest reading points) (sym ends) tt
 
 -- The fault of a file of rows, passed on.
-pub passed_on : {X : Type 0} (result : Result X Unprepared) (reading : ReadingAsked) (fault : TestFault) → IsErrAnd result (λ e. (e.fault ≡ InRows fault) × (e.points ≡ 0)) → EndsAnyTest fault
+pub passed_on : {X : Type 0} (result : Result X Unprepared) (reading : ReadingAsked) (fault : TestFault)
+    → IsErrAnd result (λ e. (e.fault ≡ InRows fault) × (e.points ≡ 0)) → EndsAnyTest fault
     → IfErr result (λ why. EndsFile reading why.points why.fault)
 passed_on (Ok x) reading fault h ends = absurd h
 passed_on (Err e) reading fault h ends = subst (λ f. EndsFile reading e.points f) (sym h.0) (subst (λ n. EndsTest reading n fault) (sym h.1) (ends reading))

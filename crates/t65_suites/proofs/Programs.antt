@@ -27,7 +27,8 @@ use Rattle.t65_suites.specs.Programs.{AreNames, EndsProgram, IsProgram}
 
 -- A source without a line defines no name.
 pub no_line : (bus_map : Map) (source : List ℕ) (names : Definitions) → source ≡ []
-    → ((placed : List PlacedLine) (all : Context) → IsLaidOut (first_context bus_map.profile) (read_lines bus_map.profile source) placed all → names ≡ all.names)
+    → ((placed : List PlacedLine) (all : Context) → IsLaidOut (first_context bus_map.profile) (read_lines bus_map.profile source) placed all
+        → names ≡ all.names)
     → names ≡ []
 unfolding read_lines lines_from
 no_line bus_map [] names is laid = laid [] (first_context bus_map.profile) (refl, refl)
@@ -42,19 +43,23 @@ pub of_source : (asked : FileAsked) (bus_map : Map) (a : AssemblyView) → bus_m
     → IsAssembled bus_map a → has_port_byte bus_map a.image ≡ false → IsProgram asked None a
 of_source asked bus_map a same on_map is assembled spared = record {
   loaded = Some a;
-  named = (on_map, subst (λ (f : FileForm). IsImageOf f asked.omits_fill (map_of asked) None a.image (Some a)) (sym is) (subst (λ (m : Map). IsAssembled m a) same assembled, refl, refl));
+  named = (on_map, subst (λ (f : FileForm). IsImageOf f asked.omits_fill (map_of asked) None a.image (Some a)) (sym is)
+      (subst (λ (m : Map). IsAssembled m a) same assembled, refl, refl));
   shown = refl;
   spared = subst (λ (m : Map). has_port_byte m a.image ≡ false) same spared;
 }
 
 -- An image without a byte at the port is the file's own.
-whole_file : (asked : FileAsked) (bus_map : Map) (image : List (Option ℕ)) → bus_map ≡ map_of asked → has_port_byte bus_map image ≡ false → IsOfFile (said_of asked.form) image
+whole_file : (asked : FileAsked) (bus_map : Map) (image : List (Option ℕ)) → bus_map ≡ map_of asked → has_port_byte bus_map image ≡ false
+    → IsOfFile (said_of asked.form) image
     → IsSparedFile (said_of asked.form) asked.omits_fill (map_of asked) None image
 whole_file asked bus_map image same spared of_file =
     (image, of_file, (sym (never_filled asked.omits_fill (map_of asked) image (subst (λ (m : Map). has_port_byte m image ≡ false) same spared)), refl))
 
-pub of_image : (asked : FileAsked) (symbols : Option (List ℕ)) (bus_map : Map) (image : List (Option ℕ)) (names a : AssemblyView) → bus_map ≡ map_of asked → is_map asked.rom asked.port ≡ true
-    → (asked.form ≡ form.Source → ⊥) → IsOfFile (said_of asked.form) image → has_port_byte bus_map image ≡ false → AreNames (map_of asked) symbols names → a ≡ named_image image names
+pub of_image : (asked : FileAsked) (symbols : Option (List ℕ)) (bus_map : Map) (image : List (Option ℕ)) (names a : AssemblyView)
+    → bus_map ≡ map_of asked → is_map asked.rom asked.port ≡ true
+    → (asked.form ≡ form.Source → ⊥) → IsOfFile (said_of asked.form) image → has_port_byte bus_map image ≡ false
+        → AreNames (map_of asked) symbols names → a ≡ named_image image names
     → IsProgram asked symbols a
 of_image asked None bus_map image names a same on_map apart of_file spared are is =
     subst (IsProgram asked None) (sym is) (record {
@@ -73,17 +78,20 @@ of_image asked (Some path) bus_map image names a same on_map apart of_file spare
 
 -- ---- why there is none
 
-on_map_file : (asked : FileAsked) (fault : LoadFault) → EndsFile asked.form (map_of asked) asked.file fault → (symbols : Option (List ℕ)) → EndsProgram asked symbols (OfFile fault)
+on_map_file : (asked : FileAsked) (fault : LoadFault) → EndsFile asked.form (map_of asked) asked.file fault → (symbols : Option (List ℕ))
+    → EndsProgram asked symbols (OfFile fault)
 on_map_file asked fault ends None = ends
 on_map_file asked fault ends (Some path) = ends
 
-as_image : (f : FileForm) (bus_map : Map) (file : List ℕ) (fault : LoadFault) → (f ≡ form.Source → ⊥) → EndsAsImage (said_of f) false bus_map fault → EndsFile f bus_map file fault
+as_image : (f : FileForm) (bus_map : Map) (file : List ℕ) (fault : LoadFault) → (f ≡ form.Source → ⊥) → EndsAsImage (said_of f) false bus_map fault
+    → EndsFile f bus_map file fault
 as_image form.Source bus_map file fault apart ends = absurd (apart refl)
 as_image form.Records bus_map file fault apart ends = ends
 as_image (form.Raw address) bus_map file fault apart ends = ends
 as_image form.Prg bus_map file fault apart ends = ends
 
-pub image_refused : (asked : FileAsked) (symbols : Option (List ℕ)) (bus_map : Map) (fault : LoadFault) → bus_map ≡ map_of asked → (asked.form ≡ form.Source → ⊥)
+pub image_refused : (asked : FileAsked) (symbols : Option (List ℕ)) (bus_map : Map) (fault : LoadFault) → bus_map ≡ map_of asked
+    → (asked.form ≡ form.Source → ⊥)
     → EndsAsImage (said_of asked.form) false bus_map fault → EndsProgram asked symbols (OfFile fault)
 image_refused asked symbols bus_map fault same apart ends = on_map_file asked fault
     (as_image asked.form (map_of asked) asked.file fault apart (subst (λ (m : Map). EndsAsImage (said_of asked.form) false m fault) same ends)) symbols
@@ -103,7 +111,8 @@ memory_by form.Prg bus_map file = (why.Refused OutOfMemory, tt, refl)
 pub memory_file : (asked : FileAsked) (fault : LoadFault) → fault ≡ Refused OutOfMemory → EndsFile asked.form (map_of asked) asked.file fault
 memory_file asked fault is = subst (EndsFile asked.form (map_of asked) asked.file) (sym is) (memory_by asked.form (map_of asked) asked.file)
 
-pub names_refused : (asked : FileAsked) (path : List ℕ) (refusal : Refusal) → is_map asked.rom asked.port ≡ true → EndsNames asked refusal → EndsProgram asked (Some path) (OfNames refusal)
+pub names_refused : (asked : FileAsked) (path : List ℕ) (refusal : Refusal) → is_map asked.rom asked.port ≡ true → EndsNames asked refusal
+    → EndsProgram asked (Some path) (OfNames refusal)
 names_refused asked path refusal on_map (inl bad) = absurd (no (sym on_map ∙ bad.0))
   where
     no : true ≡ false → ⊥

@@ -24,7 +24,8 @@ module _ (report : List ℕ) (suites : List Suite) (i : ℕ) where
   read_here d path h read =
       let there = subst (λ n. i < n) (sym (length-map suites suite_view)) h in (
         suite_view (get_or suites i d),
-        subst (Contains (map suite_view suites)) (get_or-map suite_view suites i d (suite_view d) h) (Contains-get_or (map suite_view suites) i (suite_view d) there),
+        subst (Contains (map suite_view suites)) (get_or-map suite_view suites i d (suite_view d) h)
+            (Contains-get_or (map suite_view suites) i (suite_view d) there),
         read,
       )
 

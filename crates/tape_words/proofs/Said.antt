@@ -16,11 +16,13 @@ Says r status held now = MatchResult r (λ a. IsAnswered a status held now) (λ 
 abbrev About : (Bool → List ℕ → Type 0) → Result Answer FileRefusal → Type 0
 About S r = IfOk r (λ a. S a.is_right (string_bytes a.text))
 
-right : (S : Bool → List ℕ → Type 0) (b : Bool) (said : List ℕ) (status : ℕ) (held now : Option (List ℕ)) → S b said → status ≡ (if b then 0 else 1) → Appends held now said → status ≡ 0 → Tells S true held now
+right : (S : Bool → List ℕ → Type 0) (b : Bool) (said : List ℕ) (status : ℕ) (held now : Option (List ℕ)) → S b said → status ≡ (if b then 0 else 1)
+    → Appends held now said → status ≡ 0 → Tells S true held now
 right S true said status held now about is written zero = record { said = said; about = about; written = written }
 right S false said status held now about is written zero = absurd (omega (arith, is, zero))
 
-wrong : (S : Bool → List ℕ → Type 0) (b : Bool) (said : List ℕ) (status : ℕ) (held now : Option (List ℕ)) → S b said → status ≡ (if b then 0 else 1) → Appends held now said → status ≡ 1 → Tells S false held now
+wrong : (S : Bool → List ℕ → Type 0) (b : Bool) (said : List ℕ) (status : ℕ) (held now : Option (List ℕ)) → S b said → status ≡ (if b then 0 else 1)
+    → Appends held now said → status ≡ 1 → Tells S false held now
 wrong S true said status held now about is written one = absurd (omega (arith, is, one))
 wrong S false said status held now about is written one = record { said = said; about = about; written = written }
 
@@ -42,27 +44,32 @@ some_status Write status is zero = omega (arith, is, zero)
 some_status (WriteFile why) status is zero = omega (arith, is, zero)
 
 -- 0: the text of a right answer was written
-pub said_right : (S : Bool → List ℕ → Type 0) (r : Result Answer FileRefusal) (status : ℕ) (held now : Option (List ℕ)) → About S r → Says r status held now → status ≡ 0 → Tells S true held now
+pub said_right : (S : Bool → List ℕ → Type 0) (r : Result Answer FileRefusal) (status : ℕ) (held now : Option (List ℕ)) → About S r
+    → Says r status held now → status ≡ 0 → Tells S true held now
 said_right S (Ok a) status held now about (inl four) zero = absurd (omega (arith, four.0, zero))
 said_right S (Ok a) status held now about (inr done) zero = right S a.is_right (string_bytes a.text) status held now about done.0 done.1 zero
 said_right S (Err f) status held now about says zero = absurd (some_status f.refusal status says zero)
 
 -- 1: the text of another answer was written, or there was none
-pub said_wrong : (S : Bool → List ℕ → Type 0) (r : Result Answer FileRefusal) (status : ℕ) (held now : Option (List ℕ)) (N : Type 0) → About S r → Says r status held now → MatchResult r (λ a. Unit {0}) (λ f. N) → status ≡ 1
+pub said_wrong : (S : Bool → List ℕ → Type 0) (r : Result Answer FileRefusal) (status : ℕ) (held now : Option (List ℕ)) (N : Type 0) → About S r
+    → Says r status held now → MatchResult r (λ a. Unit {0}) (λ f. N) → status ≡ 1
     → Tells S false held now ⊎ N
 said_wrong S (Ok a) status held now N about (inl four) none one = absurd (omega (arith, four.0, one))
 said_wrong S (Ok a) status held now N about (inr done) none one = inl (wrong S a.is_right (string_bytes a.text) status held now about done.0 done.1 one)
 said_wrong S (Err f) status held now N about says none one = inr none
 
 -- 4: a beginning of an answer was written, or there was none
-pub said_front : (S : Bool → List ℕ → Type 0) (r : Result Answer FileRefusal) (status : ℕ) (held now : Option (List ℕ)) (N : Type 0) → About S r → Says r status held now → MatchResult r (λ a. Unit {0}) (λ f. N) → status ≡ 4
+pub said_front : (S : Bool → List ℕ → Type 0) (r : Result Answer FileRefusal) (status : ℕ) (held now : Option (List ℕ)) (N : Type 0) → About S r
+    → Says r status held now → MatchResult r (λ a. Unit {0}) (λ f. N) → status ≡ 4
     → TellsFront S held now ⊎ N
-said_front S (Ok a) status held now N about (inl four) none h = inl (record { is_right = a.is_right; said = string_bytes a.text; about = about; written = four.1 })
+said_front S (Ok a) status held now N about (inl four) none h =
+    inl (record { is_right = a.is_right; said = string_bytes a.text; about = about; written = four.1 })
 said_front S (Ok a) status held now N about (inr done) none h = absurd (small a.is_right status done.0 (inr h))
 said_front S (Err f) status held now N about says none h = inr none
 
 -- 2: there was no answer, for a refusal that has this status
-pub said_two : (S : Bool → List ℕ → Type 0) (r : Result Answer FileRefusal) (status : ℕ) (held now : Option (List ℕ)) (E : Refusal → Type 0) → About S r → Says r status held now → MatchResult r (λ a. Unit {0}) (λ f. E f.refusal) → status ≡ 2
+pub said_two : (S : Bool → List ℕ → Type 0) (r : Result Answer FileRefusal) (status : ℕ) (held now : Option (List ℕ)) (E : Refusal → Type 0)
+    → About S r → Says r status held now → MatchResult r (λ a. Unit {0}) (λ f. E f.refusal) → status ≡ 2
     → (f : Refusal) × E f × (status_of f ≡ 2)
 said_two S (Ok a) status held now E about (inl four) ends h = absurd (omega (arith, four.0, h))
 said_two S (Ok a) status held now E about (inr done) ends h = absurd (small a.is_right status done.0 (inl h))

@@ -34,12 +34,14 @@ index_if false x = refl
 
 at_put : (table : List ℕ) (address number : ℕ) (b : Bool) → (slice_index table address == 0) ≡ b → address < length table
     → slice_index (put_if_none table address number) address ≡ (if b then number else slice_index table address)
-at_put table address number true e h = ap (λ b. slice_index (if b then slice_set table address number else table) address) e ∙ get_or-set_same table address number 0 h
+at_put table address number true e h = ap (λ b. slice_index (if b then slice_set table address number else table) address) e
+    ∙ get_or-set_same table address number 0 h
 at_put table address number false e h = ap (λ b. slice_index (if b then slice_set table address number else table) address) e
 
 past_put : (table : List ℕ) (address number other : ℕ) (b : Bool) → (slice_index table address == 0) ≡ b → (other ≡ address → ⊥)
     → slice_index (put_if_none table address number) other ≡ slice_index table other
-past_put table address number other true e h = ap (λ b. slice_index (if b then slice_set table address number else table) other) e ∙ get_or-set_other table address other number 0 h
+past_put table address number other true e h = ap (λ b. slice_index (if b then slice_set table address number else table) other) e
+    ∙ get_or-set_other table address other number 0 h
 past_put table address number other false e h = ap (λ b. slice_index (if b then slice_set table address number else table) other) e
 
 pub put_there : (table : List ℕ) (address number : ℕ) → address < length table
@@ -83,7 +85,8 @@ position_push p xs y =
     let at = position_or_len p xs in
     let n = length xs in
     let whole : position p (xs ++ y ∷ []) ≡ found (cond (at == n) (n + cond (p y) 0 1) at) (n + 1) =
-    found_is p (xs ++ y ∷ []) ∙ (ap (λ k. found k (length (xs ++ y ∷ []))) (position_or_len_push p xs y) ∙ ap (found (cond (at == n) (n + cond (p y) 0 1) at)) (length_push xs y)) in
+    found_is p (xs ++ y ∷ []) ∙ (ap (λ k. found k (length (xs ++ y ∷ []))) (position_or_len_push p xs y)
+        ∙ ap (found (cond (at == n) (n + cond (p y) 0 1) at)) (length_push xs y)) in
     elim (cases_lt at n) [
       | inl before ↦
           let apart : (at == n) ≡ false = ne_eqb at n (λ e. omega (arith, e, before)) in
@@ -104,7 +107,8 @@ first_none address = refl
 abbrev pub next_at : ℕ → ℕ → ℕ → Option ℕ
 next_at row index address = if row == address then (if nat_lt index 4294967295 then Some index else None) else None
 
-next_by : (b : Bool) (index : ℕ) → nat_lt index 4294967295 ≡ true → (if b then Some index else None) ≡ (if b then (if nat_lt index 4294967295 then Some index else None) else None)
+next_by : (b : Bool) (index : ℕ) → nat_lt index 4294967295 ≡ true
+    → (if b then Some index else None) ≡ (if b then (if nat_lt index 4294967295 then Some index else None) else None)
 next_by b index e = ap (λ r. if b then (if r then Some index else None) else None) (sym e)
 
 next_past : (b : Bool) (index : ℕ) → nat_lt index 4294967295 ≡ false → (if b then (if nat_lt index 4294967295 then Some index else None) else None) ≡ None
@@ -147,9 +151,11 @@ put_at table row index address h e =
     ∙ ap (λ n. option_or (index_at table row) (index_of n)) (add-one index)))
 
 put_by : (table : List ℕ) (row index address : ℕ) (b c : Bool) → (row == address) ≡ b → nat_lt index 4294967295 ≡ c → address < length table
-    → index_at (if c then put_if_none table row (index + 1) else table) address ≡ option_or (index_at table address) (if b then (if c then Some index else None) else None)
+    → index_at (if c then put_if_none table row (index + 1) else table) address
+        ≡ option_or (index_at table address) (if b then (if c then Some index else None) else None)
 put_by table row index address true true e l h = put_at table row index address h (eqb-true row address e)
-put_by table row index address false true e l h = ap index_of (put_elsewhere table row (index + 1) address (λ same. eqb-false row address e (sym same))) ∙ sym (or_none (index_at table address))
+put_by table row index address false true e l h = ap index_of
+    (put_elsewhere table row (index + 1) address (λ same. eqb-false row address e (sym same))) ∙ sym (or_none (index_at table address))
 put_by table row index address true false e l h = sym (or_none (index_at table address))
 put_by table row index address false false e l h = sym (or_none (index_at table address))
 
@@ -180,14 +186,17 @@ row_more base table new rows i row h r e t = record {
 
 pub no_rows : (table : List ℕ) (rows : List ℕ) → length table ≡ 65536
     → IsTable table (λ address. option_or (index_at table address) (first_at (take 0 rows) address))
-no_rows table rows size = record { size = size; rows = λ address below. sym (ap (option_or (index_at table address)) (first_none address) ∙ or_none (index_at table address)) }
+no_rows table rows size = record { size = size; rows = λ address below.
+    sym (ap (option_or (index_at table address)) (first_none address) ∙ or_none (index_at table address)) }
 
-pub all_rows : (base : ℕ → Option ℕ) (table : List ℕ) (rows : List ℕ) (i : ℕ) → length rows ≤ i → IsTable table (λ address. option_or (base address) (first_at (take i rows) address))
+pub all_rows : (base : ℕ → Option ℕ) (table : List ℕ) (rows : List ℕ) (i : ℕ) → length rows ≤ i
+    → IsTable table (λ address. option_or (base address) (first_at (take i rows) address))
     → IsTable table (λ address. option_or (base address) (first_at rows address))
 all_rows base table rows i h t = subst (λ ns. IsTable table (λ address. option_or (base address) (first_at ns address))) (take_all i rows h) t
 
 -- What stands in a table of nothing, where something may stand besides.
-pub over_none : (empty table : List ℕ) (place : ℕ → Option ℕ) → IsTable empty (λ address. None) → IsTable table (λ address. option_or (index_at empty address) (place address)) → IsTable table place
+pub over_none : (empty table : List ℕ) (place : ℕ → Option ℕ) → IsTable empty (λ address. None)
+    → IsTable table (λ address. option_or (index_at empty address) (place address)) → IsTable table place
 over_none empty table place none t = record {
   size = t.size;
   rows = λ address below. t.rows address below ∙ ap (λ o. option_or o (place address)) (none.rows address below);
@@ -200,7 +209,8 @@ label_rows labels i h = omega (arith, h, length-map labels labelled, length-map 
 pub label_size : (labels : List Label) (i : ℕ) → i < length labels → i < length (addresses_of (map labelled labels))
 label_size labels i h = omega (arith, h, length-map labels labelled, length-map (map labelled labels) (λ (l : Labelled). l.address))
 
-pub label_row : (labels : List Label) (i : ℕ) (label : Label) → i < length labels → label ≡ get_or labels i label → label.address ≡ get_or (addresses_of (map labelled labels)) i 0
+pub label_row : (labels : List Label) (i : ℕ) (label : Label) → i < length labels → label ≡ get_or labels i label
+    → label.address ≡ get_or (addresses_of (map labelled labels)) i 0
 label_row labels i label h e =
     sym (get_or-map (λ (l : Labelled). l.address) (map labelled labels) i (labelled label) 0 (omega (arith, h, length-map labels labelled))
     ∙ (ap (λ (l : Labelled). l.address) (get_or-map labelled labels i label (labelled label) h)
@@ -212,7 +222,8 @@ line_rows lines i h = omega (arith, h, length-map lines listed, length-map (map 
 pub line_size : (lines : List SourceLine) (i : ℕ) → i < length lines → i < length (line_addresses (map listed lines))
 line_size lines i h = omega (arith, h, length-map lines listed, length-map (map listed lines) (λ (l : LineView). l.address))
 
-pub line_row : (lines : List SourceLine) (i : ℕ) (line : SourceLine) → i < length lines → line ≡ get_or lines i line → line.address ≡ get_or (line_addresses (map listed lines)) i 0
+pub line_row : (lines : List SourceLine) (i : ℕ) (line : SourceLine) → i < length lines → line ≡ get_or lines i line
+    → line.address ≡ get_or (line_addresses (map listed lines)) i 0
 line_row lines i line h e =
     sym (get_or-map (λ (l : LineView). l.address) (map listed lines) i (listed line) 0 (omega (arith, h, length-map lines listed))
     ∙ (ap (λ (l : LineView). l.address) (get_or-map listed lines i line (listed line) h)
@@ -266,13 +277,16 @@ spread_more image old table new place label below next h b e n s =
       size = ap length e ∙ (put_size table place below ∙ s.size);
       below = λ address lt. elim (cases_eq address place) [
         | inl same ↦ subst (λ a. index_at new a ≡ or_below image (index_at old) a) (sym same) (ap index_of at ∙ found)
-        | inr apart ↦ ap (λ ns. index_at ns address) e ∙ (ap index_of (put_elsewhere table place below address apart) ∙ s.below address (omega (arith, lt, apart)))
+        | inr apart ↦ ap (λ ns. index_at ns address) e ∙ (ap index_of (put_elsewhere table place below address apart)
+            ∙ s.below address (omega (arith, lt, apart)))
       ];
-      above = λ address le. ap (λ ns. slice_index ns address) e ∙ (put_elsewhere table place below address (λ same. omega (arith, same, le)) ∙ s.above address (omega (arith, le)));
+      above = λ address le. ap (λ ns. slice_index ns address) e
+          ∙ (put_elsewhere table place below address (λ same. omega (arith, same, le)) ∙ s.above address (omega (arith, le)));
       last = found ∙ sym (below_more image (index_at old) place);
     }
 
-pub spread_all : (image : List (Option ℕ)) (old table : List ℕ) (place label : ℕ) → 65536 ≤ place → Spread image old table place label → IsTable table (or_below image (index_at old))
+pub spread_all : (image : List (Option ℕ)) (old table : List ℕ) (place label : ℕ) → 65536 ≤ place → Spread image old table place label
+    → IsTable table (or_below image (index_at old))
 spread_all image old table place label h s = record { size = s.size; rows = λ address lt. s.below address (omega (arith, h, lt)) }
 
 -- What an address has depends on what it and those below have.
@@ -282,7 +296,8 @@ unfolding or_below
 below_same image place other most h zero lt = h 0 lt
 below_same image place other most h (suc address) lt =
     ap (λ o. option_or o (if is_some (cell_at image (suc address)) then or_below image place address else None)) (h (suc address) lt)
-    ∙ ap (λ o. option_or (other (suc address)) (if is_some (cell_at image (suc address)) then o else None)) (below_same image place other most h address (omega (arith, lt)))
+    ∙ ap (λ o. option_or (other (suc address)) (if is_some (cell_at image (suc address)) then o else None))
+        (below_same image place other most h address (omega (arith, lt)))
 
 pub spread_table : (image : List (Option ℕ)) (old table : List ℕ) (place : ℕ → Option ℕ) → IsTable old place
     → IsTable table (or_below image (index_at old)) → IsTable table (or_below image place)
@@ -301,22 +316,26 @@ zeros table e = record {
 -- ---- names, taken one after another
 
 names_suc : (image : List (Option ℕ)) (place : ℕ → Option ℕ) (labels : Bool) (names : List Numbered) (i : ℕ)
-    → names_of image place labels (take (suc i) names) ≡ names_of image place labels (take i names) ++ names_of image place labels (option_to_list (slice_get names i))
+    → names_of image place labels (take (suc i) names) ≡ names_of image place labels (take i names)
+        ++ names_of image place labels (option_to_list (slice_get names i))
 unfolding names_of
 names_suc image place labels [] zero = refl
 names_suc image place labels [] (suc i) = refl
 names_suc image place labels (d ∷ ds) zero = refl
 names_suc image place labels (d ∷ ds) (suc i) = ap (λ (ls : List Labelled). name_of image place labels d ++ ls) (names_suc image place labels ds i)
-    ∙ sym (append_assoc (name_of image place labels d) (names_of image place labels (take i ds)) (names_of image place labels (option_to_list (slice_get ds i))))
+    ∙ sym (append_assoc (name_of image place labels d) (names_of image place labels (take i ds))
+        (names_of image place labels (option_to_list (slice_get ds i))))
 
-pub names_more : (image : List (Option ℕ)) (place : ℕ → Option ℕ) (labels : Bool) (names : List Numbered) (i : ℕ) (before old new : List Labelled) → old ≡ before ++ names_of image place labels (take i names)
+pub names_more : (image : List (Option ℕ)) (place : ℕ → Option ℕ) (labels : Bool) (names : List Numbered) (i : ℕ) (before old new : List Labelled)
+    → old ≡ before ++ names_of image place labels (take i names)
     → new ≡ old ++ names_of image place labels (option_to_list (slice_get names i)) → new ≡ before ++ names_of image place labels (take (i + 1) names)
 names_more image place labels names i before old new e n =
     n ∙ (ap (λ ls. ls ++ names_of image place labels (option_to_list (slice_get names i))) e
     ∙ (append_assoc before (names_of image place labels (take i names)) (names_of image place labels (option_to_list (slice_get names i)))
     ∙ ap (λ ls. before ++ ls) (sym (ap (λ k. names_of image place labels (take k names)) (add-one i) ∙ names_suc image place labels names i))))
 
-pub names_none : (image : List (Option ℕ)) (place : ℕ → Option ℕ) (labels : Bool) (names : List Numbered) (before : List Labelled) → before ≡ before ++ names_of image place labels (take 0 names)
+pub names_none : (image : List (Option ℕ)) (place : ℕ → Option ℕ) (labels : Bool) (names : List Numbered) (before : List Labelled)
+    → before ≡ before ++ names_of image place labels (take 0 names)
 unfolding names_of
 names_none image place labels names before = sym (append-nil before)
 
@@ -325,7 +344,8 @@ pub names_all : (image : List (Option ℕ)) (place : ℕ → Option ℕ) (labels
 names_all image place labels names i before new h e = e ∙ ap (λ ns. before ++ names_of image place labels ns) (take_all i names h)
 
 -- what stands in two lists at an index
-pub zip_at : {X Y : Type 0} (xs : List X) (ys : List Y) (i : ℕ) (x : X) (y : Y) → slice_get xs i ≡ Some x → slice_get ys i ≡ Some y → slice_get (zip xs ys) i ≡ Some (x, y)
+pub zip_at : {X Y : Type 0} (xs : List X) (ys : List Y) (i : ℕ) (x : X) (y : Y) → slice_get xs i ≡ Some x → slice_get ys i ≡ Some y
+    → slice_get (zip xs ys) i ≡ Some (x, y)
 zip_at [] ys i x y e f = absurd cc
 zip_at (a ∷ xs) [] i x y e f = absurd cc
 zip_at (a ∷ xs) (b ∷ ys) zero x y e f = cc
@@ -344,17 +364,20 @@ zip_no_other (a ∷ xs) (b ∷ ys) zero e = absurd cc
 zip_no_other (a ∷ xs) (b ∷ ys) (suc i) e = zip_no_other xs ys i e
 
 -- Names stand for the same addresses by a table and by what it tells of each address.
-free_same : (image : List (Option ℕ)) (table : List ℕ) (place : ℕ → Option ℕ) (text : List ℕ) (number : ℤ) → IsTable table place → name_if_free image (index_at table) text number ≡ name_if_free image place text number
+free_same : (image : List (Option ℕ)) (table : List ℕ) (place : ℕ → Option ℕ) (text : List ℕ) (number : ℤ) → IsTable table place
+    → name_if_free image (index_at table) text number ≡ name_if_free image place text number
 free_same image table place text (pos n) t = by (nat_le n 65535) refl
   where
     by : (b : Bool) → nat_le n 65535 ≡ b → name_if_free image (index_at table) text (pos n) ≡ name_if_free image place text (pos n)
     by true e =
         let within : n ≤ 65535 = leb-true n 65535 e in
-        ap (λ o. if nat_le n 65535 && is_some (cell_at image n) && is_none o then record { text = text; address = n } ∷ [] else []) (t.rows n (omega (arith, within)))
+        ap (λ o. if nat_le n 65535 && is_some (cell_at image n) && is_none o then record { text = text; address = n } ∷ [] else [])
+            (t.rows n (omega (arith, within)))
     by false e = rw e refl
 free_same image table place text (negsuc n) t = refl
 
-pub same_names : (image : List (Option ℕ)) (table : List ℕ) (place : ℕ → Option ℕ) (labels : Bool) (names : List Numbered) → IsTable table place → names_of image (index_at table) labels names ≡ names_of image place labels names
+pub same_names : (image : List (Option ℕ)) (table : List ℕ) (place : ℕ → Option ℕ) (labels : Bool) (names : List Numbered) → IsTable table place
+    → names_of image (index_at table) labels names ≡ names_of image place labels names
 unfolding names_of
 same_names image table place labels [] t = refl
 same_names image table place labels (d ∷ ds) t =
@@ -363,14 +386,17 @@ same_names image table place labels (d ∷ ds) t =
 
 -- A name is put where an address belongs to no other, and what the address below has, is there.
 pub spread_over : (image : List (Option ℕ)) (old table : List ℕ) (place first : ℕ → Option ℕ) → IsTable old place
-    → IsTable table (or_below image (λ address. option_or (index_at old address) (first address))) → IsTable table (or_below image (λ address. option_or (place address) (first address)))
+    → IsTable table (or_below image (λ address. option_or (index_at old address) (first address)))
+        → IsTable table (or_below image (λ address. option_or (place address) (first address)))
 spread_over image old table place first o t = record {
   size = t.size;
-  rows = λ address lt. t.rows address lt ∙ below_same image (λ a. option_or (index_at old a) (first a)) (λ a. option_or (place a) (first a)) 65536 (λ a below. ap (λ p. option_or p (first a)) (o.rows a below)) address lt;
+  rows = λ address lt. t.rows address lt ∙ below_same image (λ a. option_or (index_at old a) (first a)) (λ a. option_or (place a) (first a)) 65536
+      (λ a below. ap (λ p. option_or p (first a)) (o.rows a below)) address lt;
 }
 
 -- the name of an index
-pub name_taken : (image : List (Option ℕ)) (place : ℕ → Option ℕ) (labels : Bool) (names : Definitions) (flags : List Bool) (i : ℕ) (text : List ℕ) (number : ℤ) (flag : Bool)
+pub name_taken : (image : List (Option ℕ)) (place : ℕ → Option ℕ) (labels : Bool) (names : Definitions) (flags : List Bool) (i : ℕ) (text : List ℕ)
+    (number : ℤ) (flag : Bool)
     → slice_get names i ≡ Some (text, number) → slice_get flags i ≡ Some flag → is_wanted labels flag ≡ true
     → names_of image place labels (option_to_list (slice_get (zip names flags) i)) ≡ name_if_free image place text number
 unfolding names_of
@@ -378,7 +404,8 @@ name_taken image place labels names flags i text number flag e f wanted =
     ap (λ (o : Option Numbered). names_of image place labels (option_to_list o)) (zip_at names flags i (text, number) flag e f)
     ∙ (ap (λ (b : Bool). (if b then name_if_free image place text number else []) ++ []) wanted ∙ append-nil (name_if_free image place text number))
 
-pub name_left : (image : List (Option ℕ)) (place : ℕ → Option ℕ) (labels : Bool) (names : Definitions) (flags : List Bool) (i : ℕ) (text : List ℕ) (number : ℤ) (flag : Bool)
+pub name_left : (image : List (Option ℕ)) (place : ℕ → Option ℕ) (labels : Bool) (names : Definitions) (flags : List Bool) (i : ℕ) (text : List ℕ)
+    (number : ℤ) (flag : Bool)
     → slice_get names i ≡ Some (text, number) → slice_get flags i ≡ Some flag → is_wanted labels flag ≡ false
     → names_of image place labels (option_to_list (slice_get (zip names flags) i)) ≡ []
 unfolding names_of
@@ -386,7 +413,8 @@ name_left image place labels names flags i text number flag e f other =
     ap (λ (o : Option Numbered). names_of image place labels (option_to_list o)) (zip_at names flags i (text, number) flag e f)
     ∙ ap (λ (b : Bool). (if b then name_if_free image place text number else []) ++ []) other
 
-pub name_none : (image : List (Option ℕ)) (place : ℕ → Option ℕ) (labels : Bool) (o : Option Numbered) → o ≡ None → names_of image place labels (option_to_list o) ≡ []
+pub name_none : (image : List (Option ℕ)) (place : ℕ → Option ℕ) (labels : Bool) (o : Option Numbered) → o ≡ None
+    → names_of image place labels (option_to_list o) ≡ []
 unfolding names_of
 name_none image place labels o e = ap (λ (n : Option Numbered). names_of image place labels (option_to_list n)) e
 
@@ -398,11 +426,13 @@ none_more old more e = sym (ap (λ ls. old ++ ls) e ∙ append-nil old)
 
 pub first_names : (a : AssemblyView) (table : List ℕ) (old new : List Labelled) → IsTable table (λ address. None) → old ≡ []
     → new ≡ old ++ names_of a.image (index_at table) true (numbered a) → new ≡ labels_in a
-first_names a table old new t e n = n ∙ (ap (λ ls. ls ++ names_of a.image (index_at table) true (numbered a)) e ∙ same_names a.image table nowhere true (numbered a) t)
+first_names a table old new t e n = n ∙ (ap (λ ls. ls ++ names_of a.image (index_at table) true (numbered a)) e
+    ∙ same_names a.image table nowhere true (numbered a) t)
 
 pub first_places : (a : AssemblyView) (table new : List ℕ) (labels : List Labelled) → IsTable table (λ address. None) → labels ≡ labels_in a
     → IsTable new (or_below a.image (λ address. option_or (index_at table address) (first_at (addresses_of labels) address))) → IsTable new (label_place a)
-first_places a table new labels t e n = subst (λ ls. IsTable new (or_below a.image (first_at (addresses_of ls)))) e (spread_over a.image table new nowhere (first_at (addresses_of labels)) t n)
+first_places a table new labels t e n = subst (λ ls. IsTable new (or_below a.image (first_at (addresses_of ls)))) e
+    (spread_over a.image table new nowhere (first_at (addresses_of labels)) t n)
 
 pub then_names : (a : AssemblyView) (table : List ℕ) (old new : List Labelled) → IsTable table (label_place a) → old ≡ labels_in a
     → new ≡ old ++ names_of a.image (index_at table) false (numbered a) → new ≡ names_in a
@@ -411,7 +441,8 @@ then_names a table old new t e n = n ∙ (ap (λ ls. ls ++ names_of a.image (ind
 
 pub then_places : (a : AssemblyView) (table new : List ℕ) (names : List Labelled) → IsTable table (label_place a) → names ≡ names_in a
     → IsTable new (or_below a.image (λ address. option_or (index_at table address) (first_at (addresses_of names) address))) → IsTable new (label_for a)
-then_places a table new names t e n = subst (λ ls. IsTable new (or_below a.image (λ address. option_or (label_place a address) (first_at (addresses_of ls) address)))) e
+then_places a table new names t e n = subst (λ ls. IsTable new
+    (or_below a.image (λ address. option_or (label_place a address) (first_at (addresses_of ls) address)))) e
     (spread_over a.image table new (label_place a) (first_at (addresses_of names)) t n)
 
 -- ---- lines, taken one after another
@@ -428,6 +459,7 @@ lines_suc (l ∷ ls) zero = refl
 lines_suc (l ∷ ls) (suc i) = ap (λ (more : List LineView). line_of l ++ more) (lines_suc ls i)
     ∙ sym (append_assoc (line_of l) (lines_of (take i ls)) (lines_of (option_to_list (slice_get ls i))))
 
-pub lines_more : (lines : List LineView) (i : ℕ) (old new : List LineView) → old ≡ lines_of (take i lines) → new ≡ old ++ lines_of (option_to_list (slice_get lines i)) → new ≡ lines_of (take (i + 1) lines)
+pub lines_more : (lines : List LineView) (i : ℕ) (old new : List LineView) → old ≡ lines_of (take i lines)
+    → new ≡ old ++ lines_of (option_to_list (slice_get lines i)) → new ≡ lines_of (take (i + 1) lines)
 lines_more lines i old new e n =
     n ∙ (ap (λ ls. ls ++ lines_of (option_to_list (slice_get lines i))) e ∙ sym (ap (λ k. lines_of (take k lines)) (add-one i) ∙ lines_suc lines i))

@@ -10,19 +10,22 @@ use Rattle.model.specs.Token.{Lexeme}
 use Rattle.warnings.specs.Brackets.{behind_brackets, depth_behind}
 
 -- a token behind which brackets are still to be closed
-pub goes_on : (ts : List Token) (i depth next : ℕ) (d : Token) (total : Option (List Lexeme)) → i < length ts → next ≡ depth_behind depth (lexeme_of (get_or ts i d)) → (next ≡ 0 → ⊥)
+pub goes_on : (ts : List Token) (i depth next : ℕ) (d : Token) (total : Option (List Lexeme)) → i < length ts
+    → next ≡ depth_behind depth (lexeme_of (get_or ts i d)) → (next ≡ 0 → ⊥)
     → behind_brackets depth (lexemes (drop i ts)) ≡ total → behind_brackets next (lexemes (drop (i + 1) ts)) ≡ total
 unfolding behind_brackets
 goes_on ts i depth next d total within told more so_far =
     let left : (depth_behind depth (lexeme_of (get_or ts i d)) == 0) ≡ false = sym (ap (λ (n : ℕ). n == 0) told) ∙ ne_eqb next 0 more in
-    let opened : behind_brackets depth (lexemes (drop i ts)) ≡ behind_brackets (depth_behind depth (lexeme_of (get_or ts i d))) (lexemes (drop (i + 1) ts)) = rw (drop_more ts i d within, left) refl in
+    let opened : behind_brackets depth (lexemes (drop i ts))
+        ≡ behind_brackets (depth_behind depth (lexeme_of (get_or ts i d))) (lexemes (drop (i + 1) ts)) = rw (drop_more ts i d within, left) refl in
     ap (λ (n : ℕ). behind_brackets n (lexemes (drop (i + 1) ts))) told ∙ sym opened ∙ so_far
 
 rest_is : (n : ℕ) (ts : List Token) → take (length ts - n) (drop n ts) ≡ drop n ts
 rest_is n ts = take_all (length ts - n) (drop n ts) (omega (arith, length-drop n ts))
 
 -- the token that closes the last bracket
-pub closes : (ts : List Token) (i depth next : ℕ) (d : Token) (total : Option (List Lexeme)) → i < length ts → next ≡ depth_behind depth (lexeme_of (get_or ts i d)) → next ≡ 0
+pub closes : (ts : List Token) (i depth next : ℕ) (d : Token) (total : Option (List Lexeme)) → i < length ts
+    → next ≡ depth_behind depth (lexeme_of (get_or ts i d)) → next ≡ 0
     → behind_brackets depth (lexemes (drop i ts)) ≡ total → Some (lexemes (take (length ts - (i + 1)) (drop (i + 1) ts))) ≡ total
 unfolding behind_brackets
 closes ts i depth next d total within told none so_far =
@@ -31,7 +34,8 @@ closes ts i depth next d total within told none so_far =
     ap (λ (x : List Token). Some (lexemes x)) (rest_is (i + 1) ts) ∙ sym opened ∙ so_far
 
 -- no token is left
-pub never_closed : (ts : List Token) (i depth : ℕ) (total : Option (List Lexeme)) → length ts ≤ i → behind_brackets depth (lexemes (drop i ts)) ≡ total → None ≡ total
+pub never_closed : (ts : List Token) (i depth : ℕ) (total : Option (List Lexeme)) → length ts ≤ i
+    → behind_brackets depth (lexemes (drop i ts)) ≡ total → None ≡ total
 unfolding behind_brackets
 never_closed ts i depth total past so_far =
     let opened : behind_brackets depth (lexemes (drop i ts)) ≡ None = rw (drop_all i ts past) refl in

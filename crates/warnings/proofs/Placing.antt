@@ -20,7 +20,8 @@ snoc [] p = refl
 snoc (x ∷ xs) p = ap (λ (y : List Placed). placed_view x ∷ y) (snoc xs p)
 
 -- one line more, as it is seen
-pub placed_more : (ps new : List PlacedLine) (p : PlacedLine) (x : Placed) → new ≡ ps ++ p ∷ [] → placed_view p ≡ x → placed_views new ≡ placed_views ps ++ x ∷ []
+pub placed_more : (ps new : List PlacedLine) (p : PlacedLine) (x : Placed) → new ≡ ps ++ p ∷ [] → placed_view p ≡ x
+    → placed_views new ≡ placed_views ps ++ x ∷ []
 placed_more ps new p x is view = ap placed_views is ∙ snoc ps p ∙ ap (λ (y : Placed). placed_views ps ++ y ∷ []) view
 
 nothing_after : (ps : List Placed) → ps ++ [] ≡ ps
@@ -36,7 +37,8 @@ so_on profile ps rest i fs = placed_views ps ++ placed_lines profile (lines_of r
 
 -- a line more
 pub goes_on : (profile : Profile) (ps new : List PlacedLine) (rest text behind : List ℕ) (i : ℕ) (fs : List Found) (f : Found) (total : List Placed)
-    → lines_of rest ≡ text ∷ lines_of behind → i < length fs → f ≡ get_or fs i f → placed_views new ≡ placed_views ps ++ placed_line profile text (found_view f) ∷ []
+    → lines_of rest ≡ text ∷ lines_of behind → i < length fs → f ≡ get_or fs i f
+        → placed_views new ≡ placed_views ps ++ placed_line profile text (found_view f) ∷ []
     → so_on profile ps rest i fs ≡ total → so_on profile new behind (i + 1) fs ≡ total
 goes_on profile ps new rest text behind i fs f total cut within is view so_far =
     let left : List Placed = placed_lines profile (lines_of behind) (found_all (drop (i + 1) fs)) in
@@ -60,7 +62,8 @@ done profile ps rest i fs total past so_far =
     sym (nothing_after (placed_views ps)) ∙ sym (rw (drop_all i fs past, no_found profile (lines_of rest)) refl) ∙ so_far
 
 -- the lines left over, a line on
-pub left_on : (rest text behind : List ℕ) (i : ℕ) (all : List (List ℕ)) → lines_of rest ≡ text ∷ lines_of behind → lines_of rest ≡ drop i all → lines_of behind ≡ drop (i + 1) all
+pub left_on : (rest text behind : List ℕ) (i : ℕ) (all : List (List ℕ)) → lines_of rest ≡ text ∷ lines_of behind → lines_of rest ≡ drop i all
+    → lines_of behind ≡ drop (i + 1) all
 left_on rest text behind i all cut left =
     sym (drop_one text (lines_of behind)) ∙ ap (λ (y : List (List ℕ)). drop 1 y) (sym cut ∙ left) ∙ drop-drop 1 i all
   where

@@ -21,7 +21,8 @@ before None front rest = ap (λ (x : List Reach). x ++ rest) (append-nil front)
 before (Some r) front rest = append_assoc front (r ∷ []) rest
 
 -- a line more
-pub goes_on : (numbers : Numbers) (rs more new : List Reach) (i : ℕ) (ps : List PlacedLine) (p : PlacedLine) (total : List Reach) → i < length ps → p ≡ get_or ps i p
+pub goes_on : (numbers : Numbers) (rs more new : List Reach) (i : ℕ) (ps : List PlacedLine) (p : PlacedLine) (total : List Reach) → i < length ps
+    → p ≡ get_or ps i p
     → more ≡ rs ++ with_reach (reach_of_bytes (placed_view p).address (placed_view p).size) []
     → new ≡ more ++ with_reach (reach_of_line numbers (placed_view p).address (placed_view p).line) []
     → so_on numbers rs i ps ≡ total → so_on numbers new (i + 1) ps ≡ total
@@ -35,5 +36,6 @@ goes_on numbers rs more new i ps p total within is first second so_far =
     ∙ sym opened ∙ so_far
 
 -- no line is left
-pub done : (numbers : Numbers) (rs : List Reach) (i : ℕ) (ps : List PlacedLine) (total : List Reach) → length ps ≤ i → so_on numbers rs i ps ≡ total → rs ≡ total
+pub done : (numbers : Numbers) (rs : List Reach) (i : ℕ) (ps : List PlacedLine) (total : List Reach) → length ps ≤ i → so_on numbers rs i ps ≡ total
+    → rs ≡ total
 done numbers rs i ps total past so_far = sym (append-nil rs) ∙ sym (rw (drop_all i ps past) refl) ∙ so_far

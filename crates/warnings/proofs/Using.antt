@@ -16,7 +16,8 @@ first_left xs i x within is = drop_more xs i x within ∙ ap (λ y. y ∷ drop (
 abbrev pub terms_left : List Expr → ℕ → Definitions → Definitions
 terms_left es i names = used_in_terms (map term_view (drop i es)) names
 
-pub terms_on : (es : List Expr) (i : ℕ) (e : Expr) (names now total : Definitions) → i < length es → e ≡ get_or es i e → now ≡ used_in (term_view e) names → terms_left es i names ≡ total → terms_left es (i + 1) now ≡ total
+pub terms_on : (es : List Expr) (i : ℕ) (e : Expr) (names now total : Definitions) → i < length es → e ≡ get_or es i e
+    → now ≡ used_in (term_view e) names → terms_left es i names ≡ total → terms_left es (i + 1) now ≡ total
 terms_on es i e names now total within is noted so_far =
     let opened : terms_left es i names ≡ terms_left es (i + 1) (used_in (term_view e) names) = rw (first_left es i e within is) refl in
     ap (λ (n : Definitions). terms_left es (i + 1) n) noted ∙ sym opened ∙ so_far
@@ -27,7 +28,8 @@ terms_done es i names total past so_far = sym (rw (drop_all i es past) refl) ∙
 abbrev pub items_left : List Item → ℕ → Definitions → Definitions
 items_left es i names = used_in_items (map item_view (drop i es)) names
 
-pub items_on : (es : List Item) (i : ℕ) (e : Item) (names now total : Definitions) → i < length es → e ≡ get_or es i e → now ≡ used_in_item (item_view e) names → items_left es i names ≡ total → items_left es (i + 1) now ≡ total
+pub items_on : (es : List Item) (i : ℕ) (e : Item) (names now total : Definitions) → i < length es → e ≡ get_or es i e
+    → now ≡ used_in_item (item_view e) names → items_left es i names ≡ total → items_left es (i + 1) now ≡ total
 items_on es i e names now total within is noted so_far =
     let opened : items_left es i names ≡ items_left es (i + 1) (used_in_item (item_view e) names) = rw (first_left es i e within is) refl in
     ap (λ (n : Definitions). items_left es (i + 1) n) noted ∙ sym opened ∙ so_far
@@ -38,7 +40,8 @@ items_done es i names total past so_far = sym (rw (drop_all i es past) refl) ∙
 abbrev pub lines_left : List PlacedLine → ℕ → Definitions → Definitions
 lines_left ps i names = used_by (placed_views (drop i ps)) names
 
-pub lines_on : (ps : List PlacedLine) (i : ℕ) (p : PlacedLine) (names now total : Definitions) → i < length ps → p ≡ get_or ps i p → now ≡ used_in_line (placed_view p).line names → lines_left ps i names ≡ total → lines_left ps (i + 1) now ≡ total
+pub lines_on : (ps : List PlacedLine) (i : ℕ) (p : PlacedLine) (names now total : Definitions) → i < length ps → p ≡ get_or ps i p
+    → now ≡ used_in_line (placed_view p).line names → lines_left ps i names ≡ total → lines_left ps (i + 1) now ≡ total
 lines_on ps i p names now total within is noted so_far =
     let opened : lines_left ps i names ≡ lines_left ps (i + 1) (used_in_line (placed_view p).line names) = rw (first_left ps i p within is) refl in
     ap (λ (n : Definitions). lines_left ps (i + 1) n) noted ∙ sym opened ∙ so_far

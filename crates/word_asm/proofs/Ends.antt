@@ -22,7 +22,8 @@ abbrev failed : (A : Type 0) → AsmFault → Result A AsmFault
 failed A fault = Err fault
 
 -- a fault is that of a call with another result
-pub other_result : {A X : Type 0} (e f g : AsmFault) → (failed A e ≡ failed A f) ⊎ (failed A e ≡ failed A g) → (failed X e ≡ failed X f) ⊎ (failed X e ≡ failed X g)
+pub other_result : {A X : Type 0} (e f g : AsmFault) → (failed A e ≡ failed A f) ⊎ (failed A e ≡ failed A g) → (failed X e ≡ failed X f)
+    ⊎ (failed X e ≡ failed X g)
 other_result e f g (inl same) = inl (ap Err (ap (fault_or e) same))
 other_result e f g (inr same) = inr (ap Err (ap (fault_or e) same))
 

@@ -9,18 +9,21 @@ use Rattle.word_asm.specs.Found.{extents_found, names_found, places_found}
 use Rattle.word_asm.specs.Texts.{AreSymbols, IsMapAsked, map_text, symbols_text}
 use Rattle.word_asm.specs.declared.format.SymbolsFormat.{SymbolsFormat}
 
-places_laid : (m : Mending) (lines : List (List ℕ)) (before : Context) (placed : List PlacedLine) (all : Context) → IsLaidOut before lines placed all → extents_found (found_lines m before lines) ≡ extents_of placed
+places_laid : (m : Mending) (lines : List (List ℕ)) (before : Context) (placed : List PlacedLine) (all : Context) → IsLaidOut before lines placed all
+    → extents_found (found_lines m before lines) ≡ extents_of placed
 places_laid m [] before placed all h = rw h.0 refl
 places_laid m (line ∷ lines) before [] all h = absurd h
 places_laid m (line ∷ lines) before (p ∷ ps) all h = rw h.1 (ap (λ (x : List (ℕ × ℕ)). extent_of p ∷ x) (places_laid m lines h.0 ps all h.2))
 
-fixed_laid : (m : Mending) (lines : List (List ℕ)) (before : Context) (placed : List PlacedLine) (all : Context) → IsLaidOut before lines placed all → fixed_by m before lines ≡ all
+fixed_laid : (m : Mending) (lines : List (List ℕ)) (before : Context) (placed : List PlacedLine) (all : Context) → IsLaidOut before lines placed all
+    → fixed_by m before lines ≡ all
 fixed_laid m [] before placed all h = sym h.1
 fixed_laid m (line ∷ lines) before [] all h = absurd h
 fixed_laid m (line ∷ lines) before (p ∷ ps) all h = rw h.1 (fixed_laid m lines h.0 ps all h.2)
 
 -- the names that are asked for
-pub symbols_asked : (bus_map : Map) (source : List ℕ) (image : List (Option ℕ)) → Denotes bus_map source image → (format : Option SymbolsFormat) (text : Option (List ℕ))
+pub symbols_asked : (bus_map : Map) (source : List ℕ) (image : List (Option ℕ)) → Denotes bus_map source image
+    → (format : Option SymbolsFormat) (text : Option (List ℕ))
     → text ≡ option_map (λ f. symbols_text f (names_found bus_map source)) format → AreSymbols bus_map source format text
 symbols_asked bus_map source image d (Some format) (Some text) e = record {
   placed = d.placed;

@@ -16,21 +16,25 @@ names_left format names i = flat_map (row_in format) (drop i names)
 
 -- a name
 pub name_done : (format : SymbolsFormat) (out new : List ℕ) (names : Definitions) (i : ℕ) (name : List ℕ × ℤ) (total : List ℕ)
-    → Some name ≡ slice_get names i → new ≡ out ++ row_in format name → out ++ names_left format names i ≡ total → new ++ names_left format names (i + 1) ≡ total
+    → Some name ≡ slice_get names i → new ≡ out ++ row_in format name → out ++ names_left format names i ≡ total
+        → new ++ names_left format names (i + 1) ≡ total
 name_done format out new names i name total is put so_far =
     let at : slice_get names i ≡ Some name = sym is in
-    let first : drop i names ≡ name ∷ drop (i + 1) names = drop_more names i name (slice_get_within names i name at) ∙ ap (λ (x : List ℕ × ℤ). x ∷ drop (i + 1) names) (get_or_from_slice_get names i name name at) in
+    let first : drop i names ≡ name ∷ drop (i + 1) names = drop_more names i name (slice_get_within names i name at)
+        ∙ ap (λ (x : List ℕ × ℤ). x ∷ drop (i + 1) names) (get_or_from_slice_get names i name name at) in
     let next : names_left format names i ≡ row_in format name ++ names_left format names (i + 1) = rw first refl in
     rw put (append_assoc out (row_in format name) (names_left format names (i + 1))) ∙ ap (λ (x : List ℕ). out ++ x) (sym next) ∙ so_far
 
 -- no name is left
-pub no_name : (format : SymbolsFormat) (out : List ℕ) (names : Definitions) (i : ℕ) (total : List ℕ) → length names ≤ i → out ++ names_left format names i ≡ total → out ≡ total
+pub no_name : (format : SymbolsFormat) (out : List ℕ) (names : Definitions) (i : ℕ) (total : List ℕ) → length names ≤ i
+    → out ++ names_left format names i ≡ total → out ≡ total
 no_name format out names i total past so_far =
     let none : drop i names ≡ [] = drop_all i names past in
     sym (append-nil out) ∙ (rw none at so_far)
 
 abbrev There : Definitions → ℕ → Type 0
-There names i = ((d : List ℕ × ℤ) × (i < length names) × (slice_get names i ≡ Some d) × (get_or names i d ≡ d)) ⊎ ((length names ≤ i) × (slice_get names i ≡ None))
+There names i = ((d : List ℕ × ℤ) × (i < length names) × (slice_get names i ≡ Some d) × (get_or names i d ≡ d))
+    ⊎ ((length names ≤ i) × (slice_get names i ≡ None))
 
 not_both : (d : List ℕ × ℤ) (a : Option (List ℕ × ℤ)) → None ≡ a → a ≡ Some d → ⊥
 not_both d a p q = cc

@@ -28,7 +28,8 @@ small true n is = omega (arith, is)
 small false n is = omega (arith, is)
 
 -- some source was checked, and its text was written
-pub told : (asked : CheckAsked) (file : Text) (found : CheckedText) (held now : Option (List ℕ)) (U : Type 0) (status : ℕ) → IsFound asked file found → status ≡ (if has_slips asked.strict found then 1 else 0)
+pub told : (asked : CheckAsked) (file : Text) (found : CheckedText) (held now : Option (List ℕ)) (U : Type 0) (status : ℕ) → IsFound asked file found
+    → status ≡ (if has_slips asked.strict found then 1 else 0)
     → Appends held now found.text.items → IsTried asked file held now U status
 told asked file found held now U status is counts written = record {
   said = found.text.items;
@@ -41,7 +42,8 @@ pub told_small : (asked : CheckAsked) (found : CheckedText) (status : ℕ) → s
 told_small asked found status counts = small (has_slips asked.strict found) status counts
 
 -- some source was checked, and a beginning of its text was written
-pub told_front : (asked : CheckAsked) (file : Text) (found : CheckedText) (held now : Option (List ℕ)) → IsFound asked file found → AppendsFront held now found.text.items → IsBegun asked file held now
+pub told_front : (asked : CheckAsked) (file : Text) (found : CheckedText) (held now : Option (List ℕ)) → IsFound asked file found
+    → AppendsFront held now found.text.items → IsBegun asked file held now
 told_front asked file found held now is written = record {
   outcome = record { said = found.text.items; status = if has_slips asked.strict found then 1 else 0 };
   is = inl (record { found = found; is = is; text = refl; status_is = refl });
@@ -49,7 +51,8 @@ told_front asked file found held now is written = record {
 }
 
 -- the source was not checked
-pub kept_back : (asked : CheckAsked) (file : Text) (why : LoadFault) (held now : Option (List ℕ)) (U : Type 0) (status : ℕ) → EndsFile why → status ≡ status_of_load why → held ≡ now → U → IsTried asked file held now U status
+pub kept_back : (asked : CheckAsked) (file : Text) (why : LoadFault) (held now : Option (List ℕ)) (U : Type 0) (status : ℕ) → EndsFile why
+    → status ≡ status_of_load why → held ≡ now → U → IsTried asked file held now U status
 kept_back asked file why held now U status ends is same unwritten = record {
   said = [];
   is = inr (record { why = why; ends = ends; text = refl; status_is = is });
@@ -97,7 +100,8 @@ looks_end text (Refused (WriteFile why)) ends = absurd ends
 
 -- ---- lists of outcomes
 
-outcomes_more : (asked : CheckAsked) (files : List Text) (outcomes : List Outcome) (file : Text) (outcome : Outcome) → AreOutcomes asked files outcomes → IsOutcome asked file outcome
+outcomes_more : (asked : CheckAsked) (files : List Text) (outcomes : List Outcome) (file : Text) (outcome : Outcome)
+    → AreOutcomes asked files outcomes → IsOutcome asked file outcome
     → AreOutcomes asked (files ++ file ∷ []) (outcomes ++ outcome ∷ [])
 outcomes_more asked [] [] file outcome are is = (is, tt)
 outcomes_more asked (f ∷ fs) (o ∷ os) file outcome are is = (are.0, outcomes_more asked fs os file outcome are.1 is)
@@ -129,7 +133,8 @@ lower_than a b n k is least = (omega (arith, is, least), omega (arith, is, least
 -- ---- files
 
 -- no file yet
-pub none_tried : (asked : CheckAsked) (files : List (Bor Text)) (held now : Option (List ℕ)) (U : Type 0) → held ≡ now → U → AreTried asked (texts (take 0 files)) held now U 0
+pub none_tried : (asked : CheckAsked) (files : List (Bor Text)) (held now : Option (List ℕ)) (U : Type 0) → held ≡ now → U
+    → AreTried asked (texts (take 0 files)) held now U 0
 none_tried asked files held now U same unwritten = record {
   outcomes = [];
   are = tt;
@@ -139,17 +144,22 @@ none_tried asked files held now U same unwritten = record {
 }
 
 -- the files so far, and one more
-pub tried_more : (asked : CheckAsked) (files : List (Bor Text)) (i : ℕ) (d : Bor Text) (file : Text) (held between now : Option (List ℕ)) (U V W : Type 0) (worst status next : ℕ)
+pub tried_more : (asked : CheckAsked) (files : List (Bor Text)) (i : ℕ) (d : Bor Text) (file : Text) (held between now : Option (List ℕ))
+    (U V W : Type 0) (worst status next : ℕ)
     → i < length files → file ≡ (get_or files i d).now → next ≡ max worst status → (U → V → W)
-    → AreTried asked (texts (take i files)) held between U worst → IsTried asked file between now V status → AreTried asked (texts (take (i + 1) files)) held now W next
+    → AreTried asked (texts (take i files)) held between U worst → IsTried asked file between now V status
+        → AreTried asked (texts (take (i + 1) files)) held now W next
 tried_more asked files i d file held between now U V W worst status next within is higher both before one =
     let outcome : Outcome = record { said = one.said; status = status } in
-    let longer : texts (take (i + 1) files) ≡ texts (take i files) ++ file ∷ [] = map_more (λ (f : Bor Text). f.now) files i d within ∙ ap (λ (t : Text). texts (take i files) ++ t ∷ []) (sym is) in
+    let longer : texts (take (i + 1) files) ≡ texts (take i files) ++ file ∷ [] =
+        map_more (λ (f : Bor Text). f.now) files i d within ∙ ap (λ (t : Text). texts (take i files) ++ t ∷ []) (sym is) in
     record {
       outcomes = before.outcomes ++ outcome ∷ [];
-      are = subst (λ (fs : List Text). AreOutcomes asked fs (before.outcomes ++ outcome ∷ [])) (sym longer) (outcomes_more asked (texts (take i files)) before.outcomes file outcome before.are one.is);
+      are = subst (λ (fs : List Text). AreOutcomes asked fs (before.outcomes ++ outcome ∷ [])) (sym longer)
+          (outcomes_more asked (texts (take i files)) before.outcomes file outcome before.are one.is);
       worst = higher ∙ ap (λ (n : ℕ). max n status) before.worst ∙ sym (worst_more before.outcomes outcome);
-      written = subst (Appends held now) (sym (said_more before.outcomes outcome)) (Appends-trans held between now (said_of before.outcomes) one.said before.written one.written);
+      written = subst (Appends held now) (sym (said_more before.outcomes outcome))
+          (Appends-trans held between now (said_of before.outcomes) one.said before.written one.written);
       unwritten = λ all. let kept = kept_before before.outcomes outcome all in both (before.unwritten kept.0) (one.unwritten kept.1);
     }
 
@@ -159,21 +169,26 @@ pub all_tried : (asked : CheckAsked) (files : List (Bor Text)) (n : ℕ) (held n
 all_tried asked files n held now U worst past before =
     subst (λ (fs : List (Bor Text)). AreTried asked (texts fs) held now U worst) (take_all n files past) before
 
-front_behind : (held between now : Option (List ℕ)) (first next : List ℕ) → Appends held between first → AppendsFront between now next → AppendsFront held now (first ++ next)
+front_behind : (held between now : Option (List ℕ)) (first next : List ℕ) → Appends held between first → AppendsFront between now next
+    → AppendsFront held now (first ++ next)
 front_behind held between now first next before front =
-    (first ++ front.0, front.1, ap (λ (x : List ℕ). first ++ x) front.2 ∙ sym (append_assoc first front.0 front.1), Appends-trans held between now first front.0 before front.3)
+    (first ++ front.0, front.1, ap (λ (x : List ℕ). first ++ x) front.2
+        ∙ sym (append_assoc first front.0 front.1), Appends-trans held between now first front.0 before front.3)
 
 -- the output failed at one more file
 pub begun_at : (asked : CheckAsked) (files : List (Bor Text)) (i : ℕ) (d : Bor Text) (file : Text) (held between now : Option (List ℕ)) (U : Type 0) (worst : ℕ)
     → i < length files → file ≡ (get_or files i d).now
     → AreTried asked (texts (take i files)) held between U worst → IsBegun asked file between now → AreBegun asked (texts files) held now
 begun_at asked files i d file held between now U worst within is before one =
-    let longer : texts (take (i + 1) files) ≡ texts (take i files) ++ file ∷ [] = map_more (λ (f : Bor Text). f.now) files i d within ∙ ap (λ (t : Text). texts (take i files) ++ t ∷ []) (sym is) in
+    let longer : texts (take (i + 1) files) ≡ texts (take i files) ++ file ∷ [] =
+        map_more (λ (f : Bor Text). f.now) files i d within ∙ ap (λ (t : Text). texts (take i files) ++ t ∷ []) (sym is) in
     record {
       tried = texts (take (i + 1) files);
       left = texts (drop (i + 1) files);
       all = sym (sym (map-append (λ (f : Bor Text). f.now) (take (i + 1) files) (drop (i + 1) files)) ∙ ap texts (take-append-drop (i + 1) files));
       outcomes = before.outcomes ++ one.outcome ∷ [];
-      are = subst (λ (fs : List Text). AreOutcomes asked fs (before.outcomes ++ one.outcome ∷ [])) (sym longer) (outcomes_more asked (texts (take i files)) before.outcomes file one.outcome before.are one.is);
-      written = subst (AppendsFront held now) (sym (said_more before.outcomes one.outcome)) (front_behind held between now (said_of before.outcomes) one.outcome.said before.written one.written);
+      are = subst (λ (fs : List Text). AreOutcomes asked fs (before.outcomes ++ one.outcome ∷ [])) (sym longer)
+          (outcomes_more asked (texts (take i files)) before.outcomes file one.outcome before.are one.is);
+      written = subst (AppendsFront held now) (sym (said_more before.outcomes one.outcome))
+          (front_behind held between now (said_of before.outcomes) one.outcome.said before.written one.written);
     }

@@ -29,11 +29,13 @@ pub nothing_below : (one other : Cells) → differences_below one other 0 ≡ []
 unfolding differences_below
 nothing_below one other = refl
 
-pub no_more : (one other : Cells) (n : ℕ) (found : List ℕ) → not (same_cell (cell_at one n) (cell_at other n)) ≡ false → found ≡ differences_below one other n → found ≡ differences_below one other (n + 1)
+pub no_more : (one other : Cells) (n : ℕ) (found : List ℕ) → not (same_cell (cell_at one n) (cell_at other n)) ≡ false
+    → found ≡ differences_below one other n → found ≡ differences_below one other (n + 1)
 unfolding differences_below
 no_more one other n found h e = rw (add-one, h) (e ∙ sym (append-nil (differences_below one other n)))
 
-pub one_more : (one other : Cells) (n : ℕ) (found more : List ℕ) → not (same_cell (cell_at one n) (cell_at other n)) ≡ true → found ≡ differences_below one other n → more ≡ found ++ n ∷ [] → more ≡ differences_below one other (n + 1)
+pub one_more : (one other : Cells) (n : ℕ) (found more : List ℕ) → not (same_cell (cell_at one n) (cell_at other n)) ≡ true
+    → found ≡ differences_below one other n → more ≡ found ++ n ∷ [] → more ≡ differences_below one other (n + 1)
 unfolding differences_below
 one_more one other n found more h e pushed = rw (add-one, h) (pushed ∙ ap (λ (t : List ℕ). t ++ n ∷ []) e)
 
@@ -69,7 +71,8 @@ containing : (one other : Cells) (n a : ℕ) → a < n → Differ one other a �
 unfolding differences_below
 containing one other zero a below ne = absurd (omega (arith, below))
 containing one other (suc n) a below ne = elim (leb_tells (suc a) n) [
-  | inl inside ↦ Contains-append_left (differences_below one other n) (cond (differs one other n) (n ∷ []) []) a (containing one other n a (omega (arith, inside.1)) ne)
+  | inl inside ↦ Contains-append_left (differences_below one other n) (cond (differs one other n) (n ∷ []) []) a
+      (containing one other n a (omega (arith, inside.1)) ne)
   | inr past ↦
       let last : n ≡ a = omega (arith, below, past.1) in
       let t : differs one other n ≡ true = told one other n (subst (λ (i : ℕ). Differ one other i) (sym last) ne) in
@@ -79,7 +82,8 @@ containing one other (suc n) a below ne = elim (leb_tells (suc a) n) [
 past_all : (one other : Cells) (a : ℕ) → length one ≡ length other → length one ≤ a → cell_at one a ≡ cell_at other a
 past_all one other a size past = get_or_past one a None past ∙ sym (get_or_past other a None (omega (arith, size, past)))
 
-pub each_address : (one other : Cells) (found : List ℕ) → length one ≡ length other → found ≡ differences one other → (a : ℕ) → Contains found a ↔ Differ one other a
+pub each_address : (one other : Cells) (found : List ℕ) → length one ≡ length other → found ≡ differences one other → (a : ℕ)
+    → Contains found a ↔ Differ one other a
 each_address one other found size e a = (
   λ h. contained one other (length one) a (subst (λ (t : List ℕ). Contains t a) e h),
   λ ne. elim (leb_tells (suc a) (length one)) [

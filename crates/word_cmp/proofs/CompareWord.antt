@@ -33,7 +33,8 @@ about_of asked one other (Ok a) e f one_is other_is about =
 about_of asked one other (Err fault) e f one_is other_is about = about
 
 -- memory that ran out is not the status 1
-pub memory : (r : Result Answer FileRefusal) (status : ℕ) (held now : Option (List ℕ)) → IfErr r (λ f. f.refusal ≡ OutOfMemory) → MatchResult r (λ a. IsAnswered a status held now) (λ f. status ≡ status_of f.refusal) → status ≡ 1 → MatchResult r (λ a. Unit {0}) (λ f. ⊥)
+pub memory : (r : Result Answer FileRefusal) (status : ℕ) (held now : Option (List ℕ)) → IfErr r (λ f. f.refusal ≡ OutOfMemory)
+    → MatchResult r (λ a. IsAnswered a status held now) (λ f. status ≡ status_of f.refusal) → status ≡ 1 → MatchResult r (λ a. Unit {0}) (λ f. ⊥)
 memory (Ok a) status held now ends says h = tt
 memory (Err f) status held now ends says h = omega (arith, says, ap status_of ends, h)
 
@@ -42,7 +43,8 @@ the_first (inl a) = a
 the_first (inr never) = absurd never
 
 -- a file that is not compared has the status 2 if it is no image
-pub refused_status : (said : Option Form) (why : ImageRefusal) (status result : ℕ) → EndsImage said why → status ≡ status_of_image why → result ≡ cmp_status status
+pub refused_status : (said : Option Form) (why : ImageRefusal) (status result : ℕ) → EndsImage said why → status ≡ status_of_image why
+    → result ≡ cmp_status status
     → (2 ≤ result) × (result ≤ 4) × (result ≡ 2 → HasNoImage said)
 refused_status said why status result ends is gives = elim (ended said why status ends is) [
   | inl one ↦ (let two : result ≡ 2 = gives ∙ ap cmp_status one.0 in (omega (arith, two), omega (arith, two), λ h. one.1))

@@ -96,7 +96,8 @@ unfolding rows_after
 rows_end one other before [] = inl refl
 rows_end one other before (address ∷ more) = elim (cases_Bool (is_within one other before address)) [
   | inl t ↦ rw t (rows_end one other (Some address) more)
-  | inr f ↦ rw f (inr (one_then_more (first_row one other address more) (rows_after one other (Some address) more) (first_ends one other address more) (rows_end one other (Some address) more)))
+  | inr f ↦ rw f (inr (one_then_more (first_row one other address more) (rows_after one other (Some address) more) (first_ends one other address more)
+      (rows_end one other (Some address) more)))
 ]
 
 -- The rows of one address or more end with a line's end.
@@ -104,4 +105,5 @@ pub all_end : (one other : SideView) (all : List ℕ) → 0 < length all → End
 unfolding rows_after
 all_end one other [] h = absurd (omega arith)
 all_end one other (address ∷ more) h =
-    one_then_more (first_row one other address more) (rows_after one other (Some address) more) (first_ends one other address more) (rows_end one other (Some address) more)
+    one_then_more (first_row one other address more) (rows_after one other (Some address) more) (first_ends one other address more)
+        (rows_end one other (Some address) more)

@@ -13,13 +13,16 @@ use Rattle.model.specs.Disassembly.{rows_in}
 use Rattle.model.specs.State.{memory_of}
 use Rattle.model.specs.Writers.{AppendsFront}
 
-pub is_listing : (asked : DisImageAsked) (image : List (Option ℕ)) (text : List ℕ) → IsOfFile asked.form image → text ≡ rows_in asked.profile (memory_of image) asked.last asked.first 65536 → IsListing asked true text
+pub is_listing : (asked : DisImageAsked) (image : List (Option ℕ)) (text : List ℕ) → IsOfFile asked.form image
+    → text ≡ rows_in asked.profile (memory_of image) asked.last asked.first 65536 → IsListing asked true text
 is_listing asked image text read rows = record { image = image; read = read; rows = rows }
 
-pub is_told : (asked : DisImageAsked) (text : List ℕ) (held now : Option (List ℕ)) → IsListing asked true text → Appends held now text → Tells (IsListing asked) true held now
+pub is_told : (asked : DisImageAsked) (text : List ℕ) (held now : Option (List ℕ)) → IsListing asked true text → Appends held now text
+    → Tells (IsListing asked) true held now
 is_told asked text held now listing written = record { said = text; about = listing; written = written }
 
-pub is_begun : (asked : DisImageAsked) (text : List ℕ) (held now : Option (List ℕ)) → IsListing asked true text → AppendsFront held now text → TellsFront (IsListing asked) held now
+pub is_begun : (asked : DisImageAsked) (text : List ℕ) (held now : Option (List ℕ)) → IsListing asked true text → AppendsFront held now text
+    → TellsFront (IsListing asked) held now
 is_begun asked text held now listing written = record { is_right = true; said = text; about = listing; written = written }
 
 -- the status of a file that is no image

@@ -30,10 +30,12 @@ on_tape s streams Stood Alone (Err Read) serves reaches tape session source = (s
 on_tape s streams Stood Alone (Err Write) serves reaches tape session source = (serves, tt)
 on_tape s streams Stood Alone (Err OutOfMemory) serves reaches tape session source = (inl serves, tt)
 
-pub has_ended : (asked : DebugImageAsked) (image : List (Option ℕ)) (streams : Streams) → IsOfFile asked.form image → IsServedOn (session_on asked image) streams (Ok tt) → HasEnded asked streams
+pub has_ended : (asked : DebugImageAsked) (image : List (Option ℕ)) (streams : Streams) → IsOfFile asked.form image
+    → IsServedOn (session_on asked image) streams (Ok tt) → HasEnded asked streams
 has_ended asked image streams read served = record { image = image; read = read; told = served }
 
-broken : (asked : DebugImageAsked) (image : List (Option ℕ)) (streams : Streams) (Alone : Type 0) (fault : EngineFault) → IsOfFile asked.form image → IsServedOn (session_on asked image) streams (Err fault) → HasBegun asked streams Alone
+broken : (asked : DebugImageAsked) (image : List (Option ℕ)) (streams : Streams) (Alone : Type 0) (fault : EngineFault) → IsOfFile asked.form image
+    → IsServedOn (session_on asked image) streams (Err fault) → HasBegun asked streams Alone
 broken asked image streams Alone fault read served = inl (record { image = image; read = read; fault = fault; served = served })
 
 pub has_begun : (asked : DebugImageAsked) (image : List (Option ℕ)) (streams : Streams) (Alone : Type 0) (fault : EngineFault) → IsOfFile asked.form image
@@ -47,10 +49,13 @@ has_begun asked image streams Alone (Tape f) read reaches ends = absurd ends
 has_begun asked image streams Alone (Session f) read reaches ends = absurd ends
 
 -- the same on the map that is asked for
-pub has_begun_on : (asked : DebugImageAsked) (map : Map) (image : List (Option ℕ)) (streams : Streams) (Alone : Type 0) (fault : EngineFault) → map ≡ map_asked asked → IsOfFile asked.form image
-    → Reaches {X = ⊤} (Err fault) (IsServedOn (new_session asked.history (start map image)) streams (Err fault)) Alone → EndsServing fault → HasBegun asked streams Alone
+pub has_begun_on : (asked : DebugImageAsked) (map : Map) (image : List (Option ℕ)) (streams : Streams) (Alone : Type 0) (fault : EngineFault)
+    → map ≡ map_asked asked → IsOfFile asked.form image
+    → Reaches {X = ⊤} (Err fault) (IsServedOn (new_session asked.history (start map image)) streams (Err fault)) Alone → EndsServing fault
+        → HasBegun asked streams Alone
 has_begun_on asked map image streams Alone fault is read reaches ends =
-    has_begun asked image streams Alone fault read (subst (λ (m : Map). Reaches {X = ⊤} (Err fault) (IsServedOn (new_session asked.history (start m image)) streams (Err fault)) Alone) is reaches) ends
+    has_begun asked image streams Alone fault read (subst (λ (m : Map).
+        Reaches {X = ⊤} (Err fault) (IsServedOn (new_session asked.history (start m image)) streams (Err fault)) Alone) is reaches) ends
 
 -- the status of a file that is no image
 abbrev Says : Option Form → ℕ → Type 0

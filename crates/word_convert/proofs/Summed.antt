@@ -22,7 +22,8 @@ module _ (cells : List (Option ℕ)) (address byte : ℕ) (inside : address < le
       (right, small, ap is_some there, refl, ap (λ (n : ℕ). n % 256) whole ∙ none)
 
 -- the sum of one cell more
-pub sum-more : (cells : List (Option ℕ)) (k n : ℕ) → n ≡ k + 1 → sum_by cell_value (take n cells) ≡ sum_by cell_value (take k cells) + cell_value (get_or cells k None)
+pub sum-more : (cells : List (Option ℕ)) (k n : ℕ) → n ≡ k + 1
+    → sum_by cell_value (take n cells) ≡ sum_by cell_value (take k cells) + cell_value (get_or cells k None)
 sum-more cells k zero e = absurd (omega (arith, e))
 sum-more [] zero (suc n) e = refl
 sum-more [] (suc k) (suc n) e = refl

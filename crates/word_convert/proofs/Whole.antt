@@ -19,7 +19,8 @@ abbrev Cells : Type 0
 Cells = List (Option ℕ)
 
 -- why a part is not written, as why nothing is written for the addresses that are asked for
-pub not_written : (asked : ConvertAsked) (image : Cells) (low high : ℕ) (fault : ConvertFault) → IsRange asked.range image low high → IsPartNotWritten asked image low high fault → IsNotWritten asked image fault
+pub not_written : (asked : ConvertAsked) (image : Cells) (low high : ℕ) (fault : ConvertFault) → IsRange asked.range image low high
+    → IsPartNotWritten asked image low high fault → IsNotWritten asked image fault
 not_written asked image low high NoByte range h = absurd h
 not_written asked image low high NoSumByte range h = record { low = low; high = high; range = range; lacks = h }
 not_written asked image low high (Refused why) range h = h
@@ -38,14 +39,16 @@ refused_as (Err NoSumByte) asked bytes image denotes h = record { image = image;
 refused_as (Err (Refused why)) asked bytes image denotes h = inl h
 refused_as (Err (Clash address)) asked bytes image denotes h = absurd h
 
-pub joined_as : {X E : Type 0} (r : Result X E) (items : X → List ℕ) (asked : ConvertAsked) (bytes : List ℕ) (one other image : Cells) → IsImage asked.from bytes one
+pub joined_as : {X E : Type 0} (r : Result X E) (items : X → List ℕ) (asked : ConvertAsked) (bytes : List ℕ) (one other image : Cells)
+    → IsImage asked.from bytes one
     → IsFirstClash one other None → IsUnion one other image
     → IfOk r (λ out. IsWritten asked image (items out)) → IfOk r (λ out. IsConvertedWith asked bytes other (items out))
 joined_as (Err e) items asked bytes one other image denotes agrees whole h = tt
 joined_as (Ok out) items asked bytes one other image denotes agrees whole h =
     record { one = one; denotes = denotes; agrees = agrees; image = image; whole = whole; written = h }
 
-pub unjoined_as : {X : Type 0} (r : Result X ConvertFault) (asked : ConvertAsked) (bytes : List ℕ) (one other image : Cells) → IsImage asked.from bytes one → IsUnion one other image
+pub unjoined_as : {X : Type 0} (r : Result X ConvertFault) (asked : ConvertAsked) (bytes : List ℕ) (one other image : Cells)
+    → IsImage asked.from bytes one → IsUnion one other image
     → IfErr r (IsNotWritten asked image) → IfErr r (IsRefusedWith asked bytes other)
 unjoined_as (Ok out) asked bytes one other image denotes whole h = tt
 unjoined_as (Err NoByte) asked bytes one other image denotes whole h = (one, denotes, image, whole, h)
@@ -97,7 +100,8 @@ refused_ends asked bytes (Clash address) is = tt
 refused_ends asked bytes (Refused w) (inl memory) = subst (λ (x : ImageRefusal). EndsConvert (Refused x)) (sym memory) tt
 refused_ends asked bytes (Refused w) (inr is) = no_image_ends asked bytes w is
 
-pub refused_with_ends : (asked : ConvertAsked) (bytes : List ℕ) (other : Cells) (fault : ConvertFault) → IsRefusedWith asked bytes other fault → EndsConvert fault
+pub refused_with_ends : (asked : ConvertAsked) (bytes : List ℕ) (other : Cells) (fault : ConvertFault) → IsRefusedWith asked bytes other fault
+    → EndsConvert fault
 refused_with_ends asked bytes other NoByte is = tt
 refused_with_ends asked bytes other NoSumByte is = tt
 refused_with_ends asked bytes other (Clash address) is = tt

@@ -12,7 +12,8 @@ use Rattle.word_dap.specs.declared.adapter.Adapter.{Adapter}
 use Rattle.json_messages.proofs.Sessions.{cut_between, unserved}
 use Rattle.json_messages.specs.declared.fault.StreamFault.TheVariants as fault
 
-pub asked_help : (app : App) (words : List Text) (f : WordsFault) (status : ℕ) → IsRefusalOf app words ⊥ f → IsStatusOf f status → status ≡ 0 → AsksForHelp app words
+pub asked_help : (app : App) (words : List Text) (f : WordsFault) (status : ℕ) → IsRefusalOf app words ⊥ f → IsStatusOf f status → status ≡ 0
+    → AsksForHelp app words
 asked_help app words (Help text) status is said zero = is.1
 asked_help app words (Usage text) status is said zero = absurd (omega (arith, said, zero))
 asked_help app words Value status is said zero = absurd is.1
@@ -30,11 +31,13 @@ abbrev first : Adapter
 first = record { counting = None; client = None }
 
 -- Memory ran out before a message was read.
-pub cut_first : (seen : Option Text) (status : ℕ) (given before after : Option (List ℕ)) → status ≡ 3 → Appends before after [] → CutsOff seen status given given before after
+pub cut_first : (seen : Option Text) (status : ℕ) (given before after : Option (List ℕ)) → status ≡ 3 → Appends before after []
+    → CutsOff seen status given given before after
 cut_first seen status given before after three none = (
   fault.OutOfMemory,
   three,
   [],
-  (first, refl, refl, cut_between (Turns seen) given given given [] [] (first, 0) (first, 0) fault.OutOfMemory [] (unserved (Turns seen) given (first, 0)) (Consumes-nil given) tt),
+  (first, refl, refl, cut_between (Turns seen) given given given [] [] (first, 0) (first, 0) fault.OutOfMemory []
+      (unserved (Turns seen) given (first, 0)) (Consumes-nil given) tt),
   none,
 )

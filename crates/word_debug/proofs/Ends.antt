@@ -51,7 +51,8 @@ not_two true result is two = omega (arith, is, two)
 not_two false result is two = omega (arith, is, two)
 
 -- What the plain status tells of the map, the strict one tells too.
-pub tells_of : (rom : Option (ℕ × ℕ)) (port status result : ℕ) (fault : Bool) → (status ≡ 0 → result ≡ (if fault then 5 else 0)) → (1 ≤ status → result ≡ status)
+pub tells_of : (rom : Option (ℕ × ℕ)) (port status result : ℕ) (fault : Bool) → (status ≡ 0 → result ≡ (if fault then 5 else 0))
+    → (1 ≤ status → result ≡ status)
     → TellsMap rom port status → TellsMap rom port result
 tells_of rom port zero result fault ended failed tells = record {
   bad = λ no. elim (tells.bad no) [ inl two ↦ absurd (omega (arith, two)) | inr three ↦ absurd (omega (arith, three)) ];

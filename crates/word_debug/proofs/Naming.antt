@@ -12,7 +12,8 @@ memory_line : (file : List ℕ) → session_line file OutOfMemory ≡ fault_line
 unfolding file_line
 memory_line file = refl
 
-pub memory_told : (file : List ℕ) (status : ℕ) (held now : Option (List ℕ)) → status ≡ 3 → AppendsFront held now (fault_line OutOfMemory) → IsToldOfSession file status held now
+pub memory_told : (file : List ℕ) (status : ℕ) (held now : Option (List ℕ)) → status ≡ 3 → AppendsFront held now (fault_line OutOfMemory)
+    → IsToldOfSession file status held now
 memory_told file status held now is told = (OutOfMemory, is, subst (AppendsFront held now) (sym (memory_line file)) told)
 
 pub memory_named : (file : List ℕ) (fault : WordsFault) (status : ℕ) (held now : Option (List ℕ)) → fault ≡ NoMemory → IsStatusOf fault status

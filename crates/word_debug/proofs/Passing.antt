@@ -21,7 +21,8 @@ abbrev pub Passes : Option (List ℕ) → Option (List ℕ) → Option (List ℕ
 Passes watched seen held now fault = (text : List ℕ) → Appends watched seen text → (fault ≡ (seen_in text).has_fault) × Appends held now text
 
 pub passes_of : (watched seen held now : Option (List ℕ)) (fault : Bool) → watched ≡ Some (known_framed held)
-    → ((before : Option (List ℕ)) (text : List ℕ) → Appends (Some (known_framed before)) seen text → (fault ≡ (seen_in text).has_fault) × Appends before now text)
+    → ((before : Option (List ℕ)) (text : List ℕ) → Appends (Some (known_framed before)) seen text → (fault ≡ (seen_in text).has_fault)
+        × Appends before now text)
     → Passes watched seen held now fault
 passes_of watched seen held now fault first passed text wrote = passed held text (rw first at wrote)
 
@@ -50,7 +51,8 @@ module _ (watched seen held now : Option (List ℕ)) (fault : Bool) (passes : Pa
   whole_passes s None wrote = tt
   whole_passes s (Some given) wrote = (passes (transcript s given).written wrote).1
 
-  serves_pass : (s : Session) (input left : Option (List ℕ)) (ended : Result ⊤ EngineFault) → Serves s input left watched seen ended → Serves s input left held now ended
+  serves_pass : (s : Session) (input left : Option (List ℕ)) (ended : Result ⊤ EngineFault) → Serves s input left watched seen ended
+      → Serves s input left held now ended
   serves_pass s input left (Ok done) h = whole_passes s input h
   serves_pass s input left (Err engine_fault.Read) h = (h.0, h.1, h.2, (passes (transcript_so_far s h.0).written h.3).1)
   serves_pass s input left (Err engine_fault.Write) h = begins_pass s input left h
@@ -60,7 +62,8 @@ module _ (watched seen held now : Option (List ℕ)) (fault : Bool) (passes : Pa
   serves_pass s input left (Err (engine_fault.Session fault)) h = tt
 
   module _ (map : MapSpec) (history : ℕ) (input left : Option (List ℕ)) (Alone Left : Type 0) (alone : Alone → Left) where
-    pub served_passes : (outcome : Result ⊤ Refusal) → IsServed map history input left watched seen outcome Alone → IsServed map history input left held now outcome Left
+    pub served_passes : (outcome : Result ⊤ Refusal) → IsServed map history input left watched seen outcome Alone
+        → IsServed map history input left held now outcome Left
     served_passes (Ok done) h = (h.0, serves_pass _ input left (Ok done) h.1)
     served_passes (Err (Read why)) (inl a) = inl (alone a)
     served_passes (Err (Read why)) (inr h) = inr (h.0, serves_pass _ input left (Err engine_fault.Read) h.1)

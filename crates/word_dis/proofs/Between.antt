@@ -39,7 +39,8 @@ begun cells first last part e size = record {
   rest = λ a h. ap (λ (x : List (Option ℕ)). cell_at x a) e ∙ empty_at a 65536 refl;
 }
 
-pub turn : (cells part : List (Option ℕ)) (first last a : ℕ) → IsPart cells part first last a → a < 65536 → IsPart cells (with_cell part a (cell_between cells first last a)) first last (a + 1)
+pub turn : (cells part : List (Option ℕ)) (first last a : ℕ) → IsPart cells part first last a → a < 65536
+    → IsPart cells (with_cell part a (cell_between cells first last a)) first last (a + 1)
 turn cells part first last a p below = by (cell_between cells first last a) refl
   where
     by : (c : Option ℕ) → cell_between cells first last a ≡ c → IsPart cells (with_cell part a c) first last (a + 1)
@@ -63,7 +64,8 @@ begun_each each part e size = record {
   rest = λ a h. ap (λ (x : List (Option ℕ)). cell_at x a) e ∙ empty_at a 65536 refl;
 }
 
-pub turn_each : (each : ℕ → Option ℕ → Type 0) (part new : List (Option ℕ)) (a : ℕ) (cell : Option ℕ) → IsBegun each part a → a < 65536 → each a cell → new ≡ with_cell part a cell → IsBegun each new (a + 1)
+pub turn_each : (each : ℕ → Option ℕ → Type 0) (part new : List (Option ℕ)) (a : ℕ) (cell : Option ℕ) → IsBegun each part a → a < 65536 → each a cell
+    → new ≡ with_cell part a cell → IsBegun each new (a + 1)
 turn_each each part new a None p below here put = subst (λ (x : List (Option ℕ)). IsBegun each x (a + 1)) (sym put) (record {
   size = p.size;
   done = below_more (λ (i : ℕ). each i (cell_at part i)) a p.done (subst (each a) (sym (p.rest a (omega arith))) here);

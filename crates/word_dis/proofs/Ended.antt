@@ -13,7 +13,8 @@ use Rattle.image_files.specs.declared.refusal.ImageFileRefusal.{ImageFileRefusal
 use Rattle.image_files.specs.declared.refusal.ImageRefusal.TheVariants.{Refused}
 use Rattle.model.specs.declared.instruction.Profile.{Profile}
 
-by_names : (profile : Profile) (refusal : Refusal) (status : ℕ) → EndsDefined profile refusal → status ≡ status_of refusal → ((status ≡ 1) × HasNamesFault profile) ⊎ ((3 ≤ status) × (status ≤ 4))
+by_names : (profile : Profile) (refusal : Refusal) (status : ℕ) → EndsDefined profile refusal → status ≡ status_of refusal
+    → ((status ≡ 1) × HasNamesFault profile) ⊎ ((3 ≤ status) × (status ≤ 4))
 by_names profile (Source f) status ends is = inl (is, (f, ends))
 by_names profile OutOfMemory status ends is = inr (omega (arith, is), omega (arith, is))
 by_names profile (Read why) status ends is = inr (omega (arith, is), omega (arith, is))
@@ -38,5 +39,6 @@ not_written asked why status (inr at_names) is = elim (by_names asked.profile at
 ]
 
 -- there are no names
-pub names_end : (asked : SourceAsked) (refused : FileRefusal) (why : ImageFileRefusal) → why.file.now ≡ refused.file.now → why.why ≡ Refused refused.refusal → EndsNamed asked refused → EndsSource asked why
+pub names_end : (asked : SourceAsked) (refused : FileRefusal) (why : ImageFileRefusal) → why.file.now ≡ refused.file.now
+    → why.why ≡ Refused refused.refusal → EndsNamed asked refused → EndsSource asked why
 names_end asked refused why file is ends = inr (file ∙ ends.0, (refused.refusal, is, ends.1))

@@ -10,7 +10,8 @@ use Rattle.model.specs.declared.source_fault.AsmFault.{AsmFault}
 use Rattle.word_dis.specs.Word.{AreLabels, AreNames, EndsDefined, EndsNames, IsNamesFault, names_map}
 
 -- a fault by its line behind those of labels
-pub behind : (profile : Profile) (source : List ℕ) (fault told : AsmFault) (count : ℕ) → HasFault (names_map profile) source fault → told ≡ record fault { line = fault.line - count } → IsNamesFault profile told
+pub behind : (profile : Profile) (source : List ℕ) (fault told : AsmFault) (count : ℕ) → HasFault (names_map profile) source fault
+    → told ≡ record fault { line = fault.line - count } → IsNamesFault profile told
 behind profile source fault told count has is =
     let before : ℕ = fault.line - (fault.line - count) in
     let same : fault.line - count + before ≡ fault.line = omega arith in
@@ -35,6 +36,7 @@ pub none : (profile : Profile) (labels : List ℕ) → length labels ≡ 0 → A
 none profile [] empty = refl
 none profile (b ∷ labels) empty = absurd (omega arith)
 
-pub some : (profile : Profile) (labels : List ℕ) (names : Definitions) → (length labels ≡ 0 → ⊥) → AreNames profile labels names → AreLabels profile labels (Some names)
+pub some : (profile : Profile) (labels : List ℕ) (names : Definitions) → (length labels ≡ 0 → ⊥) → AreNames profile labels names
+    → AreLabels profile labels (Some names)
 some profile [] names full are = absurd (full refl)
 some profile (b ∷ labels) names full are = are

@@ -20,8 +20,10 @@ Says asked status = (status ≡ 1 → HasNoSource asked) × (status ≢ 2) × (1
 -- there are no marks
 pub not_marked : (asked : SourceAsked) (why : MarksRefusal) (status : ℕ) → EndsMarks asked why → status ≡ status_of_marks why → Says asked status
 not_marked asked (Fault fault) status ends is = (λ one. inr (fault, ends), λ two. omega (arith, is, two), omega (arith, is), omega (arith, is))
-not_marked asked (Refused refusal.OutOfMemory) status ends is = (λ one. absurd (omega (arith, is, one)), λ two. omega (arith, is, two), omega (arith, is), omega (arith, is))
-not_marked asked (Refused (refusal.Read why)) status ends is = (λ one. absurd (omega (arith, is, one)), λ two. omega (arith, is, two), omega (arith, is), omega (arith, is))
+not_marked asked (Refused refusal.OutOfMemory) status ends is =
+    (λ one. absurd (omega (arith, is, one)), λ two. omega (arith, is, two), omega (arith, is), omega (arith, is))
+not_marked asked (Refused (refusal.Read why)) status ends is =
+    (λ one. absurd (omega (arith, is, one)), λ two. omega (arith, is, two), omega (arith, is), omega (arith, is))
 not_marked asked (Refused refusal.Words) status ends is = absurd ends
 not_marked asked (Refused (refusal.Map f)) status ends is = absurd ends
 not_marked asked (Refused (refusal.Source f)) status ends is = absurd ends
@@ -56,11 +58,13 @@ marks_end asked (Refused refusal.Write) is = absurd is.1
 marks_end asked (Refused (refusal.WriteFile f)) is = absurd is.1
 
 -- the source was written, of what is asked for with them
-pub done_with : (asked planned : SourceAsked) (held now errors told : Option (List ℕ)) → AreSaid asked.marks asked planned.said → planned ≡ with_said asked planned.said → IsDone planned held now errors told → IsDoneWith asked held now errors told
+pub done_with : (asked planned : SourceAsked) (held now errors told : Option (List ℕ)) → AreSaid asked.marks asked planned.said
+    → planned ≡ with_said asked planned.said → IsDone planned held now errors told → IsDoneWith asked held now errors told
 done_with asked planned held now errors told said same done = (planned.said, said, subst (λ (a : SourceAsked). IsDone a held now errors told) same done)
 
 -- a beginning of it was written
-pub said_with : (asked planned : SourceAsked) (held now : Option (List ℕ)) → AreSaid asked.marks asked planned.said → planned ≡ with_said asked planned.said → TellsFront (IsSaid planned) held now → TellsFront (IsSaidWith asked) held now
+pub said_with : (asked planned : SourceAsked) (held now : Option (List ℕ)) → AreSaid asked.marks asked planned.said
+    → planned ≡ with_said asked planned.said → TellsFront (IsSaid planned) held now → TellsFront (IsSaidWith asked) held now
 said_with asked planned held now said same tells = record {
   is_right = tells.is_right;
   said = tells.said;
@@ -69,6 +73,7 @@ said_with asked planned held now said same tells = record {
 }
 
 -- no source is written
-pub no_source : (asked planned : SourceAsked) → planned ≡ with_said asked planned.said → HasNoImage planned.form ⊎ HasNamesFault planned.profile → HasNoSource asked
+pub no_source : (asked planned : SourceAsked) → planned ≡ with_said asked planned.said → HasNoImage planned.form ⊎ HasNamesFault planned.profile
+    → HasNoSource asked
 no_source asked planned same (inl image) = inl (inl (subst HasNoImage (ap (λ (a : SourceAsked). a.form) same) image))
 no_source asked planned same (inr names) = inl (inr (subst HasNamesFault (ap (λ (a : SourceAsked). a.profile) same) names))

@@ -17,15 +17,18 @@ of_kinds : (k : AsmFaultKind) (fault : AsmFault) → (of_source_kind k fault ≡
 of_kinds kind.OutOfMemory fault = inr refl
 of_kinds _ fault = inl refl
 
-fault_ends : (profile : Profile) (source : List ℕ) (fault : AsmFault) → (fault ≡ out_of_memory) ⊎ HasFault (names_map profile) source fault → EndsNames profile source (of_source fault)
+fault_ends : (profile : Profile) (source : List ℕ) (fault : AsmFault) → (fault ≡ out_of_memory) ⊎ HasFault (names_map profile) source fault
+    → EndsNames profile source (of_source fault)
 fault_ends profile source fault (inl memory) = subst (λ (f : AsmFault). EndsNames profile source (of_source f)) (sym memory) tt
 fault_ends profile source fault (inr has) = elim (of_kinds fault.kind fault) [
   | inl named ↦ subst (EndsNames profile source) (sym named) has
   | inr memory ↦ subst (EndsNames profile source) (sym memory) tt
 ]
 
-pub names_refused : {X : Type 0} (profile : Profile) (source : List ℕ) (bus_map : Map) (fault : AsmFault) (result : Result X Refusal) → bus_map ≡ names_map profile
+pub names_refused : {X : Type 0} (profile : Profile) (source : List ℕ) (bus_map : Map) (fault : AsmFault) (result : Result X Refusal)
+    → bus_map ≡ names_map profile
     → (fault ≡ out_of_memory) ⊎ HasFault bus_map source fault → IsErrAnd result (λ r. r ≡ of_source fault) → IfErr result (EndsNames profile source)
 names_refused profile source bus_map fault (Ok x) same ends passed = absurd passed
 names_refused profile source bus_map fault (Err r) same ends passed =
-    subst (EndsNames profile source) (sym passed) (fault_ends profile source fault (subst (λ (m : Map). (fault ≡ out_of_memory) ⊎ HasFault m source fault) same ends))
+    subst (EndsNames profile source) (sym passed) (fault_ends profile source fault
+        (subst (λ (m : Map). (fault ≡ out_of_memory) ⊎ HasFault m source fault) same ends))

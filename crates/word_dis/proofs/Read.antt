@@ -7,7 +7,8 @@ use Rattle.arguments.proofs.Parsed.{all_found}
 use Rattle.word_dis.specs.Asked.{source_asked}
 use Rattle.word_dis.specs.CommandLine.{dis, words_asked}
 
-pub asked_found : (app : App) (words : List Text) (m : ArgMatches) → app ≡ dis → first_value (found_of m) ≡ value_in app words → rows_of (found_of m) ≡ matches_of app words
+pub asked_found : (app : App) (words : List Text) (m : ArgMatches) → app ≡ dis → first_value (found_of m) ≡ value_in app words
+    → rows_of (found_of m) ≡ matches_of app words
     → source_asked (first_value (found_of m)) (all_values (found_of m)) ≡ words_asked words
 asked_found app words m is values rows =
     ap₂ source_asked values (all_found app words m rows) ∙ ap (λ (a : App). source_asked (value_in a words) (values_in a words)) is

@@ -18,7 +18,8 @@ pub run_begins : (cells : List (Option ℕ)) (fill begin : ℕ) → length cells
 run_begins cells fill begin size run = omega (arith, inside cells fill (begin + 15) size (run 15 (omega arith)))
 
 -- an address in a run is less than 16 above where the run begins
-pub no_run : (cells : List (Option ℕ)) (fill address : ℕ) → ((back : ℕ) → back < 16 → back ≤ address → IsRun cells fill (address - back) → ⊥) → IsInRun cells fill address → ⊥
+pub no_run : (cells : List (Option ℕ)) (fill address : ℕ) → ((back : ℕ) → back < 16 → back ≤ address → IsRun cells fill (address - back) → ⊥)
+    → IsInRun cells fill address → ⊥
 no_run cells fill address none r =
     let low : r.begin ≤ address = r.low in
     let high : address < r.begin + 16 = r.high in

@@ -35,8 +35,10 @@ pub no_halves : (part : List (Option ℕ)) (split : Split) (out : List ℕ) → 
 unfolding half_targets
 no_halves part split out = sym (append-nil out)
 
-pub halves_more : (part : List (Option ℕ)) (split : Split) (n : ℕ) (first out new : List ℕ) → out ≡ first ++ half_targets part split n → new ≡ out ++ target_list (target_at part split n) → new ≡ first ++ half_targets part split (n + 1)
+pub halves_more : (part : List (Option ℕ)) (split : Split) (n : ℕ) (first out new : List ℕ) → out ≡ first ++ half_targets part split n
+    → new ≡ out ++ target_list (target_at part split n) → new ≡ first ++ half_targets part split (n + 1)
 unfolding half_targets
 halves_more part split n first out new so_far put =
     let one : n + 1 ≡ suc n = omega arith in
-    rw one (put ∙ (ap (λ (t : List ℕ). t ++ target_list (target_at part split n)) so_far ∙ append_assoc first (half_targets part split n) (target_list (target_at part split n))))
+    rw one (put ∙ (ap (λ (t : List ℕ). t ++ target_list (target_at part split n)) so_far
+        ∙ append_assoc first (half_targets part split n) (target_list (target_at part split n))))

@@ -39,7 +39,8 @@ pub covered_more : (first past a : ℕ) → first ≤ past → covered first (pa
 covered_more first past a order = grind (arith, nat_tests)
 
 -- bytes from an address on, as far as there are addresses
-pub covered_below : (first count past a : ℕ) → first ≤ 65535 → past ≡ 65536 → past < first + count → a < 65536 → covered first (past - first) a ≡ covered first count a
+pub covered_below : (first count past a : ℕ) → first ≤ 65535 → past ≡ 65536 → past < first + count → a < 65536
+    → covered first (past - first) a ≡ covered first count a
 covered_below first count past a low is more h = grind (arith, nat_tests)
 
 -- ---- a byte
@@ -56,7 +57,8 @@ cell_no least n h = elim (leb_tells least n) [
   | inr f ↦ rw f.0 refl
 ]
 
-put_twice : (again : Cells) (n a : ℕ) (seen : Bool) → a < 65536 → length again ≡ 65536 → cell_at again a ≡ cell_from 2 n → seen ≡ is_some (cell_from 1 n) → cell_at (with_cell_if again a seen) a ≡ cell_from 2 (n + 1)
+put_twice : (again : Cells) (n a : ℕ) (seen : Bool) → a < 65536 → length again ≡ 65536 → cell_at again a ≡ cell_from 2 n
+    → seen ≡ is_some (cell_from 1 n) → cell_at (with_cell_if again a seen) a ≡ cell_from 2 (n + 1)
 put_twice again n a true below size old seen = elim (leb_tells 1 n) [
   | inl t ↦ get_or-set_same again a (Some 0) None (omega (arith, size, below)) ∙ sym (cell_yes 2 (n + 1) (omega (arith, t.1)))
   | inr f ↦ let none : true ≡ false = seen ∙ ap (λ (c : Option ℕ). is_some c) (cell_no 1 n f.1) in absurd cc
@@ -83,7 +85,8 @@ same_or_not a b = elim (leb_tells a b) [
   | inr f ↦ inr (λ e. omega (arith, e, f.1))
 ]
 
-first_here : (once : Cells) (n : ℕ → ℕ) (address a : ℕ) → a < 65536 → length once ≡ 65536 → cell_at once a ≡ cell_from 1 (n a) → (a ≡ address) ⊎ (a ≢ address) → cell_at (slice_set once address (Some 0)) a ≡ cell_from 1 (with_bytes n address 1 a)
+first_here : (once : Cells) (n : ℕ → ℕ) (address a : ℕ) → a < 65536 → length once ≡ 65536 → cell_at once a ≡ cell_from 1 (n a) → (a ≡ address)
+    ⊎ (a ≢ address) → cell_at (slice_set once address (Some 0)) a ≡ cell_from 1 (with_bytes n address 1 a)
 first_here once n address a below size old (inl e) =
     let one : covered address 1 a ≡ 1 = subst (λ (x : ℕ). covered x 1 a ≡ 1) e (covered_same a) in
     subst (λ (x : ℕ). cell_at (slice_set once x (Some 0)) a ≡ cell_from 1 (n a + covered address 1 a)) e
@@ -93,7 +96,8 @@ first_here once n address a below size old (inr apart) =
     let same : n a ≡ n a + covered address 1 a = omega (arith, none) in
     get_or-set_other once address a (Some 0) None apart ∙ old ∙ ap (cell_from 1) same
 
-second_here : (again : Cells) (n : ℕ → ℕ) (address a : ℕ) (seen : Bool) → a < 65536 → length again ≡ 65536 → cell_at again a ≡ cell_from 2 (n a) → seen ≡ is_some (cell_from 1 (n address)) → (a ≡ address) ⊎ (a ≢ address)
+second_here : (again : Cells) (n : ℕ → ℕ) (address a : ℕ) (seen : Bool) → a < 65536 → length again ≡ 65536 → cell_at again a ≡ cell_from 2 (n a)
+    → seen ≡ is_some (cell_from 1 (n address)) → (a ≡ address) ⊎ (a ≢ address)
     → cell_at (with_cell_if again address seen) a ≡ cell_from 2 (with_bytes n address 1 a)
 second_here again n address a seen below size old was (inl e) =
     let one : covered address 1 a ≡ 1 = subst (λ (x : ℕ). covered x 1 a ≡ 1) e (covered_same a) in
@@ -105,7 +109,8 @@ second_here again n address a seen below size old was (inr apart) =
     let same : n a ≡ n a + covered address 1 a = omega (arith, none) in
     put_apart again address a seen apart ∙ old ∙ ap (cell_from 2) same
 
-pub noted_byte : (once again new_once new_again : Cells) (n : ℕ → ℕ) (address : ℕ) (seen : Bool) → address < 65536 → seen ≡ is_some (cell_at once address) → new_once ≡ slice_set once address (Some 0) → new_again ≡ with_cell_if again address seen
+pub noted_byte : (once again new_once new_again : Cells) (n : ℕ → ℕ) (address : ℕ) (seen : Bool) → address < 65536
+    → seen ≡ is_some (cell_at once address) → new_once ≡ slice_set once address (Some 0) → new_again ≡ with_cell_if again address seen
     → AreNoted once again n → AreNoted new_once new_again (with_bytes n address 1)
 noted_byte once again new_once new_again n address seen below was put_once put_again noted =
     let was_noted : seen ≡ is_some (cell_from 1 (n address)) = was ∙ ap (λ (c : Option ℕ). is_some c) (noted.first address below) in
@@ -113,7 +118,8 @@ noted_byte once again new_once new_again n address seen below was put_once put_a
       once_size = ap (λ (x : Cells). length x) put_once ∙ length-set once address (Some 0) ∙ noted.once_size;
       again_size = ap (λ (x : Cells). length x) put_again ∙ put_size again address seen ∙ noted.again_size;
       first = λ a h. ap (λ (x : Cells). cell_at x a) put_once ∙ first_here once n address a h noted.once_size (noted.first a h) (same_or_not a address);
-      second = λ a h. ap (λ (x : Cells). cell_at x a) put_again ∙ second_here again n address a seen h noted.again_size (noted.second a h) was_noted (same_or_not a address);
+      second = λ a h. ap (λ (x : Cells). cell_at x a) put_again
+          ∙ second_here again n address a seen h noted.again_size (noted.second a h) was_noted (same_or_not a address);
     }
 
 -- ---- several bytes
@@ -122,16 +128,19 @@ pub none_noted : (once again : Cells) (n : ℕ → ℕ) (first : ℕ) → AreNot
 none_noted once again n first noted = recounted once again n (with_bytes n first (first - first)) noted
     (λ a h. let none = covered_none first (first - first) a (omega arith) in omega (arith, none))
 
-pub one_noted : (once again : Cells) (n : ℕ → ℕ) (first address : ℕ) → first ≤ address → AreNoted once again (with_bytes (with_bytes n first (address - first)) address 1) → AreNoted once again (with_bytes n first (address + 1 - first))
+pub one_noted : (once again : Cells) (n : ℕ → ℕ) (first address : ℕ) → first ≤ address
+    → AreNoted once again (with_bytes (with_bytes n first (address - first)) address 1) → AreNoted once again (with_bytes n first (address + 1 - first))
 one_noted once again n first address order noted =
     recounted once again (with_bytes (with_bytes n first (address - first)) address 1) (with_bytes n first (address + 1 - first)) noted
     (λ a h. let more = covered_more first address a order in omega (arith, more))
 
-pub all_noted : (once again : Cells) (n : ℕ → ℕ) (first address past : ℕ) → address ≡ past → AreNoted once again (with_bytes n first (address - first)) → AreNoted once again (with_bytes n first (past - first))
+pub all_noted : (once again : Cells) (n : ℕ → ℕ) (first address past : ℕ) → address ≡ past
+    → AreNoted once again (with_bytes n first (address - first)) → AreNoted once again (with_bytes n first (past - first))
 all_noted once again n first address past end noted = subst (λ (x : ℕ). AreNoted once again (with_bytes n first (x - first))) end noted
 
 -- as far as there are addresses
-pub below_noted : (once again : Cells) (n : ℕ → ℕ) (first count past : ℕ) → first ≤ 65535 → (past ≡ first + count) ⊎ ((past ≡ 65536) × (past < first + count)) → AreNoted once again (with_bytes n first (past - first)) → AreNoted once again (with_bytes n first count)
+pub below_noted : (once again : Cells) (n : ℕ → ℕ) (first count past : ℕ) → first ≤ 65535 → (past ≡ first + count)
+    ⊎ ((past ≡ 65536) × (past < first + count)) → AreNoted once again (with_bytes n first (past - first)) → AreNoted once again (with_bytes n first count)
 below_noted once again n first count past low (inl all) noted =
     let same : past - first ≡ count = omega (arith, all) in
     subst (λ (x : ℕ). AreNoted once again (with_bytes n first x)) same noted
@@ -171,17 +180,20 @@ cut_at n past e = elim (leb_tells n 65536) [
   | inr f ↦ inr (omega (arith, e, f.1), omega (arith, e, f.1))
 ]
 
-pub by_digits : (once again : Cells) (n : ℕ → ℕ) (digits : List ℕ) (high low count : ℕ) → high ≡ pair_at digits 2 → low ≡ pair_at digits 4 → count ≡ pair_at digits 0
+pub by_digits : (once again : Cells) (n : ℕ → ℕ) (digits : List ℕ) (high low count : ℕ) → high ≡ pair_at digits 2 → low ≡ pair_at digits 4
+    → count ≡ pair_at digits 0
     → AreNoted once again (with_bytes n (high * 256 + low) count) → AreNoted once again (with_digits n digits)
 by_digits once again n digits high low count is_high is_low is_count noted =
     recounted once again (with_bytes n (high * 256 + low) count) (with_digits n digits) noted (λ a h. rw (is_high, is_low, is_count) refl)
 
 -- a record begins at a place, or none
-pub written_there : (once again : Cells) (n : ℕ → ℕ) (text digits : List ℕ) (place : ℕ) → slice_index text place ≡ 59 → digits ≡ drop (place + 1) text → AreNoted once again (with_digits n digits) → AreNoted once again (with_place n text place)
+pub written_there : (once again : Cells) (n : ℕ → ℕ) (text digits : List ℕ) (place : ℕ) → slice_index text place ≡ 59 → digits ≡ drop (place + 1) text
+    → AreNoted once again (with_digits n digits) → AreNoted once again (with_place n text place)
 written_there once again n text digits place begins is noted =
     recounted once again (with_digits n digits) (with_place n text place) noted (λ a h. rw (begins, is) refl)
 
-pub unwritten : (once again : Cells) (n : ℕ → ℕ) (text : List ℕ) (place : ℕ) → slice_index text place ≢ 59 → AreNoted once again n → AreNoted once again (with_place n text place)
+pub unwritten : (once again : Cells) (n : ℕ → ℕ) (text : List ℕ) (place : ℕ) → slice_index text place ≢ 59 → AreNoted once again n
+    → AreNoted once again (with_place n text place)
 unwritten once again n text place other noted = elim (cases_Bool (slice_index text place == 59)) [
   | inl t ↦ absurd (other (eqb-true _ _ t))
   | inr f ↦ recounted once again n (with_place n text place) noted (λ a h. rw f (sym (add-zero (n a))))
@@ -189,5 +201,6 @@ unwritten once again n text place other noted = elim (cases_Bool (slice_index te
 
 -- ---- texts of Intel HEX and of S-records
 
-pub text_ranges : (form : TextForm) (text : List ℕ) (again : List (Option ℕ)) (overlaps : List Range) → text_overlaps form text ≡ Ok again → overlaps ≡ ranges_of again → AreTextOverlaps form text overlaps
+pub text_ranges : (form : TextForm) (text : List ℕ) (again : List (Option ℕ)) (overlaps : List Range) → text_overlaps form text ≡ Ok again
+    → overlaps ≡ ranges_of again → AreTextOverlaps form text overlaps
 text_ranges form text again overlaps read are = (again, read, are)

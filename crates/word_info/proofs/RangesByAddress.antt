@@ -29,13 +29,15 @@ by_cell cells a (Some b) cut =
     sym (ap (λ (x : Cells). map range_of_run (runs a x)) cut ∙ before_map a b (runs (a + 1) (drop (a + 1) cells)))
 
 -- the address before those that were looked at
-pub turn : (cells : Cells) (old new : List Range) (n : ℕ) → 0 < n → n ≤ length cells → reverse old ≡ map range_of_run (runs n (drop n cells)) → reverse new ≡ with_cell (n - 1) (get_or cells (n - 1) None) (reverse old)
+pub turn : (cells : Cells) (old new : List Range) (n : ℕ) → 0 < n → n ≤ length cells → reverse old ≡ map range_of_run (runs n (drop n cells))
+    → reverse new ≡ with_cell (n - 1) (get_or cells (n - 1) None) (reverse old)
     → reverse new ≡ map range_of_run (runs (n - 1) (drop (n - 1) cells))
 turn cells old new n some inside so_far put =
     let a = n - 1 in
     let back : n ≡ a + 1 = omega (arith, some) in
     let cut : drop a cells ≡ get_or cells a None ∷ drop (a + 1) cells = rw (add-one, drop-cons cells a None (omega (arith, some, inside))) refl in
-    put ∙ ap (λ (x : List Range). with_cell a (get_or cells a None) x) (so_far ∙ ap (λ (k : ℕ). map range_of_run (runs k (drop k cells))) back) ∙ by_cell cells a (get_or cells a None) cut
+    put ∙ ap (λ (x : List Range). with_cell a (get_or cells a None) x) (so_far ∙ ap (λ (k : ℕ). map range_of_run (runs k (drop k cells))) back)
+        ∙ by_cell cells a (get_or cells a None) cut
 
 drop_all : (cells : Cells) → drop (length cells) cells ≡ []
 drop_all [] = refl

@@ -16,7 +16,8 @@ skipped_is b h = elim (cases_Bool (b == 0)) [
     | inl r ↦ ap is_hex_byte (eqb-true b 13 r)
     | inr nr ↦ elim (cases_Bool (b == 10)) [
       | inl l ↦ ap is_hex_byte (eqb-true b 10 l)
-      | inr nl ↦ ap is_hex_byte (eqb-true b 19 (sym (ap (λ (o : Bool). ((o || (b == 13)) || (b == 10)) || (b == 19)) nz ∙ ap (λ (o : Bool). (o || (b == 10)) || (b == 19)) nr ∙ ap (λ (o : Bool). o || (b == 19)) nl) ∙ h))
+      | inr nl ↦ ap is_hex_byte (eqb-true b 19 (sym (ap (λ (o : Bool). ((o || (b == 13)) || (b == 10)) || (b == 19)) nz
+          ∙ ap (λ (o : Bool). (o || (b == 10)) || (b == 19)) nr ∙ ap (λ (o : Bool). o || (b == 19)) nl) ∙ h))
     ]
   ]
 ]
@@ -40,14 +41,16 @@ module _ (front digits tail : List ℕ) (hex : list_all is_hex_byte digits ≡ t
   last : get_or (body ++ tail) (length body - 1) 0 ≡ get_or digits 9 0
   last =
       let at : length body - 1 - length front ≡ 10 = omega (arith, long) in
-      get_or_append_left body tail 0 (length body - 1) (omega (arith, long)) ∙ get_or-append_right front (59 ∷ digits) (length front) (length body - 1) 0 refl (omega (arith, long))
+      get_or_append_left body tail 0 (length body - 1) (omega (arith, long))
+          ∙ get_or-append_right front (59 ∷ digits) (length front) (length body - 1) 0 refl (omega (arith, long))
       ∙ ap (λ i. get_or (59 ∷ digits) i 0) at
 
   tail_size : suffix_len is_skipped (body ++ tail) ≡ length tail
   tail_size =
       let whole = length-append body tail in
       let by = suffix_len_is is_skipped (body ++ tail) (length body) 0 (omega (arith, whole))
-      (λ k from within. ap is_skipped (get_or-append_right body tail (length body) k 0 refl from) ∙ AllPass-from_list_all is_skipped tail skipped (k - length body) 0 (omega (arith, whole, from, within)))
+      (λ k from within. ap is_skipped (get_or-append_right body tail (length body) k 0 refl from)
+          ∙ AllPass-from_list_all is_skipped tail skipped (k - length body) 0 (omega (arith, whole, from, within)))
       (λ some. ap is_skipped last ∙ not_skipped (get_or digits 9 0) (AllPass-from_list_all is_hex_byte digits hex 9 0 (omega (arith, ten)))) in
       omega (arith, by, whole)
 
@@ -66,7 +69,9 @@ module _ (front digits tail : List ℕ) (hex : list_all is_hex_byte digits ≡ t
 
 right_sum : (digits : List ℕ) → (claim_of digits).sum ≡ (claim_of digits).checksum → counts_twice (claim_of digits) ≡ false
 unfolding counts_twice
-right_sum digits e = ap (λ (b : Bool). ((claim_of digits).length == 0) && ((claim_of digits).checksum == (claim_of digits).address) && not b) (eq-eqb (claim_of digits).sum (claim_of digits).checksum e) ∙ and_false (((claim_of digits).length == 0) && ((claim_of digits).checksum == (claim_of digits).address))
+right_sum digits e = ap (λ (b : Bool). ((claim_of digits).length == 0) && ((claim_of digits).checksum == (claim_of digits).address) && not b)
+    (eq-eqb (claim_of digits).sum (claim_of digits).checksum e)
+    ∙ and_false (((claim_of digits).length == 0) && ((claim_of digits).checksum == (claim_of digits).address))
   where
     and_false : (b : Bool) → (b && false) ≡ false
     and_false true = refl
@@ -83,9 +88,11 @@ pub right_has_none : (text : List ℕ) (cells : List (Option ℕ)) → TapeDenot
 unfolding has_count_twice
 right_has_none text cells tape =
     let ten = ten_digits tape.digits tape.end.all tape.end.none in
-    let spelled : text ≡ (front_of tape.pieces ++ 59 ∷ tape.digits) ++ tape.tail = tape.spelled ∙ sym (append_assoc (front_of tape.pieces) (59 ∷ tape.digits) tape.tail) in
+    let spelled : text ≡ (front_of tape.pieces ++ 59 ∷ tape.digits) ++ tape.tail =
+        tape.spelled ∙ sym (append_assoc (front_of tape.pieces) (59 ∷ tape.digits) tape.tail) in
     ap (λ t. is_count_twice (last_record t)) spelled ∙ ap is_count_twice (ends_with (front_of tape.pieces) tape.digits tape.tail tape.end.all.0 ten tape.rest)
-    ∙ no_count ((59 == 59) && (length tape.digits == 10) && list_all is_hex_byte tape.digits) (counts_twice (claim_of tape.digits)) (right_sum tape.digits tape.end.checked)
+    ∙ no_count ((59 == 59) && (length tape.digits == 10) && list_all is_hex_byte tape.digits) (counts_twice (claim_of tape.digits))
+        (right_sum tape.digits tape.end.checked)
   where
     no_count : (a b : Bool) → b ≡ false → (a && b) ≡ false
     no_count true b e = e

@@ -47,13 +47,15 @@ in_front (record_of ds ∷ ps) h =
 in_tape : (text : List ℕ) (cells : List (Option ℕ)) (tape : TapeDenotes text cells) → length (filter is_semicolon text) ≡ count_of tape.pieces + 1
 in_tape text cells tape =
     let tail : filter is_semicolon (tape.digits ++ tape.tail) ≡ [] =
-    filter-append is_semicolon tape.digits tape.tail ∙ ap (λ (t : List ℕ). t ++ filter is_semicolon tape.tail) (none_in_digits tape.digits tape.end.all.0) ∙ none_in_gaps tape.tail tape.rest in
+    filter-append is_semicolon tape.digits tape.tail ∙ ap (λ (t : List ℕ). t ++ filter is_semicolon tape.tail)
+        (none_in_digits tape.digits tape.end.all.0) ∙ none_in_gaps tape.tail tape.rest in
     let whole : filter is_semicolon text ≡ filter is_semicolon (front_of tape.pieces) ++ 59 ∷ filter is_semicolon (tape.digits ++ tape.tail) =
     ap (λ (t : List ℕ). filter is_semicolon t) tape.spelled ∙ filter-append is_semicolon (front_of tape.pieces) (59 ∷ tape.digits ++ tape.tail) in
     let size = ap (λ (t : List ℕ). length t) (whole ∙ ap (λ (t : List ℕ). filter is_semicolon (front_of tape.pieces) ++ 59 ∷ t) tail) in
     omega (arith, size, in_front tape.pieces tape.each, length-append (filter is_semicolon (front_of tape.pieces)) (59 ∷ []))
 
-pub counted : (text : List ℕ) (cells : List (Option ℕ)) (n r i : ℕ) → length text ≤ i → n ≡ count_by (λ b. b == 59) (take i text) → r ≡ n - 1 → (tape : TapeDenotes text cells) → r ≡ count_of tape.pieces
+pub counted : (text : List ℕ) (cells : List (Option ℕ)) (n r i : ℕ) → length text ≤ i → n ≡ count_by (λ b. b == 59) (take i text) → r ≡ n - 1
+    → (tape : TapeDenotes text cells) → r ≡ count_of tape.pieces
 counted text cells n r i past count less tape =
     let all : count_by is_semicolon (take i text) ≡ length (filter is_semicolon text) =
     ap (λ (t : List ℕ). count_by is_semicolon t) (take_all i text past) ∙ sym (length-filter is_semicolon text) in

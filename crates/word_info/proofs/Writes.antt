@@ -34,7 +34,8 @@ in_skipped (b ∷ bytes) a h =
     rw (no_gap b p.0) (zero-add (writes_in bytes a) ∙ in_skipped bytes a p.1)
 
 -- the length and the address of a record by its digits
-claimed : (ds rest : List ℕ) → AreAllDigits ds → ((claim_of ds).length ≡ pair_at (ds ++ rest) 0) × ((claim_of ds).address ≡ pair_at (ds ++ rest) 2 * 256 + pair_at (ds ++ rest) 4)
+claimed : (ds rest : List ℕ) → AreAllDigits ds → ((claim_of ds).length ≡ pair_at (ds ++ rest) 0)
+    × ((claim_of ds).address ≡ pair_at (ds ++ rest) 2 * 256 + pair_at (ds ++ rest) 4)
 unfolding claim_of
 claimed [] rest h = absurd (omega (arith, h.1))
 claimed (a ∷ []) rest h = absurd (omega (arith, h.1))
@@ -44,7 +45,8 @@ claimed (a ∷ b ∷ c ∷ d ∷ []) rest h = absurd (omega (arith, h.1))
 claimed (a ∷ b ∷ c ∷ d ∷ e ∷ []) rest h = absurd (omega (arith, h.1))
 claimed (a ∷ b ∷ c ∷ d ∷ e ∷ f ∷ ds) rest h = (refl, refl)
 
-record_writes : (ds rest : List ℕ) (a : ℕ) → AreAllDigits ds → writes_in (59 ∷ ds ++ rest) a ≡ covered (claim_of ds).address (claim_of ds).length a + writes_in rest a
+record_writes : (ds rest : List ℕ) (a : ℕ) → AreAllDigits ds
+    → writes_in (59 ∷ ds ++ rest) a ≡ covered (claim_of ds).address (claim_of ds).length a + writes_in rest a
 record_writes ds rest a h =
     let says = claimed ds rest h in
     let claim : covered_by (ds ++ rest) a ≡ covered (claim_of ds).address (claim_of ds).length a = rw (says.0, says.1) refl in
@@ -55,7 +57,8 @@ in_front : (ps : List Part) (rest : List ℕ) (a : ℕ) → AllByRecursion IsPie
 in_front [] rest a h = omega arith
 in_front (gap b ∷ ps) rest a h = rw (no_gap b h.0) (zero-add (writes_in (front_of ps ++ rest) a) ∙ in_front ps rest a h.1)
 in_front (record_of ds ∷ ps) rest a h =
-    let apart : writes_in (59 ∷ (ds ++ front_of ps) ++ rest) a ≡ writes_in (59 ∷ ds ++ (front_of ps ++ rest)) a = ap (λ (t : List ℕ). writes_in (59 ∷ t) a) (append_assoc ds (front_of ps) rest) in
+    let apart : writes_in (59 ∷ (ds ++ front_of ps) ++ rest) a ≡ writes_in (59 ∷ ds ++ (front_of ps ++ rest)) a =
+        ap (λ (t : List ℕ). writes_in (59 ∷ t) a) (append_assoc ds (front_of ps) rest) in
     let here = record_writes ds (front_of ps ++ rest) a h.0.all in
     let more = in_front ps rest a h.1 in
     omega (arith, apart, here, more)
@@ -87,7 +90,8 @@ at_place text place a inside =
     let cut : drop place text ≡ get_or text place 0 ∷ drop (suc place) text = drop-cons text place 0 inside in
     let next : drop (place + 1) text ≡ drop (suc place) text = ap (λ (n : ℕ). drop n text) (add-one place) in
     let split = ap (λ (t : List ℕ). writes_in t a) cut in
-    let same : written_at text place a ≡ begun_by (get_or text place 0) (drop (suc place) text) a = ap (λ (t : List ℕ). begun_by (get_or text place 0) t a) next in
+    let same : written_at text place a ≡ begun_by (get_or text place 0) (drop (suc place) text) a =
+        ap (λ (t : List ℕ). begun_by (get_or text place 0) t a) next in
     omega (arith, split, same)
 
 pub before_place : (text : List ℕ) (place a : ℕ) → place ≤ length text → writes_before text place a + writes_in (drop place text) a ≡ writes_in text a
@@ -105,12 +109,15 @@ before_all text place a end =
     omega (arith, before, none)
 
 -- all places were noted
-pub noted_all : (text : List ℕ) (once again : List (Option ℕ)) (place : ℕ) → place ≡ length text → AreNoted once again (writes_before text place) → (cells : List (Option ℕ)) (tape : TapeDenotes text cells) → again ≡ written_again tape.pieces
+pub noted_all : (text : List ℕ) (once again : List (Option ℕ)) (place : ℕ) → place ≡ length text → AreNoted once again (writes_before text place)
+    → (cells : List (Option ℕ)) (tape : TapeDenotes text cells) → again ≡ written_again tape.pieces
 unfolding written_again
 noted_all text once again place end noted cells tape =
     fill_by_all (λ a. cell_from 2 (writes_at tape.pieces a)) again 65536 None noted.again_size
     (λ a h. noted.second a h ∙ ap (cell_from 2) (before_all text place a end ∙ in_tape text cells tape a))
 
 -- one place more
-pub next_place : (text : List ℕ) (once again : List (Option ℕ)) (place : ℕ) → AreNoted once again (with_place (writes_before text place) text place) → AreNoted once again (writes_before text (place + 1))
-next_place text once again place noted = recounted once again (with_place (writes_before text place) text place) (writes_before text (place + 1)) noted (λ a h. ap (λ (k : ℕ). writes_before text k a) (sym (add-one place)))
+pub next_place : (text : List ℕ) (once again : List (Option ℕ)) (place : ℕ) → AreNoted once again (with_place (writes_before text place) text place)
+    → AreNoted once again (writes_before text (place + 1))
+next_place text once again place noted = recounted once again (with_place (writes_before text place) text place) (writes_before text (place + 1))
+    noted (λ a h. ap (λ (k : ℕ). writes_before text k a) (sym (add-one place)))

@@ -19,7 +19,8 @@ small_if : (ends : Bool) (phase : Phase) (status : ℕ) → (if ends then Some (
 small_if true phase status is = subst (λ (n : ℕ). n ≤ 1) (same_Some (status_in phase) status is) (small_in phase)
 small_if false phase status is = absurd (none-some status is)
 
-small_unless : (end : Option ℕ) (bus_map : Map) (s t : State) (message : Data) (vs : List Data) (status : ℕ) → ((n : ℕ) → end ≡ Some n → n ≤ 1) → DoesUnless end bus_map s message t vs (Some status) → status ≤ 1
+small_unless : (end : Option ℕ) (bus_map : Map) (s t : State) (message : Data) (vs : List Data) (status : ℕ) → ((n : ℕ) → end ≡ Some n → n ≤ 1)
+    → DoesUnless end bus_map s message t vs (Some status) → status ≤ 1
 small_unless None bus_map s t message vs status small does = absurd (none-some status (sym does.2))
 small_unless (Some n) bus_map s t message vs status small does = subst (λ (n : ℕ). n ≤ 1) (sym (same_Some status n does.2)) (small n refl)
 
@@ -28,6 +29,7 @@ small_after None bus_map s t vs status does = absurd (none-some status (sym does
 small_after (Some message) bus_map s t vs status does =
     small_unless (end_of s message) bus_map s t message vs status (small_if (is_exit (request_of message)) s.phase) does
 
-pub small_status : (bus_map : Map) (body : List ℕ) (old new : State) (status : ℕ) (written : List ℕ) → Answers bus_map body old new (Some status) written → status ≤ 1
+pub small_status : (bus_map : Map) (body : List ℕ) (old new : State) (status : ℕ) (written : List ℕ)
+    → Answers bus_map body old new (Some status) written → status ≤ 1
 unfolding Answers
 small_status bus_map body old new status written served = small_after served.0 bus_map old new served.2 status served.3

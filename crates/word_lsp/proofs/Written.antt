@@ -20,7 +20,8 @@ written_first d ds text behind one more = (text, behind, one, more, refl)
 pub written_end : (vs : List Value) (i : ℕ) → length vs ≤ i → AreWritten (map view (drop i vs)) []
 written_end vs i past = rw (drop_all i vs past) written_none
 
-pub written_step : (vs : List Value) (i : ℕ) (v : Value) → i < length vs → v ≡ get_or vs i v → (text behind : List ℕ) → IsTextOf (view v) text → AreWritten (map view (drop (i + 1) vs)) behind → AreWritten (map view (drop i vs)) (framed text ++ behind)
+pub written_step : (vs : List Value) (i : ℕ) (v : Value) → i < length vs → v ≡ get_or vs i v → (text behind : List ℕ) → IsTextOf (view v) text
+    → AreWritten (map view (drop (i + 1) vs)) behind → AreWritten (map view (drop i vs)) (framed text ++ behind)
 written_step vs i v within is text behind one more =
     let cons : drop i vs ≡ get_or vs i v ∷ drop (i + 1) vs = rw add-one (drop-cons vs i v within) in
     let e : drop i vs ≡ v ∷ drop (i + 1) vs = cons ∙ ap (λ (x : Value). x ∷ drop (i + 1) vs) (sym is) in
@@ -35,4 +36,5 @@ some_written (d ∷ ds) = let more = some_written ds in (framed (compact_text d)
 -- a beginning of one text behind others is a beginning of all of them
 pub front_behind : (before text front rest more : List ℕ) → text ≡ front ++ rest → before ++ (text ++ more) ≡ (before ++ front) ++ (rest ++ more)
 front_behind before text front rest more is =
-    ap (λ (t : List ℕ). before ++ (t ++ more)) is ∙ ap (λ (t : List ℕ). before ++ t) (append_assoc front rest more) ∙ sym (append_assoc before front (rest ++ more))
+    ap (λ (t : List ℕ). before ++ (t ++ more)) is ∙ ap (λ (t : List ℕ). before ++ t) (append_assoc front rest more)
+        ∙ sym (append_assoc before front (rest ++ more))

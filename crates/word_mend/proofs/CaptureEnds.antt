@@ -32,7 +32,8 @@ whole bytes = ([], refl)
 split : (bytes : List ℕ) → Split bytes (last_record bytes)
 unfolding last_record
 split [] = whole []
-split (b ∷ bytes) = of_choice (Split (b ∷ bytes)) (has_more bytes) (last_record bytes) (b ∷ bytes) (longer b bytes (last_record bytes) (split bytes)) (whole (b ∷ bytes))
+split (b ∷ bytes) = of_choice (Split (b ∷ bytes)) (has_more bytes) (last_record bytes) (b ∷ bytes) (longer b bytes (last_record bytes) (split bytes))
+    (whole (b ∷ bytes))
 
 -- no other record begins in the last one
 abbrev IsLast : List ℕ → Type 0
@@ -63,7 +64,8 @@ all_drop p (suc n) (x ∷ xs) all = all_drop p n xs (and_parts (p x) (list_all p
 
 -- what comes behind the first eleven bytes of the last record
 module _ (bytes front : List ℕ) where
-  behind_long : (last : List ℕ) → bytes ≡ front ++ last → IsLast last → 11 < length last → list_all is_no_record (drop (length bytes - (length last - 11)) bytes) ≡ true
+  behind_long : (last : List ℕ) → bytes ≡ front ++ last → IsLast last → 11 < length last
+      → list_all is_no_record (drop (length bytes - (length last - 11)) bytes) ≡ true
   behind_long [] is none many = absurd (omega (arith, many))
   behind_long (b ∷ rest) is none many =
       let sizes = ap (λ (xs : List ℕ). length xs) is in
@@ -98,7 +100,8 @@ cut bytes =
 abbrev at_place : ℕ → TapeFault → TapeFault
 at_place offset fault = record { offset = offset; kind = fault.kind }
 
-pub moved_same : (before tape text : List ℕ) (fault : TapeFault) (kind : TapeFaultKind) (offset : ℕ) → before ≡ before_record text → tape ≡ from_record text → fault ≡ moved tape kind offset
+pub moved_same : (before tape text : List ℕ) (fault : TapeFault) (kind : TapeFaultKind) (offset : ℕ) → before ≡ before_record text
+    → tape ≡ from_record text → fault ≡ moved tape kind offset
     → at_place (length before + fault.offset) fault ≡ moved_capture text kind offset
 moved_same before tape text fault kind offset b t is =
     let there : TapeFault = moved (from_record text) kind offset in

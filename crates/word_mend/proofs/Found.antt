@@ -128,7 +128,8 @@ found_last bytes i last whole past so_far =
 pub four_put : {X E : Type 0} (result : Result X E) (old one two three new first second third fourth : List ℕ) → one ≡ old ++ first → two ≡ one ++ second
     → three ≡ two ++ third → new ≡ (if is_ok result then three ++ fourth else three) → OnOk result (new ≡ old ++ (first ++ (second ++ (third ++ fourth))))
 four_put (Ok done) old one two three new first second third fourth f s t is =
-    is ∙ rw (t, s, f) (append_assoc ((old ++ first) ++ second) third fourth ∙ (append_assoc (old ++ first) second (third ++ fourth) ∙ append_assoc old first (second ++ (third ++ fourth))))
+    is ∙ rw (t, s, f) (append_assoc ((old ++ first) ++ second) third fourth
+        ∙ (append_assoc (old ++ first) second (third ++ fourth) ∙ append_assoc old first (second ++ (third ++ fourth))))
 four_put (Err fault) old one two three new first second third fourth f s t is = tt
 
 -- ---- the place of a fault
@@ -155,7 +156,8 @@ module _ (left : ℕ) (is_first : Bool) (place : ℕ) (b : ℕ) (text : List ℕ
   unfolding place_from
   of_gap gone = rw gone refl
 
-module _ (text : List ℕ) (left : ℕ) (is_first : Bool) (place whole : ℕ) (there : place < length text) (so_far : place_from left is_first place (drop place text) ≡ whole) where
+module _ (text : List ℕ) (left : ℕ) (is_first : Bool) (place whole : ℕ) (there : place < length text)
+    (so_far : place_from left is_first place (drop place text) ≡ whole) where
   from_here : place_from left is_first place (slice_index text place ∷ drop (place + 1) text) ≡ whole
   from_here = rw (cut text place there) at so_far
 
@@ -166,10 +168,12 @@ module _ (text : List ℕ) (left : ℕ) (is_first : Bool) (place whole : ℕ) (t
       → now ≡ left - (ends_before is_first (slice_index text place) + 1) → first ≡ false → place_from now first (place + 1) (drop (place + 1) text) ≡ whole
   place_passed now first keep more n f = rw (n, f) (sym (of_passed left is_first place (slice_index text place) (drop (place + 1) text) keep more) ∙ from_here)
 
-  pub place_skipped : (now : ℕ) (first : Bool) → is_kept (slice_index text place) ≡ false → now ≡ left → first ≡ is_first → place_from now first (place + 1) (drop (place + 1) text) ≡ whole
+  pub place_skipped : (now : ℕ) (first : Bool) → is_kept (slice_index text place) ≡ false → now ≡ left → first ≡ is_first
+      → place_from now first (place + 1) (drop (place + 1) text) ≡ whole
   place_skipped now first gone n f = rw (n, f) (sym (of_gap left is_first place (slice_index text place) (drop (place + 1) text) gone) ∙ from_here)
 
-pub place_at_end : (text : List ℕ) (left : ℕ) (is_first : Bool) (place whole : ℕ) → length text ≤ place → place ≤ length text → place_from left is_first place (drop place text) ≡ whole → length text ≡ whole
+pub place_at_end : (text : List ℕ) (left : ℕ) (is_first : Bool) (place whole : ℕ) → length text ≤ place → place ≤ length text
+    → place_from left is_first place (drop place text) ≡ whole → length text ≡ whole
 unfolding place_from
 place_at_end text left is_first place whole past within so_far =
     let ended : drop place text ≡ [] = drop_of_length-le text past in

@@ -36,7 +36,8 @@ pub s_end : codes "S9030000FC\r\n" ≡ end_text SRecord
 unfolding encode_with
 s_end = refl
 
-pub end_put : {X E : Type 0} (result : Result X E) (old new text end : List ℕ) → new ≡ (if is_ok result then old ++ text else old) → text ≡ end → OnOk result (new ≡ old ++ end)
+pub end_put : {X E : Type 0} (result : Result X E) (old new text end : List ℕ) → new ≡ (if is_ok result then old ++ text else old) → text ≡ end
+    → OnOk result (new ≡ old ++ end)
 end_put (Ok done) old new text end is same = is ∙ ap (λ (t : List ℕ). old ++ t) same
 end_put (Err fault) old new text end is same = tt
 
@@ -44,8 +45,10 @@ end_put (Err fault) old new text end is same = tt
 pub whole_text : (form : TextForm) (text : List ℕ) (cells : List (Option ℕ)) → text_image form text ≡ Ok cells → ended form text ≡ text
 whole_text form text cells is = rw is refl
 
-pub other_fault : (form : TextForm) (text : List ℕ) (fault : RecordFault) → text_image form text ≡ Err fault → lacks_end fault.kind ≡ false → ended form text ≡ text
+pub other_fault : (form : TextForm) (text : List ℕ) (fault : RecordFault) → text_image form text ≡ Err fault → lacks_end fault.kind ≡ false
+    → ended form text ≡ text
 other_fault form text fault is other = rw (is, other) refl
 
-pub endless_text : (form : TextForm) (text : List ℕ) (fault : RecordFault) → text_image form text ≡ Err fault → fault.kind ≡ NoEnd → ended form text ≡ text ++ end_text form
+pub endless_text : (form : TextForm) (text : List ℕ) (fault : RecordFault) → text_image form text ≡ Err fault → fault.kind ≡ NoEnd
+    → ended form text ≡ text ++ end_text form
 endless_text form text fault is end = rw (is, end) refl

@@ -63,7 +63,8 @@ module _ (front extra total : ℕ) (digits : List ℕ) where
     ]
   ]
 
-  all_there : length digits ≡ size → list_all is_hex_byte digits ≡ true → is_sum_fault (record_bytes front extra total digits) ≡ not (sum (bytes_of_digits digits) % 256 == total)
+  all_there : length digits ≡ size → list_all is_hex_byte digits ≡ true
+      → is_sum_fault (record_bytes front extra total digits) ≡ not (sum (bytes_of_digits digits) % 256 == total)
   unfolding record_bytes record_digits
   all_there sized all =
       let full = prefix_all is_hex_byte digits all in
@@ -176,7 +177,8 @@ hex_right s bytes =
 
 pub hex_marked : (digits : List ℕ) → checksums_if (is_sum_fault (record_bytes 1 5 0 digits)) 0 (bytes_of_digits digits) ≡ wrong_sum Hex (58 ∷ digits)
 unfolding wrong_sum hex_line
-hex_marked digits = ap (λ (b : Bool). checksums_if b 0 (bytes_of_digits digits)) (sym (after (record_bytes 1 5 0 digits) (after_hex (start Hex)) (hex_right (start Hex))))
+hex_marked digits = ap (λ (b : Bool). checksums_if b 0 (bytes_of_digits digits))
+    (sym (after (record_bytes 1 5 0 digits) (after_hex (start Hex)) (hex_right (start Hex))))
 
 pub hex_unmarked : (mark : ℕ) (digits : List ℕ) → mark ≢ 58 → None ≡ wrong_sum Hex (mark ∷ digits)
 unfolding wrong_sum hex_line
@@ -196,7 +198,8 @@ s_right : (role : Role) (width : ℕ) (s : Progress) (bytes : List ℕ) → is_s
 unfolding after_s
 s_right role width s bytes = either (nat_lt (slice_index bytes 0) (width + 1)) _ _ refl (role_right role (address_of width bytes) (data_of width bytes) s)
 
-typed : (s : Progress) (digits : List ℕ) (kind : Option (Role × ℕ)) → is_some kind ≡ true → is_sum_fault (s_digits s digits kind) ≡ is_sum_fault (record_bytes 2 1 255 digits)
+typed : (s : Progress) (digits : List ℕ) (kind : Option (Role × ℕ)) → is_some kind ≡ true
+    → is_sum_fault (s_digits s digits kind) ≡ is_sum_fault (record_bytes 2 1 255 digits)
 typed s digits None is = absurd cc
 typed s digits (Some kind) is = after (record_bytes 2 1 255 digits) (after_s kind.0 kind.1 s) (s_right kind.0 kind.1 s)
 
@@ -204,7 +207,8 @@ untyped : (s : Progress) (digits : List ℕ) (kind : Option (Role × ℕ)) → i
 untyped s digits None is = refl
 untyped s digits (Some kind) is = absurd cc
 
-pub s_marked : (digit : ℕ) (digits : List ℕ) → is_type digit ≡ true → checksums_if (is_sum_fault (record_bytes 2 1 255 digits)) 255 (bytes_of_digits digits) ≡ wrong_sum SRecord (83 ∷ digit ∷ digits)
+pub s_marked : (digit : ℕ) (digits : List ℕ) → is_type digit ≡ true
+    → checksums_if (is_sum_fault (record_bytes 2 1 255 digits)) 255 (bytes_of_digits digits) ≡ wrong_sum SRecord (83 ∷ digit ∷ digits)
 unfolding wrong_sum s_line
 s_marked digit digits is = ap (λ (b : Bool). checksums_if b 255 (bytes_of_digits digits)) (sym (typed (start SRecord) digits (kind_of digit) is))
 
@@ -249,7 +253,8 @@ hex_none [] few = hex_empty
 hex_none (b ∷ line) few = absurd (omega (arith, few))
 
 pub hex_there : (line : List ℕ) → 1 ≤ length line → slice_index line 0 ≡ 58
-    → checksums_if (is_sum_fault (record_bytes 1 5 0 (take (length line - 1) (drop 1 line)))) 0 (bytes_of_digits (take (length line - 1) (drop 1 line))) ≡ wrong_sum Hex line
+    → checksums_if (is_sum_fault (record_bytes 1 5 0 (take (length line - 1) (drop 1 line)))) 0
+        (bytes_of_digits (take (length line - 1) (drop 1 line))) ≡ wrong_sum Hex line
 hex_there [] some is = absurd (omega (arith, some))
 hex_there (b ∷ line) some is = rw (is, taken line (length (b ∷ line) - 1) (omega arith)) (hex_marked line)
 
@@ -263,7 +268,8 @@ s_one (b ∷ []) some few = s_short b
 s_one (b ∷ c ∷ line) some few = absurd (omega (arith, few))
 
 pub s_there : (line : List ℕ) → 2 ≤ length line → slice_index line 0 ≡ 83 → is_type (slice_index line 1) ≡ true
-    → checksums_if (is_sum_fault (record_bytes 2 1 255 (take (length line - 2) (drop 2 line)))) 255 (bytes_of_digits (take (length line - 2) (drop 2 line))) ≡ wrong_sum SRecord line
+    → checksums_if (is_sum_fault (record_bytes 2 1 255 (take (length line - 2) (drop 2 line)))) 255
+        (bytes_of_digits (take (length line - 2) (drop 2 line))) ≡ wrong_sum SRecord line
 s_there [] some is there = absurd (omega (arith, some))
 s_there (b ∷ []) some is there = absurd (omega (arith, some))
 s_there (b ∷ c ∷ line) some is there = rw (is, taken line (length (b ∷ c ∷ line) - 2) (omega arith)) (s_marked c line there)

@@ -170,7 +170,8 @@ kept_lines : (bytes : List ℕ) → filter is_kept (with_line_ends bytes) ≡ fi
 unfolding with_line_ends
 kept_lines [] = refl
 kept_lines (b ∷ bytes) =
-    let more : cond (is_kept b) (b ∷ filter is_kept (with_line_ends bytes)) (filter is_kept (with_line_ends bytes)) ≡ cond (is_kept b) (b ∷ filter is_kept bytes) (filter is_kept bytes) =
+    let more : cond (is_kept b) (b ∷ filter is_kept (with_line_ends bytes)) (filter is_kept (with_line_ends bytes))
+        ≡ cond (is_kept b) (b ∷ filter is_kept bytes) (filter is_kept bytes) =
     ap (λ (t : List ℕ). cond (is_kept b) (b ∷ t) t) (kept_lines bytes) in
     elim (cases_Bool (is_at_end bytes)) [ inl t ↦ rw t more | inr f ↦ rw f more ]
 
@@ -232,7 +233,8 @@ before_kept k h = elim (cases_Bool (is_end_record (drop (length k - 11) k))) [
   | inr f ↦ rw f h
 ]
 
-of_kept : (text k out : List ℕ) (cells : List (Option ℕ)) → kept text ≡ k → list_all is_kept k ≡ true → out ≡ mended_of k → TapeDenotes out cells → HasRecords text cells
+of_kept : (text k out : List ℕ) (cells : List (Option ℕ)) → kept text ≡ k → list_all is_kept k ≡ true → out ≡ mended_of k → TapeDenotes out cells
+    → HasRecords text cells
 unfolding mended_of
 of_kept text [] out cells is all e d =
     let sizes = ap (λ (t : List ℕ). length t) (sym e ∙ d.spelled) in
@@ -248,7 +250,8 @@ of_kept text (b ∷ bytes) out cells is all e d =
     ap (λ (t : List ℕ). t ++ (59 ∷ encode_upper (end_bytes n))) (sym (kept_lines r ∙ filter_all is_kept r (before_kept k all)))
     ∙ ap (λ (t : List ℕ). filter is_kept (with_line_ends r) ++ t) (sym (kept_end n (omega arith)))
     ∙ sym (filter-append is_kept (with_line_ends r) (end_line n)) ∙ ap (λ (t : List ℕ). filter is_kept t) (sym e) ∙ l.spelled in
-    let same : r ≡ front_of l.pieces = same_fronts r (59 ∷ encode_upper (end_bytes n)) (front_of l.pieces) (59 ∷ l.digits) (omega (arith, ten, l.end.ten)) stripped in
+    let same : r ≡ front_of l.pieces = same_fronts r (59 ∷ encode_upper (end_bytes n)) (front_of l.pieces) (59 ∷ l.digits)
+        (omega (arith, ten, l.end.ten)) stripped in
     record {
       pieces = l.pieces;
       ending = rest.ending;
@@ -271,7 +274,8 @@ kept_up_to_end k all =
     let n = length k - (length (last_record k) - 11) in
     of_choice (λ (xs : List ℕ). list_all is_kept xs ≡ true) (is_end (last_record k)) (take n k) k (all_take is_kept n k all) all
 
-of_capture : (text k : List ℕ) (cells : List (Option ℕ)) → kept (from_record text) ≡ k → list_all is_kept k ≡ true → TapeDenotes (with_line_ends (up_to_end k)) cells → IsCapture text cells
+of_capture : (text k : List ℕ) (cells : List (Option ℕ)) → kept (from_record text) ≡ k → list_all is_kept k ≡ true
+    → TapeDenotes (with_line_ends (up_to_end k)) cells → IsCapture text cells
 of_capture text k cells is all d =
     let c = up_to_end k in
     let l = left (with_line_ends c) cells d in

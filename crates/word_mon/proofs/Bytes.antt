@@ -22,12 +22,14 @@ none_taken state marks image e = record {
   above = λ address h k. ap (λ i. cell_at i address) e ∙ get_or-replicate {A = Option ℕ} 65536 address None None k;
 }
 
-taken_here : (state : State) (marks : List Bool) (image : List (Option ℕ)) (past : ℕ) (b : Bool) → is_written marks past ≡ b → past < 65536 → HasBytesBelow state marks image past
+taken_here : (state : State) (marks : List Bool) (image : List (Option ℕ)) (past : ℕ) (b : Bool) → is_written marks past ≡ b → past < 65536
+    → HasBytesBelow state marks image past
     → cell_at (if b then slice_set image past (Some (slice_index state.bus.memory past)) else image) past ≡ byte_where b (slice_index state.bus.memory past)
 taken_here state marks image past true e h t = get_or-set_same image past _ None (omega (arith, t.size, h))
 taken_here state marks image past false e h t = t.above past (omega arith) h
 
-kept_there : (image : List (Option ℕ)) (past address byte : ℕ) (b : Bool) → (address ≡ past → ⊥) → cell_at (if b then slice_set image past (Some byte) else image) address ≡ cell_at image address
+kept_there : (image : List (Option ℕ)) (past address byte : ℕ) (b : Bool) → (address ≡ past → ⊥)
+    → cell_at (if b then slice_set image past (Some byte) else image) address ≡ cell_at image address
 kept_there image past address byte true other = get_or-set_other image past address (Some byte) None other
 kept_there image past address byte false other = refl
 
@@ -48,10 +50,12 @@ byte_taken state marks image new past h e t =
             (ap (λ i. cell_at i past) e ∙ taken_here state marks image past b refl h t)
         | inr other ↦ ap (λ i. cell_at i address) e ∙ (kept_there image past address byte b other ∙ t.below address (omega (arith, k, other)))
       ];
-      above = λ address k l. ap (λ i. cell_at i address) e ∙ (kept_there image past address byte b (λ same. omega (arith, same, k)) ∙ t.above address (omega (arith, k)) l);
+      above = λ address k l. ap (λ i. cell_at i address) e ∙
+          (kept_there image past address byte b (λ same. omega (arith, same, k)) ∙ t.above address (omega (arith, k)) l);
     }
 
-pub all_taken : (state : State) (marks : List Bool) (image : List (Option ℕ)) (past : ℕ) → past ≡ 65536 → HasBytesBelow state marks image past → HasBytesOf state marks image
+pub all_taken : (state : State) (marks : List Bool) (image : List (Option ℕ)) (past : ℕ) → past ≡ 65536 → HasBytesBelow state marks image past
+    → HasBytesOf state marks image
 all_taken state marks image past e t = record {
   bytes = λ address h. t.below address (omega (arith, e, h));
 }

@@ -24,7 +24,8 @@ memory_unloads : (file : FileAsked) (others : Others) (heard : Heard) (path : Li
     → status ≡ status_of fault → Tells heard (file_line path fault) → Alone → AreUnloaded file others heard status Alone
 unfolding load_text file_line
 memory_unloads file others heard path fault status A memory is told alone =
-    (file.file, Refused OutOfMemory, one_of others.second file, memory_files file others, subst (λ f. status ≡ status_of f) memory is, subst (λ f. Tells heard (file_line path f)) memory told, alone)
+    (file.file, Refused OutOfMemory, one_of others.second file, memory_files file others, subst (λ f. status ≡ status_of f) memory is, subst
+        (λ f. Tells heard (file_line path f)) memory told, alone)
 
 unnamed_ends : (symbols : Option (Bor (List ℕ))) (other : Bor (List ℕ)) (file : FileAsked) (heard : Heard) (fault : Refusal) (status : ℕ) (Alone : Type 0)
     → EndsNamed (option_map (λ s. s.now) symbols) file fault → status ≡ status_of fault → Tells heard (file_line (unwrap_or symbols other).now fault) → Alone
@@ -33,11 +34,15 @@ unnamed_ends None other file heard fault status A ends is told alone = absurd en
 unnamed_ends (Some path) other file heard fault status A ends is told alone = (fault, ends, is, told, alone)
 
 -- What was told of the file of names if there is one, and otherwise of another file.
-pub ends_named : (symbols : Option (Bor (List ℕ))) (other : Bor (List ℕ)) (file : FileAsked) (others : Others) (heard : Heard) (fault : Refusal) (status : ℕ) (Alone Undebugged Begun : Type 0)
-    → (fault ≡ OutOfMemory) ⊎ EndsNamed (option_map (λ s. s.now) symbols) file fault → status ≡ status_of fault → Tells heard (file_line (unwrap_or symbols other).now fault) → Alone
+pub ends_named : (symbols : Option (Bor (List ℕ))) (other : Bor (List ℕ)) (file : FileAsked) (others : Others) (heard : Heard) (fault : Refusal)
+    (status : ℕ) (Alone Undebugged Begun : Type 0)
+    → (fault ≡ OutOfMemory) ⊎ EndsNamed (option_map (λ s. s.now) symbols) file fault → status ≡ status_of fault
+        → Tells heard (file_line (unwrap_or symbols other).now fault) → Alone
     → AreUnloaded file others heard status Alone ⊎ ((IsUnnamed (option_map (λ s. s.now) symbols) file heard status Alone ⊎ Undebugged) ⊎ Begun)
-ends_named symbols other file others heard fault status A U B (inl memory) is told alone = inl (memory_unloads file others heard (unwrap_or symbols other).now fault status A memory is told alone)
-ends_named symbols other file others heard fault status A U B (inr ends) is told alone = inr (inl (inl (unnamed_ends symbols other file heard fault status A ends is told alone)))
+ends_named symbols other file others heard fault status A U B (inl memory) is told alone =
+    inl (memory_unloads file others heard (unwrap_or symbols other).now fault status A memory is told alone)
+ends_named symbols other file others heard fault status A U B (inr ends) is told alone =
+    inr (inl (inl (unnamed_ends symbols other file heard fault status A ends is told alone)))
 
 -- What was told of the file of debug information.
 pub ends_debug : (debug : Option (Bor (List ℕ))) (other : Bor (List ℕ)) (heard : Heard) (fault : LoadFault) (status : ℕ) (Alone : Type 0)

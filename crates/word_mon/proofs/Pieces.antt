@@ -120,17 +120,21 @@ module _ (prompt told kept : List ℕ) (first now : Terminal) (before : List ℕ
   line_goes new said p = record {
     lines = g.lines ++ strip_last 13 g.begun ∷ [];
     begun = [];
-    cut = λ ending rest. more_cut (10 ∷ []) ending rest ∙ ap (λ l. g.lines ++ l) (from_line ending g.begun rest) ∙ sym (append_assoc g.lines (strip_last 13 g.begun ∷ []) (lines_from ending [] rest));
+    cut = λ ending rest. more_cut (10 ∷ []) ending rest ∙ ap (λ l. g.lines ++ l) (from_line ending g.begun rest)
+        ∙ sym (append_assoc g.lines (strip_last 13 g.begun ∷ []) (lines_from ending [] rest));
     front = refl;
     served = lines_more prompt g.lines (strip_last 13 g.begun ∷ []) false first now new before (answer_text false prompt new said) g.served
-        (line_on prompt (strip_last 13 g.begun) now new said (line_kept g.begun false now new said (subst (λ k. ServesLine (strip_last 13 k) false now new said) g.front p)));
+        (line_on prompt (strip_last 13 g.begun) now new said
+            (line_kept g.begun false now new said (subst (λ k. ServesLine (strip_last 13 k) false now new said) g.front p)));
   }
 
   pub line_ends : (new : Terminal) (said : List ℕ) → ServesLine (strip_last 13 kept) true now new said
       → IsOver prompt (told ++ 10 ∷ []) first new (before ++ said)
-  line_ends new said p ending rest = subst (λ l. ServesLines prompt l true first new (before ++ said)) (sym (more_cut (10 ∷ []) ending rest ∙ ap (λ l. g.lines ++ l) (from_line ending g.begun rest)))
+  line_ends new said p ending rest = subst (λ l. ServesLines prompt l true first new (before ++ said))
+      (sym (more_cut (10 ∷ []) ending rest ∙ ap (λ l. g.lines ++ l) (from_line ending g.begun rest)))
       (lines_more prompt g.lines (strip_last 13 g.begun ∷ lines_from ending [] rest) true first now new before said g.served
-      (line_over prompt (strip_last 13 g.begun) (lines_from ending [] rest) now new said (line_kept g.begun true now new said (subst (λ k. ServesLine (strip_last 13 k) true now new said) g.front p))))
+      (line_over prompt (strip_last 13 g.begun) (lines_from ending [] rest) now new said
+          (line_kept g.begun true now new said (subst (λ k. ServesLine (strip_last 13 k) true now new said) g.front p))))
 
   ended : ended_lines_of told ≡ g.lines
   ended = ap ended_lines_of (sym (append-nil told)) ∙ g.cut no_line []
@@ -176,7 +180,8 @@ module _ (prompt told kept : List ℕ) (first now : Terminal) (before : List ℕ
         ∙ sym (append-nil (g.lines ++ strip_last 13 g.begun ∷ [])),
     is_over,
     lines_more prompt g.lines (strip_last 13 g.begun ∷ []) is_over first now new before (answer_text is_over prompt new said) g.served
-        (one_line prompt (strip_last 13 g.begun) is_over now new said (line_kept g.begun is_over now new said (subst (λ k. ServesLine (strip_last 13 k) is_over now new said) g.front p))),
+        (one_line prompt (strip_last 13 g.begun) is_over now new said
+            (line_kept g.begun is_over now new said (subst (λ k. ServesLine (strip_last 13 k) is_over now new said) g.front p))),
   )
 
   -- at the end no line is begun
@@ -208,7 +213,8 @@ module _ (prompt told kept : List ℕ) (first now : Terminal) (before : List ℕ
     before,
     said,
     so_far,
-    line_alone (strip_last 13 g.begun) is_over now new said (line_kept g.begun is_over (without_screen now) new said (subst (λ k. ServesLine (strip_last 13 k) is_over (without_screen now) new said) g.front p)),
+    line_alone (strip_last 13 g.begun) is_over now new said (line_kept g.begun is_over (without_screen now) new said
+        (subst (λ k. ServesLine (strip_last 13 k) is_over (without_screen now) new said) g.front p)),
     refl,
   )
     where
@@ -239,7 +245,8 @@ line_fed prompt true byte kept more old new said e p none = λ told first before
     subst (λ b. IsOver prompt (told ++ b ∷ []) first new (before ++ said)) (sym e) (line_ends prompt told kept first old before g new said p)
 line_fed prompt false byte kept more old new said e p none = λ told first before g.
     let written = answer_text false prompt new said in
-    subst (λ b. GoesOn prompt (told ++ b ∷ []) more first new (before ++ written)) (sym e) (subst (λ k. GoesOn prompt (told ++ 10 ∷ []) k first new (before ++ written)) (sym none) (line_goes prompt told kept first old before g new said p))
+    subst (λ b. GoesOn prompt (told ++ b ∷ []) more first new (before ++ written)) (sym e)
+        (subst (λ k. GoesOn prompt (told ++ 10 ∷ []) k first new (before ++ written)) (sym none) (line_goes prompt told kept first old before g new said p))
 
 pub fed_of : (prompt : List ℕ) (r : Result Bool Refusal) (byte : ℕ) (kept more : List ℕ)
     (old new : Terminal) (Wrote : List ℕ → Type 0) → byte ≡ 10
@@ -301,8 +308,10 @@ pub around : (told bytes rest : List ℕ) (i : ℕ) → i < length bytes
     ≡ (told ++ bytes) ++ rest
 around told bytes rest i h =
     let all : take i bytes ++ (get_or bytes i 0 ∷ drop (i + 1) bytes) ≡ bytes = rw (add-one i, ← drop-cons bytes i 0 h) (take-append-drop i bytes) in
-    append_assoc (told ++ take i bytes) (get_or bytes i 0 ∷ []) (drop (i + 1) bytes ++ rest) ∙ append_assoc told (take i bytes) (get_or bytes i 0 ∷ drop (i + 1) bytes ++ rest)
-    ∙ ap (λ l. told ++ l) (sym (append_assoc (take i bytes) (get_or bytes i 0 ∷ drop (i + 1) bytes) rest) ∙ ap (λ l. l ++ rest) all) ∙ sym (append_assoc told bytes rest)
+    append_assoc (told ++ take i bytes) (get_or bytes i 0 ∷ []) (drop (i + 1) bytes ++ rest)
+        ∙ append_assoc told (take i bytes) (get_or bytes i 0 ∷ drop (i + 1) bytes ++ rest)
+    ∙ ap (λ l. told ++ l) (sym (append_assoc (take i bytes) (get_or bytes i 0 ∷ drop (i + 1) bytes) rest) ∙ ap (λ l. l ++ rest) all)
+        ∙ sym (append_assoc told bytes rest)
 
 -- whatever the result, what holds anyway
 pub if_err_anyway : {X E : Type 0} (r : Result X E) (P : Type 0) → P → IfErr r (λ _. P)

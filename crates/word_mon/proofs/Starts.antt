@@ -19,8 +19,10 @@ use Rattle.mon_session.specs.declared.mon_state.MonState.{MonState}
 use Rattle.arguments_play.specs.Mon.{MonAsked}
 
 -- The session of a new state is the one that was loaded.
-pub named_starts : (asked : MonAsked) (session : Session) (assembly : Option AssemblyView) (fill : Option ℕ) (written loaded : List Bool) (mon : MonState) (warning_line : List ℕ)
-    → (image : List (Option ℕ)) × AreLoaded asked.file asked.others fill image assembly × (session ≡ new_session asked.history (start (map_of asked.file) image)) × (written ≡ bytes_in image)
+pub named_starts : (asked : MonAsked) (session : Session) (assembly : Option AssemblyView) (fill : Option ℕ) (written loaded : List Bool)
+    (mon : MonState) (warning_line : List ℕ)
+    → (image : List (Option ℕ)) × AreLoaded asked.file asked.others fill image assembly
+        × (session ≡ new_session asked.history (start (map_of asked.file) image)) × (written ≡ bytes_in image)
     → (places : PlacesView) × ArePlaces asked.debug_info asked.file.file session assembly written places
     × (names : Option ImageNames) × AreNamed asked.symbols asked.file names × IsNewState session asked.history (with_names names places) mon
     → loaded ≡ written → IsWarningLine (map_of asked.file) assembly fill warning_line → StartsMon asked mon loaded warning_line
@@ -41,12 +43,14 @@ named_starts asked session assembly fill written loaded mon warning_line given n
     )
 
 -- A file of names that was read is the one that is named.
-pub named_with : (symbols : Option (Bor (List ℕ))) (path : Bor (List ℕ)) (file : FileAsked) (names : ImageNames) → symbols ≡ Some path → IsAssembled (map_of file) names.assembly
+pub named_with : (symbols : Option (Bor (List ℕ))) (path : Bor (List ℕ)) (file : FileAsked) (names : ImageNames) → symbols ≡ Some path
+    → IsAssembled (map_of file) names.assembly
     → AreOfFile file.profile names.assembly names.others → AreNamed (option_map (λ s. s.now) symbols) file (Some names)
 named_with symbols path file names is assembled given = subst (λ o. AreNamed (option_map (λ s. s.now) o) file (Some names)) (sym is) (assembled, given)
 
 -- Why no session begins on the names of a file.
-pub names_end : {X : Type 0} (symbols debug : Option (List ℕ)) (file : FileAsked) (refusal : Refusal) (result : Result X StartFault) → (refusal ≡ OutOfMemory) ⊎ EndsNamed symbols file refusal
+pub names_end : {X : Type 0} (symbols debug : Option (List ℕ)) (file : FileAsked) (refusal : Refusal) (result : Result X StartFault)
+    → (refusal ≡ OutOfMemory) ⊎ EndsNamed symbols file refusal
     → IsErrAnd result (λ fault. fault ≡ OfNames refusal) → IfErr result (EndsStart symbols debug file)
 names_end symbols debug file refusal (Ok x) ends is = absurd is
 names_end symbols debug file refusal (Err fault) ends is = subst (EndsStart symbols debug file) (sym is) ends

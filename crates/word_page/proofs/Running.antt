@@ -20,13 +20,16 @@ use Rattle.word_run.specs.Statuses.{status_of_ending}
 use Rattle.word_run.specs.Told.{unplaced_line}
 
 -- What was told of an assembly and an address, said otherwise.
-pub told_at : (file : List ℕ) (x y : Option AssemblyView) (heard : Heard) (why : Ending) (steps pc at : ℕ) → x ≡ y → pc ≡ at → TellsEnding file x heard why steps pc → TellsEnding file y heard why steps at
+pub told_at : (file : List ℕ) (x y : Option AssemblyView) (heard : Heard) (why : Ending) (steps pc at : ℕ) → x ≡ y → pc ≡ at
+    → TellsEnding file x heard why steps pc → TellsEnding file y heard why steps at
 told_at file x y heard why steps pc at same there told =
     subst (λ (n : ℕ). TellsEnding file y heard why steps n) there (subst (λ (a : Option AssemblyView). TellsEnding file a heard why steps pc) same told)
 
 -- What was told of a run is told of the definition's.
-pub shown : (a : PageAsked) (assembly : Option AssemblyView) (until : Option ℕ) (s : Start) (t : Session) (heard : Heard) (end : Played) (status : ℕ) (input : List ℕ) → IsInput a.input input → Ran until a.steps s input end t
-    → status ≡ status_of_ending end.ending 0 → TellsEnding a.file.file assembly heard end.ending end.steps t.current.regs.pc → IsShown a assembly until s heard status
+pub shown : (a : PageAsked) (assembly : Option AssemblyView) (until : Option ℕ) (s : Start) (t : Session) (heard : Heard) (end : Played) (status : ℕ)
+    (input : List ℕ) → IsInput a.input input → Ran until a.steps s input end t
+    → status ≡ status_of_ending end.ending 0 → TellsEnding a.file.file assembly heard end.ending end.steps t.current.regs.pc
+        → IsShown a assembly until s heard status
 shown a assembly until s t heard end status input is ran ended told =
     let outcome : Outcome = played until a.steps (begun s.session s.written input) in
     let same = ran.1 in
@@ -36,7 +39,8 @@ shown a assembly until s t heard end status input is ran ended told =
     inr (input, is, (ended ∙ ap (λ (why : Ending). status_of_ending why 0) same.ending, subst S same.session (subst N same.steps (subst E same.ending told))))
 
 -- A file that was loaded.
-done_by : (a : PageAsked) (s : Session) (w : List Bool) (assembly : Option AssemblyView) (fill : Option ℕ) (image : List (Option ℕ)) (heard : Heard) (status : ℕ) → IsLoaded a.file fill image assembly
+done_by : (a : PageAsked) (s : Session) (w : List Bool) (assembly : Option AssemblyView) (fill : Option ℕ) (image : List (Option ℕ)) (heard : Heard)
+    (status : ℕ) → IsLoaded a.file fill image assembly
     → s ≡ new_session 0 (start (map_of a.file) image) → w ≡ bytes_in image
     → ShownIfNamed a assembly fill (start_in a.is_free s w) heard status → IsDone a heard status
 done_by a s w assembly fill image heard status loaded begins bytes ran =
@@ -46,13 +50,16 @@ done_by a s w assembly fill image heard status loaded begins bytes ran =
     inr (image, assembly, fill, loaded, subst T at ran)
 
 -- A file that was loaded, and names that were not read.
-pub done_unnamed : (a : PageAsked) (s : Session) (w : List Bool) (assembly : Option AssemblyView) (fill : Option ℕ) (image : List (Option ℕ)) (heard : Heard) (status : ℕ) → IsLoaded a.file fill image assembly
+pub done_unnamed : (a : PageAsked) (s : Session) (w : List Bool) (assembly : Option AssemblyView) (fill : Option ℕ) (image : List (Option ℕ))
+    (heard : Heard) (status : ℕ) → IsLoaded a.file fill image assembly
     → s ≡ new_session 0 (start (map_of a.file) image) → w ≡ bytes_in image
     → IsRefused heard status → IsDone a heard status
-done_unnamed a s w assembly fill image heard status loaded begins bytes refused = done_by a s w assembly fill image heard status loaded begins bytes (inl refused)
+done_unnamed a s w assembly fill image heard status loaded begins bytes refused =
+    done_by a s w assembly fill image heard status loaded begins bytes (inl refused)
 
 -- A file that was loaded, and names that were read.
-done_named : (a : PageAsked) (s : Session) (w : List Bool) (assembly names told : Option AssemblyView) (fill : Option ℕ) (image : List (Option ℕ)) (place : Result (Option ℕ) ℕ) (lost : ℕ) (heard : Heard) (between : Option (List ℕ)) (status : ℕ) → IsLoaded a.file fill image assembly
+done_named : (a : PageAsked) (s : Session) (w : List Bool) (assembly names told : Option AssemblyView) (fill : Option ℕ) (image : List (Option ℕ))
+    (place : Result (Option ℕ) ℕ) (lost : ℕ) (heard : Heard) (between : Option (List ℕ)) (status : ℕ) → IsLoaded a.file fill image assembly
     → s ≡ new_session 0 (start (map_of a.file) image) → w ≡ bytes_in image
     → AreNamed a.symbols a.file names → MayLose a.file.profile a.symbols lost → Tells (record { held = heard.held; now = between }) (left_text lost fill)
     → told ≡ names → place ≡ place_in (names_of assembly) (names_of told) a.until
@@ -62,10 +69,12 @@ done_named a s w assembly names told fill image place lost heard between status 
     let H : Heard = record { held = between; now = heard.now } in
     let found = subst (λ r. ShownIfFound a assembly r S H status) is shown in
     done_by a s w assembly fill image heard status loaded begins bytes
-    (inr (names, named, lost, may, between, left, subst (λ x. ShownIfFound a assembly (place_in (names_of assembly) (names_of x) a.until) S H status) same found))
+    (inr (names, named, lost, may, between, left, subst (λ x. ShownIfFound a assembly (place_in (names_of assembly) (names_of x) a.until) S H status)
+        same found))
 
 -- A place that was not found.
-pub done_unplaced : (a : PageAsked) (s : Session) (w : List Bool) (assembly names told : Option AssemblyView) (fill : Option ℕ) (image : List (Option ℕ)) (lost : ℕ) (heard : Heard) (between : Option (List ℕ)) (status : ℕ) → IsLoaded a.file fill image assembly
+pub done_unplaced : (a : PageAsked) (s : Session) (w : List Bool) (assembly names told : Option AssemblyView) (fill : Option ℕ)
+    (image : List (Option ℕ)) (lost : ℕ) (heard : Heard) (between : Option (List ℕ)) (status : ℕ) → IsLoaded a.file fill image assembly
     → s ≡ new_session 0 (start (map_of a.file) image) → w ≡ bytes_in image
     → AreNamed a.symbols a.file names → MayLose a.file.profile a.symbols lost → Tells (record { held = heard.held; now = between }) (left_text lost fill)
     → told ≡ names → Err status ≡ place_in (names_of assembly) (names_of told) a.until
@@ -74,13 +83,16 @@ done_unplaced a s w assembly names told fill image lost heard between status loa
     done_named a s w assembly names told fill image (Err status) lost heard between status loaded begins bytes named may left same is (refl, line)
 
 -- A place that was found, of which nothing was told.
-pub done_placed : {E : Type 0} (contents : E → Option (List ℕ)) (a : PageAsked) (s : Session) (w : List Bool) (assembly names told : Option AssemblyView) (fill : Option ℕ) (image : List (Option ℕ)) (until : Option ℕ) (lost : ℕ)
+pub done_placed : {E : Type 0} (contents : E → Option (List ℕ)) (a : PageAsked) (s : Session) (w : List Bool)
+    (assembly names told : Option AssemblyView) (fill : Option ℕ) (image : List (Option ℕ)) (until : Option ℕ) (lost : ℕ)
     (begun_at first middle last : E) (status : ℕ) → IsLoaded a.file fill image assembly
     → s ≡ new_session 0 (start (map_of a.file) image) → w ≡ bytes_in image
-    → AreNamed a.symbols a.file names → MayLose a.file.profile a.symbols lost → Tells (record { held = contents begun_at; now = contents first }) (left_text lost fill)
+    → AreNamed a.symbols a.file names → MayLose a.file.profile a.symbols lost
+        → Tells (record { held = contents begun_at; now = contents first }) (left_text lost fill)
     → told ≡ names → Ok until ≡ place_in (names_of assembly) (names_of told) a.until → middle ≡ first
     → IsShown a assembly until (start_in a.is_free s w) (record { held = contents middle; now = contents last }) status
     → IsDone a (record { held = contents begun_at; now = contents last }) status
 done_placed contents a s w assembly names told fill image until lost begun_at first middle last status loaded begins bytes named may left same is quiet shown =
-    done_named a s w assembly names told fill image (Ok until) lost (record { held = contents begun_at; now = contents last }) (contents first) status loaded begins bytes named may left same is
+    done_named a s w assembly names told fill image (Ok until) lost (record { held = contents begun_at; now = contents last }) (contents first) status
+        loaded begins bytes named may left same is
     (subst (λ e. IsShown a assembly until (start_in a.is_free s w) (record { held = contents e; now = contents last }) status) quiet shown)

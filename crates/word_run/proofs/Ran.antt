@@ -42,7 +42,8 @@ abbrev FrontWritten : Session → Session → Option (List ℕ) → Option (List
 FrontWritten s t held now = (text : List ℕ) × (t.current.bus.out ≡ s.current.bus.out ++ text) × AppendsFront held now text
 
 -- What was told of a run is told of its outcome.
-told_of : (is_told : Bool) (file : List ℕ) (assembly : Option AssemblyView) (heard : Heard) (ending why : Ending) (steps count : ℕ) (state now : State) → ending ≡ why → steps ≡ count → state ≡ now
+told_of : (is_told : Bool) (file : List ℕ) (assembly : Option AssemblyView) (heard : Heard) (ending why : Ending) (steps count : ℕ)
+    (state now : State) → ending ≡ why → steps ≡ count → state ≡ now
     → TellsEnd is_told file assembly heard ending steps state → TellsEnd is_told file assembly heard why count now
 told_of is_told file assembly heard ending why steps count state now e n s told =
     let E : Ending → Type 0 = λ x. TellsEnd is_told file assembly heard x count now in
@@ -50,7 +51,8 @@ told_of is_told file assembly heard ending why steps count state now e n s told 
     let S : State → Type 0 = λ x. TellsEnd is_told file assembly heard ending steps x in
     subst E e (subst N n (subst S s told))
 
-pub ran_to : (a : RunAsked) (assembly : Option AssemblyView) (until : Option ℕ) (s : Start) (t : Session) (streams : Streams) (interrupted : Bool) (heard : Heard) (end : Played) (status : ℕ)
+pub ran_to : (a : RunAsked) (assembly : Option AssemblyView) (until : Option ℕ) (s : Start) (t : Session) (streams : Streams) (interrupted : Bool)
+    (heard : Heard) (end : Played) (status : ℕ)
     → s.session.current.bus.out ≡ []
     → PlayedOf until a.steps s streams.given streams.left t end
     → AllWritten s.session t streams.held streams.now
@@ -69,14 +71,16 @@ ran_to a assembly until s t streams interrupted heard end status silent run writ
       Ok outcome,
       (run.0, refl, run.2, subst B same.left run.3, subst W text_is written.2),
       is ∙ ap (λ (why : Ending). ended why t) same.ending ∙ ap (λ (now : Session). ended outcome.ending now) same.session,
-      told_of a.tells_cycles a.file.file assembly heard end.ending outcome.ending end.steps outcome.steps t.current outcome.play.session.current same.ending same.steps (ap (λ (now : Session). now.current) same.session) told,
+      told_of a.tells_cycles a.file.file assembly heard end.ending outcome.ending end.steps outcome.steps t.current outcome.play.session.current
+          same.ending same.steps (ap (λ (now : Session). now.current) same.session) told,
     )
 
 abbrev BrokenOf : Option ℕ → ℕ → Start → Option (List ℕ) → Option (List ℕ) → Session → Type 0
 BrokenOf until limit s given left now = (input : List ℕ) × (rest : List ℕ) × AreBytesOf given input × AreBytesOf left rest
     × BrokeOff until limit (begun s.session s.written input) now rest
 
-pub failed_to : (a : RunAsked) (assembly : Option AssemblyView) (until : Option ℕ) (s : Start) (t : Session) (streams : Streams) (interrupted : Bool) (heard : Heard) (fault : PlayFault) (status : ℕ)
+pub failed_to : (a : RunAsked) (assembly : Option AssemblyView) (until : Option ℕ) (s : Start) (t : Session) (streams : Streams) (interrupted : Bool)
+    (heard : Heard) (fault : PlayFault) (status : ℕ)
     → s.session.current.bus.out ≡ []
     → BrokenOf until a.steps s streams.given streams.left t
     → FrontWritten s.session t streams.held streams.now
@@ -93,7 +97,8 @@ failed_to a assembly until s t streams interrupted heard fault status silent bro
     inl (Err fault, (broke.0, broke.2, front), is, told)
 
 -- What was written begins what the session has put out, and so what the whole run puts out.
-pub interrupted_to : (a : RunAsked) (assembly : Option AssemblyView) (until : Option ℕ) (s : Start) (t : Session) (streams : Streams) (interrupted : Bool) (heard : Heard) (status : ℕ)
+pub interrupted_to : (a : RunAsked) (assembly : Option AssemblyView) (until : Option ℕ) (s : Start) (t : Session) (streams : Streams)
+    (interrupted : Bool) (heard : Heard) (status : ℕ)
     → interrupted ≡ true
     → s.session.current.bus.out ≡ []
     → BrokenOf until a.steps s streams.given streams.left t
@@ -112,34 +117,44 @@ interrupted_to a assembly until s t streams interrupted heard status was silent 
     inr (was, (is, (broke.0, t, broke.1, broke.2, broke.3, broke.4, front, more, told)))
 
 -- A file that was loaded, and its warnings told.
-ran_file : (a : RunAsked) (s : Session) (w : List Bool) (assembly : Option AssemblyView) (fill : Option ℕ) (image : List (Option ℕ)) (streams : Streams) (interrupted : Bool) (held between now : Option (List ℕ)) (status : ℕ) (Alone : Type 0) → IsMachine a.file a.others a.symbols fill image assembly
+ran_file : (a : RunAsked) (s : Session) (w : List Bool) (assembly : Option AssemblyView) (fill : Option ℕ) (image : List (Option ℕ))
+    (streams : Streams) (interrupted : Bool) (held between now : Option (List ℕ)) (status : ℕ) (Alone : Type 0)
+    → IsMachine a.file a.others a.symbols fill image assembly
     → s ≡ new_session 0 (start (map_of a.file) image) → w ≡ bytes_in image
     → (lost : ℕ) → MayLose a.file.profile a.symbols lost → TellsWarnings (map_of a.file) assembly lost fill (record { held = held; now = between })
-    → RanIfFound a assembly (place_asked (names_of assembly) a.until) (record { session = s; written = or_everywhere a.is_free w }) streams interrupted (record { held = between; now = now }) status Alone
+    → RanIfFound a assembly (place_asked (names_of assembly) a.until) (record { session = s; written = or_everywhere a.is_free w }) streams
+        interrupted (record { held = between; now = now }) status Alone
     → IsDone a streams interrupted (record { held = held; now = now }) status Alone
 ran_file a s w assembly fill image streams interrupted held between now status A loaded begins bytes lost may warned ran =
-    let T : Start → Type 0 = λ x. RanIfFound a assembly (place_asked (names_of assembly) a.until) x streams interrupted (record { held = between; now = now }) status A in
+    let T : Start → Type 0 = λ x. RanIfFound a assembly (place_asked (names_of assembly) a.until) x streams interrupted
+        (record { held = between; now = now }) status A in
     let at : record { session = s; written = or_everywhere a.is_free w } ≡ start_of a image =
     ap (λ (t : Session). record { session = t; written = or_everywhere a.is_free w }) begins
     ∙ ap (λ (v : List Bool). record { session = new_session 0 (start (map_of a.file) image); written = or_everywhere a.is_free v }) bytes in
     inr (image, assembly, fill, loaded, between, lost, may, warned, subst T at ran)
 
 -- What was told of the source is told of the assembly.
-warned_of : (bus_map : Map) (source assembly : Option AssemblyView) (lost : ℕ) (fill : Option ℕ) (heard : Heard) → source ≡ assembly → TellsWarnings bus_map source lost fill heard → TellsWarnings bus_map assembly lost fill heard
+warned_of : (bus_map : Map) (source assembly : Option AssemblyView) (lost : ℕ) (fill : Option ℕ) (heard : Heard) → source ≡ assembly
+    → TellsWarnings bus_map source lost fill heard → TellsWarnings bus_map assembly lost fill heard
 warned_of bus_map source assembly lost fill heard same warned = subst (λ (o : Option AssemblyView). TellsWarnings bus_map o lost fill heard) same warned
 
 -- A file that was loaded, and a place that was found, of which nothing was told.
-pub ran_found : {E : Type 0} (contents : E → Option (List ℕ)) (a : RunAsked) (s : Session) (w v : List Bool) (assembly source told : Option AssemblyView) (fill : Option ℕ) (image : List (Option ℕ)) (until : Option ℕ)
-    (streams : Streams) (interrupted : Bool) (first second middle last : E) (status : ℕ) (Alone : Type 0) → IsMachine a.file a.others a.symbols fill image assembly
+pub ran_found : {E : Type 0} (contents : E → Option (List ℕ)) (a : RunAsked) (s : Session) (w v : List Bool)
+    (assembly source told : Option AssemblyView) (fill : Option ℕ) (image : List (Option ℕ)) (until : Option ℕ)
+    (streams : Streams) (interrupted : Bool) (first second middle last : E) (status : ℕ) (Alone : Type 0)
+        → IsMachine a.file a.others a.symbols fill image assembly
     → s ≡ new_session 0 (start (map_of a.file) image) → w ≡ bytes_in image
-    → source ≡ assembly → (lost : ℕ) → MayLose a.file.profile a.symbols lost → TellsWarnings (map_of a.file) source lost fill (record { held = contents first; now = contents second })
+    → source ≡ assembly → (lost : ℕ) → MayLose a.file.profile a.symbols lost
+        → TellsWarnings (map_of a.file) source lost fill (record { held = contents first; now = contents second })
     → Ok until ≡ place_asked (names_of assembly) a.until → middle ≡ second → told ≡ assembly → v ≡ or_everywhere a.is_free w
     → RanOrInterrupted a told until (record { session = s; written = v }) streams interrupted (record { held = contents middle; now = contents last }) status
     → IsDone a streams interrupted (record { held = contents first; now = contents last }) status Alone
-ran_found contents a s w v assembly source told fill image until streams interrupted first second middle last status A loaded begins bytes same lost may warned place quiet names counts ran =
+ran_found contents a s w v assembly source told fill image until streams interrupted first second middle last status A loaded begins bytes same lost
+    may warned place quiet names counts ran =
     let H : Heard = record { held = contents second; now = contents last } in
     let T : Start = record { session = s; written = or_everywhere a.is_free w } in
-    let heard = subst (λ e. RanOrInterrupted a told until (record { session = s; written = v }) streams interrupted (record { held = contents e; now = contents last }) status) quiet ran in
+    let heard = subst (λ e. RanOrInterrupted a told until (record { session = s; written = v }) streams interrupted
+        (record { held = contents e; now = contents last }) status) quiet ran in
     let known = subst (λ x. RanOrInterrupted a x until (record { session = s; written = v }) streams interrupted H status) names heard in
     let from = subst (λ x. RanOrInterrupted a assembly until (record { session = s; written = x }) streams interrupted H status) counts known in
     ran_file a s w assembly fill image streams interrupted (contents first) (contents second) (contents last) status A loaded begins bytes lost may
@@ -147,14 +162,17 @@ ran_found contents a s w v assembly source told fill image until streams interru
     (subst (λ r. RanIfFound a assembly r T streams interrupted H status A) place from)
 
 -- A place that was not found.
-pub ran_unfound : (a : RunAsked) (s : Session) (w : List Bool) (assembly source : Option AssemblyView) (fill : Option ℕ) (image : List (Option ℕ)) (streams : Streams) (interrupted : Bool) (held between now : Option (List ℕ)) (status : ℕ) (Alone : Type 0)
+pub ran_unfound : (a : RunAsked) (s : Session) (w : List Bool) (assembly source : Option AssemblyView) (fill : Option ℕ) (image : List (Option ℕ))
+    (streams : Streams) (interrupted : Bool) (held between now : Option (List ℕ)) (status : ℕ) (Alone : Type 0)
     → IsMachine a.file a.others a.symbols fill image assembly → s ≡ new_session 0 (start (map_of a.file) image) → w ≡ bytes_in image
-    → source ≡ assembly → (lost : ℕ) → MayLose a.file.profile a.symbols lost → TellsWarnings (map_of a.file) source lost fill (record { held = held; now = between })
+    → source ≡ assembly → (lost : ℕ) → MayLose a.file.profile a.symbols lost
+        → TellsWarnings (map_of a.file) source lost fill (record { held = held; now = between })
     → Err status ≡ place_asked (names_of assembly) a.until → Tells (record { held = between; now = now }) (unplaced_line a.until) → Alone
     → IsDone a streams interrupted (record { held = held; now = now }) status Alone
 ran_unfound a s w assembly source fill image streams interrupted held between now status A loaded begins bytes same lost may warned place told alone =
     let T : Start = record { session = s; written = or_everywhere a.is_free w } in
-    ran_file a s w assembly fill image streams interrupted held between now status A loaded begins bytes lost may (warned_of (map_of a.file) source assembly lost fill (record { held = held; now = between }) same warned)
+    ran_file a s w assembly fill image streams interrupted held between now status A loaded begins bytes lost may
+        (warned_of (map_of a.file) source assembly lost fill (record { held = held; now = between }) same warned)
     (subst (λ r. RanIfFound a assembly r T streams interrupted (record { held = between; now = now }) status A) place (refl, told, alone))
 
 -- The status of a place that was not found is not 0.

@@ -9,5 +9,6 @@ pub no_site : (file : List ℕ) (assembly : Option AssemblyView) (address : ℕ)
 no_site file None address site is = is
 no_site file (Some a) address site is = inr is
 
-pub some_site : (file : List ℕ) (assembly : Option AssemblyView) (a : AssemblyView) (address : ℕ) (site : List ℕ) → assembly ≡ Some a → site ≡ site_text (places_of file a) address → IsSite file assembly address site
+pub some_site : (file : List ℕ) (assembly : Option AssemblyView) (a : AssemblyView) (address : ℕ) (site : List ℕ) → assembly ≡ Some a
+    → site ≡ site_text (places_of file a) address → IsSite file assembly address site
 some_site file assembly a address site source is = subst (λ x. IsSite file x address site) (sym source) (inl is)

@@ -78,12 +78,14 @@ pub none_run : (manner : Manner) (old : Option (List ℕ)) → AreRun manner [] 
 none_run manner old = record { all = nothing 0; are = refl; count_is = refl; passes_is = refl; written = Appends-nil old }
 
 -- One suite more was run.
-pub one_run : (manner : Manner) (suites : List Suite) (i : ℕ) (d suite : Suite) (old between now : Option (List ℕ)) (count : ℕ) (passes both : Bool) (tally : Tally)
+pub one_run : (manner : Manner) (suites : List Suite) (i : ℕ) (d suite : Suite) (old between now : Option (List ℕ)) (count : ℕ) (passes both : Bool)
+    (tally : Tally)
     → i < length suites → suite ≡ get_or suites i d → both ≡ (passes && tally.all_pass)
     → AreRun manner (map suite_view (take i suites)) old between count passes → IsRun manner (suite_view suite) count between now tally
     → AreRun manner (map suite_view (take (i + 1) suites)) old now tally.count both
 one_run manner suites i d suite old between now count passes both tally within is both_is before one =
-    let longer : map suite_view (take (i + 1) suites) ≡ map suite_view (take i suites) ++ suite_view suite ∷ [] = map_more suite_view suites i d within ∙ ap (λ (s : Suite). map suite_view (take i suites) ++ suite_view s ∷ []) (sym is) in
+    let longer : map suite_view (take (i + 1) suites) ≡ map suite_view (take i suites) ++ suite_view suite ∷ [] =
+        map_more suite_view suites i d within ∙ ap (λ (s : Suite). map suite_view (take i suites) ++ suite_view s ∷ []) (sym is) in
     let next = subst (λ (n : ℕ). IsOutcome manner (suite_view suite) n one.outcome) (sym before.count_is) one.is in
     record {
       all = joined before.all one.outcome;
@@ -116,7 +118,8 @@ record SomeOutcomes (manner : Manner) (count : ℕ) (suites : List SuiteAsked) :
 
 -- A suite that is not reached: its file of rows may be too large, for all that is known.
 unreached : Manner → SuiteAsked → ℕ → Outcome
-unreached manner suite count = outcome_by manner.telling suite (fault_text manner.telling (tally_after false 0 (fresh_tally count)).count (name_of suite) TOO_LARGE.now []) (tally_after false 0 (fresh_tally count))
+unreached manner suite count = outcome_by manner.telling suite
+    (fault_text manner.telling (tally_after false 0 (fresh_tally count)).count (name_of suite) TOO_LARGE.now []) (tally_after false 0 (fresh_tally count))
 
 is_unreached : (manner : Manner) (suite : SuiteAsked) (count : ℕ) → IsOutcome manner suite count (unreached manner suite count)
 unfolding unreached
@@ -188,7 +191,8 @@ none_begun manner suite count old = record {
 
 tested_outcome : (manner : Manner) (suite : SuiteAsked) (count : ℕ) (prepared : Prepared) (tally : Tally) → IsPrepared manner.steps suite prepared
     → tally ≡ tally_rows (ground_in prepared) (fresh_tally count) (tests_in prepared)
-    → IsOutcome manner suite count (outcome_by manner.telling suite (rows_text manner.telling (ground_in prepared) suite count 1 (lines_of prepared.text.items) (tests_in prepared)) tally)
+    → IsOutcome manner suite count (outcome_by manner.telling suite
+        (rows_text manner.telling (ground_in prepared) suite count 1 (lines_of prepared.text.items) (tests_in prepared)) tally)
 tested_outcome manner suite count prepared tally p is =
     let text : List ℕ = rows_text manner.telling (ground_in prepared) suite count 1 (lines_of prepared.text.items) (tests_in prepared) in
     let rows_are : List SeenLine → List ℕ → Ground → Outcome = λ rows lines bench. outcome_by manner.telling suite
@@ -201,7 +205,8 @@ tested_outcome manner suite count prepared tally p is =
           ∙ ap (λ (r : List SeenLine). rows_are r p.file.text (ground_of manner.steps suite p.file)) (sym p.rows_are)));
     })
 
-untested_outcome : (manner : Manner) (suite : SuiteAsked) (count : ℕ) (points : ℕ) (fault : FileFault) (title remarks : List ℕ) (tally : Tally) → EndsFile suite.reading points fault → IsFaultText fault title remarks
+untested_outcome : (manner : Manner) (suite : SuiteAsked) (count : ℕ) (points : ℕ) (fault : FileFault) (title remarks : List ℕ) (tally : Tally)
+    → EndsFile suite.reading points fault → IsFaultText fault title remarks
     → tally ≡ tally_after false points (fresh_tally count)
     → IsOutcome manner suite count (outcome_by manner.telling suite (fault_text manner.telling tally.count (name_of suite) title remarks) tally)
 untested_outcome manner suite count points fault title remarks tally ends told is = inr (record {
@@ -220,23 +225,27 @@ EndsSuite manner suite count old new result = MatchResult result (IsRun manner s
 
 -- What TAP tells of the tests of a suite that was prepared.
 abbrev tested_text : Prepared → Telling → SuiteAsked → ℕ → Tally → List ℕ
-tested_text prepared telling suite count tally = rows_text telling (ground_in prepared) suite count 1 (lines_of prepared.text.items) (tests_in prepared) ++ sum_text telling suite tally.score
+tested_text prepared telling suite count tally = rows_text telling (ground_in prepared) suite count 1 (lines_of prepared.text.items)
+    (tests_in prepared) ++ sum_text telling suite tally.score
 
 pub tested_result : (manner : Manner) (suite : SuiteAsked) (count : ℕ) (old new : Option (List ℕ)) (prepared : Prepared) (result : Result Tally Stop)
     → IsPrepared manner.steps suite prepared
     → IfOk result (λ tally. tally ≡ tally_rows (ground_in prepared) (fresh_tally count) (tests_in prepared))
     → IfOk result (λ tally. Appends old new (tested_text prepared manner.telling suite count tally))
-    → IfErr result (λ _. AppendsFront old new (tested_text prepared manner.telling suite count (tally_rows (ground_in prepared) (fresh_tally count) (tests_in prepared))))
+    → IfErr result (λ _. AppendsFront old new (tested_text prepared manner.telling suite count
+        (tally_rows (ground_in prepared) (fresh_tally count) (tests_in prepared))))
     → EndsSuite manner suite count old new result
 tested_result manner suite count old new prepared (Err stop) p is written begun =
     let tally = tally_rows (ground_in prepared) (fresh_tally count) (tests_in prepared) in
     record {
-      outcome = outcome_by manner.telling suite (rows_text manner.telling (ground_in prepared) suite count 1 (lines_of prepared.text.items) (tests_in prepared)) tally;
+      outcome = outcome_by manner.telling suite (rows_text manner.telling (ground_in prepared) suite count 1 (lines_of prepared.text.items)
+          (tests_in prepared)) tally;
       is = tested_outcome manner suite count prepared tally p refl;
       written = begun;
     }
 tested_result manner suite count old new prepared (Ok tally) p is written begun = record {
-  outcome = outcome_by manner.telling suite (rows_text manner.telling (ground_in prepared) suite count 1 (lines_of prepared.text.items) (tests_in prepared)) tally;
+  outcome = outcome_by manner.telling suite (rows_text manner.telling (ground_in prepared) suite count 1 (lines_of prepared.text.items)
+      (tests_in prepared)) tally;
   is = tested_outcome manner suite count prepared tally p is;
   count_is = refl;
   passes_is = refl;
@@ -247,11 +256,14 @@ tested_result manner suite count old new prepared (Ok tally) p is written begun 
 abbrev untested_text : Telling → SuiteAsked → Tally → List ℕ → List ℕ → List ℕ
 untested_text telling suite tally title remarks = fault_text telling tally.count (name_of suite) title remarks ++ sum_text telling suite tally.score
 
-pub untested_result : {E : Type 0} (contents : E → Option (List ℕ)) (manner : Manner) (suite : SuiteAsked) (count : ℕ) (old new : E) (points : ℕ) (fault : FileFault) (result : Result Tally Stop)
+pub untested_result : {E : Type 0} (contents : E → Option (List ℕ)) (manner : Manner) (suite : SuiteAsked) (count : ℕ) (old new : E) (points : ℕ)
+    (fault : FileFault) (result : Result Tally Stop)
     → EndsFile suite.reading points fault → IfOk result (λ tally. tally ≡ tally_after false points (fresh_tally count))
-    → IfOk result (λ tally. (title : List ℕ) × (remarks : List ℕ) × Appends (contents old) (contents new) (untested_text manner.telling suite tally title remarks) × IsFaultText fault title remarks)
+    → IfOk result (λ tally. (title : List ℕ) × (remarks : List ℕ)
+        × Appends (contents old) (contents new) (untested_text manner.telling suite tally title remarks) × IsFaultText fault title remarks)
     → IfErr result (λ _. (new ≡ old) ⊎ ((title : List ℕ) × (remarks : List ℕ)
-    × AppendsFront (contents old) (contents new) (untested_text manner.telling suite (tally_after false points (fresh_tally count)) title remarks) × IsFaultText fault title remarks))
+    × AppendsFront (contents old) (contents new) (untested_text manner.telling suite (tally_after false points (fresh_tally count)) title remarks)
+        × IsFaultText fault title remarks))
     → EndsSuite manner suite count (contents old) (contents new) result
 untested_result contents manner suite count old new points fault (Ok tally) ends is told begun = record {
   outcome = outcome_by manner.telling suite (fault_text manner.telling tally.count (name_of suite) told.0 told.1) tally;
@@ -263,7 +275,8 @@ untested_result contents manner suite count old new points fault (Ok tally) ends
 untested_result contents manner suite count old new points fault (Err stop) ends is told begun = elim begun [
   | inl same ↦ subst (λ e. IsBegun manner suite count (contents old) (contents e)) (sym same) (none_begun manner suite count (contents old))
   | inr some ↦ record {
-    outcome = outcome_by manner.telling suite (fault_text manner.telling (tally_after false points (fresh_tally count)).count (name_of suite) some.0 some.1) (tally_after false points (fresh_tally count));
+    outcome = outcome_by manner.telling suite (fault_text manner.telling (tally_after false points (fresh_tally count)).count (name_of suite) some.0
+        some.1) (tally_after false points (fresh_tally count));
     is = untested_outcome manner suite count points fault some.0 some.1 (tally_after false points (fresh_tally count)) ends some.3 refl;
     written = some.2;
   }
@@ -271,10 +284,12 @@ untested_result contents manner suite count old new points fault (Err stop) ends
 
 -- All that is written.
 pub all_told : (asked : TestAsked) (suites : List SuiteAsked) (old begun run new : Option (List ℕ)) (count : ℕ) (passes : Bool)
-    → suites ≡ suites_of asked.reading asked.sources asked.files → Appends old begun (begin_text asked.telling) → AreRun (manner_of asked) suites begun run count passes
+    → suites ≡ suites_of asked.reading asked.sources asked.files → Appends old begun (begin_text asked.telling)
+        → AreRun (manner_of asked) suites begun run count passes
     → Appends run new (end_text asked.telling count) → AreTested asked old new passes
 all_told asked suites old begun run new count passes are first ran last =
-    let told = Appends-trans begun run new ran.all.text (end_text asked.telling ran.all.count) ran.written (subst (λ (n : ℕ). Appends run new (end_text asked.telling n)) (sym ran.count_is) last) in (
+    let told = Appends-trans begun run new ran.all.text (end_text asked.telling ran.all.count) ran.written
+        (subst (λ (n : ℕ). Appends run new (end_text asked.telling n)) (sym ran.count_is) last) in (
       ran.all,
       subst (λ (s : List SuiteAsked). AreOutcomes (manner_of asked) 0 s ran.all) are ran.are,
       ran.passes_is,
@@ -297,20 +312,24 @@ nothing_told asked old = front_of_first asked old old (front_none old (begin_tex
 
 -- Not all suites were run.
 pub front_of_suites : (asked : TestAsked) (suites : List SuiteAsked) (old begun new : Option (List ℕ))
-    → suites ≡ suites_of asked.reading asked.sources asked.files → Appends old begun (begin_text asked.telling) → AreBegun (manner_of asked) suites begun new → HasBegun asked old new
+    → suites ≡ suites_of asked.reading asked.sources asked.files → Appends old begun (begin_text asked.telling)
+        → AreBegun (manner_of asked) suites begun new → HasBegun asked old new
 front_of_suites asked suites old begun new are first ran = (
   ran.all,
   subst (λ (s : List SuiteAsked). AreOutcomes (manner_of asked) 0 s ran.all) are ran.are,
-  front_after old begun new (begin_text asked.telling) (ran.all.text ++ end_text asked.telling ran.all.count) first (front_more begun new ran.all.text (end_text asked.telling ran.all.count) ran.written),
+  front_after old begun new (begin_text asked.telling) (ran.all.text ++ end_text asked.telling ran.all.count) first
+      (front_more begun new ran.all.text (end_text asked.telling ran.all.count) ran.written),
 )
 
 -- The last line was not written whole.
 pub front_of_plan : (asked : TestAsked) (suites : List SuiteAsked) (old begun run new : Option (List ℕ)) (count : ℕ) (passes : Bool)
-    → suites ≡ suites_of asked.reading asked.sources asked.files → Appends old begun (begin_text asked.telling) → AreRun (manner_of asked) suites begun run count passes
+    → suites ≡ suites_of asked.reading asked.sources asked.files → Appends old begun (begin_text asked.telling)
+        → AreRun (manner_of asked) suites begun run count passes
     → AppendsFront run new (end_text asked.telling count) → HasBegun asked old new
 front_of_plan asked suites old begun run new count passes are first ran last = (
   ran.all,
   subst (λ (s : List SuiteAsked). AreOutcomes (manner_of asked) 0 s ran.all) are ran.are,
   front_after old begun new (begin_text asked.telling) (ran.all.text ++ end_text asked.telling ran.all.count) first
-      (front_after begun run new ran.all.text (end_text asked.telling ran.all.count) ran.written (subst (λ (n : ℕ). AppendsFront run new (end_text asked.telling n)) (sym ran.count_is) last)),
+      (front_after begun run new ran.all.text (end_text asked.telling ran.all.count) ran.written
+          (subst (λ (n : ℕ). AppendsFront run new (end_text asked.telling n)) (sym ran.count_is) last)),
 )

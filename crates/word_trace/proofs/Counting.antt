@@ -27,7 +27,8 @@ and_false true = refl
 and_false false = refl
 
 -- the bytes of an instruction
-pub code_known : (cells : List Bool) (len pc : ℕ) → is_written cells pc ≡ true → (2 ≤ len → is_written cells ((pc + 1) % 65536) ≡ true) → (3 ≤ len → is_written cells ((pc + 2) % 65536) ≡ true)
+pub code_known : (cells : List Bool) (len pc : ℕ) → is_written cells pc ≡ true → (2 ≤ len → is_written cells ((pc + 1) % 65536) ≡ true)
+    → (3 ≤ len → is_written cells ((pc + 2) % 65536) ≡ true)
     → are_written cells (take len (pc ∷ (pc + 1) % 65536 ∷ (pc + 2) % 65536 ∷ [])) ≡ true
 unfolding are_written
 code_known cells zero pc a b c = refl
@@ -41,7 +42,8 @@ code_known cells (suc (suc (suc (suc n)))) pc a b c =
     ∙ ap (λ x. x && (is_written cells ((pc + 2) % 65536) && true)) (b (omega arith)) ∙ ap (λ x. x && true) (c (omega arith))
 
 -- one of some addresses that were written, and the others
-pub written_on : (cells : List Bool) (i : ℕ) (xs : List ℕ) → i < length xs → are_written cells (drop i xs) ≡ (is_written cells (get_or xs i 0) && are_written cells (drop (i + 1) xs))
+pub written_on : (cells : List Bool) (i : ℕ) (xs : List ℕ) → i < length xs
+    → are_written cells (drop i xs) ≡ (is_written cells (get_or xs i 0) && are_written cells (drop (i + 1) xs))
 unfolding are_written
 written_on cells i xs h =
     let d : drop i xs ≡ get_or xs i 0 ∷ drop (i + 1) xs = rw (add-one, drop-cons xs i 0) refl in
@@ -86,7 +88,8 @@ told_kept : (m : Map) (w : Option (List Bool)) (xs : List ℕ) → Known w xs �
 told_kept m w xs known = ap (with_all_written w) (told_none m w xs known) ∙ written_none w
 
 -- and none is marked
-bytes_kept : (m : Map) (rom : Option (ℕ × ℕ)) (port : ℕ) (cells : List Bool) (xs : List ℕ) → are_written cells xs ≡ true → with_bytes cells (kept m rom port xs) ≡ cells
+bytes_kept : (m : Map) (rom : Option (ℕ × ℕ)) (port : ℕ) (cells : List Bool) (xs : List ℕ) → are_written cells xs ≡ true
+    → with_bytes cells (kept m rom port xs) ≡ cells
 unfolding are_written kept with_bytes
 bytes_kept m rom port cells [] known = refl
 bytes_kept m rom port cells (x ∷ xs) known = by (is_kept m rom port x) (bytes_kept m rom port cells xs (and_right _ _ known))
@@ -106,9 +109,11 @@ passes_nothing g s t touches plain =
     let asks = asks_ahead g in
     let left : Bool → List ℕ = λ b. kept t.bus.map g.asked.file.rom g.asked.file.port (stored_by b s.regs.s (if_asked asks (stores_here s))) in
     sym (ap (λ b. marked (with_all_written g.written (left b)) g) plain
-    ∙ ap (λ w. marked w g) (left_kept t.bus.map g.asked.file.rom g.asked.file.port g.written (if_asked asks (stores_here s)) (known_stores g.written asks s touches)))
+    ∙ ap (λ w. marked w g) (left_kept t.bus.map g.asked.file.rom g.asked.file.port g.written (if_asked asks (stores_here s))
+        (known_stores g.written asks s touches)))
 
-pub counts_only : (g : Gathered) (s t : State) (cycles : ℕ) → TouchesNoOther g.written s → entered (moment_of s) t ≡ false → cycles ≡ cycles_of (moment_of s) t → counted_step false s.regs.pc cycles g ≡ noted_here t (ahead_of g s) g
+pub counts_only : (g : Gathered) (s t : State) (cycles : ℕ) → TouchesNoOther g.written s → entered (moment_of s) t ≡ false
+    → cycles ≡ cycles_of (moment_of s) t → counted_step false s.regs.pc cycles g ≡ noted_here t (ahead_of g s) g
 counts_only g s t cycles touches plain took =
     let asks = asks_ahead g in
     let m = t.bus.map in
@@ -120,12 +125,14 @@ counts_only g s t cycles touches plain took =
     let port = g.asked.file.port in
     let counted = counted_step false s.regs.pc (cycles_of (moment_of s) t) g in
     ap (λ n. counted_step false s.regs.pc n g) took
-    ∙ sym (ap (λ b. marked (with_all_written (with_reads b m (ahead_of g s) w) (left_at t g.asked.file b (ahead_of g s))) (counted_step b s.regs.pc (cycles_of (moment_of s) t) g)) plain
+    ∙ sym (ap (λ b. marked (with_all_written (with_reads b m (ahead_of g s) w) (left_at t g.asked.file b (ahead_of g s)))
+        (counted_step b s.regs.pc (cycles_of (moment_of s) t) g)) plain
     ∙ ap (λ u. marked (with_all_written (with_told m u reads) (kept m rom port stores)) counted) (told_kept m w code (known_code w s touches))
     ∙ ap (λ u. marked (with_all_written u (kept m rom port stores)) counted) (told_kept m w reads (known_reads w asks s touches))
     ∙ ap (λ u. marked u counted) (left_kept m rom port w stores (known_stores w asks s touches)))
 
-pub tells_nothing : (g : Gathered) (s t : State) → has_no_rows g.asked ≡ true → TouchesNoOther g.written s → entered (moment_of s) t ≡ false → text_of_step t (ahead_of g s) g ≡ []
+pub tells_nothing : (g : Gathered) (s t : State) → has_no_rows g.asked ≡ true → TouchesNoOther g.written s → entered (moment_of s) t ≡ false
+    → text_of_step t (ahead_of g s) g ≡ []
 tells_nothing g s t asked touches plain =
     let asks = asks_ahead g in
     let m = t.bus.map in
@@ -135,7 +142,8 @@ tells_nothing g s t asked touches plain =
     let number = (counted_here t (ahead_of g s) g).all.visits in
     let row = row_text g.asked t g.sites (step_of t g.asked.file (entered (moment_of s) t) (ahead_of g s)) in
     ap (λ b. reads_text b t g.sites number (ahead_of g s) w ++ row) plain
-    ∙ ap (λ xs. (findings t g.sites (moment_of s) number Code xs ++ findings t g.sites (moment_of s) number Data (told m (with_told m w code) reads)) ++ row) (told_none m w code (known_code w s touches))
+    ∙ ap (λ xs. (findings t g.sites (moment_of s) number Code xs ++ findings t g.sites (moment_of s) number Data (told m (with_told m w code) reads))
+        ++ row) (told_none m w code (known_code w s touches))
     ∙ ap (λ u. findings t g.sites (moment_of s) number Data (told m u reads) ++ row) (told_kept m w code (known_code w s touches))
     ∙ ap (λ xs. findings t g.sites (moment_of s) number Data xs ++ row) (told_none m w reads (known_reads w asks s touches))
     ∙ ap (λ b. if b then [] else step_row t g.sites (step_of t g.asked.file (entered (moment_of s) t) (ahead_of g s)) g.asked.shows_stores) asked

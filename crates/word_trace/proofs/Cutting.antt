@@ -65,7 +65,8 @@ head_begins what text =
     let named : List ℕ = front ++ what in
     let whole : List ℕ = named ++ codes "\n" in
     begins_on text gap whole (begins_with text (gap_behind text))
-    (begins_on gap front whole (begins_with gap (codes "  visits      cycles  ")) (begins_on front named whole (begins_with front what) (begins_with named (codes "\n"))))
+    (begins_on gap front whole (begins_with gap (codes "  visits      cycles  "))
+        (begins_on front named whole (begins_with front what) (begins_with named (codes "\n"))))
 
 rows_begin : (text headed : List ℕ) (rows : List (List ℕ)) → Begins text headed → Begins text (with_rows text headed rows)
 rows_begin text headed [] begins = begins_itself text
@@ -87,7 +88,8 @@ sums_begin entries all text =
     let counted : List ℕ = entered ++ columns_text all in
     let whole : List ℕ = counted ++ codes "steps\n" in
     begins_on text head whole (head_begins (codes "in all") text)
-    (begins_on head entered whole (begins_with head (entries_row entries)) (begins_on entered counted whole (begins_with entered (columns_text all)) (begins_with counted (codes "steps\n"))))
+    (begins_on head entered whole (begins_with head (entries_row entries))
+        (begins_on entered counted whole (begins_with entered (columns_text all)) (begins_with counted (codes "steps\n"))))
 
 counts_begin : (sites : Sites) (counts : Counts) (entries all : Count) (text : List ℕ) → Begins text (with_counts sites counts entries all text)
 unfolding with_counts
@@ -114,12 +116,14 @@ at_note : (b : Bool) (x y : Noted) → Begins x.text y.text → Begins x.text (c
 at_note true x y begins = begins_itself x.text
 at_note false x y begins = begins
 
-pub made_begins : (until : Option ℕ) (before : State) (q : Play) (a : Noted) (rest : Play → Noted → Noted) → ((p : Play) (b : Noted) → Begins b.text (rest p b).text)
+pub made_begins : (until : Option ℕ) (before : State) (q : Play) (a : Noted) (rest : Play → Noted → Noted)
+    → ((p : Play) (b : Noted) → Begins b.text (rest p b).text)
     → Begins (note_step before q.session.current a).text (by_turn note_step until before (record { ending = None; play = q }) a rest).text
 made_begins until before q a rest begins =
     let n = note_step before q.session.current a in at_note (is_at until q.session.current) n (rest q n) (begins q n)
 
-turn_begins : (until : Option ℕ) (before : State) (ending : Option Ending) (q : Play) (a : Noted) (rest : Play → Noted → Noted) → ((p : Play) (b : Noted) → Begins b.text (rest p b).text)
+turn_begins : (until : Option ℕ) (before : State) (ending : Option Ending) (q : Play) (a : Noted) (rest : Play → Noted → Noted)
+    → ((p : Play) (b : Noted) → Begins b.text (rest p b).text)
     → Begins a.text (by_turn note_step until before (record { ending = ending; play = q }) a rest).text
 turn_begins until before (Some why) q a rest begins = begins_itself a.text
 turn_begins until before None q a rest begins =
@@ -128,12 +132,14 @@ turn_begins until before None q a rest begins =
 pub steps_begin : (until : Option ℕ) (n : ℕ) (p : Play) (a : Noted) → Begins a.text (by_steps note_step until n p a).text
 unfolding by_steps
 steps_begin until zero p a = begins_itself a.text
-steps_begin until (suc n) p a = turn_begins until p.session.current (turn_of p).ending (turn_of p).play a (λ q b. by_steps note_step until n q b) (steps_begin until n)
+steps_begin until (suc n) p a = turn_begins until p.session.current (turn_of p).ending (turn_of p).play a (λ q b. by_steps note_step until n q b)
+    (steps_begin until n)
 
 -- ---- a turn that failed, in a run
 
 -- A run whose next turn failed.
-pub run_cut : {A : Type 0} (until : Option ℕ) (limit : ℕ) (makes : Play → A) (IsBegun : A → Type 0) (s : Session) (first : Player) (given mid left : Option (List ℕ)) (told : List ℕ) (steps : ℕ) (t : Session) (p : Player) (u : Session) (q : Player) (told2 : List ℕ)
+pub run_cut : {A : Type 0} (until : Option ℕ) (limit : ℕ) (makes : Play → A) (IsBegun : A → Type 0) (s : Session) (first : Player)
+    (given mid left : Option (List ℕ)) (told : List ℕ) (steps : ℕ) (t : Session) (p : Player) (u : Session) (q : Player) (told2 : List ℕ)
     → Consumes given mid told → EndsOnce first.is_over p.is_over told → RunsOn until limit s (known first) told p.is_over steps t (known p) → steps < limit
     → TurnCut t p mid left u q told2
     → ((rest : List ℕ) → MayCome q.is_over rest → IsBegun (makes (play_at s (known first) ((told ++ told2) ++ rest))))
@@ -151,27 +157,32 @@ run_cut until limit makes IsBegun s first given mid left told steps t p u q told
 
 -- The text of a trace begins with what was noted before a turn failed, and with what was noted of its
 -- step if that was made.
-pub note_cut : (to : Option ℕ) (limit : ℕ) (s : Session) (first : Known) (told : List ℕ) (steps : ℕ) (t : Session) (p : Player) (u : Session) (q : Player) (told2 text text2 : List ℕ) (a : Noted) (old : Tracer)
+pub note_cut : (to : Option ℕ) (limit : ℕ) (s : Session) (first : Known) (told : List ℕ) (steps : ℕ) (t : Session) (p : Player) (u : Session)
+    (q : Player) (told2 text text2 : List ℕ) (a : Noted) (old : Tracer)
     → MakesOn note_step to limit s first told p.is_over steps t (known p) a (noted_in old text) → steps < limit
     → EndsOnce p.is_over q.is_over told2 → NoteCut t p (gathered old) u q told2 text2
     → (rest : List ℕ) → MayCome q.is_over rest → Begins (text ++ text2) (by_steps note_step to limit (play_at s first ((told ++ told2) ++ rest)) a).text
 note_cut to limit s first told steps t p u q told2 text text2 a old makes room once noted rest may = elim noted [
   | inl none ↦
-      let there = ap (λ l. by_steps note_step to limit (play_at s first l) a) (append_assoc told told2 rest) ∙ makes.makes (told2 ++ rest) (may_all p.is_over q.is_over told2 rest once may) in
+      let there = ap (λ l. by_steps note_step to limit (play_at s first l) a) (append_assoc told told2 rest)
+          ∙ makes.makes (told2 ++ rest) (may_all p.is_over q.is_over told2 rest once may) in
       let same : text ++ text2 ≡ text = ap (λ xs. text ++ xs) none ∙ append-nil text in
       subst (λ xs. Begins xs (by_steps note_step to limit (play_at s first ((told ++ told2) ++ rest)) a).text) (sym same)
       (subst (λ (n : Noted). Begins text n.text) (sym there) (steps_begin to (limit - steps) (play_at t (known p) (told2 ++ rest)) (noted_in old text)))
   | inr made ↦
-      let there = noted_turn_made note_step to limit s first told p.is_over steps t (known p) a (noted_in old text) makes room told2 q.is_over None u (known q) once made.0 rest may in
+      let there = noted_turn_made note_step to limit s first told p.is_over steps t (known p) a (noted_in old text) makes room told2 q.is_over None u
+          (known q) once made.0 rest may in
       let same : text ++ text2 ≡ text ++ text_of_step u.current (ahead_of (gathered old) t.current) (gathered old) = ap (λ xs. text ++ xs) made.1 in
       subst (λ xs. Begins xs (by_steps note_step to limit (play_at s first ((told ++ told2) ++ rest)) a).text) (sym same)
       (subst (λ (n : Noted). Begins (note_step t.current u.current (noted_in old text)).text n.text) (sym there)
-      (made_begins to t.current (play_at u (known q) rest) (noted_in old text) (λ r c. by_steps note_step to (limit - (steps + 1)) r c) (steps_begin to (limit - (steps + 1)))))
+      (made_begins to t.current (play_at u (known q) rest) (noted_in old text) (λ r c. by_steps note_step to (limit - (steps + 1)) r c)
+          (steps_begin to (limit - (steps + 1)))))
 ]
 
 -- ---- a run up to the place where a trace begins
 
-pub reached_cut : (from : Option ℕ) (s : Session) (before : Player) (given left : Option (List ℕ)) (u : Session) (over : Bool) (r : Result Played Refusal) → is_begun from s.current ≡ false
+pub reached_cut : (from : Option ℕ) (s : Session) (before : Player) (given left : Option (List ℕ)) (u : Session) (over : Bool)
+    (r : Result Played Refusal) → is_begun from s.current ≡ false
     → OnErr r (WasCut (played from 18446744073709551615) (λ (p : Play). p) (λ (p : Play). ⊤) s before given left u over)
     → OnErr r (WasCut (reached from) (λ (p : Play). p) (λ (p : Play). ⊤) s before given left u over)
 reached_cut from s before given left u over (Ok end) away cut = tt
@@ -184,7 +195,8 @@ reached_cut from s before given left u over (Err fault) away cut = record {
 
 -- ---- what is traced goes on from there
 
-after_begins : (to : Option ℕ) (limit steps : ℕ) (why : Ending) (p : Play) → Begins (out_of p) (out_of (traced_after to limit (record { steps = steps; ending = why; play = p })).play)
+after_begins : (to : Option ℕ) (limit steps : ℕ) (why : Ending) (p : Play)
+    → Begins (out_of p) (out_of (traced_after to limit (record { steps = steps; ending = why; play = p })).play)
 after_begins to limit steps Until p = played_grows to limit p
 after_begins to limit steps Rest p = begins_itself (out_of p)
 after_begins to limit steps InputOver p = begins_itself (out_of p)
@@ -198,12 +210,16 @@ traced_begins : (from to : Option ℕ) (limit : ℕ) (p : Play) → Begins (out_
 traced_begins from to limit p = let o = reached from p in after_begins to limit o.steps o.ending o.play
 
 reached_begins : (from : Option ℕ) (p : Play) (b : Bool) → is_begun from p.session.current ≡ b → Begins (out_of p) (out_of (reached from p).play)
-reached_begins from p true is = subst (λ (c : Bool). Begins (out_of p) (out_of (cond c (record { steps = 0; ending = Until; play = p }) (played from 18446744073709551615 p)).play)) (sym is) (begins_itself (out_of p))
-reached_begins from p false is = subst (λ (c : Bool). Begins (out_of p) (out_of (cond c (record { steps = 0; ending = Until; play = p }) (played from 18446744073709551615 p)).play)) (sym is) (played_grows from 18446744073709551615 p)
+reached_begins from p true is = subst (λ (c : Bool). Begins (out_of p)
+    (out_of (cond c (record { steps = 0; ending = Until; play = p }) (played from 18446744073709551615 p)).play)) (sym is) (begins_itself (out_of p))
+reached_begins from p false is = subst (λ (c : Bool). Begins (out_of p)
+    (out_of (cond c (record { steps = 0; ending = Until; play = p }) (played from 18446744073709551615 p)).play)) (sym is)
+    (played_grows from 18446744073709551615 p)
 
 -- What was put out before a trace begins what it puts out.
 pub trace_begins : (from to : Option ℕ) (limit : ℕ) (p : Play) → Begins (out_of p) (out_of (traced from to limit p).play)
-trace_begins from to limit p = begins_on (out_of p) (out_of (reached from p).play) _ (reached_begins from p (is_begun from p.session.current) refl) (traced_begins from to limit p)
+trace_begins from to limit p = begins_on (out_of p) (out_of (reached from p).play) _ (reached_begins from p (is_begun from p.session.current) refl)
+    (traced_begins from to limit p)
 
 -- Nothing is a beginning of any text.
 pub front_of_nothing : (n : Option Noted) (held : Option (List ℕ)) → GotFront n held held
@@ -218,7 +234,8 @@ front_at_end n held now text begins front =
     (whole, ([], n.text, refl, refl), subst (λ xs. AppendsFront held now xs) (sym all.1) (front_more held now text all.0 front))
 
 -- The trace that failed before its end.
-pub trace_cut : (part : Play → Outcome) (makes : Play → Noted) (s : Session) (before : Player) (given left : Option (List ℕ)) (u : Session) (over : Bool) (held mid now : Option (List ℕ)) (first sheet text : List ℕ)
+pub trace_cut : (part : Play → Outcome) (makes : Play → Noted) (s : Session) (before : Player) (given left : Option (List ℕ)) (u : Session)
+    (over : Bool) (held mid now : Option (List ℕ)) (first sheet text : List ℕ)
     → first ≡ [] → GathersFront held mid first sheet text → AppendsFront mid now sheet
     → WasCut part makes (λ n. Begins text n.text) s before given left u over
     → WasCut part makes (λ n. GotFront (Some n) held now) s before given left u over
@@ -229,12 +246,14 @@ trace_cut part makes s before given left u over held mid now first sheet text no
   leads = λ rest may.
       let there = cut.leads rest may in (
         there.0,
-        front_at_end (makes (play_at s (known before) (cut.told ++ rest))) held now text there.1 (front_written held mid now first sheet text none gathers front),
+        front_at_end (makes (play_at s (known before) (cut.told ++ rest))) held now text there.1
+            (front_written held mid now first sheet text none gathers front),
       );
 }
 
 -- The trace whose text was not written to its end.
-pub end_cut : (part : Play → Outcome) (makes : Play → Noted) (s : Session) (before : Player) (given left : Option (List ℕ)) (u : Session) (after : Player) (held mid now : Option (List ℕ)) (first sheet text : List ℕ) (g : Gathered) (end : Played)
+pub end_cut : (part : Play → Outcome) (makes : Play → Noted) (s : Session) (before : Player) (given left : Option (List ℕ)) (u : Session)
+    (after : Player) (held mid now : Option (List ℕ)) (first sheet text : List ℕ) (g : Gathered) (end : Played)
     → first ≡ [] → Gathers held mid first sheet text → AppendsFront mid now (text_at_end g sheet)
     → WentOn part makes s before given left end u after (record { gathered = g; text = text })
     → WasCut part makes (λ n. GotFront (Some n) held now) s before given left u after.is_over
@@ -246,16 +265,19 @@ end_cut part makes s before given left u after held mid now first sheet text g e
       let there = went.leads rest may in (
         ([], ap (λ (o : Outcome). o.play.session.current.bus.out) there.0 ∙ sym (append-nil u.current.bus.out)),
         subst (λ (n : Noted). GotFront (Some n) held now) (sym there.1)
-            (gathers.written ++ text_at_end g sheet, (gathers.written, sheet, sym (gathers.whole ∙ ap (λ xs. xs ++ text) none), refl), front_after held mid now gathers.written (text_at_end g sheet) gathers.appends front),
+            (gathers.written ++ text_at_end g sheet, (gathers.written, sheet, sym (gathers.whole ∙ ap (λ xs. xs ++ text) none), refl), front_after
+                held mid now gathers.written (text_at_end g sheet) gathers.appends front),
       );
 }
 
 -- ---- a whole trace
 
 -- A trace that failed before it began.
-pub whole_cut_before : (from to : Option ℕ) (limit : ℕ) (s u : Session) (a : Player) (given left held : Option (List ℕ)) (over : Bool) (written : List Bool) (g : Gathered) → known a ≡ first_known written → EndsAt over left
+pub whole_cut_before : (from to : Option ℕ) (limit : ℕ) (s u : Session) (a : Player) (given left held : Option (List ℕ)) (over : Bool)
+    (written : List Bool) (g : Gathered) → known a ≡ first_known written → EndsAt over left
     → WasCut (reached from) (λ (p : Play). p) (λ (p : Play). ⊤) s a given left u over
-    → (input : List ℕ) × AreBytesOf given input × CutIn (traced from to limit (begun s written input)) u × GotFront (trace_noted from to limit g (begun s written input)) held held
+    → (input : List ℕ) × AreBytesOf given input × CutIn (traced from to limit (begun s written input)) u
+        × GotFront (trace_noted from to limit g (begun s written input)) held held
 whole_cut_before from to limit s u a given left held over written g none ends cut =
     let whole = whole_input given left cut.told over (λ input rest. CutIn (traced from to limit (begun s written input)) u) cut.consumes ends
     (λ rest may. begins_on u.current.bus.out _ _
@@ -264,12 +286,15 @@ whole_cut_before from to limit s u a given left held over written g none ends cu
     (whole.0, whole.2, whole.4, front_of_nothing (trace_noted from to limit g (begun s written whole.0)) held)
 
 -- A trace that failed after it began.
-pub whole_cut_on : (from to : Option ℕ) (limit : ℕ) (s t u : Session) (a b : Player) (given mid left held now : Option (List ℕ)) (over : Bool) (written : List Bool) (g h : Gathered) (first : Played)
+pub whole_cut_on : (from to : Option ℕ) (limit : ℕ) (s t u : Session) (a b : Player) (given mid left held now : Option (List ℕ)) (over : Bool)
+    (written : List Bool) (g h : Gathered) (first : Played)
     → known a ≡ first_known written → first.ending ≡ Until → EndsAt over left → WentOn (reached from) (gathered_at from g) s a given mid first t b h
     → WasCut (played to limit) (noting to limit h) (λ n. GotFront (Some n) held now) t b mid left u over
-    → (input : List ℕ) × AreBytesOf given input × CutIn (traced from to limit (begun s written input)) u × GotFront (trace_noted from to limit g (begun s written input)) held now
+    → (input : List ℕ) × AreBytesOf given input × CutIn (traced from to limit (begun s written input)) u
+        × GotFront (trace_noted from to limit g (begun s written input)) held now
 whole_cut_on from to limit s t u a b given mid left held now over written g h first none until ends went cut =
-    let whole = whole_input given left (went.told ++ cut.told) over (λ input rest. CutIn (traced from to limit (begun s written input)) u × GotFront (trace_noted from to limit g (begun s written input)) held now)
+    let whole = whole_input given left (went.told ++ cut.told) over
+        (λ input rest. CutIn (traced from to limit (begun s written input)) u × GotFront (trace_noted from to limit g (begun s written input)) held now)
     (Consumes-trans given mid left went.told cut.told went.consumes cut.consumes) ends
     (λ rest may.
     let all : List ℕ = cut.told ++ rest in
@@ -291,10 +316,12 @@ whole_cut_on from to limit s t u a b given mid left held now over written g h fi
     )) in
     (whole.0, whole.2, whole.4.0, whole.4.1)
 
-pub whole_cut_if : (from to : Option ℕ) (limit : ℕ) (s t u : Session) (a b : Player) (given mid left held now : Option (List ℕ)) (over : Bool) (written : List Bool) (g h : Gathered) (first : Played) (r : Result Played Refusal)
+pub whole_cut_if : (from to : Option ℕ) (limit : ℕ) (s t u : Session) (a b : Player) (given mid left held now : Option (List ℕ)) (over : Bool)
+    (written : List Bool) (g h : Gathered) (first : Played) (r : Result Played Refusal)
     → known a ≡ first_known written → first.ending ≡ Until → EndsAt over left → WentOn (reached from) (gathered_at from g) s a given mid first t b h
     → OnErr r (WasCut (played to limit) (noting to limit h) (λ n. GotFront (Some n) held now) t b mid left u over)
-    → OnErr r ((input : List ℕ) × AreBytesOf given input × CutIn (traced from to limit (begun s written input)) u × GotFront (trace_noted from to limit g (begun s written input)) held now)
+    → OnErr r ((input : List ℕ) × AreBytesOf given input × CutIn (traced from to limit (begun s written input)) u
+        × GotFront (trace_noted from to limit g (begun s written input)) held now)
 whole_cut_if from to limit s t u a b given mid left held now over written g h first (Ok end) none until ends went cut = tt
 whole_cut_if from to limit s t u a b given mid left held now over written g h first (Err fault) none until ends went cut =
     whole_cut_on from to limit s t u a b given mid left held now over written g h first none until ends went cut
@@ -308,16 +335,20 @@ some_bytes (Some bytes) = (bytes, refl)
 
 -- A trace that failed before its first step.
 pub none_traced : (a : TraceAsked) (b : Begin) (from to : Option ℕ) (limit : ℕ) (given held : Option (List ℕ))
-    → (input : List ℕ) × AreBytesOf given input × CutIn (traced from to limit (play_of a b input)) b.session × WroteFront a b (λ g. trace_noted from to limit g (play_of a b input)) held held
+    → (input : List ℕ) × AreBytesOf given input × CutIn (traced from to limit (play_of a b input)) b.session
+        × WroteFront a b (λ g. trace_noted from to limit g (play_of a b input)) held held
 none_traced a b from to limit given held =
     let some = some_bytes given in (some.0, some.1, trace_begins from to limit (play_of a b some.0), inl (Appends-nil held))
 
 -- A trace that failed.
-pub wrote_front : (a : TraceAsked) (b : Begin) (from to : Option ℕ) (limit : ℕ) (u : Session) (written : List Bool) (given held now : Option (List ℕ)) (g : Gathered)
+pub wrote_front : (a : TraceAsked) (b : Begin) (from to : Option ℕ) (limit : ℕ) (u : Session) (written : List Bool) (given held now : Option (List ℕ))
+    (g : Gathered)
     → ((sites : Sites) × AreSites b.assembly sites × (g ≡ none_gathered a sites (first_written a.finds_unwritten b.written)))
     → written ≡ or_everywhere a.is_free b.written
-    → (input : List ℕ) × AreBytesOf given input × CutIn (traced from to limit (begun b.session written input)) u × GotFront (trace_noted from to limit g (begun b.session written input)) held now
-    → (input : List ℕ) × AreBytesOf given input × CutIn (traced from to limit (play_of a b input)) u × WroteFront a b (λ h. trace_noted from to limit h (play_of a b input)) held now
+    → (input : List ℕ) × AreBytesOf given input × CutIn (traced from to limit (begun b.session written input)) u
+        × GotFront (trace_noted from to limit g (begun b.session written input)) held now
+    → (input : List ℕ) × AreBytesOf given input × CutIn (traced from to limit (play_of a b input)) u
+        × WroteFront a b (λ h. trace_noted from to limit h (play_of a b input)) held now
 wrote_front a b from to limit u written given held now g new is run =
     let cut = subst (λ w. CutIn (traced from to limit (begun b.session w run.0)) u) is run.2 in
     let got = subst (λ w. GotFront (trace_noted from to limit g (begun b.session w run.0)) held now) is run.3 in
@@ -325,8 +356,10 @@ wrote_front a b from to limit u written given held now g new is run =
 
 -- A trace whose file for lcov was not written.
 pub wrote_all : (a : TraceAsked) (b : Begin) (from to : Option ℕ) (limit : ℕ) (u : Session) (given left held now : Option (List ℕ)) (end : Played)
-    → ((input : List ℕ) × (rest : List ℕ) × AreBytesOf given input × AreBytesOf left rest × RanAs (traced from to limit (play_of a b input)) end u rest × WroteNotes a b (λ g. trace_noted from to limit g (play_of a b input)) held now)
-    → (input : List ℕ) × AreBytesOf given input × CutIn (traced from to limit (play_of a b input)) u × WroteFront a b (λ g. trace_noted from to limit g (play_of a b input)) held now
+    → ((input : List ℕ) × (rest : List ℕ) × AreBytesOf given input × AreBytesOf left rest
+        × RanAs (traced from to limit (play_of a b input)) end u rest × WroteNotes a b (λ g. trace_noted from to limit g (play_of a b input)) held now)
+    → (input : List ℕ) × AreBytesOf given input × CutIn (traced from to limit (play_of a b input)) u
+        × WroteFront a b (λ g. trace_noted from to limit g (play_of a b input)) held now
 wrote_all a b from to limit u given left held now end run =
     let notes = run.5 in
     let got = notes.2 in (

@@ -28,11 +28,13 @@ use Rattle.word_trace.specs.Traces.{Begin, CutIn, IsApart, IsDone, IsOfStreams, 
 
 abbrev TracedAs : TraceAsked → Begin → Option ℕ → Option ℕ → ℕ → Streams → Session → Played → Bool → Type 0
 TracedAs a b from to limit streams now end flag = (input : List ℕ) × (rest : List ℕ) × AreBytesOf streams.given input × AreBytesOf streams.left rest
-    × RanAs (traced from to limit (play_of a b input)) end now rest × WroteNotes a b (λ g. trace_noted from to limit g (play_of a b input)) streams.held streams.now
+    × RanAs (traced from to limit (play_of a b input)) end now rest
+        × WroteNotes a b (λ g. trace_noted from to limit g (play_of a b input)) streams.held streams.now
     × (flag ≡ has_begun (reached from (play_of a b input)).ending)
 
 -- What was told of a run is told of its outcome.
-told_of : (file : List ℕ) (assembly : Option AssemblyView) (heard : Heard) (ending why : Ending) (steps count pc at : ℕ) → ending ≡ why → steps ≡ count → pc ≡ at
+told_of : (file : List ℕ) (assembly : Option AssemblyView) (heard : Heard) (ending why : Ending) (steps count pc at : ℕ) → ending ≡ why
+    → steps ≡ count → pc ≡ at
     → TellsEnding file assembly heard ending steps pc → TellsEnding file assembly heard why count at
 told_of file assembly heard ending why steps count pc at e n p told =
     let E : Ending → Type 0 = λ x. TellsEnding file assembly heard x count at in
@@ -41,7 +43,8 @@ told_of file assembly heard ending why steps count pc at e n p told =
     subst E e (subst N n (subst P p told))
 
 -- A trace that came to an end, what its program has put out, and what was told of it.
-pub traced_to : (a : TraceAsked) (b : Begin) (from to : Option ℕ) (limit : ℕ) (t : Session) (streams : Streams) (heard : Heard) (out said : Option (List ℕ)) (end : Played) (flag : Bool) (status : ℕ)
+pub traced_to : (a : TraceAsked) (b : Begin) (from to : Option ℕ) (limit : ℕ) (t : Session) (streams : Streams) (heard : Heard)
+    (out said : Option (List ℕ)) (end : Played) (flag : Bool) (status : ℕ)
     → limit ≡ a.steps → b.session.current.bus.out ≡ [] → IsApart a
     → TracedAs a b from to limit streams t end flag
     → ((text : List ℕ) × (t.current.bus.out ≡ b.session.current.bus.out ++ text) × Appends heard.held out text)
@@ -58,27 +61,34 @@ traced_to a b from to limit t streams heard out said end flag status long silent
     = sym (ap (λ (xs : List ℕ). xs ++ put.0) silent) ∙ sym put.1 ∙ ap (λ (now : Session). now.current.bus.out) same.session in
     let begins = subst (λ (b : Bool). AppendsFront out said (unbegun_text b)) made.6 unbegun in
     let tells =
-    told_of a.file.file b.assembly (record { held = said; now = heard.now }) end.ending outcome.ending end.steps outcome.steps t.current.regs.pc outcome.play.session.current.regs.pc same.ending same.steps
+    told_of a.file.file b.assembly (record { held = said; now = heard.now }) end.ending outcome.ending end.steps outcome.steps t.current.regs.pc
+        outcome.play.session.current.regs.pc same.ending same.steps
     (ap (λ (now : Session). now.current.regs.pc) same.session) told in
-    (Ok outcome, (made.0, refl, made.2, subst B same.left made.3, made.5, (out, said, subst W text_is put.2, begins, tells), apart), is ∙ ap (λ (why : Ending). status_of_ending why 0) same.ending)
+    (Ok outcome, (made.0, refl, made.2, subst B same.left made.3, made.5, (out, said, subst W text_is put.2, begins, tells), apart), is
+        ∙ ap (λ (why : Ending). status_of_ending why 0) same.ending)
 
 -- A trace that was cut short.
-pub cut_off : (a : TraceAsked) (b : Begin) (from to : Option ℕ) (limit : ℕ) (u : Session) (streams : Streams) (heard : Heard) (out : Option (List ℕ)) (refusal : Refusal) (status : ℕ)
+pub cut_off : (a : TraceAsked) (b : Begin) (from to : Option ℕ) (limit : ℕ) (u : Session) (streams : Streams) (heard : Heard) (out : Option (List ℕ))
+    (refusal : Refusal) (status : ℕ)
     → limit ≡ a.steps → b.session.current.bus.out ≡ []
     → IsOfStreams refusal
-    → ((input : List ℕ) × AreBytesOf streams.given input × CutIn (traced from to limit (play_of a b input)) u × WroteFront a b (λ g. trace_noted from to limit g (play_of a b input)) streams.held streams.now)
+    → ((input : List ℕ) × AreBytesOf streams.given input × CutIn (traced from to limit (play_of a b input)) u
+        × WroteFront a b (λ g. trace_noted from to limit g (play_of a b input)) streams.held streams.now)
     → ((text : List ℕ) × (u.current.bus.out ≡ b.session.current.bus.out ++ text) × AppendsFront heard.held out text)
     → AppendsFront out heard.now (cut_line a.lcov refusal)
     → status ≡ status_of refusal → TracedTo a b from to streams heard status
 cut_off a b from to limit u streams heard out refusal status long silent why run put told is =
-    let made = subst (λ n. (input : List ℕ) × AreBytesOf streams.given input × CutIn (traced from to n (play_of a b input)) u × WroteFront a b (λ g. trace_noted from to n g (play_of a b input)) streams.held streams.now) long run in
+    let made = subst (λ n. (input : List ℕ) × AreBytesOf streams.given input × CutIn (traced from to n (play_of a b input)) u
+        × WroteFront a b (λ g. trace_noted from to n g (play_of a b input)) streams.held streams.now) long run in
     let outcome : Outcome = traced from to a.steps (play_of a b made.0) in
     let W : List ℕ → Type 0 = λ text. AppendsFront heard.held out text in
     let text_is : put.0 ≡ u.current.bus.out = sym (ap (λ (xs : List ℕ). xs ++ put.0) silent) ∙ sym put.1 in
-    let front : W outcome.play.session.current.bus.out = subst W (sym made.2.1) (front_more heard.held out u.current.bus.out made.2.0 (subst W text_is put.2)) in
+    let front : W outcome.play.session.current.bus.out = subst W (sym made.2.1)
+        (front_more heard.held out u.current.bus.out made.2.0 (subst W text_is put.2)) in
     (Err refusal, (why, (made.0, made.1, made.3, (out, front, told))), is)
 
-pub traced_between : (asked : TraceAsked) (begin : Begin) (from to : Option ℕ) (a b : Result (Option ℕ) ℕ) (streams : Streams) (heard : Heard) (status : ℕ) (Alone : Type 0)
+pub traced_between : (asked : TraceAsked) (begin : Begin) (from to : Option ℕ) (a b : Result (Option ℕ) ℕ) (streams : Streams) (heard : Heard)
+    (status : ℕ) (Alone : Type 0)
     → Ok from ≡ a → Ok to ≡ b → TracedTo asked begin from to streams heard status → TracedIfFound asked begin a b streams heard status Alone
 traced_between asked begin from to a b streams heard status A is_from is_to done =
     let F : Result (Option ℕ) ℕ → Type 0 = λ r. TracedIfFound asked begin r b streams heard status A in
@@ -91,7 +101,8 @@ pub unfound_from : (asked : TraceAsked) (begin : Begin) (a b : Result (Option �
 unfound_from asked begin a b streams heard status A is told alone =
     let F : Result (Option ℕ) ℕ → Type 0 = λ r. TracedIfFound asked begin r b streams heard status A in subst F is (refl, told, alone)
 
-pub unfound_to : (asked : TraceAsked) (begin : Begin) (from : Option ℕ) (a b : Result (Option ℕ) ℕ) (streams : Streams) (heard : Heard) (status : ℕ) (Alone : Type 0)
+pub unfound_to : (asked : TraceAsked) (begin : Begin) (from : Option ℕ) (a b : Result (Option ℕ) ℕ) (streams : Streams) (heard : Heard) (status : ℕ)
+    (Alone : Type 0)
     → Ok from ≡ a → Err status ≡ b → Tells heard (unplaced_line asked.to) → Alone → TracedIfFound asked begin a b streams heard status Alone
 unfound_to asked begin from a b streams heard status A is_from is told alone =
     let F : Result (Option ℕ) ℕ → Type 0 = λ r. TracedIfFound asked begin r b streams heard status A in
@@ -99,22 +110,29 @@ unfound_to asked begin from a b streams heard status A is_from is told alone =
     subst F is_from (subst T is (refl, told, alone))
 
 -- What is told of the second place, where nothing was told of the first.
-pub told_second : {E : Type 0} (contents : E → Option (List ℕ)) (first middle last : E) (line : List ℕ) → middle ≡ first → AppendsFront (contents middle) (contents last) line
+pub told_second : {E : Type 0} (contents : E → Option (List ℕ)) (first middle last : E) (line : List ℕ) → middle ≡ first
+    → AppendsFront (contents middle) (contents last) line
     → AppendsFront (contents first) (contents last) line
 told_second contents first middle last line quiet told = subst (λ e. AppendsFront (contents e) (contents last) line) quiet told
 
 -- What was traced, where nothing was told before.
-pub traced_quiet : {E : Type 0} (contents : E → Option (List ℕ)) (a : TraceAsked) (b : Begin) (from to : Option ℕ) (streams : Streams) (first middle : E) (now : Option (List ℕ)) (status : ℕ) → middle ≡ first
-    → TracedTo a b from to streams (record { held = contents middle; now = now }) status → TracedTo a b from to streams (record { held = contents first; now = now }) status
-traced_quiet contents a b from to streams first middle now status same done = subst (λ e. TracedTo a b from to streams (record { held = contents e; now = now }) status) same done
+pub traced_quiet : {E : Type 0} (contents : E → Option (List ℕ)) (a : TraceAsked) (b : Begin) (from to : Option ℕ) (streams : Streams)
+    (first middle : E) (now : Option (List ℕ)) (status : ℕ) → middle ≡ first
+    → TracedTo a b from to streams (record { held = contents middle; now = now }) status
+        → TracedTo a b from to streams (record { held = contents first; now = now }) status
+traced_quiet contents a b from to streams first middle now status same done =
+    subst (λ e. TracedTo a b from to streams (record { held = contents e; now = now }) status) same done
 
 -- A file that was loaded.
-pub traced_file : (a : TraceAsked) (b : Begin) (fill : Option ℕ) (image : List (Option ℕ)) (lost : ℕ) (streams : Streams) (heard : Heard) (between : Option (List ℕ)) (status : ℕ) (Alone : Type 0)
+pub traced_file : (a : TraceAsked) (b : Begin) (fill : Option ℕ) (image : List (Option ℕ)) (lost : ℕ) (streams : Streams) (heard : Heard)
+    (between : Option (List ℕ)) (status : ℕ) (Alone : Type 0)
     → IsMachine a.file a.others a.symbols fill image b.assembly → b.session ≡ new_session 0 (start (map_of a.file) image) → b.written ≡ bytes_in image
     → MayLose a.file.profile a.symbols lost → Tells (record { held = heard.held; now = between }) (left_text lost fill)
-    → TracedIfFound a b (place_asked (names_of b.assembly) a.from) (place_asked (names_of b.assembly) a.to) streams (record { held = between; now = heard.now }) status Alone → IsDone a streams heard status Alone
+    → TracedIfFound a b (place_asked (names_of b.assembly) a.from) (place_asked (names_of b.assembly) a.to) streams
+        (record { held = between; now = heard.now }) status Alone → IsDone a streams heard status Alone
 traced_file a b fill image lost streams heard between status A loaded begins written may told done =
-    let T : Begin → Type 0 = λ x. TracedIfFound a x (place_asked (names_of b.assembly) a.from) (place_asked (names_of b.assembly) a.to) streams (record { held = between; now = heard.now }) status A in
+    let T : Begin → Type 0 = λ x. TracedIfFound a x (place_asked (names_of b.assembly) a.from) (place_asked (names_of b.assembly) a.to) streams
+        (record { held = between; now = heard.now }) status A in
     let at : b ≡ begin_of a image b.assembly =
     ap (λ (s : Session). record { assembly = b.assembly; session = s; written = b.written }) begins
     ∙ ap (λ (w : List Bool). record { assembly = b.assembly; session = new_session 0 (start (map_of a.file) image); written = w }) written in

@@ -68,10 +68,12 @@ cut_of (Err e) held now text written = written
 
 -- Rows that were to be put on the sheet.
 pub row_cut : {X E A O : Type 0} (contents : O → Option (List ℕ)) (row : Result X E) (r : Result A Refusal) (old new : O) (before mid text : List ℕ)
-    → OnOk row (mid ≡ before ++ text) → OnErr row (new ≡ old) → OnOk row (OnErr r (AppendsFront (contents old) (contents new) mid)) → OnErr r (AppendsFront (contents old) (contents new) (before ++ text))
+    → OnOk row (mid ≡ before ++ text) → OnErr row (new ≡ old) → OnOk row (OnErr r (AppendsFront (contents old) (contents new) mid))
+        → OnErr r (AppendsFront (contents old) (contents new) (before ++ text))
 row_cut contents row (Ok a) old new before mid text grown same cut = tt
 row_cut contents (Ok x) (Err e) old new before mid text grown same cut = subst (λ xs. AppendsFront (contents old) (contents new) xs) grown cut
-row_cut contents (Err x) (Err e) old new before mid text grown same cut = subst (λ o. AppendsFront (contents old) (contents o) (before ++ text)) (sym same) (front_none (contents old) (before ++ text))
+row_cut contents (Err x) (Err e) old new before mid text grown same cut =
+    subst (λ o. AppendsFront (contents old) (contents o) (before ++ text)) (sym same) (front_none (contents old) (before ++ text))
 
 pub row_noted : {X E A : Type 0} (row : Result X E) (r : Result A Refusal) (P : Type 0) → OnOk row P → OnErr row (r ≡ Err OutOfMemory) → OnOk r P
 row_noted (Ok x) (Ok a) P noted memory = noted
@@ -82,7 +84,8 @@ row_noted row (Err e) P noted memory = tt
 pub front_of_none : (held : Option (List ℕ)) (sheet : List ℕ) → GathersFront held held sheet sheet []
 front_of_none held sheet = record { written = []; lost = []; appends = Appends-nil held; whole = refl }
 
-pub front_of_lost : (held now : Option (List ℕ)) (before after text : List ℕ) → AppendsFront held now (before ++ text) → after ≡ [] → GathersFront held now before after text
+pub front_of_lost : (held now : Option (List ℕ)) (before after text : List ℕ) → AppendsFront held now (before ++ text) → after ≡ []
+    → GathersFront held now before after text
 front_of_lost held now before after text front none = record {
   written = front.0;
   lost = front.1;
@@ -105,7 +108,8 @@ front_then held mid now before between after one two first second = record {
 }
 
 -- What is on the sheet is written, or a front of it.
-pub front_written : (held mid now : Option (List ℕ)) (before sheet text : List ℕ) → before ≡ [] → GathersFront held mid before sheet text → AppendsFront mid now sheet → AppendsFront held now text
+pub front_written : (held mid now : Option (List ℕ)) (before sheet text : List ℕ) → before ≡ [] → GathersFront held mid before sheet text
+    → AppendsFront mid now sheet → AppendsFront held now text
 front_written held mid now before sheet text none gathers front =
     subst (λ xs. AppendsFront held now xs) (append_assoc gathers.written sheet gathers.lost ∙ gathers.whole ∙ ap (λ xs. xs ++ text) none)
     (front_more held now (gathers.written ++ sheet) gathers.lost (front_after held mid now gathers.written sheet gathers.appends front))

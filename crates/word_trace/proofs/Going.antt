@@ -39,12 +39,16 @@ abbrev none_made : Played
 none_made = record { steps = 0; ending = Until }
 
 -- A trace begins at once where it may.
-pub reached_here : (from : Option ℕ) (s : Session) (p : Player) (given : Option (List ℕ)) (g : Gathered) → is_begun from s.current ≡ true → WentOn (reached from) (gathered_at from g) s p given given none_made s p g
-reached_here from s p given g here = record { told = []; consumes = Consumes-nil given; once = once_none p.is_over; leads = λ rest may. (rw here refl, rw here refl) }
+pub reached_here : (from : Option ℕ) (s : Session) (p : Player) (given : Option (List ℕ)) (g : Gathered) → is_begun from s.current ≡ true
+    → WentOn (reached from) (gathered_at from g) s p given given none_made s p g
+reached_here from s p given g here = record { told = []; consumes = Consumes-nil given; once = once_none p.is_over; leads =
+    λ rest may. (rw here refl, rw here refl) }
 
 -- Otherwise a run leads there.
-reached_later : (from : Option ℕ) (s t : Session) (before after : Player) (given left : Option (List ℕ)) (g h : Gathered) (end : Played) → is_begun from s.current ≡ false
-    → WentOn (played from 18446744073709551615) (λ p. by_steps pass_step from 18446744073709551615 p g) s before given left end t after h → WentOn (reached from) (gathered_at from g) s before given left end t after h
+reached_later : (from : Option ℕ) (s t : Session) (before after : Player) (given left : Option (List ℕ)) (g h : Gathered) (end : Played)
+    → is_begun from s.current ≡ false
+    → WentOn (played from 18446744073709551615) (λ p. by_steps pass_step from 18446744073709551615 p g) s before given left end t after h
+        → WentOn (reached from) (gathered_at from g) s before given left end t after h
 reached_later from s t before after given left g h end away went = record {
   told = went.told;
   consumes = went.consumes;
@@ -52,7 +56,8 @@ reached_later from s t before after given left g h end away went = record {
   leads = λ rest may. (rw away (went.leads rest may).0, rw away (went.leads rest may).1);
 }
 
-pub reached_if_made : (from : Option ℕ) (s t : Session) (before after : Player) (given left : Option (List ℕ)) (g h : Gathered) (r : Result Played Refusal) → is_begun from s.current ≡ false
+pub reached_if_made : (from : Option ℕ) (s t : Session) (before after : Player) (given left : Option (List ℕ)) (g h : Gathered)
+    (r : Result Played Refusal) → is_begun from s.current ≡ false
     → IfOk r (λ end. WentOn (played from 18446744073709551615) (λ p. by_steps pass_step from 18446744073709551615 p g) s before given left end t after h)
     → IfOk r (λ end. WentOn (reached from) (gathered_at from g) s before given left end t after h)
 reached_if_made from s t before after given left g h (Ok end) away went = reached_later from s t before after given left g h end away went
@@ -62,7 +67,8 @@ abbrev pub noting : Option ℕ → ℕ → Gathered → Play → Noted
 noting to limit g p = by_steps note_step to limit p (no_text g)
 
 -- From the place on, the rest of a run is the trace.
-pub traced_on : (from to : Option ℕ) (limit : ℕ) (s t u : Session) (a b c : Player) (given mid left : Option (List ℕ)) (g h : Gathered) (n : Noted) (first end : Played) → first.ending ≡ Until
+pub traced_on : (from to : Option ℕ) (limit : ℕ) (s t u : Session) (a b c : Player) (given mid left : Option (List ℕ)) (g h : Gathered) (n : Noted)
+    (first end : Played) → first.ending ≡ Until
     → WentOn (reached from) (gathered_at from g) s a given mid first t b h → WentOn (played to limit) (noting to limit h) t b mid left end u c n
     → WentOn (traced from to limit) (trace_noted from to limit g) s a given left end u c (Some n)
 traced_on from to limit s t u a b c given mid left g h n first end until went on = record {
@@ -107,9 +113,11 @@ none_noted to limit steps g NoReset p other = refl
 none_noted to limit steps g NoVector p other = refl
 none_noted to limit steps g (Refused fault) p other = refl
 
-pub traced_none : (from to : Option ℕ) (limit : ℕ) (s t : Session) (a b : Player) (given left : Option (List ℕ)) (g h : Gathered) (first end : Played) → (first.ending ≡ Until → ⊥)
+pub traced_none : (from to : Option ℕ) (limit : ℕ) (s t : Session) (a b : Player) (given left : Option (List ℕ)) (g h : Gathered) (first end : Played)
+    → (first.ending ≡ Until → ⊥)
     → end ≡ record { steps = 0; ending = first.ending }
-    → WentOn (reached from) (gathered_at from g) s a given left first t b h → WentOn (traced from to limit) (trace_noted from to limit g) s a given left end t b None
+    → WentOn (reached from) (gathered_at from g) s a given left first t b h
+        → WentOn (traced from to limit) (trace_noted from to limit g) s a given left end t b None
 traced_none from to limit s t a b given left g h first end other is went = record {
   told = went.told;
   consumes = went.consumes;
@@ -124,7 +132,8 @@ traced_none from to limit s t a b given left g h first end other is went = recor
 }
 
 -- A trace notes something where it begins.
-noted_if : (to : Option ℕ) (limit steps : ℕ) (g : Gathered) (why : Ending) (p : Play) → is_some (noted_after to limit g (record { steps = steps; ending = why; play = p })) ≡ has_begun why
+noted_if : (to : Option ℕ) (limit steps : ℕ) (g : Gathered) (why : Ending) (p : Play)
+    → is_some (noted_after to limit g (record { steps = steps; ending = why; play = p })) ≡ has_begun why
 noted_if to limit steps g Until p = refl
 noted_if to limit steps g Rest p = refl
 noted_if to limit steps g InputOver p = refl
@@ -134,16 +143,20 @@ noted_if to limit steps g NoReset p = refl
 noted_if to limit steps g NoVector p = refl
 noted_if to limit steps g (Refused fault) p = refl
 
-pub begun_as : (from to : Option ℕ) (limit : ℕ) (g : Gathered) (p : Play) (n : Option Noted) → trace_noted from to limit g p ≡ n → is_some n ≡ has_begun (reached from p).ending
+pub begun_as : (from to : Option ℕ) (limit : ℕ) (g : Gathered) (p : Play) (n : Option Noted) → trace_noted from to limit g p ≡ n
+    → is_some n ≡ has_begun (reached from p).ending
 begun_as from to limit g p n is =
     let o = reached from p in sym (ap (λ (m : Option Noted). is_some m) is) ∙ noted_if to limit o.steps (gathered_at from g p) o.ending o.play
 
 -- A whole trace, from a session where nothing is remembered.
-pub whole_trace : (part : Play → Outcome) (makes : Play → Option Noted) (s t : Session) (a b : Player) (given left held now : Option (List ℕ)) (written : List Bool) (end : Played) (n : Option Noted) → known a ≡ first_known written → EndsAt b.is_over left
+pub whole_trace : (part : Play → Outcome) (makes : Play → Option Noted) (s t : Session) (a b : Player) (given left held now : Option (List ℕ))
+    (written : List Bool) (end : Played) (n : Option Noted) → known a ≡ first_known written → EndsAt b.is_over left
     → WentOn part makes s a given left end t b n → GotText n held now
-    → (input : List ℕ) × (rest : List ℕ) × AreBytesOf given input × AreBytesOf left rest × RanAs (part (begun s written input)) end t rest × GotText (makes (begun s written input)) held now × (makes (begun s written input) ≡ n)
+    → (input : List ℕ) × (rest : List ℕ) × AreBytesOf given input × AreBytesOf left rest × RanAs (part (begun s written input)) end t rest
+        × GotText (makes (begun s written input)) held now × (makes (begun s written input) ≡ n)
 whole_trace part makes s t a b given left held now written end n none over went got =
-    let whole = whole_input given left went.told b.is_over (λ input rest. RanAs (part (begun s written input)) end t rest × GotText (makes (begun s written input)) held now × (makes (begun s written input) ≡ n)) went.consumes over
+    let whole = whole_input given left went.told b.is_over (λ input rest. RanAs (part (begun s written input)) end t rest
+        × GotText (makes (begun s written input)) held now × (makes (begun s written input) ≡ n)) went.consumes over
     (λ rest may.
     let there = went.leads rest may in
     let noted : makes (begun s written (went.told ++ rest)) ≡ n = ap (λ (k : Known). makes (play_at s k (went.told ++ rest))) (sym none) ∙ there.1 in (
@@ -155,16 +168,19 @@ whole_trace part makes s t a b given left held now written end n none over went 
     (whole.0, whole.1, whole.2, whole.3, whole.4.0, whole.4.1, whole.4.2)
 
 -- And whether it began.
-pub whole_told : (from to : Option ℕ) (limit : ℕ) (g : Gathered) (s t : Session) (a b : Player) (given left held now : Option (List ℕ)) (written : List Bool) (end : Played) (n : Option Noted) (flag : Bool) → flag ≡ is_some n → known a ≡ first_known written → EndsAt b.is_over left
+pub whole_told : (from to : Option ℕ) (limit : ℕ) (g : Gathered) (s t : Session) (a b : Player) (given left held now : Option (List ℕ))
+    (written : List Bool) (end : Played) (n : Option Noted) (flag : Bool) → flag ≡ is_some n → known a ≡ first_known written → EndsAt b.is_over left
     → WentOn (traced from to limit) (trace_noted from to limit g) s a given left end t b n → GotText n held now
-    → (input : List ℕ) × (rest : List ℕ) × AreBytesOf given input × AreBytesOf left rest × RanAs (traced from to limit (begun s written input)) end t rest × GotText (trace_noted from to limit g (begun s written input)) held now
+    → (input : List ℕ) × (rest : List ℕ) × AreBytesOf given input × AreBytesOf left rest
+        × RanAs (traced from to limit (begun s written input)) end t rest × GotText (trace_noted from to limit g (begun s written input)) held now
     × (flag ≡ has_begun (reached from (begun s written input)).ending)
 whole_told from to limit g s t a b given left held now written end n flag is none over went got =
     let whole = whole_trace (traced from to limit) (trace_noted from to limit g) s t a b given left held now written end n none over went got in
     (whole.0, whole.1, whole.2, whole.3, whole.4, whole.5, is ∙ begun_as from to limit g (begun s written whole.0) n whole.6)
 
 -- The text at the end: what went to the writer before, and then the rest.
-pub got_text : (held mid now : Option (List ℕ)) (before sheet text : List ℕ) (g : Gathered) → before ≡ [] → Gathers held mid before sheet text → Appends mid now (text_at_end g sheet)
+pub got_text : (held mid now : Option (List ℕ)) (before sheet text : List ℕ) (g : Gathered) → before ≡ [] → Gathers held mid before sheet text
+    → Appends mid now (text_at_end g sheet)
     → GotText (Some (record { gathered = g; text = text })) held now
 got_text held mid now before sheet text g none gathers ended = (
   gathers.written ++ text_at_end g sheet,
@@ -173,12 +189,16 @@ got_text held mid now before sheet text g none gathers ended = (
 )
 
 -- Nothing was gathered before the trace of a file.
-pub wrote_notes : (a : TraceAsked) (b : Begin) (from to : Option ℕ) (limit : ℕ) (t : Session) (written : List Bool) (given left held now : Option (List ℕ)) (g : Gathered) (end : Played) (flag : Bool)
+pub wrote_notes : (a : TraceAsked) (b : Begin) (from to : Option ℕ) (limit : ℕ) (t : Session) (written : List Bool)
+    (given left held now : Option (List ℕ)) (g : Gathered) (end : Played) (flag : Bool)
     → ((sites : Sites) × AreSites b.assembly sites × (g ≡ none_gathered a sites (first_written a.finds_unwritten b.written)))
     → written ≡ or_everywhere a.is_free b.written
-    → ((input : List ℕ) × (rest : List ℕ) × AreBytesOf given input × AreBytesOf left rest × RanAs (traced from to limit (begun b.session written input)) end t rest × GotText (trace_noted from to limit g (begun b.session written input)) held now
+    → ((input : List ℕ) × (rest : List ℕ) × AreBytesOf given input × AreBytesOf left rest
+        × RanAs (traced from to limit (begun b.session written input)) end t rest
+        × GotText (trace_noted from to limit g (begun b.session written input)) held now
     × (flag ≡ has_begun (reached from (begun b.session written input)).ending))
-    → (input : List ℕ) × (rest : List ℕ) × AreBytesOf given input × AreBytesOf left rest × RanAs (traced from to limit (play_of a b input)) end t rest × WroteNotes a b (λ h. trace_noted from to limit h (play_of a b input)) held now
+    → (input : List ℕ) × (rest : List ℕ) × AreBytesOf given input × AreBytesOf left rest × RanAs (traced from to limit (play_of a b input)) end t rest
+        × WroteNotes a b (λ h. trace_noted from to limit h (play_of a b input)) held now
     × (flag ≡ has_begun (reached from (play_of a b input)).ending)
 wrote_notes a b from to limit t written given left held now g end flag new is run =
     let made = subst (λ w. RanAs (traced from to limit (begun b.session w run.0)) end t run.1) is run.4 in

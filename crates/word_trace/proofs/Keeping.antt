@@ -4,13 +4,15 @@ use Rattle.std.specs.Prelude.{Option, Result, Ok, Err, OnOk, OnErr, if◌then◌
 use Rattle.model.specs.State.{Map}
 use Rattle.word_trace.specs.Notes.{is_kept, kept}
 
-pub left_out : (map : Map) (rom : Option (ℕ × ℕ)) (port i : ℕ) (stores : List ℕ) → i < length stores → is_kept map rom port (get_or stores i 0) ≡ false → kept map rom port (drop i stores) ≡ kept map rom port (drop (i + 1) stores)
+pub left_out : (map : Map) (rom : Option (ℕ × ℕ)) (port i : ℕ) (stores : List ℕ) → i < length stores
+    → is_kept map rom port (get_or stores i 0) ≡ false → kept map rom port (drop i stores) ≡ kept map rom port (drop (i + 1) stores)
 unfolding kept
 left_out map rom port i stores h e =
     let d : drop i stores ≡ get_or stores i 0 ∷ drop (i + 1) stores = rw (add-one, drop-cons stores i 0) refl in
     ap (kept map rom port) d ∙ ap (λ b. if b then get_or stores i 0 ∷ kept map rom port (drop (i + 1) stores) else kept map rom port (drop (i + 1) stores)) e
 
-pub taken : (map : Map) (rom : Option (ℕ × ℕ)) (port i : ℕ) (stores : List ℕ) → i < length stores → is_kept map rom port (get_or stores i 0) ≡ true → kept map rom port (drop i stores) ≡ get_or stores i 0 ∷ kept map rom port (drop (i + 1) stores)
+pub taken : (map : Map) (rom : Option (ℕ × ℕ)) (port i : ℕ) (stores : List ℕ) → i < length stores → is_kept map rom port (get_or stores i 0) ≡ true
+    → kept map rom port (drop i stores) ≡ get_or stores i 0 ∷ kept map rom port (drop (i + 1) stores)
 unfolding kept
 taken map rom port i stores h e =
     let d : drop i stores ≡ get_or stores i 0 ∷ drop (i + 1) stores = rw (add-one, drop-cons stores i 0) refl in

@@ -14,7 +14,8 @@ returns-in_err-matches-clause-refused c =
     (c.in_err-matches.ensures.kinds c.requires.free) c.from_residual.ensures.1
 
 pub returns-clause-values : goal.returns-clause-values
-returns-clause-values c = values_of (app_of c.args.command) (map (λ s. s.now) c.args.words.now) c.in_ok-matches.matches (c.in_ok-matches.ensures.matches c.requires.simple).0
+returns-clause-values c = values_of (app_of c.args.command) (map (λ s. s.now) c.args.words.now) c.in_ok-matches.matches
+    (c.in_ok-matches.ensures.matches c.requires.simple).0
 
 pub returns-clause-rows : goal.returns-clause-rows
 returns-clause-rows c = (c.in_ok-matches.ensures.matches c.requires.simple).0

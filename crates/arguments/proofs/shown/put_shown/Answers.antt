@@ -8,7 +8,8 @@ use Rattle.arguments.proofs.shown.put_shown.Goals.{then-len-gt-MOST_AT_ONCE+in-O
 pub returns-in-Err : goal.returns-in-Err
 returns-in-Err g c =
     let front = YieldsList-so_far (YieldsList-from_chars c.args.name.now c.utf8.name cc) c.loop-character.yielded _ c.loop-character.yielded_by in
-    part_failed _ _ _ c.loop-character.yielded (chars c.args.name.now) _ front c.loop-character.invariant.written (rw c.as_slice.ensures.value at c.in-Err.ensures)
+    part_failed _ _ _ c.loop-character.yielded (chars c.args.name.now) _ front c.loop-character.invariant.written
+        (rw c.as_slice.ensures.value at c.in-Err.ensures)
 
 pub loop-character-preserved : goal.loop-character-preserved
 loop-character-preserved g c =
@@ -21,18 +22,23 @@ loop-character-preserved g c =
             next = tt;
             finite = tt;
             short = short_part _ _ _ (rw w.text-is at c.push_bytes.ensures) small (none_short _ none);
-            written = more_part _ _ _ _ _ _ c.in-Some.character (put_part _ _ _ _ _ _ c.loop-character.invariant.written (rw w.as_slice.ensures.value at w.in-Ok.ensures) none) shown (rw w.text-is at c.push_bytes.ensures);
+            written = more_part _ _ _ _ _ _ c.in-Some.character
+                (put_part _ _ _ _ _ _ c.loop-character.invariant.written (rw w.as_slice.ensures.value at w.in-Ok.ensures) none) shown
+                (rw w.text-is at c.push_bytes.ensures);
           })
       | else-len-gt-MOST_AT_ONCE w ↦
           rw w.output-is (record {
             next = tt;
             finite = tt;
-            short = short_part c.loop-character.text.items _ _ (rw w.text-is at c.push_bytes.ensures) small (omega (arith, w.if-len-gt-MOST_AT_ONCE.false, c.len.ensures.value));
+            short = short_part c.loop-character.text.items _ _ (rw w.text-is at c.push_bytes.ensures) small
+                (omega (arith, w.if-len-gt-MOST_AT_ONCE.false, c.len.ensures.value));
             written = more_part _ _ _ _ _ _ c.in-Some.character c.loop-character.invariant.written shown (rw w.text-is at c.push_bytes.ensures);
           })
     ]
 
 pub returns : goal.returns
 returns g c =
-    let end = YieldsList-end (YieldsList-from_chars c.args.name.now c.utf8.name cc) c.loop-character.yielded _ c.loop-character.yielded_by _ _ c.in-None.is c.next.ensures.steps in
-    all_parts _ _ _ c.loop-character.yielded (chars c.args.name.now) _ c.put-2.result (sym (map-id c.loop-character.yielded) ∙ end.0) c.loop-character.invariant.written (rw c.as_slice-2.ensures.value at c.put-2.ensures)
+    let end = YieldsList-end (YieldsList-from_chars c.args.name.now c.utf8.name cc) c.loop-character.yielded _ c.loop-character.yielded_by _ _
+        c.in-None.is c.next.ensures.steps in
+    all_parts _ _ _ c.loop-character.yielded (chars c.args.name.now) _ c.put-2.result (sym (map-id c.loop-character.yielded) ∙ end.0)
+        c.loop-character.invariant.written (rw c.as_slice-2.ensures.value at c.put-2.ensures)

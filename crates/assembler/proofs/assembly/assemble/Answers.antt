@@ -14,19 +14,25 @@ pub returns-clause-faulty : goal.returns-clause-faulty
 returns-clause-faulty c = faulty_from c.judging_is_right.ensures.fault c.args.map.now c.args.source.now c.assemble_lines.result c.assemble_lines.ensures.exact
 
 pub returns-clause-places : goal.returns-clause-places
-returns-clause-places c = places_from c.judging_is_right.ensures.meant c.one_assignment.ensures c.args.map.now c.args.source.now c.assemble_lines.result c.assemble_lines.ensures.exact
+returns-clause-places c = places_from c.judging_is_right.ensures.meant c.one_assignment.ensures c.args.map.now c.args.source.now
+    c.assemble_lines.result c.assemble_lines.ensures.exact
 
 pub returns-clause-names : goal.returns-clause-names
-returns-clause-names c = names_from c.judging_is_right.ensures.meant c.one_assignment.ensures c.args.map.now c.args.source.now c.assemble_lines.result c.assemble_lines.ensures.exact
+returns-clause-names c = names_from c.judging_is_right.ensures.meant c.one_assignment.ensures c.args.map.now c.args.source.now c.assemble_lines.result
+    c.assemble_lines.ensures.exact
 
 pub returns-clause-listed : goal.returns-clause-listed
-returns-clause-listed c = listed_from c.judging_is_right.ensures.meant c.one_assignment.ensures c.args.map.now c.args.source.now c.assemble_lines.result c.assemble_lines.ensures.exact c.assemble_lines.ensures.kept
+returns-clause-listed c = listed_from c.judging_is_right.ensures.meant c.one_assignment.ensures c.args.map.now c.args.source.now
+    c.assemble_lines.result c.assemble_lines.ensures.exact c.assemble_lines.ensures.kept
 
 pub returns-clause-assembled : goal.returns-clause-assembled
-returns-clause-assembled c = assembled_from c.judging_is_right.ensures.meant c.one_assignment.ensures c.args.map.now c.args.source.now c.assemble_lines.result c.assemble_lines.ensures.exact c.assemble_lines.ensures.kept c.assemble_lines.ensures.read
+returns-clause-assembled c = assembled_from c.judging_is_right.ensures.meant c.one_assignment.ensures c.args.map.now c.args.source.now
+    c.assemble_lines.result c.assemble_lines.ensures.exact c.assemble_lines.ensures.kept c.assemble_lines.ensures.read
 
 pub returns-clause-lines : goal.returns-clause-lines
-returns-clause-lines c = lines_from c.judging_is_right.ensures.meant c.one_assignment.ensures c.args.map.now c.args.source.now c.assemble_lines.result c.assemble_lines.ensures.exact c.assemble_lines.ensures.kept c.assemble_lines.ensures.read
+returns-clause-lines c = lines_from c.judging_is_right.ensures.meant c.one_assignment.ensures c.args.map.now c.args.source.now c.assemble_lines.result
+    c.assemble_lines.ensures.exact c.assemble_lines.ensures.kept c.assemble_lines.ensures.read
 
 pub returns-clause-labels : goal.returns-clause-labels
-returns-clause-labels c = labels_from c.judging_is_right.ensures.meant c.one_assignment.ensures c.args.map.now c.args.source.now c.assemble_lines.result c.assemble_lines.ensures.exact c.assemble_lines.ensures.kept c.assemble_lines.ensures.read
+returns-clause-labels c = labels_from c.judging_is_right.ensures.meant c.one_assignment.ensures c.args.map.now c.args.source.now
+    c.assemble_lines.result c.assemble_lines.ensures.exact c.assemble_lines.ensures.kept c.assemble_lines.ensures.read

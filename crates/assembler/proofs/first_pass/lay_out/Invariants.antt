@@ -9,7 +9,8 @@ use Rattle.assembler.proofs.first_pass.lay_out.Given as goal
 
 abbrev pub invariant-loop-start : goal.invariant-loop-start
 invariant-loop-start l = record {
-  same : left l.profile l.number (record { profile = l.profile; address = l.address; names = l.symbols }) (found_of l.laid.lines) (drop l.start l.source) ≡ found_lines 1 (first_context l.profile) nothing_found (read_lines l.profile l.source);
+  same : left l.profile l.number (record { profile = l.profile; address = l.address; names = l.symbols }) (found_of l.laid.lines)
+      (drop l.start l.source) ≡ found_lines 1 (first_context l.profile) nothing_found (read_lines l.profile l.source);
   texts : AreTexts l.profile l.source l.laid.texts.items l.laid.labels.items;
   here : lines_of (drop l.start l.source) ≡ drop (length l.laid.texts.items) (lines_of l.source);
   paired : length l.laid.texts.items ≡ length (found_of l.laid.lines).extents;

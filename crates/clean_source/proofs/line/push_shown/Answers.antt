@@ -13,4 +13,5 @@ loop-byte-preserved c =
 pub returns : goal.returns
 returns c =
     let line = c.args.line.now in
-    none_left c.loop-byte.text.items (c.args.text.now.items ++ shown_from 0 line) line c.loop-byte.byte-index c.loop-byte.before c.loop-byte-test.false c.loop-byte.invariant
+    none_left c.loop-byte.text.items (c.args.text.now.items ++ shown_from 0 line) line c.loop-byte.byte-index c.loop-byte.before
+        c.loop-byte-test.false c.loop-byte.invariant

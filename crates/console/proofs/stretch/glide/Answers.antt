@@ -28,8 +28,10 @@ returns-clause-turns c =
     let may = c.if-not-may_glide.ensures in
     let some : 0 < ran.result.steps = omega (arith, c.if-ran-eq0.false) in
     let made = ran.ensures.last some in
-    glides_known c.args.until ran.result.steps c.args.session.now ran.new.session (known player) ran.new.written ran.result.from (may.rests refl) (may.idle refl) ran.ensures.written
-    (glides_all made.0 player.written c.args.until player.memo.from ran.result.steps ran.result.from c.args.session.now ran.new.session made.1 c.is_state.ensures (may.off refl) (may.stands refl) some made.2 ran.ensures.session).0
+    glides_known c.args.until ran.result.steps c.args.session.now ran.new.session (known player) ran.new.written ran.result.from (may.rests refl)
+        (may.idle refl) ran.ensures.written
+    (glides_all made.0 player.written c.args.until player.memo.from ran.result.steps ran.result.from c.args.session.now ran.new.session made.1
+        c.is_state.ensures (may.off refl) (may.stands refl) some made.2 ran.ensures.session).0
 
 pub returns-clause-waits : goal.returns-clause-waits
 returns-clause-waits c =
@@ -39,7 +41,8 @@ returns-clause-waits c =
     let some : 0 < ran.result.steps = omega (arith, c.if-ran-eq0.false) in
     let made = ran.ensures.last some in
     same_waits c.args.session.now.current ran.new.session.current player.waiting
-    (glides_all made.0 player.written c.args.until player.memo.from ran.result.steps ran.result.from c.args.session.now ran.new.session made.1 c.is_state.ensures (may.off refl) (may.stands refl) some made.2 ran.ensures.session).1
+    (glides_all made.0 player.written c.args.until player.memo.from ran.result.steps ran.result.from c.args.session.now ran.new.session made.1
+        c.is_state.ensures (may.off refl) (may.stands refl) some made.2 ran.ensures.session).1
     c.requires.waits
 
 pub returns-clause-output : goal.returns-clause-output
@@ -49,4 +52,5 @@ returns-clause-output c =
     let may = c.if-not-may_glide.ensures in
     let some : 0 < ran.result.steps = omega (arith, c.if-ran-eq0.false) in
     let made = ran.ensures.last some in
-    (glides_all made.0 player.written c.args.until player.memo.from ran.result.steps ran.result.from c.args.session.now ran.new.session made.1 c.is_state.ensures (may.off refl) (may.stands refl) some made.2 ran.ensures.session).1.out
+    (glides_all made.0 player.written c.args.until player.memo.from ran.result.steps ran.result.from c.args.session.now ran.new.session made.1
+        c.is_state.ensures (may.off refl) (may.stands refl) some made.2 ran.ensures.session).1.out

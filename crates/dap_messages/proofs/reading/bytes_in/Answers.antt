@@ -16,5 +16,6 @@ loop-listed-preserved c = one_read data_of same c.items_in-all.result.now c.loop
     (omega (arith, c.loop-listed-test.true)) c.listed-item.is c.data_of.ensures c.in_ok-push.ensures.items c.loop-listed.invariant
 
 pub returns : goal.returns
-returns c = sym (same_list c.loop-listed.list.items) ∙ all_read data_of same c.items_in-all.result.now c.loop-listed.listed-index c.loop-listed.list.items (view c.args.request.now)
+returns c = sym (same_list c.loop-listed.list.items) ∙ all_read data_of same c.items_in-all.result.now c.loop-listed.listed-index
+    c.loop-listed.list.items (view c.args.request.now)
     (omega (arith, c.loop-listed-test.false)) c.items_in-all.ensures c.loop-listed.invariant

@@ -9,7 +9,8 @@ pub loop-listed-init : goal.loop-listed-init
 loop-listed-init c = none_read function_of function_view c.items_in-all.result.now _ c.new-list.ensures.items
 
 pub loop-listed-preserved : goal.loop-listed-preserved
-loop-listed-preserved c = one_read function_of function_view c.items_in-all.result.now c.loop-listed.listed-index c.listed-item.result c.in_ok-breakpoint.breakpoint _ _
+loop-listed-preserved c = one_read function_of function_view c.items_in-all.result.now c.loop-listed.listed-index c.listed-item.result
+    c.in_ok-breakpoint.breakpoint _ _
     (omega (arith, c.loop-listed-test.true)) c.listed-item.is c.in_ok-breakpoint.ensures c.in_ok-push.ensures.items c.loop-listed.invariant
 
 pub returns : goal.returns

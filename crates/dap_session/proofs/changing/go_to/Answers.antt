@@ -17,7 +17,8 @@ returns-in-Ok-clause-done c = always c.or_memory.result _
     (λ ms. (
       c.in-Some.address,
       c.in-Some.is,
-      subst (λ (d : MonState). HasGone c.in-Some.address c.args.client.now.mon d) (sym c.with_halt_at.ensures.kept.0) (c.in-Ok.ensures.course, c.in-Ok.ensures.stops),
+      subst (λ (d : MonState). HasGone c.in-Some.address c.args.client.now.mon d) (sym c.with_halt_at.ensures.kept.0)
+          (c.in-Ok.ensures.course, c.in-Ok.ensures.stops),
     ))
 
 pub returns-in-Ok-clause-told : goal.returns-in-Ok-clause-told
@@ -30,11 +31,13 @@ returns-in-Ok-clause-told c =
       c.stand_by-halt.ensures.reason,
       c.stand_by-halt.ensures.words,
       c.stand_by-halt.ensures.fault,
-      subst (λ (d : MonState). map said_of ms.items ≡ done nothing ∷ told_at old.listed d old.told.count c.stand_by-halt.result) (sym c.with_halt_at.ensures.kept.0) told.0,
+      subst (λ (d : MonState). map said_of ms.items ≡ done nothing ∷ told_at old.listed d old.told.count c.stand_by-halt.result)
+          (sym c.with_halt_at.ensures.kept.0) told.0,
     ))
     (c.with_halt_at.ensures.told _ c.all_done.ensures))
 
 pub returns-in-Err-clause-why : goal.returns-in-Err-clause-why
 returns-in-Err-clause-why c =
     let mon = c.args.client.now.mon in
-    refused_by_more c.in-Err.fault (Rejects (Set (Pc c.in-Some.address)) mon) (IsNoTarget c.args.target mon) (λ rejects. inr (c.in-Some.address, c.in-Some.is, rejects)) c.in-Err.ensures.why
+    refused_by_more c.in-Err.fault (Rejects (Set (Pc c.in-Some.address)) mon) (IsNoTarget c.args.target mon)
+        (λ rejects. inr (c.in-Some.address, c.in-Some.is, rejects)) c.in-Err.ensures.why

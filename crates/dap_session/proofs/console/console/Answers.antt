@@ -21,4 +21,5 @@ returns-clause-served c =
       refl,
     ))
     (c.with_over.ensures (evaluated_body said)
-    (c.with_moved-told.ensures.answer (evaluated_body said) [] (c.answered-answer.ensures (evaluated_body said) (rw (← c.as_str.ensures.value) c.evaluated.ensures))))
+    (c.with_moved-told.ensures.answer (evaluated_body said) []
+        (c.answered-answer.ensures (evaluated_body said) (rw (← c.as_str.ensures.value) c.evaluated.ensures))))

@@ -15,7 +15,8 @@ returns-then-is_console c =
       done = IfOk-weaker c.evaluate_line.result _ _
           (λ ms done. subst (λ (b : Bool). Evaluates b text old c.evaluate_line.new.client (map said_of ms.items)) (sym c.if-is_console.true) done) line.done;
       refused = line.refused;
-      why = IfErr-weaker c.evaluate_line.result _ _ (λ f why. subst (λ (b : Bool). IfRefused f (IsNoLook text b old.mon)) (sym c.if-is_console.true) why) line.why;
+      why = IfErr-weaker c.evaluate_line.result _ _ (λ f why.
+          subst (λ (b : Bool). IfRefused f (IsNoLook text b old.mon)) (sym c.if-is_console.true) why) line.why;
     }
 
 pub returns-clause-done : goal.returns-clause-done
@@ -28,5 +29,6 @@ pub returns-clause-why : goal.returns-clause-why
 returns-clause-why c =
     let old = c.args.client.now in
     IfErr-weaker c.look.result _ _
-    (λ f why. refused_by_more f _ (IsNoLook c.args.text.now c.args.is_console old.mon) (λ none. subst (λ (b : Bool). IsNoLook c.args.text.now b old.mon) (sym c.if-is_console.false) (refl, none)) why)
+    (λ f why. refused_by_more f _ (IsNoLook c.args.text.now c.args.is_console old.mon)
+        (λ none. subst (λ (b : Bool). IsNoLook c.args.text.now b old.mon) (sym c.if-is_console.false) (refl, none)) why)
     c.look.ensures.why

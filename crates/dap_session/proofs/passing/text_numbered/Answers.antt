@@ -7,4 +7,5 @@ loop-listed-preserved c = text_more c.args.list.now c.loop-listed.listed-index c
     (omega (arith, c.loop-listed-test.true)) c.listed-item.is c.text_or-found.ensures c.next_number-number.ensures c.loop-listed.invariant
 
 pub returns : goal.returns
-returns c = text_done c.args.list.now c.loop-listed.listed-index c.args.id c.loop-listed.number _ _ (omega (arith, c.loop-listed-test.false)) c.loop-listed.invariant
+returns c = text_done c.args.list.now c.loop-listed.listed-index c.args.id c.loop-listed.number _ _ (omega (arith, c.loop-listed-test.false))
+    c.loop-listed.invariant

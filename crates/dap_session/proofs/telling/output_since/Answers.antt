@@ -15,4 +15,5 @@ pub loop-index-init : goal.loop-index-init
 loop-index-init c = ap (λ bs. bs ++ characters (drop c.args.from c.args.session.now.current.bus.out)) c.new-text.ensures.bytes
 
 pub returns : goal.returns
-returns c = all_appended encode_utf8 c.args.session.now.current.bus.out c.loop-index.index _ _ (omega (arith, c.loop-index-test.false, c.output_len-index-end.ensures)) c.loop-index.invariant
+returns c = all_appended encode_utf8 c.args.session.now.current.bus.out c.loop-index.index _ _
+    (omega (arith, c.loop-index-test.false, c.output_len-index-end.ensures)) c.loop-index.invariant

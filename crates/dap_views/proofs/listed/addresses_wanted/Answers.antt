@@ -5,13 +5,17 @@ use Rattle.dap_messages.specs.declared.request.InstructionBreakpoint.{Instructio
 use Rattle.dap_views.proofs.listed.addresses_wanted.Goals as goal
 
 pub loop-wanted-init : goal.loop-wanted-init
-loop-wanted-init c = none_found (found_address c.args.mon.now.places c.args.mon.now.session.current.regs.pc) c.args.all.now _ c.new_list-list.ensures.told c.new_list-list.ensures.stops
+loop-wanted-init c = none_found (found_address c.args.mon.now.places c.args.mon.now.session.current.regs.pc) c.args.all.now _
+    c.new_list-list.ensures.told c.new_list-list.ensures.stops
 
 pub loop-wanted-preserved : goal.loop-wanted-preserved
 loop-wanted-preserved c =
     let find = found_address c.args.mon.now.places c.args.mon.now.session.current.regs.pc in
-    one_found find c.args.all.now c.loop-wanted.wanted-index c.wanted-item.result c.loop-wanted.list c.push_address.new.list (omega (arith, c.loop-wanted-test.true))
-    (subst (λ (w : InstructionBreakpoint). HasFound (find w) c.loop-wanted.list c.push_address.new.list) c.wanted-item.is c.in_ok-push_address.ensures) c.loop-wanted.invariant
+    one_found find c.args.all.now c.loop-wanted.wanted-index c.wanted-item.result c.loop-wanted.list c.push_address.new.list
+        (omega (arith, c.loop-wanted-test.true))
+    (subst (λ (w : InstructionBreakpoint). HasFound (find w) c.loop-wanted.list c.push_address.new.list) c.wanted-item.is
+        c.in_ok-push_address.ensures) c.loop-wanted.invariant
 
 pub returns : goal.returns
-returns c = all_found (found_address c.args.mon.now.places c.args.mon.now.session.current.regs.pc) c.args.all.now c.loop-wanted.wanted-index c.loop-wanted.list (omega (arith, c.loop-wanted-test.false)) c.loop-wanted.invariant
+returns c = all_found (found_address c.args.mon.now.places c.args.mon.now.session.current.regs.pc) c.args.all.now c.loop-wanted.wanted-index
+    c.loop-wanted.list (omega (arith, c.loop-wanted-test.false)) c.loop-wanted.invariant

@@ -8,4 +8,5 @@ pub returns : goal.returns
 returns c =
     let source = c.args.source.now in
     subst (λ (ds : List Data). HasValues ds c.locations_in.result)
-    (λ i. locations_in source.counting (c.own_line-first.ensures i) (c.own_line-last.ensures i) (option_map (λ a. a.now) source.assembly)) c.locations_in.ensures
+    (λ i. locations_in source.counting (c.own_line-first.ensures i) (c.own_line-last.ensures i) (option_map (λ a. a.now) source.assembly))
+        c.locations_in.ensures

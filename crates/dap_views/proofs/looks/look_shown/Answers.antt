@@ -6,4 +6,5 @@ use Rattle.dap_views.proofs.looks.look_shown.Goals as goal
 pub returns : goal.returns
 returns c =
     let words = look_words c.args.mon.now.session.current c.args.look in
-    subst (λ (place : Option ℕ). IfOk c.look_body.result (λ v. view v ≡ look_body place words)) c.look_address.ensures (c.look_body.ensures words c.look_words.ensures)
+    subst (λ (place : Option ℕ). IfOk c.look_body.result (λ v. view v ≡ look_body place words)) c.look_address.ensures
+        (c.look_body.ensures words c.look_words.ensures)

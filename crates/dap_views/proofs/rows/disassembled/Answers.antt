@@ -13,9 +13,11 @@ returns c =
     let same_offset = to_z-of_z w64 offset c.ranges.offset in
     let listed : IfOk c.match-address.rows (HasValues (rows offset count c.args.address)) = elim c.match-address.branch [
       | in-Some w ↦
-          let moved = subst (λ (z : ℤ). IfOk w.rows_around-rows.result (HasValues (rows z count (Some w.in-Some.until)))) same_offset w.rows_around-rows.ensures in
+          let moved = subst (λ (z : ℤ). IfOk w.rows_around-rows.result (HasValues (rows z count (Some w.in-Some.until)))) same_offset
+              w.rows_around-rows.ensures in
           rw w.rows-is (subst (λ (u : Option ℕ). IfOk w.rows_around-rows.result (HasValues (rows offset count u))) (sym w.in-Some.is) moved)
-      | in-None w ↦ rw w.rows-is (subst (λ (u : Option ℕ). IfOk w.with_rows-rows.result (HasValues (rows offset count u))) (sym w.in-None.is) (w.with_rows-rows.ensures [] w.new.ensures))
+      | in-None w ↦ rw w.rows-is (subst (λ (u : Option ℕ). IfOk w.with_rows-rows.result (HasValues (rows offset count u))) (sym w.in-None.is)
+          (w.with_rows-rows.ensures [] w.new.ensures))
     ] in
     let list = subst (λ r. IfOk r (HasValues (rows offset count c.args.address))) c.in_ok-list.was listed in
     c.build-2.ensures _ (c.member.ensures _ _ c.new-2.ensures (c.build.ensures _ list))

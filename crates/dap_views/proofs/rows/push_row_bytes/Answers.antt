@@ -10,4 +10,5 @@ loop-byte-preserved c = record {
 }
 
 pub returns : goal.returns
-returns c = joined_done c.loop-byte.words.now c.args.between.now _ c.loop-byte.byte-index c.loop-byte.text.items _ (omega (arith, c.loop-byte-test.false)) c.loop-byte.invariant.joined
+returns c = joined_done c.loop-byte.words.now c.args.between.now _ c.loop-byte.byte-index c.loop-byte.text.items _
+    (omega (arith, c.loop-byte-test.false)) c.loop-byte.invariant.joined

@@ -8,7 +8,8 @@ returns-then-address-until-clause-value c = to_end c.args.mon.now c.args.until (
 
 pub loop-preserved : goal.loop-preserved
 loop-preserved c = record {
-  count = to_more c.args.mon.now c.args.until (c.saturating_sub-end.result - c.loop.counter) (c.saturating_sub-end.result - (c.loop.counter + 1)) c.loop.address _ c.loop.count _
+  count = to_more c.args.mon.now c.args.until (c.saturating_sub-end.result - c.loop.counter) (c.saturating_sub-end.result - (c.loop.counter + 1))
+      c.loop.address _ c.loop.count _
       (omega (arith, c.loop-test.true)) (omega (arith, c.if-address-until.false)) (c.behind_row-address.ensures ∙ c.in_ok-len.ensures) c.loop.invariant.count;
   most = omega (arith, c.loop.invariant.most);
 }

@@ -5,4 +5,5 @@ use Rattle.dap_views.specs.Variables.{byte_variable}
 use Rattle.dap_views.proofs.variables.cell.Goals as goal
 
 pub returns : goal.returns
-returns c = shown_as _ _ _ (ap (byte_variable (address_text c.args.address) c.args.address) c.peek.ensures.value) (c.byte_named.ensures _ c.address_text-name.ensures)
+returns c = shown_as _ _ _ (ap (byte_variable (address_text c.args.address) c.args.address) c.peek.ensures.value)
+    (c.byte_named.ensures _ c.address_text-name.ensures)

@@ -13,4 +13,5 @@ loop-index-preserved c = row_past c.args.line (source_lines c.in-Some.assembly.n
     (c.in_default-row_with.ensures ∙ ap (row_with c.args.line) c.line.ensures) c.loop-index.invariant
 
 pub returns : goal.returns
-returns c = rw c.in-Some.is (no_row c.args.line (source_lines c.in-Some.assembly.now) c.loop-index.index _ (omega (arith, c.loop-index-test.false, c.line_count-index-end.ensures)) c.loop-index.invariant)
+returns c = rw c.in-Some.is (no_row c.args.line (source_lines c.in-Some.assembly.now) c.loop-index.index _
+    (omega (arith, c.loop-index-test.false, c.line_count-index-end.ensures)) c.loop-index.invariant)

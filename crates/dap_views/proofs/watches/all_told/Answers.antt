@@ -15,4 +15,5 @@ loop-wanted-preserved c =
 pub returns : goal.returns
 returns c =
     let f = told_of c.args.stops.now.watches.items in
-    c.list_body.ensures _ (all_values f c.args.listed.now c.loop-wanted.wanted-index c.loop-wanted.list (omega (arith, c.loop-wanted-test.false)) c.loop-wanted.invariant)
+    c.list_body.ensures _ (all_values f c.args.listed.now c.loop-wanted.wanted-index c.loop-wanted.list (omega (arith, c.loop-wanted-test.false))
+        c.loop-wanted.invariant)

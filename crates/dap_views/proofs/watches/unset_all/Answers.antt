@@ -11,4 +11,5 @@ loop-address-preserved c =
     ∙ ap (all_unset (drop (i + 1) addresses)) (sym (unset_by _ _ _ _ c.clear_watch.ensures.ok c.clear_watch.ensures.err))
 
 pub returns : goal.returns
-returns c = sym (c.loop-address.invariant ∙ unset_none c.args.addresses.now c.loop-address.address-index (omega (arith, c.loop-address-test.false)) c.loop-address.session)
+returns c = sym (c.loop-address.invariant ∙ unset_none c.args.addresses.now c.loop-address.address-index (omega (arith, c.loop-address-test.false))
+    c.loop-address.session)

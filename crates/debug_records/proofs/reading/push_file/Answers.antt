@@ -4,5 +4,6 @@ use Rattle.debug_records.proofs.Pushed.{file_given}
 use Rattle.debug_records.proofs.reading.push_file.Goals as goal
 
 pub returns : goal.returns
-returns c = file_given c.put_new.result (map field_view c.args.fields.now) (reading_view c.args.reading.now) c.args.reading.now.info.files.items c.put_new.new.table.items c.in_ok-id.id c.in_ok-file.file
+returns c = file_given c.put_new.result (map field_view c.args.fields.now) (reading_view c.args.reading.now) c.args.reading.now.info.files.items
+    c.put_new.new.table.items c.in_ok-id.id c.in_ok-file.file
     refl c.in_ok-id.ensures c.in_ok-file.ensures c.put_new.ensures

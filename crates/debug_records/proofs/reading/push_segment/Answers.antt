@@ -4,5 +4,6 @@ use Rattle.debug_records.proofs.Pushed.{segment_given}
 use Rattle.debug_records.proofs.reading.push_segment.Goals as goal
 
 pub returns : goal.returns
-returns c = segment_given c.put_new.result (map field_view c.args.fields.now) (reading_view c.args.reading.now) c.args.reading.now.info.segments.items c.put_new.new.table.items c.in_ok-id.id c.in_ok-segment.segment
+returns c = segment_given c.put_new.result (map field_view c.args.fields.now) (reading_view c.args.reading.now) c.args.reading.now.info.segments.items
+    c.put_new.new.table.items c.in_ok-id.id c.in_ok-segment.segment
     refl c.in_ok-id.ensures c.in_ok-segment.ensures c.put_new.ensures

@@ -10,7 +10,8 @@ returns-clause-history c =
     let ran = c.run_plainly-ran in
     let within : ran.result.steps ≤ inside.quiet = omega (arith, c.min-most.ensures, ran.ensures.within) in
     let all = plainly_made c.args.stops.now c.args.marks.now ran.result c.args.machine.now ran.new.self ran.ensures.ran in
-    (longer inside.trail [] inside.steps inside.quiet ran.result.steps c.args.machine.now ran.new.self c.course.invariant.0 c.course.invariant.1 (rw (← c.course.view_is) at c.requires.history) within all).history
+    (longer inside.trail [] inside.steps inside.quiet ran.result.steps c.args.machine.now ran.new.self c.course.invariant.0 c.course.invariant.1
+        (rw (← c.course.view_is) at c.requires.history) within all).history
 
 pub returns-clause-steps : goal.returns-clause-steps
 returns-clause-steps c = λ breaks watched replayed.
@@ -18,7 +19,8 @@ returns-clause-steps c = λ breaks watched replayed.
     let ran = c.run_plainly-ran in
     let within : ran.result.steps ≤ inside.quiet = omega (arith, c.min-most.ensures, ran.ensures.within) in
     let all = plainly_made c.args.stops.now c.args.marks.now ran.result c.args.machine.now ran.new.self ran.ensures.ran in
-    let told = longer inside.trail [] inside.steps inside.quiet ran.result.steps c.args.machine.now ran.new.self c.course.invariant.0 c.course.invariant.1 (rw (← c.course.view_is) at c.requires.history) within all in
+    let told = longer inside.trail [] inside.steps inside.quiet ran.result.steps c.args.machine.now ran.new.self c.course.invariant.0
+        c.course.invariant.1 (rw (← c.course.view_is) at c.requires.history) within all in
     rw (← c.course.view_is) (told.states breaks watched replayed)
 
 pub returns-clause-pages : goal.returns-clause-pages

@@ -12,7 +12,8 @@ returns-in-Some-clause-many c = λ many.
     record {
       events = ap (λ b. b.items) c.truncate_front.ensures ∙ ap (λ m. drop m old.events.items) n;
       kept = ap (λ b. b.items) c.pop_front.ensures.items;
-      spare = ap (λ b. length b.items) c.push_back.ensures.items ∙ ap length (kept_all old.spare.capacity old.spare.items c.in-Some.checkpoint c.requires.room) ∙ length-append old.spare.items _;
+      spare = ap (λ b. length b.items) c.push_back.ensures.items
+          ∙ ap length (kept_all old.spare.capacity old.spare.items c.in-Some.checkpoint c.requires.room) ∙ length-append old.spare.items _;
       room = record {
         kept = ap (λ b. b.capacity) c.pop_front.ensures.items;
         spare = ap (λ b. b.capacity) c.push_back.ensures.items;
@@ -32,5 +33,7 @@ pub returns-in-Some-clause-pages : goal.returns-in-Some-clause-pages
 returns-in-Some-clause-pages c = λ memory told.
     let old = c.args.trail.now in
     let p = c.args.pages.now in
-    tells_let_go p.now p.spare c.saturating_sub-pages.result p.stamps old.kept.items old.spare.items _ _ c.in-Some.checkpoint memory (sym c.pop_front.ensures.value ∙ c.in-Some.is) (ap (λ b. b.items) c.pop_front.ensures.items)
-    (ap (λ b. b.items) c.push_back.ensures.items ∙ kept_all old.spare.capacity old.spare.items c.in-Some.checkpoint c.requires.room) (omega (arith, c.saturating_sub-pages.ensures, c.len-count.ensures.len)) told
+    tells_let_go p.now p.spare c.saturating_sub-pages.result p.stamps old.kept.items old.spare.items _ _ c.in-Some.checkpoint memory
+        (sym c.pop_front.ensures.value ∙ c.in-Some.is) (ap (λ b. b.items) c.pop_front.ensures.items)
+    (ap (λ b. b.items) c.push_back.ensures.items ∙ kept_all old.spare.capacity old.spare.items c.in-Some.checkpoint c.requires.room)
+        (omega (arith, c.saturating_sub-pages.ensures, c.len-count.ensures.len)) told

@@ -20,7 +20,8 @@ pub loop-line-preserved : goal.loop-line-preserved
 loop-line-preserved c = record {
   made = puts_on c.args.map.now (number_in c.args.names.now) c.loop-line.image c.put_line.new.image c.args.kept.now c.loop-line.line-index c.line-item.result
       _ c.loop-line-test.true c.line-item.is c.in-Ok.ensures.exact c.loop-line.invariant.made;
-  spared = put_spared c.args.map.now (number_in c.args.names.now) c.loop-line.image c.put_line.new.image (placed_line_of c.line-item.result) c.in-Ok.ensures.exact c.loop-line.invariant.spared;
+  spared = put_spared c.args.map.now (number_in c.args.names.now) c.loop-line.image c.put_line.new.image (placed_line_of c.line-item.result)
+      c.in-Ok.ensures.exact c.loop-line.invariant.spared;
 }
 
 pub returns-clause-spared : goal.returns-clause-spared

@@ -8,6 +8,7 @@ use Rattle.emission.proofs.second_pass.make_image.Given as goal
 
 abbrev pub invariant-loop-line : goal.invariant-loop-line
 invariant-loop-line l = record {
-  made : image_of_lines l.map (number_in l.names) l.image (numbered_lines (drop l.line-index l.kept)) ≡ image_of_lines l.map (number_in l.names) empty_image (numbered_lines l.kept);
+  made : image_of_lines l.map (number_in l.names) l.image (numbered_lines (drop l.line-index l.kept))
+      ≡ image_of_lines l.map (number_in l.names) empty_image (numbered_lines l.kept);
   spared : IsSpared l.map l.image;
 }

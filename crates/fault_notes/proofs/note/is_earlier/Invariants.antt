@@ -5,4 +5,5 @@ use Rattle.source_notes.specs.Lines.{name_view}
 use Rattle.fault_notes.proofs.note.is_earlier.Given as goal
 
 abbrev pub invariant-loop-known : goal.invariant-loop-known
-invariant-loop-known l = list_any (is_earlier l.number l.name) (map name_view l.names) ≡ list_any (is_earlier l.number l.name) (map name_view (drop l.known-index l.names))
+invariant-loop-known l = list_any (is_earlier l.number l.name) (map name_view l.names)
+    ≡ list_any (is_earlier l.number l.name) (map name_view (drop l.known-index l.names))

@@ -15,12 +15,14 @@ loop-address-init c = record {
 pub loop-address-preserved : goal.loop-address-preserved
 loop-address-preserved c = record {
   size = size_kept c.loop-address.part c.put_cell.new.both c.loop-address.address c.kept_cell.result c.put_cell.ensures c.loop-address.invariant.size;
-  each = one_more (λ (j : ℕ). if is_port c.args.map.now j then None else cell_at c.args.image.now j) c.loop-address.address c.kept_cell.result c.loop-address.part c.put_cell.new.both
+  each = one_more (λ (j : ℕ). if is_port c.args.map.now j then None else cell_at c.args.image.now j) c.loop-address.address c.kept_cell.result
+      c.loop-address.part c.put_cell.new.both
       (omega (arith, c.loop-address-test.true)) c.loop-address.invariant.size c.kept_cell.ensures c.put_cell.ensures c.loop-address.invariant.each;
 }
 
 pub returns-clause-without : goal.returns-clause-without
-returns-clause-without c = λ k below. all_of (λ (j : ℕ). if is_port c.args.map.now j then None else cell_at c.args.image.now j) c.loop-address.address k c.loop-address.part
+returns-clause-without c = λ k below. all_of (λ (j : ℕ). if is_port c.args.map.now j then None else cell_at c.args.image.now j) c.loop-address.address
+    k c.loop-address.part
     (omega (arith, below, c.loop-address-test.false)) c.loop-address.invariant.each
 
 pub returns-clause-spared : goal.returns-clause-spared

@@ -14,8 +14,10 @@ loop-address-init c = record {
 pub loop-address-preserved : goal.loop-address-preserved
 loop-address-preserved c = record {
   size = size_kept c.loop-address.both c.put_cell.new.both c.loop-address.address c.joined_cell.result c.put_cell.ensures c.loop-address.invariant.size;
-  each = one_more (λ (j : ℕ). joined_cell (cell_at c.args.one.now j) (cell_at c.args.other.now j)) c.loop-address.address c.joined_cell.result c.loop-address.both c.put_cell.new.both
-      (omega (arith, c.loop-address-test.true)) c.loop-address.invariant.size (c.joined_cell.ensures ∙ ap₂ joined_cell c.get.ensures c.get-in-loop-address.ensures) c.put_cell.ensures c.loop-address.invariant.each;
+  each = one_more (λ (j : ℕ). joined_cell (cell_at c.args.one.now j) (cell_at c.args.other.now j)) c.loop-address.address c.joined_cell.result
+      c.loop-address.both c.put_cell.new.both
+      (omega (arith, c.loop-address-test.true)) c.loop-address.invariant.size
+          (c.joined_cell.ensures ∙ ap₂ joined_cell c.get.ensures c.get-in-loop-address.ensures) c.put_cell.ensures c.loop-address.invariant.each;
 }
 
 pub returns : goal.returns

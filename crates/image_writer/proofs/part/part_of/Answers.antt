@@ -12,7 +12,8 @@ loop-address-init c = record {
 pub loop-address-preserved : goal.loop-address-preserved
 loop-address-preserved c = record {
   size = size_kept c.loop-address.part c.put_cell.new.part c.loop-address.address c.filled_with.result c.put_cell.ensures c.loop-address.invariant.size;
-  each = one_cell c.args.low c.loop-address.address c.args.fill c.filled_with.result c.args.image.now c.loop-address.part c.put_cell.new.part (omega arith) (omega arith) c.loop-address.invariant.size
+  each = one_cell c.args.low c.loop-address.address c.args.fill c.filled_with.result c.args.image.now c.loop-address.part c.put_cell.new.part
+      (omega arith) (omega arith) c.loop-address.invariant.size
       (c.filled_with.ensures ∙ ap (filled_with c.args.fill) c.get.ensures) c.put_cell.ensures c.loop-address.invariant.each;
 }
 

@@ -5,7 +5,8 @@ use Rattle.json_messages.proofs.front.header_len.Goals as goal
 
 pub returns-then-starts_with-clause-len : goal.returns-then-starts_with-clause-len
 unfolding ends_header
-returns-then-starts_with-clause-len c = sym (c.loop-index.invariant ∙ header_found c.args.bytes.now c.loop-index.index c.loop-index-test.true (sym c.if-starts_with.ensures.value))
+returns-then-starts_with-clause-len c = sym (c.loop-index.invariant
+    ∙ header_found c.args.bytes.now c.loop-index.index c.loop-index-test.true (sym c.if-starts_with.ensures.value))
 
 pub loop-index-preserved : goal.loop-index-preserved
 unfolding ends_header

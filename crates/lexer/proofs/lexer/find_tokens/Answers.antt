@@ -19,7 +19,8 @@ loop-start-init c = record {
 pub loop-start-preserved-then-is_blank_byte : goal.loop-start-preserved-then-is_blank_byte
 loop-start-preserved-then-is_blank_byte c = record {
   inside = omega arith;
-  same = blank_passed (lexemes c.loop-start.found.items) c.args.line.now c.loop-start.start c.loop-start-test.true (sym c.is_blank_byte.ensures ∙ c.if-is_blank_byte.true) ∙ c.loop-start.invariant.same;
+  same = blank_passed (lexemes c.loop-start.found.items) c.args.line.now c.loop-start.start c.loop-start-test.true
+      (sym c.is_blank_byte.ensures ∙ c.if-is_blank_byte.true) ∙ c.loop-start.invariant.same;
 }
 
 pub returns-then-byte-eq59-clause-found : goal.returns-then-byte-eq59-clause-found
@@ -41,7 +42,8 @@ returns-in_default-clause-syntax c _ =
     let none : token_at (drop start line) ≡ None = sym (c.in_default.ensures ∙ ap token_at (from start line)) in
     whole line (sym c.all_may_stand.ensures ∙ c.if-not-all_may_stand.false)
     ∙ sym c.loop-start.invariant.same
-    ∙ none_found (lexemes c.loop-start.found.items) line start c.loop-start-test.true (sym c.is_blank_byte.ensures ∙ c.if-is_blank_byte.false) c.if-byte-eq59.false none
+    ∙ none_found (lexemes c.loop-start.found.items) line start c.loop-start-test.true (sym c.is_blank_byte.ensures ∙ c.if-is_blank_byte.false)
+        c.if-byte-eq59.false none
 
 pub loop-start-smaller : goal.loop-start-smaller
 loop-start-smaller c =
@@ -57,12 +59,14 @@ loop-start-preserved c =
     let start = c.loop-start.start in
     let some : token_at (drop start line) ≡ Some (c.in-Some.kind, c.in-Some.text.now) = sym (c.in-Some.ensures ∙ ap token_at (from start line)) in
     let inside = token_inside line start c.in-Some.kind c.in-Some.text.now some in
-    let pushed : lexemes c.push.new.self.items ≡ lexemes c.loop-start.found.items ++ record { kind = c.in-Some.kind; start = start; text = c.in-Some.text.now } ∷ [] =
+    let pushed : lexemes c.push.new.self.items ≡ lexemes c.loop-start.found.items
+        ++ record { kind = c.in-Some.kind; start = start; text = c.in-Some.text.now } ∷ [] =
     ap lexemes c.in_ok-push.ensures.items ∙ map-append lexeme_of c.loop-start.found.items _ in
     record {
       inside = inside.0;
       same =
           ap (λ (x : List Lexeme). then_tokens x (tokens_from (start + length c.in-Some.text.now) 0 (drop (start + length c.in-Some.text.now) line))) pushed
-          ∙ token_passed (lexemes c.loop-start.found.items) line start c.in-Some.kind c.in-Some.text.now c.loop-start-test.true (sym c.is_blank_byte.ensures ∙ c.if-is_blank_byte.false) c.if-byte-eq59.false some
+          ∙ token_passed (lexemes c.loop-start.found.items) line start c.in-Some.kind c.in-Some.text.now c.loop-start-test.true
+              (sym c.is_blank_byte.ensures ∙ c.if-is_blank_byte.false) c.if-byte-eq59.false some
           ∙ c.loop-start.invariant.same;
     }

@@ -8,7 +8,8 @@ use Rattle.lexer.proofs.stray.first_stray.Goals as goal
 pub loop-start-preserved-then-is_blank_byte : goal.loop-start-preserved-then-is_blank_byte
 loop-start-preserved-then-is_blank_byte c = record {
   inside = omega arith;
-  same = blank_passed c.args.line.now c.loop-start.start c.loop-start-test.true (sym c.is_blank_byte.ensures ∙ c.if-is_blank_byte.true) ∙ c.loop-start.invariant.same;
+  same = blank_passed c.args.line.now c.loop-start.start c.loop-start-test.true (sym c.is_blank_byte.ensures ∙ c.if-is_blank_byte.true)
+      ∙ c.loop-start.invariant.same;
 }
 
 pub returns-then-byte-eq59 : goal.returns-then-byte-eq59
@@ -42,6 +43,7 @@ loop-start-preserved c =
     let inside = token_inside line start c.in-Some.field-0-0 c.in-Some.text.now some in
     record {
       inside = inside.0;
-      same = token_passed line start c.in-Some.field-0-0 c.in-Some.text.now c.loop-start-test.true (sym c.is_blank_byte.ensures ∙ c.if-is_blank_byte.false) c.if-byte-eq59.false some
+      same = token_passed line start c.in-Some.field-0-0 c.in-Some.text.now c.loop-start-test.true
+          (sym c.is_blank_byte.ensures ∙ c.if-is_blank_byte.false) c.if-byte-eq59.false some
           ∙ c.loop-start.invariant.same;
     }

@@ -13,8 +13,10 @@ pub loop-one-preserved : goal.loop-one-preserved
 loop-one-preserved c =
     let g = name_item c.args.group.now c.args.symbols.now (text_view c.args.text.now) in
     elim c.if-one.branch [
-      | then-one w ↦ rw w.items-is (one_more g c.deref-one-items.result.now c.loop-one.one-index _ _ (omega (arith, c.loop-one-test.true)) w.if-one.true (w.with-items.ensures _ _ c.loop-one.invariant w.name_item.ensures))
-      | else-one w ↦ rw w.items-is (other_use g c.deref-one-items.result.now c.loop-one.one-index _ _ (omega (arith, c.loop-one-test.true)) w.if-one.false c.loop-one.invariant)
+      | then-one w ↦ rw w.items-is (one_more g c.deref-one-items.result.now c.loop-one.one-index _ _ (omega (arith, c.loop-one-test.true))
+          w.if-one.true (w.with-items.ensures _ _ c.loop-one.invariant w.name_item.ensures))
+      | else-one w ↦ rw w.items-is (other_use g c.deref-one-items.result.now c.loop-one.one-index _ _ (omega (arith, c.loop-one-test.true))
+          w.if-one.false c.loop-one.invariant)
     ]
 
 pub returns : goal.returns

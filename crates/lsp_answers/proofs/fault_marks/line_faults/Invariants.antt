@@ -6,4 +6,5 @@ use Rattle.source_notes.specs.Lines.{texts_of}
 use Rattle.lsp_answers.proofs.fault_marks.line_faults.Given as goal
 
 abbrev pub invariant-loop-fault : goal.invariant-loop-fault
-invariant-loop-fault l = IfOk l.found (λ ds. AreMarked (fault_blocks (IsMeant (known_of l.context))) fault_kind (texts_of l.lines) (take l.fault-index l.faults) ds.items)
+invariant-loop-fault l = IfOk l.found (λ ds. AreMarked (fault_blocks (IsMeant (known_of l.context))) fault_kind (texts_of l.lines)
+    (take l.fault-index l.faults) ds.items)

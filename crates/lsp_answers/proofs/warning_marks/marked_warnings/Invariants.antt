@@ -6,4 +6,5 @@ use Rattle.source_notes.specs.Lines.{names_of}
 use Rattle.lsp_answers.proofs.warning_marks.marked_warnings.Given as goal
 
 abbrev pub invariant-loop-warning : goal.invariant-loop-warning
-invariant-loop-warning l = IfOk l.found (λ ds. AreMarked (warning_blocks (names_of (lines_of l.source))) warning_kind (lines_of l.source) (take l.warning-index l.warnings) ds.items)
+invariant-loop-warning l = IfOk l.found (λ ds. AreMarked (warning_blocks (names_of (lines_of l.source))) warning_kind (lines_of l.source)
+    (take l.warning-index l.warnings) ds.items)

@@ -21,7 +21,8 @@ loop-one-preserved c =
     let so_far = c.loop-one.invariant in (
       _,
       c.with_fix-fixes.ensures so_far.0 so_far.1,
-      gathered so_far.0 _ _ _ _ _ refl (flat_next f c.deref-one-items.result.now c.loop-one.one-index c.one-item.result (omega (arith, c.loop-one-test.true)) ∙ ap (λ (d : Diagnostic). f d ++ behind) (sym c.one-item.is)) so_far.2,
+      gathered so_far.0 _ _ _ _ _ refl (flat_next f c.deref-one-items.result.now c.loop-one.one-index c.one-item.result
+          (omega (arith, c.loop-one-test.true)) ∙ ap (λ (d : Diagnostic). f d ++ behind) (sym c.one-item.is)) so_far.2,
     )
 
 pub returns : goal.returns

@@ -10,7 +10,8 @@ pub loop-fold-init : goal.loop-fold-init
 loop-fold-init c = c.new-values.ensures
 
 pub loop-fold-preserved : goal.loop-fold-preserved
-loop-fold-preserved c = next_value fold_data c.deref-fold-items.result.now c.loop-fold.fold-index _ _ (omega (arith, c.loop-fold-test.true)) (c.with-values.ensures _ _ c.loop-fold.invariant c.fold_data.ensures)
+loop-fold-preserved c = next_value fold_data c.deref-fold-items.result.now c.loop-fold.fold-index _ _ (omega (arith, c.loop-fold-test.true))
+    (c.with-values.ensures _ _ c.loop-fold.invariant c.fold_data.ensures)
 
 pub returns : goal.returns
 returns c =

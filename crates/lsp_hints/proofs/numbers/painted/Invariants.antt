@@ -6,4 +6,5 @@ use Rattle.serde_json.specs.Data.{Data}
 use Rattle.lsp_hints.proofs.numbers.painted.Given as goal
 
 abbrev pub invariant-loop-paint : goal.invariant-loop-paint
-invariant-loop-paint l = (done : List Data) × HasValues done l.counts × (done ++ counts_left l.line l.start l.paint-items l.paint-index ≡ counted 0 0 l.paint-items)
+invariant-loop-paint l = (done : List Data) × HasValues done l.counts
+    × (done ++ counts_left l.line l.start l.paint-items l.paint-index ≡ counted 0 0 l.paint-items)

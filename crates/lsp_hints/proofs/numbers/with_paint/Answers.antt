@@ -7,7 +7,8 @@ use Rattle.lsp_hints.proofs.numbers.with_paint.Goals.{then-paint-line, else-pain
 use Rattle.lsp_hints.proofs.numbers.with_paint.Goals as goal
 
 -- five put behind others one after another
-five : (ds : List Data) (a b c d e : Data) (list : ValueList) → HasValues (((((ds ++ a ∷ []) ++ b ∷ []) ++ c ∷ []) ++ d ∷ []) ++ e ∷ []) list → HasValues (ds ++ a ∷ b ∷ c ∷ d ∷ e ∷ []) list
+five : (ds : List Data) (a b c d e : Data) (list : ValueList) → HasValues (((((ds ++ a ∷ []) ++ b ∷ []) ++ c ∷ []) ++ d ∷ []) ++ e ∷ []) list
+    → HasValues (ds ++ a ∷ b ∷ c ∷ d ∷ e ∷ []) list
 five ds a b c d e list has = subst (λ (es : List Data). HasValues es list) (simp append_assoc) has
 
 pub returns : goal.returns
@@ -16,4 +17,5 @@ returns c ds has =
       | then-paint-line w ↦ rw w.further-is (search (tests, rules))
       | else-paint-line w ↦ rw w.further-is (search (tests, rules))
     ] in
-    five ds _ _ _ _ _ _ (c.with-5.ensures _ _ (c.with-4.ensures _ _ (c.with-3.ensures _ _ (c.with-2.ensures _ _ (c.with.ensures _ _ has (search rules)) (search rules)) (search rules)) (search rules)) (search rules))
+    five ds _ _ _ _ _ _ (c.with-5.ensures _ _ (c.with-4.ensures _ _
+        (c.with-3.ensures _ _ (c.with-2.ensures _ _ (c.with.ensures _ _ has (search rules)) (search rules)) (search rules)) (search rules)) (search rules))

@@ -8,4 +8,5 @@ loop-index-preserved c = gathered c.loop-index.paints.items _ _ _ _ _ c.in_ok-pu
     (line_next c.args.profile c.loop-index.index c.args.lines.now _ (omega (arith, c.loop-index-test.true))) c.loop-index.invariant
 
 pub returns : goal.returns
-returns c = gathered_all c.loop-index.paints.items _ _ (lines_end c.args.profile c.loop-index.index c.args.lines.now (omega (arith, c.loop-index-test.false))) c.loop-index.invariant
+returns c = gathered_all c.loop-index.paints.items _ _ (lines_end c.args.profile c.loop-index.index c.args.lines.now
+    (omega (arith, c.loop-index-test.false))) c.loop-index.invariant

@@ -14,11 +14,13 @@ loop-mode-preserved c =
     let so_far = c.loop-mode.invariant in (
       _,
       c.with_form-forms.ensures so_far.0 so_far.1,
-      gathered so_far.0 _ _ _ _ _ refl (flat_next (form_of c.args.profile c.args.mnemonic) c.args.modes.now c.loop-mode.mode-index _ (omega (arith, c.loop-mode-test.true))) so_far.2,
+      gathered so_far.0 _ _ _ _ _ refl (flat_next (form_of c.args.profile c.args.mnemonic) c.args.modes.now c.loop-mode.mode-index _
+          (omega (arith, c.loop-mode-test.true))) so_far.2,
     )
 
 pub returns : goal.returns
 returns c =
     let so_far = c.loop-mode.invariant in
     c.build.ensures _ (subst (λ (ds : List Data). HasValues ds c.loop-mode.forms)
-    (gathered_all so_far.0 _ _ (flat_end (form_of c.args.profile c.args.mnemonic) c.args.modes.now c.loop-mode.mode-index (omega (arith, c.loop-mode-test.false))) so_far.2) so_far.1)
+    (gathered_all so_far.0 _ _ (flat_end (form_of c.args.profile c.args.mnemonic) c.args.modes.now c.loop-mode.mode-index
+        (omega (arith, c.loop-mode-test.false))) so_far.2) so_far.1)

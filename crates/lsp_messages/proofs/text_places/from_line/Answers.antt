@@ -7,7 +7,8 @@ returns-then-is_empty-clause-from c = no_text c.loop-left.left c.loop-left.rest.
 
 pub loop-left-preserved : goal.loop-left-preserved
 loop-left-preserved c = record {
-  from = line_more c.loop-left.left c.loop-left.rest.now c.behind_line-rest.result.now _ (omega (arith, c.loop-left-test.true)) c.behind_line-rest.ensures.behind c.loop-left.invariant.from;
+  from = line_more c.loop-left.left c.loop-left.rest.now c.behind_line-rest.result.now _ (omega (arith, c.loop-left-test.true))
+      c.behind_line-rest.ensures.behind c.loop-left.invariant.from;
   within = omega (arith, c.behind_line-rest.ensures.within, c.loop-left.invariant.within);
 }
 

@@ -10,7 +10,8 @@ loop-rest-init c = record { found = refl; room = omega arith }
 
 pub loop-rest-preserved : goal.loop-rest-preserved
 loop-rest-preserved c = record {
-  found = one_more c.args.profile c.loop-rest.number c.loop-rest.rest.now c.next_line.result.0.now c.next_line.result.1.now (marks_view c.loop-rest.marks) (marks_view c.take_line.new.marks) _
+  found = one_more c.args.profile c.loop-rest.number c.loop-rest.rest.now c.next_line.result.0.now c.next_line.result.1.now
+      (marks_view c.loop-rest.marks) (marks_view c.take_line.new.marks) _
       c.next_line.ensures.cut c.in_ok-take_line.ensures c.loop-rest.invariant.found;
   room = omega (arith, c.next_line.ensures.shorter, c.loop-rest.invariant.room);
 }
@@ -21,4 +22,5 @@ returns-in_err-take_line c =
     c.in_err-take_line.field-0.0 c.from_residual.result c.next_line.ensures.cut c.in_err-take_line.ensures c.loop-rest.invariant.found c.from_residual.ensures.1
 
 pub returns : goal.returns
-returns c = done c.args.profile c.loop-rest.number c.loop-rest.rest.now (marks_view c.loop-rest.marks) _ (true-eqb _ 0 c.loop-rest-test.ensures) c.loop-rest.invariant.found
+returns c = done c.args.profile c.loop-rest.number c.loop-rest.rest.now (marks_view c.loop-rest.marks) _ (true-eqb _ 0 c.loop-rest-test.ensures)
+    c.loop-rest.invariant.found

@@ -15,7 +15,8 @@ always (Err e) P p = tt
 
 -- A line that is handed on is none of those before it.
 pub returns-in_default-clause-does : goal.returns-in_default-clause-does
-returns-in_default-clause-does c = always c.look.result (Does c.args.command.now c.args.mon.now c.look.new.mon) (by_command c.args.command.now refl c.look.ensures.shows)
+returns-in_default-clause-does c = always c.look.result (Does c.args.command.now c.args.mon.now c.look.new.mon)
+    (by_command c.args.command.now refl c.look.ensures.shows)
   where
     by_command : (command : Command) → c.args.command.now ≡ command → ShowsOnly c.args.mon.now c.look.new.mon → Does command c.args.mon.now c.look.new.mon
     by_command line.Nothing e shows = absurd (c.in_default.not-Nothing e)

@@ -26,10 +26,12 @@ returns-then-is_call-clause-over c =
 pub loop-undone-preserved : goal.loop-undone-preserved
 loop-undone-preserved c =
     let more : suc c.loop-undone.undone ≡ c.loop-undone.undone + 1 = omega arith in
-    let fewer : length c.back_by_one.new.session.earlier ≡ length c.loop-undone.session.earlier - 1 = length-back_one c.loop-undone.session c.back_by_one.new.session c.back_by_one.ensures in
+    let fewer : length c.back_by_one.new.session.earlier ≡ length c.loop-undone.session.earlier - 1 =
+        length-back_one c.loop-undone.session c.back_by_one.new.session c.back_by_one.ensures in
     record {
       held = omega (arith, fewer, c.loop-undone.invariant.held, c.loop-undone-test.true, c.requires);
-      gone = gone-more c.loop-undone.undone c.args.session.now c.loop-undone.session c.back_by_one.new.session c.loop-undone.invariant.gone c.back_by_one.ensures
+      gone = gone-more c.loop-undone.undone c.args.session.now c.loop-undone.session c.back_by_one.new.session c.loop-undone.invariant.gone
+          c.back_by_one.ensures
           ∙ ap (λ k. gone_back k c.args.session.now) more;
       over = over-goes _ c.loop-undone.undone _ (c.args.most - (c.loop-undone.undone + 1)) c.loop-undone.session c.back_by_one.new.session _ _
           c.loop-undone.invariant.over (omega (arith, c.loop-undone-test.true)) c.back_by_one.ensures c.is_call.ensures c.if-is_call.false;

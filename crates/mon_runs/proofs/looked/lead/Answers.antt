@@ -16,7 +16,8 @@ loop-init c = record {
 }
 
 pub returns-in-Some-clause-steps : goal.returns-in-Some-clause-steps
-returns-in-Some-clause-steps c = steps_more c.loop.did c.make_step-made.result.did c.args.session.now c.loop.session c.make_step-made.new.session c.loop.invariant.made c.make_step-made.ensures.steps
+returns-in-Some-clause-steps c = steps_more c.loop.did c.make_step-made.result.did c.args.session.now c.loop.session c.make_step-made.new.session
+    c.loop.invariant.made c.make_step-made.ensures.steps
 
 pub returns-in-Some-clause-run : goal.returns-in-Some-clause-run
 returns-in-Some-clause-run c =
@@ -24,7 +25,8 @@ returns-in-Some-clause-run c =
     let some : c.args.limit - c.loop.counter ≡ suc n = omega (arith, c.loop-test.true) in
     let p : Place = (c.loop.session, c.loop.stops.breaks.items) in
     let why = c.make_step-made.ensures.why ∙ ap (λ w. why_of_step w.items c.args.goal c.args.until p) c.loop.invariant.watches in
-    looked-ends c.args.stops.now.watches.items c.args.goal c.args.until (c.args.limit - c.loop.counter) n c.loop.did c.make_step-made.result.did c.make_step-made.result.from
+    looked-ends c.args.stops.now.watches.items c.args.goal c.args.until (c.args.limit - c.loop.counter) n c.loop.did c.make_step-made.result.did
+        c.make_step-made.result.from
     p (c.make_step-made.new.session, c.make_step-made.new.stops.breaks.items) _ c.make_step-made.result.why _
     c.loop.invariant.left some c.make_step-made.ensures.did c.make_step-made.ensures.from why c.make_step-made.ensures.after c.in-Some.is
 
@@ -42,8 +44,10 @@ loop-preserved c =
     let why = c.make_step-made.ensures.why ∙ ap (λ w. why_of_step w.items c.args.goal c.args.until p) c.loop.invariant.watches in
     record {
       small = omega (arith, c.loop.invariant.small);
-      made = steps_more c.loop.did c.make_step-made.result.did c.args.session.now c.loop.session c.make_step-made.new.session c.loop.invariant.made c.make_step-made.ensures.steps;
-      left = looked-goes c.args.stops.now.watches.items c.args.goal c.args.until (c.args.limit - c.loop.counter) n c.loop.did c.make_step-made.result.did c.make_step-made.result.from
+      made = steps_more c.loop.did c.make_step-made.result.did c.args.session.now c.loop.session c.make_step-made.new.session c.loop.invariant.made
+          c.make_step-made.ensures.steps;
+      left = looked-goes c.args.stops.now.watches.items c.args.goal c.args.until (c.args.limit - c.loop.counter) n c.loop.did
+          c.make_step-made.result.did c.make_step-made.result.from
           p (c.make_step-made.new.session, c.make_step-made.new.stops.breaks.items) c.make_step-made.result.why _
           c.loop.invariant.left some c.make_step-made.ensures.did c.make_step-made.ensures.from why c.make_step-made.ensures.after c.in_default.is;
       watches = c.make_step-made.ensures.watches ∙ c.loop.invariant.watches;

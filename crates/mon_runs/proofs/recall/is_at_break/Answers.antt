@@ -10,7 +10,8 @@ returns-then-pc-break_of c =
     let breaks = c.args.session.now.breaks in
     let within : c.loop-index.index < length breaks = omega (arith, c.loop-index-test.true) in
     let here : nat_eq pc (get_or breaks c.loop-index.index 0) ≡ nat_eq pc pc = ap (nat_eq pc) (sym c.break_of.ensures ∙ sym c.if-pc-break_of.true) in
-    sym (ap (λ a. list_any (nat_eq a) breaks) (sym (ap (λ r. r.pc) c.regs-pc.ensures)) ∙ list_any_at (nat_eq pc) breaks c.loop-index.index 0 within (here ∙ same_address pc pc (λ _. pc)))
+    sym (ap (λ a. list_any (nat_eq a) breaks) (sym (ap (λ r. r.pc) c.regs-pc.ensures))
+        ∙ list_any_at (nat_eq pc) breaks c.loop-index.index 0 within (here ∙ same_address pc pc (λ _. pc)))
 
 pub loop-index-preserved : goal.loop-index-preserved
 loop-index-preserved c =
@@ -25,4 +26,5 @@ returns c =
     let pc = c.regs-pc.result.pc in
     let breaks = c.args.session.now.breaks in
     let all : length breaks ≤ c.loop-index.index = omega (arith, c.loop-index-test.false) in
-    sym (ap (λ a. list_any (nat_eq a) breaks) (sym (ap (λ r. r.pc) c.regs-pc.ensures)) ∙ none_all (nat_eq pc) breaks c.loop-index.index all c.loop-index.invariant)
+    sym (ap (λ a. list_any (nat_eq a) breaks) (sym (ap (λ r. r.pc) c.regs-pc.ensures))
+        ∙ none_all (nat_eq pc) breaks c.loop-index.index all c.loop-index.invariant)

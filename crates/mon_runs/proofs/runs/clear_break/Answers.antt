@@ -14,4 +14,5 @@ cleared (Ok done) a s t ok err = ap states (cleared-other a s t ok).1
 cleared (Err fault) a s t ok err = ap states err.1
 
 pub returns-clause-states : goal.returns-clause-states
-returns-clause-states c = cleared c.clear_break.result c.args.address c.args.session.now c.clear_break.new.self c.clear_break.ensures.ok c.clear_break.ensures.err
+returns-clause-states c = cleared c.clear_break.result c.args.address c.args.session.now c.clear_break.new.self c.clear_break.ensures.ok
+    c.clear_break.ensures.err

@@ -27,7 +27,8 @@ returns-then-not-branch-clause-course c =
     let i = c.loop-index.index in
     let before = course_of c.loop-index.mon in
     let rest = patches (a + (i + 1)) (drop (i + 1) bytes) in
-    let fails : is_ok (event_of before.0.current (Patch (a + i) (get_or bytes i 0 ∷ 0 ∷ 0 ∷ []) 1)) ≡ false = grind (arith, common_steps, c.in_ok-happen.ensures.accepted, c.if-not-branch.true) in
+    let fails : is_ok (event_of before.0.current (Patch (a + i) (get_or bytes i 0 ∷ 0 ∷ 0 ∷ []) 1)) ≡ false =
+        grind (arith, common_steps, c.in_ok-happen.ensures.accepted, c.if-not-branch.true) in
     c.happen.ensures.course
     ∙ sym (c.loop-index.invariant.course
     ∙ ap (λ es. all_happened es before) (patches-from a bytes i (omega (arith, c.loop-index-test.true)))
@@ -40,7 +41,8 @@ loop-index-preserved c =
     let i = c.loop-index.index in
     let before = course_of c.loop-index.mon in
     let rest = patches (a + (i + 1)) (drop (i + 1) bytes) in
-    let holds : is_ok (event_of before.0.current (Patch (a + i) (get_or bytes i 0 ∷ 0 ∷ 0 ∷ []) 1)) ≡ true = grind (arith, common_steps, c.in_ok-happen.ensures.accepted, c.if-not-branch.false) in
+    let holds : is_ok (event_of before.0.current (Patch (a + i) (get_or bytes i 0 ∷ 0 ∷ 0 ∷ []) 1)) ≡ true =
+        grind (arith, common_steps, c.in_ok-happen.ensures.accepted, c.if-not-branch.false) in
     record {
       course = c.loop-index.invariant.course
           ∙ ap (λ es. all_happened es before) (patches-from a bytes i (omega (arith, c.loop-index-test.true)))
@@ -51,9 +53,11 @@ loop-index-preserved c =
           ∙ no_fault (Patch (a + i) (get_or bytes i 0 ∷ 0 ∷ 0 ∷ []) 1) rest before holds
           ∙ ap (first_fault rest) (sym c.happen.ensures.course);
       text = c.in_ok-happen.ensures.text
-          ∙ ap (λ l. c.loop-index.mon.text.items ++ l) (accepted_said c.loop-index.mon.places.names (Patch (a + i) (get_or bytes i 0 ∷ 0 ∷ 0 ∷ []) 1) before [] holds)
+          ∙ ap (λ l. c.loop-index.mon.text.items ++ l) (accepted_said c.loop-index.mon.places.names (Patch (a + i) (get_or bytes i 0 ∷ 0 ∷ 0 ∷ []) 1)
+              before [] holds)
           ∙ append-nil c.loop-index.mon.text.items ∙ c.loop-index.invariant.text;
-      stops = (c.happen.ensures.stops.0 ∙ c.loop-index.invariant.stops.0, c.happen.ensures.stops.1 ∙ c.loop-index.invariant.stops.1, c.happen.ensures.stops.2 ∙ c.loop-index.invariant.stops.2);
+      stops = (c.happen.ensures.stops.0 ∙ c.loop-index.invariant.stops.0, c.happen.ensures.stops.1
+          ∙ c.loop-index.invariant.stops.1, c.happen.ensures.stops.2 ∙ c.loop-index.invariant.stops.2);
     }
 
 pub returns-clause-course : goal.returns-clause-course
@@ -73,8 +77,11 @@ returns-then-not-branch-clause-done c =
     let i = c.loop-index.index in
     let before = course_of c.loop-index.mon in
     let rest = patches (a + (i + 1)) (drop (i + 1) bytes) in
-    let fails : is_ok (event_of before.0.current (Patch (a + i) (get_or bytes i 0 ∷ 0 ∷ 0 ∷ []) 1)) ≡ false = grind (arith, common_steps, c.in_ok-happen.ensures.accepted, c.if-not-branch.true) in
-    let so_far : first_fault (patches a bytes) (course_of c.args.mon.now) ≡ first_fault ((Patch (a + i) (get_or bytes i 0 ∷ 0 ∷ 0 ∷ []) 1) ∷ rest) before = c.loop-index.invariant.fault ∙ ap (λ es. first_fault es before) (patches-from a bytes i (omega (arith, c.loop-index-test.true))) in
+    let fails : is_ok (event_of before.0.current (Patch (a + i) (get_or bytes i 0 ∷ 0 ∷ 0 ∷ []) 1)) ≡ false =
+        grind (arith, common_steps, c.in_ok-happen.ensures.accepted, c.if-not-branch.true) in
+    let so_far : first_fault (patches a bytes) (course_of c.args.mon.now)
+        ≡ first_fault ((Patch (a + i) (get_or bytes i 0 ∷ 0 ∷ 0 ∷ []) 1) ∷ rest) before =
+        c.loop-index.invariant.fault ∙ ap (λ es. first_fault es before) (patches-from a bytes i (omega (arith, c.loop-index-test.true))) in
     is_some_fault (patches a bytes) (course_of c.args.mon.now) (Patch (a + i) (get_or bytes i 0 ∷ 0 ∷ 0 ∷ []) 1) rest before so_far fails
 
 pub returns-then-not-branch-clause-text : goal.returns-then-not-branch-clause-text
@@ -84,8 +91,11 @@ returns-then-not-branch-clause-text c =
     let i = c.loop-index.index in
     let before = course_of c.loop-index.mon in
     let rest = patches (a + (i + 1)) (drop (i + 1) bytes) in
-    let fails : is_ok (event_of before.0.current (Patch (a + i) (get_or bytes i 0 ∷ 0 ∷ 0 ∷ []) 1)) ≡ false = grind (arith, common_steps, c.in_ok-happen.ensures.accepted, c.if-not-branch.true) in
-    let so_far : first_fault (patches a bytes) (course_of c.args.mon.now) ≡ first_fault ((Patch (a + i) (get_or bytes i 0 ∷ 0 ∷ 0 ∷ []) 1) ∷ rest) before = c.loop-index.invariant.fault ∙ ap (λ es. first_fault es before) (patches-from a bytes i (omega (arith, c.loop-index-test.true))) in
+    let fails : is_ok (event_of before.0.current (Patch (a + i) (get_or bytes i 0 ∷ 0 ∷ 0 ∷ []) 1)) ≡ false =
+        grind (arith, common_steps, c.in_ok-happen.ensures.accepted, c.if-not-branch.true) in
+    let so_far : first_fault (patches a bytes) (course_of c.args.mon.now)
+        ≡ first_fault ((Patch (a + i) (get_or bytes i 0 ∷ 0 ∷ 0 ∷ []) 1) ∷ rest) before =
+        c.loop-index.invariant.fault ∙ ap (λ es. first_fault es before) (patches-from a bytes i (omega (arith, c.loop-index-test.true))) in
     fault_said (patches a bytes) (course_of c.args.mon.now) (Patch (a + i) (get_or bytes i 0 ∷ 0 ∷ 0 ∷ []) 1) rest before so_far fails
     c.args.mon.now.places.names c.loop-index.mon.places.names c.args.mon.now.text.items
     c.loop-index.mon.text.items c.happen.new.self.text.items

@@ -12,4 +12,5 @@ loop-offset-preserved c = one_more character_text c.args.session.now.current.bus
     (c.in_ok-push_character.ensures.ok ∙ ap (λ b. c.loop-offset.text.items ++ character_text b) c.peek.ensures.value) c.loop-offset.invariant
 
 pub returns : goal.returns
-returns c = all_done character_text c.args.session.now.current.bus.memory c.args.first c.loop-offset.offset c.args.count _ _ (omega arith) c.loop-offset.invariant
+returns c = all_done character_text c.args.session.now.current.bus.memory c.args.first c.loop-offset.offset c.args.count _ _ (omega arith)
+    c.loop-offset.invariant

@@ -5,4 +5,5 @@ use Rattle.mon_texts.specs.Memory.{bytes_from}
 use Rattle.mon_texts.proofs.memory.push_characters.Given as goal
 
 abbrev pub invariant-loop-offset : goal.invariant-loop-offset
-invariant-loop-offset l = l.text.items ++ flat_map character_text (bytes_from l.session.current.bus.memory (l.first + l.offset) (l.count - l.offset)) ≡ l.initial.text.items ++ flat_map character_text (bytes_from l.session.current.bus.memory l.first l.count)
+invariant-loop-offset l = l.text.items ++ flat_map character_text (bytes_from l.session.current.bus.memory (l.first + l.offset) (l.count - l.offset))
+    ≡ l.initial.text.items ++ flat_map character_text (bytes_from l.session.current.bus.memory l.first l.count)

@@ -12,4 +12,5 @@ loop-offset-preserved c = one_more byte_after_blank c.args.session.now.current.b
     (c.in_ok-push_after_blank.ensures ∙ ap (λ b. c.loop-offset.text.items ++ byte_after_blank b) c.peek.ensures.value) c.loop-offset.invariant
 
 pub returns : goal.returns
-returns c = all_done byte_after_blank c.args.session.now.current.bus.memory c.args.first c.loop-offset.offset c.args.count _ _ (omega arith) c.loop-offset.invariant
+returns c = all_done byte_after_blank c.args.session.now.current.bus.memory c.args.first c.loop-offset.offset c.args.count _ _ (omega arith)
+    c.loop-offset.invariant

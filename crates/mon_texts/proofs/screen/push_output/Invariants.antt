@@ -4,4 +4,5 @@ use Rattle.mon_texts.specs.Screen.{output_text}
 use Rattle.mon_texts.proofs.screen.push_output.Given as goal
 
 abbrev pub invariant-loop-index : goal.invariant-loop-index
-invariant-loop-index l = l.text.items ++ flat_map output_text (drop l.index l.session.current.bus.out) ≡ l.initial.text.items ++ flat_map output_text (drop l.from l.session.current.bus.out)
+invariant-loop-index l = l.text.items ++ flat_map output_text (drop l.index l.session.current.bus.out) ≡ l.initial.text.items
+    ++ flat_map output_text (drop l.from l.session.current.bus.out)

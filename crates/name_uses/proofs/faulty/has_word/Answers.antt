@@ -18,10 +18,12 @@ loop-index-preserved c =
     let s = c.args.line.now in
     let i = c.loop-index.index in
     let is : (not c.loop-index.behind && bytes_eq (word_at (take (length s - i) (drop i s))) c.args.word.now) ≡ false = elim c.else-not-behind.branch [
-      | else-not-behind-via-then-not-behind+else-eq w ↦ rw w.if-not-behind.true (ap (λ (v : List ℕ). bytes_eq v c.args.word.now) (sym w.word_at.ensures) ∙ sym w.eq.ensures ∙ w.if-eq.false)
+      | else-not-behind-via-then-not-behind+else-eq w ↦ rw w.if-not-behind.true
+          (ap (λ (v : List ℕ). bytes_eq v c.args.word.now) (sym w.word_at.ensures) ∙ sym w.eq.ensures ∙ w.if-eq.false)
       | else-not-behind-via-else-not-behind w ↦ rw w.if-not-behind.false refl
     ] in
     rw c.may_be_in_word-behind.ensures (c.loop-index.invariant ∙ word_step c.args.word.now s i c.loop-index.behind c.loop-index-test.true is)
 
 pub returns : goal.returns
-returns c = sym (c.loop-index.invariant ∙ word_end c.args.word.now c.args.line.now c.loop-index.index c.loop-index.behind (omega (arith, c.loop-index-test.false)))
+returns c = sym (c.loop-index.invariant ∙ word_end c.args.word.now c.args.line.now c.loop-index.index c.loop-index.behind
+    (omega (arith, c.loop-index-test.false)))

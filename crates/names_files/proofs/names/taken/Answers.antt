@@ -17,11 +17,13 @@ loop-rest-init c = record {
 
 pub loop-rest-preserved : goal.loop-rest-preserved
 loop-rest-preserved c = record {
-  found = one_more c.args.form c.args.profile c.loop-rest.rest.now c.next_line.result.0.now c.next_line.result.1.now (taken_view c.loop-rest.lines) (taken_view c.push_one.new.lines) _
+  found = one_more c.args.form c.args.profile c.loop-rest.rest.now c.next_line.result.0.now c.next_line.result.1.now (taken_view c.loop-rest.lines)
+      (taken_view c.push_one.new.lines) _
       c.next_line.ensures.cut c.in_ok-push_one.ensures.text c.loop-rest.invariant.found;
   room = omega (arith, c.next_line.ensures.shorter, c.in_ok-push_one.ensures.most, c.loop-rest.invariant.room);
   told = omega (arith, c.next_line.ensures.shorter, c.in_ok-push_one.ensures.told, c.loop-rest.invariant.told);
 }
 
 pub returns : goal.returns
-returns c = done c.args.form c.args.profile c.loop-rest.rest.now (taken_view c.loop-rest.lines) _ (true-eqb _ 0 c.loop-rest-test.ensures) c.loop-rest.invariant.found
+returns c = done c.args.form c.args.profile c.loop-rest.rest.now (taken_view c.loop-rest.lines) _ (true-eqb _ 0 c.loop-rest-test.ensures)
+    c.loop-rest.invariant.found

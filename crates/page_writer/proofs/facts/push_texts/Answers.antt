@@ -12,5 +12,6 @@ loop-index-preserved c =
     let i = c.loop-index.index in
     record {
       texts = c.in_ok-push_text_at.ensures
-          ∙ (ap (λ (text : List ℕ). text ++ flat_map text_of (option_to_list (slice_get lines i))) c.loop-index.invariant.texts ∙ one_more text_of lines i c.args.text.now.items);
+          ∙ (ap (λ (text : List ℕ). text ++ flat_map text_of (option_to_list (slice_get lines i))) c.loop-index.invariant.texts
+              ∙ one_more text_of lines i c.args.text.now.items);
     }

@@ -53,10 +53,13 @@ returns-in-Ok-Some g c =
       left,
       inv.1,
       ran_whole c.args.until c.args.limit s u first (known p) c.args.input.now told left l.steps why all
-          (ends_with c.args.until c.args.limit s first inv.0 l.player.is_over l.steps l.session (known l.player) inv.3.runs c.loop-steps-test.true turn.told p.is_over (Some why) u (known p) turn.once turn.turn why refl left may),
+          (ends_with c.args.until c.args.limit s first inv.0 l.player.is_over l.steps l.session (known l.player) inv.3.runs c.loop-steps-test.true
+              turn.told p.is_over (Some why) u (known p) turn.once turn.turn why refl left may),
       same_steps s.current inv.2 _ inv.1 (ap (λ (x : List ℕ). steps_of c.args.until c.args.limit (play_at s first x)) all
-          ∙ made_before c.args.until c.args.limit s first inv.0 l.player.is_over l.steps l.session (known l.player) inv.2 inv.3.steps c.loop-steps-test.true turn.told p.is_over u (known p) turn.once why turn.turn left may) inv.3.are,
-      subst (λ (x : List ℕ). IsSentSafely (g.W.Write.contents c.args.writer.now) (g.W.Write.contents l.writer) (c.args.pending.now.items ++ inv.1) x) (sym turn.records) inv.3.sent,
+          ∙ made_before c.args.until c.args.limit s first inv.0 l.player.is_over l.steps l.session (known l.player) inv.2 inv.3.steps
+              c.loop-steps-test.true turn.told p.is_over u (known p) turn.once why turn.turn left may) inv.3.are,
+      subst (λ (x : List ℕ). IsSentSafely (g.W.Write.contents c.args.writer.now) (g.W.Write.contents l.writer) (c.args.pending.now.items ++ inv.1) x)
+          (sym turn.records) inv.3.sent,
     )
 
 -- a turn that led to the address
@@ -78,11 +81,15 @@ returns-then-is_at g c =
       left,
       inv.1 ++ more,
       ran_whole c.args.until c.args.limit s u first (known p) c.args.input.now told left (l.steps + 1) Until all
-          (ends_at c.args.until c.args.limit s first inv.0 l.player.is_over l.steps l.session (known l.player) inv.3.runs c.loop-steps-test.true turn.told p.is_over None u (known p) turn.once turn.turn refl there left may),
+          (ends_at c.args.until c.args.limit s first inv.0 l.player.is_over l.steps l.session (known l.player) inv.3.runs c.loop-steps-test.true
+              turn.told p.is_over None u (known p) turn.once turn.turn refl there left may),
       same_steps s.current _ _ (inv.1 ++ more) (ap (λ (x : List ℕ). steps_of c.args.until c.args.limit (play_at s first x)) all
-          ∙ made_at c.args.until c.args.limit s first inv.0 l.player.is_over l.steps l.session (known l.player) inv.2 inv.3.steps c.loop-steps-test.true turn.told p.is_over u (known p) turn.once turn.turn there left may)
-          (one_record s.current l.session.current u.current turn.told inv.2 inv.1 l.pending.items c.record_turn.new.pending.items inv.3.are inv.3.last turn.records),
-      more_sent _ _ _ _ _ _ (more_recorded _ _ c.args.pending.now.items inv.1 more l.pending.items c.record_turn.new.pending.items inv.3.sent turn.records.pushed) c.in_ok-send_many.ensures,
+          ∙ made_at c.args.until c.args.limit s first inv.0 l.player.is_over l.steps l.session (known l.player) inv.2 inv.3.steps
+              c.loop-steps-test.true turn.told p.is_over u (known p) turn.once turn.turn there left may)
+          (one_record s.current l.session.current u.current turn.told inv.2 inv.1 l.pending.items c.record_turn.new.pending.items inv.3.are inv.3.last
+              turn.records),
+      more_sent _ _ _ _ _ _ (more_recorded _ _ c.args.pending.now.items inv.1 more l.pending.items c.record_turn.new.pending.items inv.3.sent
+          turn.records.pushed) c.in_ok-send_many.ensures,
     )
 
 pub loop-steps-preserved : goal.loop-steps-preserved
@@ -105,11 +112,15 @@ loop-steps-preserved g c =
         consumes = inv.3.consumes ∙ ap (λ (x : List ℕ). inv.0 ++ x) turn.consumes ∙ sym (append_assoc inv.0 turn.told left);
         waits = c.in-Ok-None.ensures.waits;
         over = still_over l.player.is_over p.is_over _ _ turn.over inv.3.over;
-        runs = runs_on c.args.until c.args.limit s first inv.0 l.player.is_over l.steps l.session (known l.player) inv.3.runs c.loop-steps-test.true turn.told p.is_over None u (known p) turn.once turn.turn refl off;
-        steps = made_on c.args.until c.args.limit s first inv.0 l.player.is_over l.steps l.session (known l.player) inv.2 inv.3.steps c.loop-steps-test.true turn.told p.is_over u (known p) turn.once turn.turn off;
-        are = one_record s.current l.session.current u.current turn.told inv.2 inv.1 l.pending.items c.record_turn.new.pending.items inv.3.are inv.3.last turn.records;
+        runs = runs_on c.args.until c.args.limit s first inv.0 l.player.is_over l.steps l.session (known l.player) inv.3.runs c.loop-steps-test.true
+            turn.told p.is_over None u (known p) turn.once turn.turn refl off;
+        steps = made_on c.args.until c.args.limit s first inv.0 l.player.is_over l.steps l.session (known l.player) inv.2 inv.3.steps
+            c.loop-steps-test.true turn.told p.is_over u (known p) turn.once turn.turn off;
+        are = one_record s.current l.session.current u.current turn.told inv.2 inv.1 l.pending.items c.record_turn.new.pending.items inv.3.are
+            inv.3.last turn.records;
         last = last_more s.current inv.2 m;
-        sent = more_sent _ _ _ _ _ _ (more_recorded _ _ c.args.pending.now.items inv.1 more l.pending.items c.record_turn.new.pending.items inv.3.sent turn.records.pushed) c.in_ok-send_many.ensures;
+        sent = more_sent _ _ _ _ _ _ (more_recorded _ _ c.args.pending.now.items inv.1 more l.pending.items c.record_turn.new.pending.items inv.3.sent
+            turn.records.pushed) c.in_ok-send_many.ensures;
       },
     )
 
@@ -124,9 +135,11 @@ returns g c =
       left,
       inv.1,
       ran_whole c.args.until c.args.limit s l.session first (known l.player) c.args.input.now inv.0 left c.args.limit c.ending_after.result inv.3.consumes
-          (ends_full c.args.until c.args.limit s first inv.0 l.player.is_over l.steps l.session (known l.player) inv.3.runs (omega (arith, c.loop-steps-test.false)) (omega (arith, c.loop-steps.auto.steps-end)) left inv.3.over
+          (ends_full c.args.until c.args.limit s first inv.0 l.player.is_over l.steps l.session (known l.player) inv.3.runs
+              (omega (arith, c.loop-steps-test.false)) (omega (arith, c.loop-steps.auto.steps-end)) left inv.3.over
           ∙ ap (λ (e : Ending). record { steps = c.args.limit; ending = e; play = play_at l.session (known l.player) left }) (sym c.ending_after.ensures)),
       same_steps s.current inv.2 _ inv.1 (ap (λ (x : List ℕ). steps_of c.args.until c.args.limit (play_at s first x)) inv.3.consumes
-          ∙ all_made c.args.until c.args.limit s first inv.0 l.player.is_over l.steps l.session (known l.player) inv.2 inv.3.steps (omega (arith, c.loop-steps-test.false)) left inv.3.over) inv.3.are,
+          ∙ all_made c.args.until c.args.limit s first inv.0 l.player.is_over l.steps l.session (known l.player) inv.2 inv.3.steps
+              (omega (arith, c.loop-steps-test.false)) left inv.3.over) inv.3.are,
       inv.3.sent,
     )

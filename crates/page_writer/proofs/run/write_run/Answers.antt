@@ -15,7 +15,8 @@ returns g c =
       run.0,
       first ++ run.1,
       run.2,
-      whole_data s.current (steps_of c.args.until c.args.limit (begun s c.args.written c.args.input.now)) first run.1 (first ++ run.1) c.in_ok-pending.ensures.bytes refl c.in_ok-pending.ensures.told run.3,
+      whole_data s.current (steps_of c.args.until c.args.limit (begun s c.args.written c.args.input.now)) first run.1 (first ++ run.1)
+          c.in_ok-pending.ensures.bytes refl c.in_ok-pending.ensures.told run.3,
       all.1,
       all.0,
     )

@@ -14,7 +14,8 @@ abbrev pub decreases-unary : goal.decreases-unary
 decreases-unary l = 4 * l.depth + 1
 
 abbrev pub invariant-sum-loop : goal.invariant-sum-loop
-invariant-sum-loop l = Some (more_with (inner_at l.depth) (l.end - l.counter) (term_view l.left) (lexemes l.rest)) ≡ sum_with (inner_at l.depth) (lexemes l.fn.tokens)
+invariant-sum-loop l = Some (more_with (inner_at l.depth) (l.end - l.counter) (term_view l.left) (lexemes l.rest))
+    ≡ sum_with (inner_at l.depth) (lexemes l.fn.tokens)
 
 abbrev pub decreases-next : goal.decreases-next
 decreases-next l = 4 * l.depth + 2

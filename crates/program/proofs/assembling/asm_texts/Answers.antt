@@ -6,10 +6,12 @@ use Rattle.program.proofs.Listings.{one_asked}
 use Rattle.program.proofs.assembling.asm_texts.Goals as goal
 
 pub returns-in_err-assembly-clause-only : goal.returns-in_err-assembly-clause-only
-returns-in_err-assembly-clause-only c image h = only_memory c.from_residual.result c.in_err-assembly.field-0.0 _ c.from_residual.ensures.1 (c.in_err-assembly.ensures.only image h)
+returns-in_err-assembly-clause-only c image h = only_memory c.from_residual.result c.in_err-assembly.field-0.0 _ c.from_residual.ensures.1
+    (c.in_err-assembly.ensures.only image h)
 
 pub returns-in_err-assembly-clause-faulty : goal.returns-in_err-assembly-clause-faulty
-returns-in_err-assembly-clause-faulty c f h = same_fault _ _ _ c.from_residual.result c.in_err-assembly.field-0.0 f _ c.from_residual.ensures.1 (c.in_err-assembly.ensures.faulty f h)
+returns-in_err-assembly-clause-faulty c f h = same_fault _ _ _ c.from_residual.result c.in_err-assembly.field-0.0 f _ c.from_residual.ensures.1
+    (c.in_err-assembly.ensures.faulty f h)
 
 pub returns-in-Ok-clause-only : goal.returns-in-Ok-clause-only
 returns-in-Ok-clause-only c image h = c.in-Ok.ensures.tape ∙ ap tape_text (c.in_ok-assembly.ensures.only image h)

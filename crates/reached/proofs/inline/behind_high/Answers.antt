@@ -8,11 +8,13 @@ returns-in_default c =
 
 pub returns-then-has_high_bit : goal.returns-then-has_high_bit
 returns-then-has_high_bit c =
-    sym (c.loop-left.invariant.found ∙ high_ends c.args.cells.now c.loop-left.left c.loop-left.at c.in-Some.byte c.loop-left-test.true (sym c.cell_at.ensures.same ∙ c.in-Some.is) (sym c.has_high_bit.ensures ∙ c.if-has_high_bit.true))
+    sym (c.loop-left.invariant.found ∙ high_ends c.args.cells.now c.loop-left.left c.loop-left.at c.in-Some.byte c.loop-left-test.true
+        (sym c.cell_at.ensures.same ∙ c.in-Some.is) (sym c.has_high_bit.ensures ∙ c.if-has_high_bit.true))
 
 pub loop-left-preserved : goal.loop-left-preserved
 loop-left-preserved c = record {
-  found = c.loop-left.invariant.found ∙ high_goes_on c.args.cells.now c.loop-left.left c.loop-left.at c.in-Some.byte c.loop-left-test.true (sym c.cell_at.ensures.same ∙ c.in-Some.is) (sym c.has_high_bit.ensures ∙ c.if-has_high_bit.false);
+  found = c.loop-left.invariant.found ∙ high_goes_on c.args.cells.now c.loop-left.left c.loop-left.at c.in-Some.byte c.loop-left-test.true
+      (sym c.cell_at.ensures.same ∙ c.in-Some.is) (sym c.has_high_bit.ensures ∙ c.if-has_high_bit.false);
   near = omega (arith, c.loop-left.invariant.near, c.loop-left-test.true);
   few = omega (arith, c.loop-left.invariant.few);
 }

@@ -11,7 +11,8 @@ loop-address-init c = record {
 
 pub loop-address-preserved : goal.loop-address-preserved
 loop-address-preserved c = record {
-  so_far = letters_more c.args.profile c.args.cells.now c.args.marks.now c.args.routines.now c.args.flags.now c.loop-address.letters.items c.flag_string.new.letters.items c.loop-address.address c.loop-address.invariant.so_far
+  so_far = letters_more c.args.profile c.args.cells.now c.args.marks.now c.args.routines.now c.args.flags.now c.loop-address.letters.items
+      c.flag_string.new.letters.items c.loop-address.address c.loop-address.invariant.so_far
       (c.flag_string.ensures.set ∙ ap (with_string c.loop-address.letters.items) c.reached_string-string.ensures);
   size = c.flag_string.ensures.size;
 }

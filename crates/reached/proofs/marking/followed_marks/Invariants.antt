@@ -7,5 +7,6 @@ use Rattle.reached.proofs.marking.followed_marks.Given as goal
 abbrev pub invariant-loop-address : goal.invariant-loop-address
 invariant-loop-address l = record {
   len : length l.followed.items ≡ l.address;
-  each : (a : ℕ) → a < l.address → get_or l.followed.items a Code ≡ followed_mark (mark_at l.marks a) (is_followed l.profile l.cells l.marks l.flags.items a) (is_reached l.letters.items a);
+  each : (a : ℕ) → a < l.address → get_or l.followed.items a Code
+      ≡ followed_mark (mark_at l.marks a) (is_followed l.profile l.cells l.marks l.flags.items a) (is_reached l.letters.items a);
 }

@@ -5,4 +5,5 @@ use Rattle.remarked_source.specs.Views.{beside_view}
 use Rattle.remarked_source.proofs.rows.rows.Given as goal
 
 abbrev pub invariant-loop-index : goal.invariant-loop-index
-invariant-loop-index l = l.out.items ++ rows_from (beside_view l.beside) l.cells l.from (drop l.index (source_lines l.assembly)) ≡ rows_from (beside_view l.beside) l.cells 0 (source_lines l.assembly)
+invariant-loop-index l = l.out.items ++ rows_from (beside_view l.beside) l.cells l.from (drop l.index (source_lines l.assembly))
+    ≡ rows_from (beside_view l.beside) l.cells 0 (source_lines l.assembly)

@@ -5,4 +5,5 @@ use Rattle.remarked_source.specs.Strings.{joined_from}
 use Rattle.remarked_source.proofs.strings.joined.Given as goal
 
 abbrev pub invariant-loop-index : goal.invariant-loop-index
-invariant-loop-index l = l.out.items ++ joined_from l.marks (option_map line_view l.before) (drop l.index (source_lines l.assembly)) ≡ joined_from l.marks None (source_lines l.assembly)
+invariant-loop-index l = l.out.items ++ joined_from l.marks (option_map line_view l.before) (drop l.index (source_lines l.assembly))
+    ≡ joined_from l.marks None (source_lines l.assembly)

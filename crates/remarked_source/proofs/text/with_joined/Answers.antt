@@ -18,7 +18,8 @@ returns-then-branch-clause-text c =
       assembly = c.in-Ok.assembly;
       assembled = c.in-Ok.ensures.assembled;
       source = c.in-Ok.ensures.kept ∙ c.as_slice.ensures.value;
-      chosen = first_is profile image first c.args.plain.items c.in_ok-text.text.items same (subst (IsSourceOf profile image) c.as_slice-2.ensures.value (c.in_ok-is_right.ensures.right c.if-branch.true));
+      chosen = first_is profile image first c.args.plain.items c.in_ok-text.text.items same
+          (subst (IsSourceOf profile image) c.as_slice-2.ensures.value (c.in_ok-is_right.ensures.right c.if-branch.true));
     }
 
 pub returns-else-branch-clause-text : goal.returns-else-branch-clause-text
@@ -39,7 +40,8 @@ returns-else-branch-clause-text c =
 
 pub returns-then-branch-clause-denotes : goal.returns-then-branch-clause-denotes
 returns-then-branch-clause-denotes c = λ plain. λ bus_map same spared.
-    subst (λ (t : List ℕ). Denotes bus_map t c.args.image.now) c.as_slice-2.ensures.value (c.in_ok-is_right.ensures.denotes c.if-branch.true bus_map same spared)
+    subst (λ (t : List ℕ). Denotes bus_map t c.args.image.now) c.as_slice-2.ensures.value
+        (c.in_ok-is_right.ensures.denotes c.if-branch.true bus_map same spared)
 
 pub returns-else-branch-clause-denotes : goal.returns-else-branch-clause-denotes
 returns-else-branch-clause-denotes c = λ plain. plain

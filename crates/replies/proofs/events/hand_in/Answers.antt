@@ -11,7 +11,8 @@ hand_in_byte-requires c = room_at _ _ c.args.bytes.now c.loop-byte.byte-index c.
 
 pub loop-byte-preserved : goal.loop-byte-preserved
 loop-byte-preserved c = record {
-  after = c.loop-byte.invariant.after ∙ after_at _ c.args.bytes.now c.loop-byte.byte-index c.loop-byte-test.true ∙ ap (λ s. after_input s (drop (c.loop-byte.byte-index + 1) c.args.bytes.now)) (sym c.hand_in_byte.ensures.after);
+  after = c.loop-byte.invariant.after ∙ after_at _ c.args.bytes.now c.loop-byte.byte-index c.loop-byte-test.true
+      ∙ ap (λ s. after_input s (drop (c.loop-byte.byte-index + 1) c.args.bytes.now)) (sym c.hand_in_byte.ensures.after);
   given = given_at _ _ _ c.args.bytes.now c.loop-byte.byte-index c.loop-byte-test.true c.loop-byte.invariant.given c.hand_in_byte.ensures.given;
 }
 

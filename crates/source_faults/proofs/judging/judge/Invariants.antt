@@ -6,6 +6,7 @@ use Rattle.source_faults.proofs.judging.judge.Given as goal
 
 abbrev pub invariant-loop-line : goal.invariant-loop-line
 invariant-loop-line l = record {
-  exact : judged_views l.judged.items ++ judged_found l.map (number_in l.names) (made_view l.made) (found_all (drop l.line-index l.found)) ≡ judged_found l.map (number_in l.names) nothing_made (found_all l.found);
+  exact : judged_views l.judged.items ++ judged_found l.map (number_in l.names) (made_view l.made) (found_all (drop l.line-index l.found))
+      ≡ judged_found l.map (number_in l.names) nothing_made (found_all l.found);
   few : length l.judged.items ≡ l.line-index;
 }

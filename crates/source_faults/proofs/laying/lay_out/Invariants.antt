@@ -7,8 +7,10 @@ use Rattle.source_faults.proofs.laying.lay_out.Given as goal
 
 abbrev pub invariant-loop-rest : goal.invariant-loop-rest
 invariant-loop-rest l = record {
-  found : found_all l.found.items ++ found_lines (mending_of l.mending) (before_line l.profile l.address l.symbols) (lines_left l.profile l.rest) ≡ found_lines (mending_of l.mending) (first_context l.profile) (read_lines l.profile l.source);
-  fixed : fixed_by (mending_of l.mending) (before_line l.profile l.address l.symbols) (lines_left l.profile l.rest) ≡ fixed_by (mending_of l.mending) (first_context l.profile) (read_lines l.profile l.source);
+  found : found_all l.found.items ++ found_lines (mending_of l.mending) (before_line l.profile l.address l.symbols) (lines_left l.profile l.rest)
+      ≡ found_lines (mending_of l.mending) (first_context l.profile) (read_lines l.profile l.source);
+  fixed : fixed_by (mending_of l.mending) (before_line l.profile l.address l.symbols) (lines_left l.profile l.rest)
+      ≡ fixed_by (mending_of l.mending) (first_context l.profile) (read_lines l.profile l.source);
   numbered : AreNumbered 1 l.found.items;
   count : length l.found.items + 1 ≡ l.number;
   room : l.number + length l.rest ≤ 1048577;

@@ -14,5 +14,6 @@ loop-index-preserved c =
     let image = c.args.assembly.now.image in
     record {
       rows = c.in_ok-push_row_at.ensures
-          ∙ (ap (λ (rows : List Row). rows ++ rows_of image (option_to_list (slice_get lines i))) c.loop-index.invariant.rows ∙ one_more (row_of image) lines i []);
+          ∙ (ap (λ (rows : List Row). rows ++ rows_of image (option_to_list (slice_get lines i))) c.loop-index.invariant.rows
+              ∙ one_more (row_of image) lines i []);
     }

@@ -5,7 +5,8 @@ use Rattle.source_writer.proofs.labelled.push_lines.Given as goal
 
 abbrev pub invariant-loop-left : goal.invariant-loop-left
 invariant-loop-left l = record {
-  written : l.out.items ++ text_from l.profile l.cells l.marks l.flags l.table l.left l.place.names l.place.address l.place.ends ≡ l.fn.out.items ++ text_from l.profile l.cells l.marks l.flags l.table 65536 most_names 0 false;
+  written : l.out.items ++ text_from l.profile l.cells l.marks l.flags l.table l.left l.place.names l.place.address l.place.ends ≡ l.fn.out.items
+      ++ text_from l.profile l.cells l.marks l.flags l.table 65536 most_names 0 false;
   near : l.place.address + l.left ≤ 131072;
   few : l.left ≤ 65536;
 }

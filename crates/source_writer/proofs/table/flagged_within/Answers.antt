@@ -5,11 +5,13 @@ use Rattle.source_writer.proofs.table.flagged_within.Goals as goal
 
 pub returns-then-is_flagged : goal.returns-then-is_flagged
 returns-then-is_flagged c =
-    sym (c.loop-left.invariant.found ∙ found c.args.flags.now c.loop-left.left c.loop-left.at c.loop-left-test.true (sym c.is_flagged.ensures ∙ c.if-is_flagged.true))
+    sym (c.loop-left.invariant.found ∙ found c.args.flags.now c.loop-left.left c.loop-left.at c.loop-left-test.true
+        (sym c.is_flagged.ensures ∙ c.if-is_flagged.true))
 
 pub loop-left-preserved : goal.loop-left-preserved
 loop-left-preserved c = record {
-  found = c.loop-left.invariant.found ∙ goes_on c.args.flags.now c.loop-left.left c.loop-left.at c.loop-left-test.true (sym c.is_flagged.ensures ∙ c.if-is_flagged.false);
+  found = c.loop-left.invariant.found ∙ goes_on c.args.flags.now c.loop-left.left c.loop-left.at c.loop-left-test.true
+      (sym c.is_flagged.ensures ∙ c.if-is_flagged.false);
   near = omega (arith, c.loop-left.invariant.near, c.loop-left-test.true);
 }
 

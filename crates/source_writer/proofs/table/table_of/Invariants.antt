@@ -5,7 +5,8 @@ use Rattle.source_writer.proofs.table.table_of.Given as goal
 
 abbrev pub invariant-loop-left : goal.invariant-loop-left
 invariant-loop-left l = record {
-  found : table_from l.profile l.cells l.marks l.flags l.left l.names l.address l.table.items ≡ table_from l.profile l.cells l.marks l.flags 65536 most_names 0 no_labels;
+  found : table_from l.profile l.cells l.marks l.flags l.left l.names l.address l.table.items
+      ≡ table_from l.profile l.cells l.marks l.flags 65536 most_names 0 no_labels;
   size : length l.table.items ≡ 65536;
   near : l.address + l.left ≤ 131072;
   few : l.left ≤ 65536;

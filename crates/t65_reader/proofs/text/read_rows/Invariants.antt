@@ -6,7 +6,8 @@ use Rattle.t65_reader.proofs.text.read_rows.Given as goal
 abbrev pub invariant-loop-rest : goal.invariant-loop-rest
 invariant-loop-rest l = record {
   room : l.number + length l.rest ≤ l.first + length l.text;
-  rows : rows_after (map line_view l.lines.items) (rows_from (asking_view l.asking) l.names.names l.number (lines_of l.rest)) ≡ rows_from (asking_view l.asking) l.names.names l.first (lines_of l.text);
+  rows : rows_after (map line_view l.lines.items) (rows_from (asking_view l.asking) l.names.names l.number (lines_of l.rest))
+      ≡ rows_from (asking_view l.asking) l.names.names l.first (lines_of l.text);
 }
 
 abbrev pub decreases-loop-rest : goal.decreases-loop-rest

@@ -4,4 +4,5 @@ use Rattle.t65_reports.proofs.reports.push_case_front.Goals as goal
 
 pub returns : goal.returns
 unfolding case_front
-returns c = five _ _ _ _ _ _ _ _ _ _ _ c.in_ok-push_str.ensures.bytes c.in_ok-push_name.ensures c.in_ok-push_line.ensures c.in_ok-push_xml_row.ensures c.in_ok-push_place.ensures
+returns c = five _ _ _ _ _ _ _ _ _ _ _ c.in_ok-push_str.ensures.bytes c.in_ok-push_name.ensures c.in_ok-push_line.ensures c.in_ok-push_xml_row.ensures
+    c.in_ok-push_place.ensures

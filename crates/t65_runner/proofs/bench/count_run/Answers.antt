@@ -5,4 +5,5 @@ use Rattle.t65_runner.proofs.Since.{since_fresh}
 use Rattle.t65_runner.proofs.bench.count_run.Goals as goal
 
 pub restore-requires-clause-since : goal.restore-requires-clause-since
-restore-requires-clause-since c = c.run_to_failure.ensures.since (start c.args.map c.args.image.now) (subst (IsSince (start c.args.map c.args.image.now)) (sym c.requires) (since_fresh c.args.map c.args.image.now))
+restore-requires-clause-since c = c.run_to_failure.ensures.since (start c.args.map c.args.image.now)
+    (subst (IsSince (start c.args.map c.args.image.now)) (sym c.requires) (since_fresh c.args.map c.args.image.now))

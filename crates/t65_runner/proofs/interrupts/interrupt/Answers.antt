@@ -10,4 +10,5 @@ run_back-requires c = record {
 }
 
 pub returns-clause-since : goal.returns-clause-since
-returns-clause-since c = λ s since. c.run_back.ensures.since s (subst (IsSince s) (sym c.enter.ensures) (since_interrupted s c.args.address c.args.session.now since))
+returns-clause-since c = λ s since. c.run_back.ensures.since s
+    (subst (IsSince s) (sym c.enter.ensures) (since_interrupted s c.args.address c.args.session.now since))

@@ -13,4 +13,5 @@ returns-else-is_back-clause-on c = λ none next.
     (sym c.is_back.ensures ∙ c.if-is_back.false)
 
 pub returns-in-Err-clause-end : goal.returns-in-Err-clause-end
-returns-in-Err-clause-end c = λ next. is_rejected c.args.did c.args.session.now c.event.new.self c.in-Err.fault next c.in-Err.ensures.err.0 c.in-Err.ensures.err.1
+returns-in-Err-clause-end c = λ next. is_rejected c.args.did c.args.session.now c.event.new.self c.in-Err.fault next c.in-Err.ensures.err.0
+    c.in-Err.ensures.err.1

@@ -31,7 +31,9 @@ returns-in-Err-clause-err c =
 pub loop-rest-preserved : goal.loop-rest-preserved
 loop-rest-preserved c = record {
   room = omega (arith, c.next_line.ensures.shorter, c.loop-rest.invariant.room);
-  left = sym (ap (head_from c.loop-rest.number) c.next_line.ensures.cut ∙ skipped c.loop-rest.number c.next_line.result.0.now c.skip_blanks-front.result.now (lines_of c.next_line.result.1.now) c.skip_blanks-front.ensures (sym c.ends.ensures ∙ c.if-not-ends.false))
+  left = sym (ap (head_from c.loop-rest.number) c.next_line.ensures.cut
+      ∙ skipped c.loop-rest.number c.next_line.result.0.now c.skip_blanks-front.result.now (lines_of c.next_line.result.1.now)
+      c.skip_blanks-front.ensures (sym c.ends.ensures ∙ c.if-not-ends.false))
       ∙ c.loop-rest.invariant.left;
 }
 

@@ -7,10 +7,12 @@ use Rattle.trace_rows.proofs.counts.push_label_rows.Goals as goal
 pub loop-label-preserved : goal.loop-label-preserved
 loop-label-preserved c =
     let sites = c.args.sites.now in
-    let rest = rest_at sites.labels.items c.labels-label-items.result.now c.loop-label.label-index c.label-item.result c.labels-label-items.ensures c.loop-label-test.true c.label-item.is in
+    let rest = rest_at sites.labels.items c.labels-label-items.result.now c.loop-label.label-index c.label-item.result c.labels-label-items.ensures
+        c.loop-label-test.true c.label-item.is in
     record {
       index = omega (arith, c.loop-label.invariant.index);
-      rows = label_step sites c.args.counts.now c.loop-label.index c.loop-label.label-index sites.labels.items c.label-item.result c.loop-label.text.items c.push_label.new.text.items _ rest
+      rows = label_step sites c.args.counts.now c.loop-label.index c.loop-label.label-index sites.labels.items c.label-item.result
+          c.loop-label.text.items c.push_label.new.text.items _ rest
           (c.in_ok-push_label.ensures ∙ ap (λ k. c.loop-label.text.items ++ label_row sites c.label-item.result k) c.count_in.ensures)
           c.loop-label.invariant.rows;
     }

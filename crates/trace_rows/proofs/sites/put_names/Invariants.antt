@@ -4,4 +4,5 @@ use Rattle.trace_rows.specs.Sites.{IsTable, addresses_of, first_at, index_at, la
 use Rattle.trace_rows.proofs.sites.put_names.Given as goal
 
 abbrev pub invariant-loop-index : goal.invariant-loop-index
-invariant-loop-index l = IsTable l.table.items (λ address. option_or (index_at l.initial.table.items address) (first_at (take l.index (addresses_of (map labelled l.names))) address))
+invariant-loop-index l = IsTable l.table.items (λ address. option_or (index_at l.initial.table.items address)
+    (first_at (take l.index (addresses_of (map labelled l.names))) address))

@@ -10,4 +10,5 @@ loop-place-preserved c = spread_more c.args.assembly.now.image c.args.table.now.
     c.from_below-below.ensures c.put_if_none-name.ensures.put c.put_if_none-name.ensures.there c.loop-place.invariant
 
 pub returns : goal.returns
-returns c = spread_all c.args.assembly.now.image c.args.table.now.items c.loop-place.table.items c.loop-place.place c.loop-place.name c.loop-place-test.false c.loop-place.invariant
+returns c = spread_all c.args.assembly.now.image c.args.table.now.items c.loop-place.table.items c.loop-place.place c.loop-place.name
+    c.loop-place-test.false c.loop-place.invariant

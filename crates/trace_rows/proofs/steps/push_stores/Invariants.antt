@@ -7,5 +7,6 @@ invariant-loop-address l = record {
   reaches : l.from ≤ length l.text.items;
   before : take l.from l.text.items ≡ take l.from l.initial.text.items;
   column : l.column ≡ 70 + 8 * l.address-index;
-  row : with_stores l.session.current.bus l.column (drop l.address-index l.stores.items) (drop l.from l.text.items) ≡ with_stores l.session.current.bus 70 l.stores.items (drop l.from l.initial.text.items);
+  row : with_stores l.session.current.bus l.column (drop l.address-index l.stores.items) (drop l.from l.text.items)
+      ≡ with_stores l.session.current.bus 70 l.stores.items (drop l.from l.initial.text.items);
 }

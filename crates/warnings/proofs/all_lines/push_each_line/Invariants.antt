@@ -6,6 +6,7 @@ use Rattle.warnings.proofs.all_lines.push_each_line.Given as goal
 
 abbrev pub invariant-loop-one : goal.invariant-loop-one
 invariant-loop-one l = record {
-  exact : so_on (known l.profile l.names l.used l.reaches (placed_views l.lines)) l.warnings.items l.one-index l.capitals l.lines ≡ l.fn.warnings.items ++ lines_warnings (known l.profile l.names l.used l.reaches (placed_views l.lines)) 1 l.fn.capitals (placed_views l.lines);
+  exact : so_on (known l.profile l.names l.used l.reaches (placed_views l.lines)) l.warnings.items l.one-index l.capitals l.lines
+      ≡ l.fn.warnings.items ++ lines_warnings (known l.profile l.names l.used l.reaches (placed_views l.lines)) 1 l.fn.capitals (placed_views l.lines);
   count : l.number ≡ l.one-index;
 }

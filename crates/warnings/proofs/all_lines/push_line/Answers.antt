@@ -9,7 +9,8 @@ use Rattle.warnings.specs.declared.kinds.WarningKind.TheVariants.{LetterCase}
 use Rattle.warnings.proofs.all_lines.push_line.Goals as goal
 
 -- four parts, one after another
-in_four : {X E : Type 0} (r : Result X E) (k : Known) (n : ℕ) (alike falls silenced : Bool) (p : Placed) (ps : List Placed) (first one two three four : List Warning)
+in_four : {X E : Type 0} (r : Result X E) (k : Known) (n : ℕ) (alike falls silenced : Bool) (p : Placed) (ps : List Placed)
+    (first one two three four : List Warning)
     → silenced ≡ is_silenced p.text → silenced ≡ false → falls ≡ falls_off p ps
     → one ≡ first ++ warnings_alone k n p → two ≡ one ++ one_if alike n LetterCase → three ≡ two ++ warnings_more k.profile k.numbers n falls p
     → OnOk r (four ≡ three ++ vectors_warnings k.numbers k.lines n p) → OnOk r (four ≡ first ++ warnings_with k n alike p ps)
@@ -31,6 +32,9 @@ in_four (Err e) k n alike falls silenced p ps first one two three four quiet lou
 
 pub returns : goal.returns
 returns c =
-    in_four c.push_vectors.result (known c.args.profile c.args.names.now c.args.used.now c.args.reaches.now (placed_views c.args.lines.now)) c.args.number c.args.alike c.falls_off.result c.is_silenced.result
-    (placed_view c.args.line.now) (placed_views c.args.behind.now) c.args.warnings.now.items c.push_alone.new.warnings.items c.push_if.new.warnings.items c.push_more.new.warnings.items c.push_vectors.new.warnings.items
-    c.is_silenced.ensures c.if-is_silenced.false c.falls_off.ensures c.in_ok-push_alone.ensures c.in_ok-push_if.ensures c.in_ok-push_more.ensures c.push_vectors.ensures
+    in_four c.push_vectors.result (known c.args.profile c.args.names.now c.args.used.now c.args.reaches.now (placed_views c.args.lines.now))
+        c.args.number c.args.alike c.falls_off.result c.is_silenced.result
+    (placed_view c.args.line.now) (placed_views c.args.behind.now) c.args.warnings.now.items c.push_alone.new.warnings.items
+        c.push_if.new.warnings.items c.push_more.new.warnings.items c.push_vectors.new.warnings.items
+    c.is_silenced.ensures c.if-is_silenced.false c.falls_off.ensures c.in_ok-push_alone.ensures c.in_ok-push_if.ensures c.in_ok-push_more.ensures
+        c.push_vectors.ensures

@@ -18,13 +18,17 @@ pub returns-in-Ok-clause-begun : goal.returns-in-Ok-clause-begun
 returns-in-Ok-clause-begun g c = λ h. inr (c.in-Ok.ensures.fits, refl)
 
 pub returns-in-Err-clause-done : goal.returns-in-Err-clause-done
-returns-in-Err-clause-done g c = λ h. inl ((says_of_words asm (texts c.args.words.now) _ _ _ c.in-Err.ensures.refused c.refused_words.ensures.status).help (inl h))
+returns-in-Err-clause-done g c = λ h. inl ((says_of_words asm (texts c.args.words.now) _ _ _ c.in-Err.ensures.refused
+    c.refused_words.ensures.status).help (inl h))
 
 pub returns-in-Err-clause-rejected : goal.returns-in-Err-clause-rejected
-returns-in-Err-clause-rejected g c = λ h. absurd ((says_of_words asm (texts c.args.words.now) _ _ _ c.in-Err.ensures.refused c.refused_words.ensures.status).never h)
+returns-in-Err-clause-rejected g c = λ h. absurd ((says_of_words asm (texts c.args.words.now) _ _ _ c.in-Err.ensures.refused
+    c.refused_words.ensures.status).never h)
 
 pub returns-in-Err-clause-refused : goal.returns-in-Err-clause-refused
-returns-in-Err-clause-refused g c = λ h. elim ((says_of_words asm (texts c.args.words.now) _ _ _ c.in-Err.ensures.refused c.refused_words.ensures.status).wrong h) [ inl m ↦ inl m | inr w ↦ inr (inl w) ]
+returns-in-Err-clause-refused g c = λ h. elim ((says_of_words asm (texts c.args.words.now) _ _ _ c.in-Err.ensures.refused
+    c.refused_words.ensures.status).wrong h) [ inl m ↦ inl m | inr w ↦ inr (inl w) ]
 
 pub returns-in-Err-clause-begun : goal.returns-in-Err-clause-begun
-returns-in-Err-clause-begun g c = λ h. inl ((says_of_words asm (texts c.args.words.now) _ _ _ c.in-Err.ensures.refused c.refused_words.ensures.status).help (inr h))
+returns-in-Err-clause-begun g c = λ h. inl ((says_of_words asm (texts c.args.words.now) _ _ _ c.in-Err.ensures.refused
+    c.refused_words.ensures.status).help (inr h))

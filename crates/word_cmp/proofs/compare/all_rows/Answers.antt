@@ -9,6 +9,7 @@ pub returns : goal.returns
 returns c =
     let one = side_view c.args.one.now in
     let other = side_view c.args.other.now in (
-      c.in_ok-push_dump_text.ensures ∙ ap (λ (t : List ℕ). t ++ dump_text one other) (c.in_ok-text.ensures.text ∙ ap (λ (d : List ℕ). rows_of one other d) c.requires.all),
+      c.in_ok-push_dump_text.ensures ∙ ap (λ (t : List ℕ). t ++ dump_text one other)
+          (c.in_ok-text.ensures.text ∙ ap (λ (d : List ℕ). rows_of one other d) c.requires.all),
       said_ends one other _ _ c.in_ok-push_dump_text.ensures c.in_ok-text.ensures.lines,
     )

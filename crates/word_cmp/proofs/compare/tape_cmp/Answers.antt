@@ -21,13 +21,17 @@ returns-in-Ok-clause-begun g c = λ four. inr (elim (c.done.ensures.begun four) 
 ])
 
 pub returns-in-Err-clause-right : goal.returns-in-Err-clause-right
-returns-in-Err-clause-right g c = λ zero. inl ((says_of_words cmp (texts c.args.words.now) _ _ _ c.in-Err.ensures.refused c.refused_words.ensures.status).help (inl zero))
+returns-in-Err-clause-right g c = λ zero. inl ((says_of_words cmp (texts c.args.words.now) _ _ _ c.in-Err.ensures.refused
+    c.refused_words.ensures.status).help (inl zero))
 
 pub returns-in-Err-clause-wrong : goal.returns-in-Err-clause-wrong
-returns-in-Err-clause-wrong g c = λ one. absurd ((says_of_words cmp (texts c.args.words.now) _ _ _ c.in-Err.ensures.refused c.refused_words.ensures.status).never one)
+returns-in-Err-clause-wrong g c = λ one. absurd ((says_of_words cmp (texts c.args.words.now) _ _ _ c.in-Err.ensures.refused
+    c.refused_words.ensures.status).never one)
 
 pub returns-in-Err-clause-refused : goal.returns-in-Err-clause-refused
-returns-in-Err-clause-refused g c = λ two. elim ((says_of_words cmp (texts c.args.words.now) _ _ _ c.in-Err.ensures.refused c.refused_words.ensures.status).wrong two) [ inl m ↦ inl m | inr w ↦ inr (inl w) ]
+returns-in-Err-clause-refused g c = λ two. elim ((says_of_words cmp (texts c.args.words.now) _ _ _ c.in-Err.ensures.refused
+    c.refused_words.ensures.status).wrong two) [ inl m ↦ inl m | inr w ↦ inr (inl w) ]
 
 pub returns-in-Err-clause-begun : goal.returns-in-Err-clause-begun
-returns-in-Err-clause-begun g c = λ four. inl ((says_of_words cmp (texts c.args.words.now) _ _ _ c.in-Err.ensures.refused c.refused_words.ensures.status).help (inr four))
+returns-in-Err-clause-begun g c = λ four. inl ((says_of_words cmp (texts c.args.words.now) _ _ _ c.in-Err.ensures.refused
+    c.refused_words.ensures.status).help (inr four))

@@ -6,7 +6,8 @@ use Rattle.word_convert.proofs.Refused.{fitting}
 use Rattle.word_convert.proofs.run.convert.Goals as goal
 
 pub returns-in-Err-clause-refused : goal.returns-in-Err-clause-refused
-returns-in-Err-clause-refused g c = λ two. elim ((says_of_words convert (texts c.args.words.now) _ _ _ c.in-Err.ensures.refused c.refused_words.ensures.status).wrong two) [ inl m ↦ inl m | inr w ↦ inr w ]
+returns-in-Err-clause-refused g c = λ two. elim ((says_of_words convert (texts c.args.words.now) _ _ _ c.in-Err.ensures.refused
+    c.refused_words.ensures.status).wrong two) [ inl m ↦ inl m | inr w ↦ inr w ]
 
 pub returns-in-Err-clause-silent : goal.returns-in-Err-clause-silent
 returns-in-Err-clause-silent g c = λ fits.

@@ -15,7 +15,8 @@ returns-in-Ok-clause-answered g c =
     (λ p sent. (
       sent.1,
       subst (λ (end : Bool). Answers seen c.args.body.now c.args.adapter.now c.args.sent c.send_served.new.adapter p.0 end sent.1) (sym sent.0)
-          (answers seen c.args.body.now c.args.adapter.now c.args.sent (view served.request) (map said_of served.messages.items) served.is_run c.serve_body.new.adapter served.is_end c.send_served.new.adapter p.0 sent.1 c.in-Ok.ensures sent.2),
+          (answers seen c.args.body.now c.args.adapter.now c.args.sent (view served.request) (map said_of served.messages.items) served.is_run
+              c.serve_body.new.adapter served.is_end c.send_served.new.adapter p.0 sent.1 c.in-Ok.ensures sent.2),
       sent.3,
     ))
     c.send_served.ensures.sent
@@ -26,7 +27,8 @@ returns-in-Ok-clause-begun g c =
     on_err_weaker c.send_served.result
     (λ cut. (
       cut.0,
-      begins (option_map (λ s. s.now) c.args.seen) c.args.body.now c.args.adapter.now c.args.sent (view served.request) (map said_of served.messages.items) served.is_run c.serve_body.new.adapter served.is_end cut.0 c.in-Ok.ensures cut.1,
+      begins (option_map (λ s. s.now) c.args.seen) c.args.body.now c.args.adapter.now c.args.sent (view served.request)
+          (map said_of served.messages.items) served.is_run c.serve_body.new.adapter served.is_end cut.0 c.in-Ok.ensures cut.1,
       cut.2,
     ))
     c.send_served.ensures.cut

@@ -38,7 +38,8 @@ returns-in-Ok-clause-cut g c =
     let begun = c.in-Err-send.ensures.begun in
     let so_far = c.in-Ok.so_far in (
       run.2 ++ begun.0,
-      run_begun (option_map (λ s. s.now) c.args.seen) served.is_run request (map said_of served.messages.items) c.args.adapter.now c.args.sent run.0 (map said_of c.run_on-ran.new.messages.items) c.run_on-ran.new.adapter so_far run.2 begun.0 run.1 run.3
+      run_begun (option_map (λ s. s.now) c.args.seen) served.is_run request (map said_of served.messages.items) c.args.adapter.now c.args.sent run.0
+          (map said_of c.run_on-ran.new.messages.items) c.run_on-ran.new.adapter so_far run.2 begun.0 run.1 run.3
           (subst (λ (ms : List Message). AreBegun so_far request (map said_of ms) begun.0) c.deref.ensures.value begun.1),
       Appends-trans _ _ _ run.2 begun.0 run.4 begun.2,
     )

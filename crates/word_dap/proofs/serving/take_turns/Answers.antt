@@ -15,7 +15,8 @@ loop-init g c =
     let given = g.R.Read.remaining c.args.input.now in
     let none = ap (λ (h : Held). h.bytes) c.new-incoming.ensures in (
       [],
-      subst (λ (held : List ℕ). IsServedSoFar turns given given held (c.args.adapter.now, 0) (c.args.adapter.now, 0) []) (sym none) (unserved turns given (c.args.adapter.now, 0)),
+      subst (λ (held : List ℕ). IsServedSoFar turns given given held (c.args.adapter.now, 0) (c.args.adapter.now, 0) []) (sym none)
+          (unserved turns given (c.args.adapter.now, 0)),
       Appends-nil _,
     )
 
@@ -31,7 +32,8 @@ returns-then-is_end-clause-ended g c =
     let total = c.in-Ok.total in
     let answers = subst (λ (b : List ℕ). Answers seen b c.loop.adapter c.loop.sent new total _ turn.0) c.deref.ensures.value turn.1 in (
       inv.0 ++ turn.0,
-      served_last (Turns seen) _ _ _ c.loop.incoming.bytes came.0 body c.next.new.self.bytes (c.args.adapter.now, 0) (c.loop.adapter, c.loop.sent) (new, total) 0 inv.0 turn.0 inv.1 came.1 front
+      served_last (Turns seen) _ _ _ c.loop.incoming.bytes came.0 body c.next.new.self.bytes (c.args.adapter.now, 0) (c.loop.adapter, c.loop.sent)
+          (new, total) 0 inv.0 turn.0 inv.1 came.1 front
           (turn_ends seen body c.loop.adapter c.loop.sent new total turn.0 answers),
       Appends-trans _ _ _ inv.0 turn.0 inv.2 turn.2,
     )
@@ -48,7 +50,8 @@ loop-preserved g c =
     let total = c.in-Ok.total in
     let answers = subst (λ (b : List ℕ). Answers seen b c.loop.adapter c.loop.sent new total _ turn.0) c.deref.ensures.value turn.1 in (
       inv.0 ++ turn.0,
-      served_on (Turns seen) _ _ _ c.loop.incoming.bytes came.0 body c.next.new.self.bytes (c.args.adapter.now, 0) (c.loop.adapter, c.loop.sent) (new, total) inv.0 turn.0 inv.1 came.1 front
+      served_on (Turns seen) _ _ _ c.loop.incoming.bytes came.0 body c.next.new.self.bytes (c.args.adapter.now, 0) (c.loop.adapter, c.loop.sent)
+          (new, total) inv.0 turn.0 inv.1 came.1 front
           (turn_goes_on seen body c.loop.adapter c.loop.sent new total turn.0 answers),
       Appends-trans _ _ _ inv.0 turn.0 inv.2 turn.2,
     )
@@ -63,7 +66,8 @@ returns-in-Err-answer-clause-cut g c =
     let begun = c.in-Err-answer.ensures.begun in
     let turn = subst (λ (b : List ℕ). BeginsTurn (Turns seen) b (c.loop.adapter, c.loop.sent) begun.0) c.deref.ensures.value begun.1 in (
       inv.0 ++ begun.0,
-      cut_within (Turns seen) _ _ _ c.loop.incoming.bytes came.0 body c.next.new.self.bytes (c.args.adapter.now, 0) (c.loop.adapter, c.loop.sent) c.in-Err-answer.fault inv.0 begun.0 inv.1 came.1 front
+      cut_within (Turns seen) _ _ _ c.loop.incoming.bytes came.0 body c.next.new.self.bytes (c.args.adapter.now, 0) (c.loop.adapter, c.loop.sent)
+          c.in-Err-answer.fault inv.0 begun.0 inv.1 came.1 front
           c.in-Err-answer.ensures.fault turn,
       Appends-trans _ _ _ inv.0 begun.0 inv.2 begun.2,
     )
@@ -85,7 +89,8 @@ returns-in-Err-clause-cut g c =
     let seen = option_map (λ s. s.now) c.args.seen in
     let came = c.in-Err.ensures.taken in (
       inv.0,
-      cut_between (Turns seen) _ _ _ c.loop.incoming.bytes came.0 (c.args.adapter.now, 0) (c.loop.adapter, c.loop.sent) c.in-Err.fault inv.0 inv.1 came.1 came.3,
+      cut_between (Turns seen) _ _ _ c.loop.incoming.bytes came.0 (c.args.adapter.now, 0) (c.loop.adapter, c.loop.sent) c.in-Err.fault inv.0 inv.1
+          came.1 came.3,
       inv.2,
     )
 

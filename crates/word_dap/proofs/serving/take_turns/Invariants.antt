@@ -7,5 +7,6 @@ use Rattle.word_dap.proofs.serving.take_turns.Given as goal
 -- the messages of what was read were served, and so much was written
 abbrev pub invariant-loop : goal.invariant-loop
 invariant-loop g l = (written : List ℕ)
-    × IsServedSoFar (Turns (option_map (λ s. s.now) l.seen)) (g.R.Read.remaining l.fn.input) (g.R.Read.remaining l.input) l.incoming.bytes (l.fn.adapter, 0) (l.adapter, l.sent) written
+    × IsServedSoFar (Turns (option_map (λ s. s.now) l.seen)) (g.R.Read.remaining l.fn.input) (g.R.Read.remaining l.input) l.incoming.bytes
+        (l.fn.adapter, 0) (l.adapter, l.sent) written
     × Appends (g.O.Write.contents l.fn.output) (g.O.Write.contents l.output) written

@@ -17,7 +17,8 @@ loop-preserved g c =
       suc inv.0,
       c.waits.ensures.named (suc inv.0) c.if-waits.false,
       inv.2 ++ on.0,
-      runs_more inv.0 c.args.is_run (view c.args.request.now) (map said_of c.args.messages.now.items) c.args.adapter.now c.args.sent (map said_of c.loop.messages.items) c.loop.adapter c.loop.total _ _ _ inv.2 on.0 inv.3 on.1,
+      runs_more inv.0 c.args.is_run (view c.args.request.now) (map said_of c.args.messages.now.items) c.args.adapter.now c.args.sent
+          (map said_of c.loop.messages.items) c.loop.adapter c.loop.total _ _ _ inv.2 on.0 inv.3 on.1,
       Appends-trans _ _ _ inv.2 on.0 inv.4 on.2,
     )
 

@@ -25,7 +25,8 @@ returns-in-Some-clause-named g c d h taken one four =
 pub returns-in-Some-clause-serves : goal.returns-in-Some-clause-serves
 returns-in-Some-clause-serves g c = record {
   untouched = c.serve_session.ensures.untouched;
-  refuses = not_refused mos65 (texts c.args.plain.now) _ _ _ _ c.in-Ok.ensures.taken (λ none. let no : Some (view c.in-Ok.words) ≡ None = sym c.in-Ok.ensures.asked ∙ none in absurd cc);
+  refuses = not_refused mos65 (texts c.args.plain.now) _ _ _ _ c.in-Ok.ensures.taken
+      (λ none. let no : Some (view c.in-Ok.words) ≡ None = sym c.in-Ok.ensures.asked ∙ none in absurd cc);
   serves = λ d h taken.
       let same = one_debug _ (debug_view c.in-Some.words.now) d (c.in-Ok.ensures.asked ∙ ap Some c.in-Some.ensures.some) h in
       rw (sym same) c.serve_session.ensures.runs;
@@ -41,7 +42,8 @@ returns-in-None-clause-named g c d h taken = absurd (c.in-None.ensures.none d (o
 pub returns-in-None-clause-serves : goal.returns-in-None-clause-serves
 returns-in-None-clause-serves g c = record {
   untouched = λ one two. (refl, refl);
-  refuses = not_refused mos65 (texts c.args.plain.now) _ _ _ _ c.in-Ok.ensures.taken (λ none. let no : Some (view c.in-Ok.words) ≡ None = sym c.in-Ok.ensures.asked ∙ none in absurd cc);
+  refuses = not_refused mos65 (texts c.args.plain.now) _ _ _ _ c.in-Ok.ensures.taken
+      (λ none. let no : Some (view c.in-Ok.words) ≡ None = sym c.in-Ok.ensures.asked ∙ none in absurd cc);
   serves = λ d h taken. absurd (c.in-None.ensures.none d (one_asked _ (view c.in-Ok.words) (debug d) c.in-Ok.ensures.asked h));
 }
 
@@ -58,7 +60,8 @@ returns-in-Err-clause-named g c d h taken one four =
 pub returns-in-Err-clause-serves : goal.returns-in-Err-clause-serves
 returns-in-Err-clause-serves g c = record {
   untouched = λ one two. (refl, c.refused.ensures.untouched one (omega (arith, two)));
-  refuses = refuses mos65 (texts c.args.plain.now) _ _ _ _ _ (refused_of _ _ c.in-Err.ensures.refused) c.refused.ensures.status refl c.refused.ensures.untouched;
+  refuses = refuses mos65 (texts c.args.plain.now) _ _ _ _ _ (refused_of _ _ c.in-Err.ensures.refused) c.refused.ensures.status refl
+      c.refused.ensures.untouched;
   serves = λ d h taken.
       let memory = c.in-Err.ensures.served (debug d) taken h in
       let three : c.refused.result.0 ≡ 3 = subst (λ f. IsStatusOf f c.refused.result.0) memory c.refused.ensures.status in

@@ -9,5 +9,6 @@ loop-address-preserved c =
     let size : length c.loop-address.marks.items ≡ c.loop-address.address = omega (arith, c.loop-address.marks.ok.0, c.loop-address.invariant.len) in
     record {
       len = omega (arith, c.in_ok-push.ensures.len, c.loop-address.invariant.len);
-      each = more c.loop-address.marks.items c.push.new.self.items c.loop-address.address (λ a. mark_of c.args.labels (marks_view c.args.said.now) a) c.mark_of.result size c.in_ok-push.ensures.items c.loop-address.invariant.each c.mark_of.ensures;
+      each = more c.loop-address.marks.items c.push.new.self.items c.loop-address.address (λ a. mark_of c.args.labels (marks_view c.args.said.now) a)
+          c.mark_of.result size c.in_ok-push.ensures.items c.loop-address.invariant.each c.mark_of.ensures;
     }

@@ -18,13 +18,17 @@ pub returns-in-Ok-clause-begun : goal.returns-in-Ok-clause-begun
 returns-in-Ok-clause-begun g c = λ four. inr (source_view c.in-Ok.words, c.in-Ok.ensures.fits, c.in-Ok.ensures.asked, c.done_with_marks.ensures.begun four)
 
 pub returns-in-Err-clause-done : goal.returns-in-Err-clause-done
-returns-in-Err-clause-done g c = λ zero. inl ((says_of_words dis (texts c.args.words.now) _ _ _ c.in-Err.ensures.refused c.refused_words.ensures.status).help (inl zero))
+returns-in-Err-clause-done g c = λ zero. inl ((says_of_words dis (texts c.args.words.now) _ _ _ c.in-Err.ensures.refused
+    c.refused_words.ensures.status).help (inl zero))
 
 pub returns-in-Err-clause-wrong : goal.returns-in-Err-clause-wrong
-returns-in-Err-clause-wrong g c = λ one. absurd ((says_of_words dis (texts c.args.words.now) _ _ _ c.in-Err.ensures.refused c.refused_words.ensures.status).never one)
+returns-in-Err-clause-wrong g c = λ one. absurd ((says_of_words dis (texts c.args.words.now) _ _ _ c.in-Err.ensures.refused
+    c.refused_words.ensures.status).never one)
 
 pub returns-in-Err-clause-refused : goal.returns-in-Err-clause-refused
-returns-in-Err-clause-refused g c = λ two. elim ((says_of_words dis (texts c.args.words.now) _ _ _ c.in-Err.ensures.refused c.refused_words.ensures.status).wrong two) [ inl m ↦ inl m | inr w ↦ inr w ]
+returns-in-Err-clause-refused g c = λ two. elim ((says_of_words dis (texts c.args.words.now) _ _ _ c.in-Err.ensures.refused
+    c.refused_words.ensures.status).wrong two) [ inl m ↦ inl m | inr w ↦ inr w ]
 
 pub returns-in-Err-clause-begun : goal.returns-in-Err-clause-begun
-returns-in-Err-clause-begun g c = λ four. inl ((says_of_words dis (texts c.args.words.now) _ _ _ c.in-Err.ensures.refused c.refused_words.ensures.status).help (inr four))
+returns-in-Err-clause-begun g c = λ four. inl ((says_of_words dis (texts c.args.words.now) _ _ _ c.in-Err.ensures.refused
+    c.refused_words.ensures.status).help (inr four))

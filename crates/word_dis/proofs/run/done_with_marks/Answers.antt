@@ -4,7 +4,8 @@ use Rattle.word_dis.proofs.MarksSaid.{done_with, no_source, not_marked, said_wit
 use Rattle.word_dis.proofs.run.done_with_marks.Goals as goal
 
 pub returns-in-Ok-clause-done : goal.returns-in-Ok-clause-done
-returns-in-Ok-clause-done g c = λ zero. done_with (source_view c.args.words) (source_view c.in-Ok.words) _ _ _ _ c.in-Ok.ensures.said c.in-Ok.ensures.same (c.done.ensures.done zero)
+returns-in-Ok-clause-done g c = λ zero. done_with (source_view c.args.words) (source_view c.in-Ok.words) _ _ _ _ c.in-Ok.ensures.said
+    c.in-Ok.ensures.same (c.done.ensures.done zero)
 
 pub returns-in-Ok-clause-wrong : goal.returns-in-Ok-clause-wrong
 returns-in-Ok-clause-wrong g c = λ one. no_source (source_view c.args.words) (source_view c.in-Ok.words) c.in-Ok.ensures.same (c.done.ensures.wrong one)

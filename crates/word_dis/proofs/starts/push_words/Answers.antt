@@ -8,7 +8,8 @@ returns-then-last-at c =
 
 pub loop-left-preserved : goal.loop-left-preserved
 loop-left-preserved c = record {
-  found = one_more c.args.part.now c.args.more c.loop-left.left c.loop-left.at _ c.loop-left.starts.items c.push_word.new.starts.items _ (omega arith) (omega arith) c.in_ok-push_word.ensures c.loop-left.invariant.found;
+  found = one_more c.args.part.now c.args.more c.loop-left.left c.loop-left.at _ c.loop-left.starts.items c.push_word.new.starts.items _ (omega arith)
+      (omega arith) c.in_ok-push_word.ensures c.loop-left.invariant.found;
   near = omega (arith, c.loop-left.invariant.near);
 }
 

@@ -5,4 +5,5 @@ use Rattle.word_info.specs.Rows.{overlap_row}
 use Rattle.word_info.proofs.fact_text.push_overlaps.Given as goal
 
 abbrev pub invariant-loop-range : goal.invariant-loop-range
-invariant-loop-range l = string_bytes l.words ++ flat_map overlap_row (drop l.range-index l.overlaps) ≡ string_bytes l.initial.words ++ flat_map overlap_row l.overlaps
+invariant-loop-range l = string_bytes l.words ++ flat_map overlap_row (drop l.range-index l.overlaps) ≡ string_bytes l.initial.words
+    ++ flat_map overlap_row l.overlaps

@@ -12,4 +12,5 @@ loop-address-preserved c = λ n noted.
     (c.note_byte.ensures (with_bytes n c.args.first (c.loop-address.address - c.args.first)) (c.loop-address.invariant n noted))
 
 pub returns : goal.returns
-returns c = λ n noted. all_noted c.loop-address.once c.loop-address.again n c.args.first c.loop-address.address c.args.past (omega arith) (c.loop-address.invariant n noted)
+returns c = λ n noted. all_noted c.loop-address.once c.loop-address.again n c.args.first c.loop-address.address c.args.past (omega arith)
+    (c.loop-address.invariant n noted)

@@ -13,5 +13,6 @@ returns c = inr (inr (record {
   plain = c.requires.plain;
   behind = string_bytes c.in_ok-sums.sums;
   sums = subst (λ (told : Result Form OtherText). IsSumsText told c.args.bytes.now (string_bytes c.in_ok-sums.sums)) c.form_by.ensures c.in_ok-sums.ensures;
-  told = c.in_ok-push_str.ensures.bytes ∙ ap (λ t. string_bytes c.in_ok-text.text ++ t) c.as_str.ensures.value ∙ ap (λ t. t ++ string_bytes c.in_ok-sums.sums) c.in_ok-text.ensures;
+  told = c.in_ok-push_str.ensures.bytes ∙ ap (λ t. string_bytes c.in_ok-text.text ++ t) c.as_str.ensures.value
+      ∙ ap (λ t. t ++ string_bytes c.in_ok-sums.sums) c.in_ok-text.ensures;
 }))

@@ -22,7 +22,8 @@ loop-document-preserved c behind rest =
     let by_text = subst (λ (text : List ℕ). IsMarked c.args.map.now (string_bytes c.document-item.result.uri) text (view one)) c.deref.ensures.value by_uri in
     told_more c.args.map.now docs c.loop-document.told.items c.push.new.self.items one behind c.in_ok-push.ensures.items
     (c.loop-document.invariant (view one ∷ behind)
-    (told_step c.args.map.now docs c.loop-document.document-index c.document-item.result (omega (arith, c.loop-document-test.true)) c.document-item.is (view one) behind by_text rest))
+    (told_step c.args.map.now docs c.loop-document.document-index c.document-item.result (omega (arith, c.loop-document-test.true)) c.document-item.is
+        (view one) behind by_text rest))
 
 pub returns : goal.returns
 returns c =

@@ -11,7 +11,8 @@ use Rattle.word_lsp.proofs.serving.attend.Goals as goal
 pub loop-init : goal.loop-init
 loop-init g c =
     let given = g.R.Read.remaining c.args.input.now in
-    let begun = subst (λ (s : State). IsServedSoFar (Answers c.args.map.now) given given [] start s []) (sym c.requires.fresh) (unserved (Answers c.args.map.now) given start) in (
+    let begun = subst (λ (s : State). IsServedSoFar (Answers c.args.map.now) given given [] start s []) (sym c.requires.fresh)
+        (unserved (Answers c.args.map.now) given start) in (
       [],
       subst (λ (held : List ℕ). IsServedSoFar (Answers c.args.map.now) given given held start (server_view c.args.server.now) []) (sym c.requires.empty) begun,
       Appends-nil _,
@@ -24,7 +25,8 @@ returns-in-Ok-Some-answer-clause-session g c =
     let front = rw (c.in-Ok-Some.field-0-is) at came.3 in
     let turn = rw (c.in-Ok-Some-answer.field-0-is) at c.in-Ok-Some-answer.ensures in (
       inv.0 ++ turn.0,
-      inl (served_last (Answers c.args.map.now) _ _ _ c.loop.incoming.bytes came.0 c.in-Ok-Some.body.items c.next.new.self.bytes start (server_view c.loop.server) (server_view c.answer.new.server) c.in-Ok-Some-answer.status inv.0 turn.0 inv.1 came.1 front turn.1),
+      inl (served_last (Answers c.args.map.now) _ _ _ c.loop.incoming.bytes came.0 c.in-Ok-Some.body.items c.next.new.self.bytes start
+          (server_view c.loop.server) (server_view c.answer.new.server) c.in-Ok-Some-answer.status inv.0 turn.0 inv.1 came.1 front turn.1),
       Appends-trans _ _ _ inv.0 turn.0 inv.2 turn.2,
     )
 
@@ -48,7 +50,8 @@ loop-preserved g c =
     let front = rw (c.in-Ok-Some.field-0-is) at came.3 in
     let turn = rw (c.in-Ok-None-answer.field-0-is) at c.in-Ok-None-answer.ensures in (
       inv.0 ++ turn.0,
-      served_on (Answers c.args.map.now) _ _ _ c.loop.incoming.bytes came.0 c.in-Ok-Some.body.items c.next.new.self.bytes start (server_view c.loop.server) (server_view c.answer.new.server) inv.0 turn.0 inv.1 came.1 front turn.1,
+      served_on (Answers c.args.map.now) _ _ _ c.loop.incoming.bytes came.0 c.in-Ok-Some.body.items c.next.new.self.bytes start
+          (server_view c.loop.server) (server_view c.answer.new.server) inv.0 turn.0 inv.1 came.1 front turn.1,
       Appends-trans _ _ _ inv.0 turn.0 inv.2 turn.2,
     )
 
@@ -61,7 +64,8 @@ returns-in-Err-answer-clause-session g c =
     let front = rw (c.in-Ok-Some.field-0-is) at came.3 in
     let turn = c.in-Err-answer.ensures in (
       inv.0 ++ turn.1,
-      cut_within (Answers c.args.map.now) _ _ _ c.loop.incoming.bytes came.0 c.in-Ok-Some.body.items c.next.new.self.bytes start (server_view c.loop.server) c.in-Err-answer.fault inv.0 turn.1 inv.1 came.1 front turn.0 turn.2,
+      cut_within (Answers c.args.map.now) _ _ _ c.loop.incoming.bytes came.0 c.in-Ok-Some.body.items c.next.new.self.bytes start
+          (server_view c.loop.server) c.in-Err-answer.fault inv.0 turn.1 inv.1 came.1 front turn.0 turn.2,
       Appends-trans _ _ _ inv.0 turn.1 inv.2 turn.3,
     )
 
@@ -76,7 +80,8 @@ pub returns-in-Err-clause-session : goal.returns-in-Err-clause-session
 returns-in-Err-clause-session g c =
     let inv = c.loop.invariant in
     let came = c.in-Err.ensures.taken in
-    (inv.0, cut_between (Answers c.args.map.now) _ _ _ c.loop.incoming.bytes came.0 start (server_view c.loop.server) c.in-Err.fault inv.0 inv.1 came.1 came.3, inv.2)
+    (inv.0, cut_between (Answers c.args.map.now) _ _ _ c.loop.incoming.bytes came.0 start (server_view c.loop.server) c.in-Err.fault inv.0 inv.1
+        came.1 came.3, inv.2)
 
 pub returns-clause-session : goal.returns-clause-session
 returns-clause-session g c =

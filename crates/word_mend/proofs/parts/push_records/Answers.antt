@@ -20,4 +20,5 @@ loop-place-preserved c =
     ]
 
 pub returns : goal.returns
-returns c = all_put c.args.records.now c.loop-place.out.items (c.args.out.now.items ++ with_line_ends c.args.records.now) c.loop-place.place c.loop-place-test.false c.loop-place.invariant
+returns c = all_put c.args.records.now c.loop-place.out.items (c.args.out.now.items ++ with_line_ends c.args.records.now) c.loop-place.place
+    c.loop-place-test.false c.loop-place.invariant

@@ -22,4 +22,5 @@ loop-place-preserved c =
     ]
 
 pub returns : goal.returns
-returns c = c.split_at.ensures.back ∙ found_last c.args.bytes.now c.loop-place.place c.loop-place.last _ (omega (arith, c.loop-place-test.false)) c.loop-place.invariant.rest
+returns c = c.split_at.ensures.back ∙ found_last c.args.bytes.now c.loop-place.place c.loop-place.last _ (omega (arith, c.loop-place-test.false))
+    c.loop-place.invariant.rest

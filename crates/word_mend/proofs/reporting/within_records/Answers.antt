@@ -11,17 +11,21 @@ loop-byte-preserved c =
     elim c.if-is_kept.branch [
       | then-is_kept+then-byte-ne59 w ↦ record {
         few = omega (arith, few, w.within-is, w.skipped-is);
-        rest = after_data c.args.text.now c.loop-byte.byte-index c.loop-byte.within c.loop-byte.skipped _ there c.loop-byte.invariant.rest _ _ (is ∙ w.if-is_kept.true) w.if-byte-ne59.true w.within-is w.skipped-is;
+        rest = after_data c.args.text.now c.loop-byte.byte-index c.loop-byte.within c.loop-byte.skipped _ there c.loop-byte.invariant.rest _ _
+            (is ∙ w.if-is_kept.true) w.if-byte-ne59.true w.within-is w.skipped-is;
       }
       | then-is_kept+else-byte-ne59 w ↦ record {
         few = omega (arith, few, w.within-is, w.skipped-is);
-        rest = after_begin c.args.text.now c.loop-byte.byte-index c.loop-byte.within c.loop-byte.skipped _ there c.loop-byte.invariant.rest _ _ (is ∙ w.if-is_kept.true) w.if-byte-ne59.false w.within-is w.skipped-is;
+        rest = after_begin c.args.text.now c.loop-byte.byte-index c.loop-byte.within c.loop-byte.skipped _ there c.loop-byte.invariant.rest _ _
+            (is ∙ w.if-is_kept.true) w.if-byte-ne59.false w.within-is w.skipped-is;
       }
       | else-is_kept w ↦ record {
         few = omega (arith, few, w.within-is, w.skipped-is);
-        rest = after_skipped c.args.text.now c.loop-byte.byte-index c.loop-byte.within c.loop-byte.skipped _ there c.loop-byte.invariant.rest _ _ (is ∙ w.if-is_kept.false) w.within-is w.skipped-is;
+        rest = after_skipped c.args.text.now c.loop-byte.byte-index c.loop-byte.within c.loop-byte.skipped _ there c.loop-byte.invariant.rest _ _
+            (is ∙ w.if-is_kept.false) w.within-is w.skipped-is;
       }
     ]
 
 pub returns : goal.returns
-returns c = none_within c.args.text.now c.loop-byte.byte-index c.loop-byte.within c.loop-byte.skipped _ (omega (arith, c.loop-byte-test.false)) c.loop-byte.invariant.rest
+returns c = none_within c.args.text.now c.loop-byte.byte-index c.loop-byte.within c.loop-byte.skipped _ (omega (arith, c.loop-byte-test.false))
+    c.loop-byte.invariant.rest

@@ -26,24 +26,30 @@ returns-in-Ok-clause-wrong g c = λ one. (
 
 pub returns-in-Ok-clause-refused : goal.returns-in-Ok-clause-refused
 returns-in-Ok-clause-refused g c = λ two. absurd
-    (no_two (said_two (IsSaid (mend_view c.in-Ok.words)) c.done.result c.answered.result _ _ EndsMend c.done.ensures.about c.answered.ensures.said c.done.ensures.refused two))
+    (no_two (said_two (IsSaid (mend_view c.in-Ok.words)) c.done.result c.answered.result _ _ EndsMend c.done.ensures.about c.answered.ensures.said
+        c.done.ensures.refused two))
 
 pub returns-in-Ok-clause-begun : goal.returns-in-Ok-clause-begun
 returns-in-Ok-clause-begun g c = λ four. inr (
   mend_view c.in-Ok.words,
   c.in-Ok.ensures.taken,
   c.in-Ok.ensures.asked,
-  said_front (IsSaid (mend_view c.in-Ok.words)) c.done.result c.answered.result _ _ _ c.done.ensures.about c.answered.ensures.said c.answered.ensures.alone four,
+  said_front (IsSaid (mend_view c.in-Ok.words)) c.done.result c.answered.result _ _ _ c.done.ensures.about c.answered.ensures.said
+      c.answered.ensures.alone four,
 )
 
 pub returns-in-Err-clause-right : goal.returns-in-Err-clause-right
-returns-in-Err-clause-right g c = λ zero. inl ((says_of_words mend (texts c.args.words.now) _ _ _ c.in-Err.ensures.refused c.refused_words.ensures.status).help (inl zero))
+returns-in-Err-clause-right g c = λ zero. inl ((says_of_words mend (texts c.args.words.now) _ _ _ c.in-Err.ensures.refused
+    c.refused_words.ensures.status).help (inl zero))
 
 pub returns-in-Err-clause-wrong : goal.returns-in-Err-clause-wrong
-returns-in-Err-clause-wrong g c = λ one. absurd ((says_of_words mend (texts c.args.words.now) _ _ _ c.in-Err.ensures.refused c.refused_words.ensures.status).never one)
+returns-in-Err-clause-wrong g c = λ one. absurd ((says_of_words mend (texts c.args.words.now) _ _ _ c.in-Err.ensures.refused
+    c.refused_words.ensures.status).never one)
 
 pub returns-in-Err-clause-refused : goal.returns-in-Err-clause-refused
-returns-in-Err-clause-refused g c = λ two. elim ((says_of_words mend (texts c.args.words.now) _ _ _ c.in-Err.ensures.refused c.refused_words.ensures.status).wrong two) [ inl m ↦ inl m | inr w ↦ inr w ]
+returns-in-Err-clause-refused g c = λ two. elim ((says_of_words mend (texts c.args.words.now) _ _ _ c.in-Err.ensures.refused
+    c.refused_words.ensures.status).wrong two) [ inl m ↦ inl m | inr w ↦ inr w ]
 
 pub returns-in-Err-clause-begun : goal.returns-in-Err-clause-begun
-returns-in-Err-clause-begun g c = λ four. inl ((says_of_words mend (texts c.args.words.now) _ _ _ c.in-Err.ensures.refused c.refused_words.ensures.status).help (inr four))
+returns-in-Err-clause-begun g c = λ four. inl ((says_of_words mend (texts c.args.words.now) _ _ _ c.in-Err.ensures.refused
+    c.refused_words.ensures.status).help (inr four))

@@ -12,7 +12,8 @@ pub loop-byte-init : goal.loop-byte-init
 loop-byte-init g c = record {
   fed = (
     [],
-    λ told first before s. subst (λ t. GoesOn (prompt_of c.args.prompts) t c.args.begun.now.items first c.args.terminal.now (before ++ [])) (sym (append-nil told))
+    λ told first before s. subst (λ t. GoesOn (prompt_of c.args.prompts) t c.args.begun.now.items first c.args.terminal.now (before ++ []))
+        (sym (append-nil told))
         (subst (λ w. GoesOn (prompt_of c.args.prompts) told c.args.begun.now.items first c.args.terminal.now w) (sym (append-nil before)) s),
     λ _. Appends-nil _,
   );
@@ -31,7 +32,8 @@ loop-byte-preserved g c =
     record {
       fed = (
         inv.0 ++ fed.0,
-        λ told first before s. subst (λ t. GoesOn prompt t kept first last (before ++ (inv.0 ++ fed.0))) (append_assoc told (take i bytes) (get_or bytes i 0 ∷ []) ∙ one_taken told bytes i c.loop-byte-test.true)
+        λ told first before s. subst (λ t. GoesOn prompt t kept first last (before ++ (inv.0 ++ fed.0)))
+            (append_assoc told (take i bytes) (get_or bytes i 0 ∷ []) ∙ one_taken told bytes i c.loop-byte-test.true)
             (subst (λ w. GoesOn prompt ((told ++ take i bytes) ++ get_or bytes i 0 ∷ []) kept first last w) (append_assoc before inv.0 fed.0)
             (fed.1 (told ++ take i bytes) first (before ++ inv.0) (inv.1 told first before s))),
         λ empty. Appends-trans _ _ _ inv.0 fed.0 (inv.2 empty) (fed.2 (c.loop-byte.invariant.written empty)),
@@ -48,8 +50,10 @@ returns-then-branch-clause-fed g c =
     let over = rw c.if-branch.true at c.in_ok-serve_byte.ensures.fed in
     let last = c.serve_byte.new.terminal in (
       inv.0 ++ over.0,
-      λ told first before s ending rest. subst (λ l. ServesLines prompt (lines_from ending [] l) true first last (before ++ (inv.0 ++ over.0))) (around told bytes rest i c.loop-byte-test.true)
-          (subst (λ w. ServesLines prompt (lines_from ending [] (((told ++ take i bytes) ++ get_or bytes i 0 ∷ []) ++ (drop (i + 1) bytes ++ rest))) true first last w) (append_assoc before inv.0 over.0)
+      λ told first before s ending rest. subst (λ l. ServesLines prompt (lines_from ending [] l) true first last (before ++ (inv.0 ++ over.0)))
+          (around told bytes rest i c.loop-byte-test.true)
+          (subst (λ w. ServesLines prompt (lines_from ending [] (((told ++ take i bytes) ++ get_or bytes i 0 ∷ []) ++ (drop (i + 1) bytes ++ rest)))
+              true first last w) (append_assoc before inv.0 over.0)
           (over.1 (told ++ take i bytes) first (before ++ inv.0) (inv.1 told first before s) ending (drop (i + 1) bytes ++ rest))),
       λ empty. Appends-trans _ _ _ inv.0 over.0 (inv.2 empty) (over.2 (c.loop-byte.invariant.written empty)),
     )
@@ -60,7 +64,8 @@ returns-clause-fed g c =
     let bytes = c.args.bytes.now in
     let inv = c.loop-byte.invariant.fed in (
       inv.0,
-      λ told first before s. subst (λ l. GoesOn (prompt_of c.args.prompts) (told ++ l) c.loop-byte.begun.items first c.loop-byte.terminal (before ++ inv.0)) (take_all i bytes c.loop-byte-test.false) (inv.1 told first before s),
+      λ told first before s. subst (λ l. GoesOn (prompt_of c.args.prompts) (told ++ l) c.loop-byte.begun.items first c.loop-byte.terminal
+          (before ++ inv.0)) (take_all i bytes c.loop-byte-test.false) (inv.1 told first before s),
       inv.2,
     )
 
@@ -71,7 +76,8 @@ returns-in_err-serve_byte-clause-broken g c =
     let prompt = prompt_of c.args.prompts in
     let inv = c.loop-byte.invariant.fed in
     let broken = c.in_err-serve_byte.ensures.broken in
-    let all : BreaksBytes prompt bytes c.args.begun.now.items c.args.terminal.now (g.W.Write.contents c.args.writer.now) (g.W.Write.contents c.serve_byte.new.writer) = (
+    let all : BreaksBytes prompt bytes c.args.begun.now.items c.args.terminal.now (g.W.Write.contents c.args.writer.now)
+        (g.W.Write.contents c.serve_byte.new.writer) = (
       inv.0 ++ broken.0,
       λ told first before s.
           let front = (told ++ take i bytes) ++ get_or bytes i 0 ∷ [] in

@@ -17,7 +17,8 @@ returns-in-Ok-clause-done g c = inr (inr (
     loaded = c.in-Ok.started.loaded;
   },
   c.in-Ok.started.warning_line.items,
-  named_starts (mon_view c.args.words.now) c.args.loaded.session c.args.loaded.assembly c.args.loaded.fill c.args.loaded.written c.in-Ok.started.loaded c.in-Ok.started.mon c.in-Ok.started.warning_line.items
+  named_starts (mon_view c.args.words.now) c.args.loaded.session c.args.loaded.assembly c.args.loaded.fill c.args.loaded.written
+      c.in-Ok.started.loaded c.in-Ok.started.mon c.in-Ok.started.warning_line.items
       c.requires c.in-Ok.ensures.made c.in-Ok.ensures.loaded c.in-Ok.ensures.warned,
   c.new-notes.ensures.items,
   c.new-answered.ensures.items,

@@ -17,7 +17,8 @@ returns-clause-attended g c =
     let prompts = c.args.prompts in
     IfOk-weaker c.attend.result _ _ (λ _ h. (
       h.0,
-      shows_attended prompts (g.R.Read.remaining c.args.input.now) (g.R.Read.remaining c.attend.new.reader) first begun c.attend.new.terminal h.0 c.in_ok-say_opening.ensures.rests h.1,
+      shows_attended prompts (g.R.Read.remaining c.args.input.now) (g.R.Read.remaining c.attend.new.reader) first begun c.attend.new.terminal h.0
+          c.in_ok-say_opening.ensures.rests h.1,
       subst (Appends (g.O.Write.contents c.args.output.now) (g.O.Write.contents c.attend.new.writer))
           (ap (λ t. t ++ h.0) c.in_ok-say_opening.ensures.said) h.2,
     )) c.attend.ensures.attended
@@ -29,7 +30,8 @@ returns-clause-unread g c unread =
     let prompts = c.args.prompts in
     let h = c.attend.ensures.unread unread in (
       h.0,
-      shows_so_far prompts (g.R.Read.remaining c.args.input.now) (g.R.Read.remaining c.attend.new.reader) first begun c.attend.new.terminal h.0 c.in_ok-say_opening.ensures.rests h.1,
+      shows_so_far prompts (g.R.Read.remaining c.args.input.now) (g.R.Read.remaining c.attend.new.reader) first begun c.attend.new.terminal h.0
+          c.in_ok-say_opening.ensures.rests h.1,
       subst (Appends (g.O.Write.contents c.args.output.now) (g.O.Write.contents c.attend.new.writer))
           (ap (λ t. t ++ h.0) c.in_ok-say_opening.ensures.said) h.2,
     )
@@ -39,7 +41,8 @@ pub returns-in_err-say_opening-clause-broken : goal.returns-in_err-say_opening-c
 returns-in_err-say_opening-clause-broken g c =
     let first = c.args.terminal.now in
     let prompt = prompt_of c.args.prompts in
-    let none : AttendsInPart c.args.prompts (opening c.args.prompts c.args.warning_line.now first) first (g.R.Read.remaining c.args.input.now) (g.R.Read.remaining c.args.input.now) (g.O.Write.contents c.args.output.now) (g.O.Write.contents c.args.output.now)
+    let none : AttendsInPart c.args.prompts (opening c.args.prompts c.args.warning_line.now first) first (g.R.Read.remaining c.args.input.now)
+        (g.R.Read.remaining c.args.input.now) (g.O.Write.contents c.args.output.now) (g.O.Write.contents c.args.output.now)
     = (first, prompt ++ [], ([], Consumes-nil _, [], refl, inl (some_none prompt first)), front_none _ _) in
     if_err_anyway _ _ none
 
@@ -51,7 +54,8 @@ returns-clause-broken g c =
     IfErr-weaker c.attend.result _ _ (λ _ h. (
       h.0,
       h.1,
-      shows_in_part prompts (g.R.Read.remaining c.args.input.now) (g.R.Read.remaining c.attend.new.reader) first begun h.0 h.1 c.in_ok-say_opening.ensures.rests h.2,
+      shows_in_part prompts (g.R.Read.remaining c.args.input.now) (g.R.Read.remaining c.attend.new.reader) first begun h.0 h.1
+          c.in_ok-say_opening.ensures.rests h.2,
       subst (AppendsFront (g.O.Write.contents c.args.output.now) (g.O.Write.contents c.attend.new.writer))
           (ap (λ t. t ++ h.1) c.in_ok-say_opening.ensures.said) h.3,
     )) c.attend.ensures.broken

@@ -11,7 +11,8 @@ returns-in-Ok-clause-ended g c =
 pub returns-in-Err-clause-ended : goal.returns-in-Err-clause-ended
 returns-in-Err-clause-ended g c = (
   Err c.in-Err.refusal,
-  attends_err c.args.prompts (opening c.args.prompts c.args.warning_line.now c.args.terminal.now) c.args.terminal.now c.serve.new.terminal (g.R.Read.remaining c.args.input.now) (g.R.Read.remaining c.serve.new.input)
+  attends_err c.args.prompts (opening c.args.prompts c.args.warning_line.now c.args.terminal.now) c.args.terminal.now c.serve.new.terminal
+      (g.R.Read.remaining c.args.input.now) (g.R.Read.remaining c.serve.new.input)
       (g.O.Write.contents c.args.output.now) (g.O.Write.contents c.serve.new.output) c.in-Err.refusal
       c.in-Err.ensures.refused (λ e. c.in-Err.ensures.unread (ap Err e)) c.in-Err.ensures.broken,
   (c.refuse.ensures.status, c.refuse.ensures.told),

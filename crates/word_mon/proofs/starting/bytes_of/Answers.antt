@@ -11,8 +11,10 @@ loop-place-init c = record {
 pub loop-place-preserved : goal.loop-place-preserved
 loop-place-preserved c = record {
   few = omega (arith, c.loop-place-test.true);
-  taken = byte_taken c.args.session.now.current c.args.loaded.now c.loop-place.image c.put_byte.new.image c.loop-place.place c.loop-place-test.true c.put_byte.ensures c.loop-place.invariant.taken;
+  taken = byte_taken c.args.session.now.current c.args.loaded.now c.loop-place.image c.put_byte.new.image c.loop-place.place c.loop-place-test.true
+      c.put_byte.ensures c.loop-place.invariant.taken;
 }
 
 pub returns-clause-image : goal.returns-clause-image
-returns-clause-image c = all_taken c.args.session.now.current c.args.loaded.now c.loop-place.image c.loop-place.place (omega (arith, c.loop-place-test.false, c.loop-place.invariant.few)) c.loop-place.invariant.taken
+returns-clause-image c = all_taken c.args.session.now.current c.args.loaded.now c.loop-place.image c.loop-place.place
+    (omega (arith, c.loop-place-test.false, c.loop-place.invariant.few)) c.loop-place.invariant.taken

@@ -16,15 +16,19 @@ loop-rest-preserved c =
     let notes = map note_view c.loop-rest.notes.items in
     record {
       room = omega (arith, c.next_line.ensures.shorter, c.loop-rest.invariant.room);
-      left = sym (ap (notes_from n notes) c.next_line.ensures.cut ∙ one_line n notes (map note_view c.push_line.new.notes.items) c.next_line.result.0.now (lines_of c.next_line.result.1.now) (search rules)) ∙ c.loop-rest.invariant.left;
+      left = sym (ap (notes_from n notes) c.next_line.ensures.cut
+          ∙ one_line n notes (map note_view c.push_line.new.notes.items) c.next_line.result.0.now (lines_of c.next_line.result.1.now) (search rules))
+          ∙ c.loop-rest.invariant.left;
     }
 
 pub returns-in-Ok-false-clause-err : goal.returns-in-Ok-false-clause-err
 returns-in-Ok-false-clause-err c =
     let n = c.loop-rest.number in
     let notes = map note_view c.loop-rest.notes.items in
-    sym c.loop-rest.invariant.left ∙ (ap (notes_from n notes) c.next_line.ensures.cut ∙ no_note n notes c.next_line.result.0.now (lines_of c.next_line.result.1.now) (search rules))
+    sym c.loop-rest.invariant.left ∙ (ap (notes_from n notes) c.next_line.ensures.cut
+        ∙ no_note n notes c.next_line.result.0.now (lines_of c.next_line.result.1.now) (search rules))
 
 pub returns-clause-ok : goal.returns-clause-ok
 returns-clause-ok c =
-    sym c.loop-rest.invariant.left ∙ all_lines c.loop-rest.number (map note_view c.loop-rest.notes.items) c.loop-rest.rest.now (true-eqb _ 0 c.loop-rest-test.ensures)
+    sym c.loop-rest.invariant.left ∙ all_lines c.loop-rest.number (map note_view c.loop-rest.notes.items) c.loop-rest.rest.now
+        (true-eqb _ 0 c.loop-rest-test.ensures)

@@ -40,7 +40,8 @@ returns-in-Err-clause-done g c a h fits =
     inl (unmade_by_memory a.file a.others a.symbols (record {
       held = g.E.Write.contents c.args.errors.now;
       now = g.E.Write.contents c.refused_words.new.errors;
-    }) c.in-Err.fault c.refused_words.result (c.args.input.now ≡ c.args.input.now) (c.refused_words.new.output ≡ c.args.output.now) (c.in-Err.ensures.served a fits h)
+    }) c.in-Err.fault c.refused_words.result (c.args.input.now ≡ c.args.input.now) (c.refused_words.new.output ≡ c.args.output.now)
+        (c.in-Err.ensures.served a fits h)
     c.refused_words.ensures.status c.refused_words.ensures.told refl c.refused_words.ensures.untouched)
 
 pub returns-in-Err-clause-bad_map : goal.returns-in-Err-clause-bad_map
@@ -50,8 +51,10 @@ returns-in-Err-clause-bad_map g c a h fits bad =
 pub returns-in-Ok-clause-quiet : goal.returns-in-Ok-clause-quiet
 returns-in-Ok-clause-quiet g c omits none zero =
     let given = none (run_view c.in-Ok.words) c.in-Ok.ensures.asked in
-    subst (λ (o : Bool). OnlyWarned o (g.E.Write.contents c.args.errors.now) (g.E.Write.contents c.run_words.new.errors)) given.1 (c.run_words.ensures.quiet given.0 zero)
+    subst (λ (o : Bool). OnlyWarned o (g.E.Write.contents c.args.errors.now) (g.E.Write.contents c.run_words.new.errors)) given.1
+        (c.run_words.ensures.quiet given.0 zero)
 
 -- Help was written, and nothing was told.
 pub returns-in-Err-clause-quiet : goal.returns-in-Err-clause-quiet
-returns-in-Err-clause-quiet g c omits none zero = untold g.E.Write.contents omits c.args.errors.now c.refused_words.new.errors (c.refused_words.ensures.quiet (omega (arith, zero)))
+returns-in-Err-clause-quiet g c omits none zero = untold g.E.Write.contents omits c.args.errors.now c.refused_words.new.errors
+    (c.refused_words.ensures.quiet (omega (arith, zero)))

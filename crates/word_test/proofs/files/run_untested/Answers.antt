@@ -26,7 +26,8 @@ returns-in_err-write_told-clause-begun g c =
     stopped _ _ _ c.from_residual-in_err-write_told.ensures.0 (inr (
       told.0,
       told.1,
-      subst (λ (t : Tally). AppendsFront old new (fault_text c.args.telling t.count name told.0 told.1 ++ sum_text c.args.telling suite t.score)) c.untested_tally-tally.ensures
+      subst (λ (t : Tally). AppendsFront old new (fault_text c.args.telling t.count name told.0 told.1 ++ sum_text c.args.telling suite t.score))
+          c.untested_tally-tally.ensures
           (front_more old new _ _ (subst (AppendsFront old new) told.2 c.in_err-write_told.ensures.written)),
       told.3,
     ))
@@ -41,7 +42,8 @@ returns-in_err-end_suite-clause-begun g c =
     stopped _ _ _ c.from_residual-in_err-end_suite.ensures.0 (inr (
       told.0,
       told.1,
-      subst (λ (t : Tally). AppendsFront old new (fault_text c.args.telling t.count name told.0 told.1 ++ sum_text c.args.telling suite t.score)) c.untested_tally-tally.ensures
+      subst (λ (t : Tally). AppendsFront old new (fault_text c.args.telling t.count name told.0 told.1 ++ sum_text c.args.telling suite t.score))
+          c.untested_tally-tally.ensures
           (front_after old new new _ _ (subst (Appends old new) told.2 c.in_ok-write_told.ensures.written) (front_none new _)),
       told.3,
     ))
@@ -57,7 +59,8 @@ returns-in_err-write_sum-clause-begun g c =
     stopped _ _ _ c.from_residual-in_err-write_sum.ensures.0 (inr (
       told.0,
       told.1,
-      subst (λ (t : Tally). AppendsFront old new (fault_text c.args.telling t.count name told.0 told.1 ++ sum_text c.args.telling suite t.score)) c.untested_tally-tally.ensures
+      subst (λ (t : Tally). AppendsFront old new (fault_text c.args.telling t.count name told.0 told.1 ++ sum_text c.args.telling suite t.score))
+          c.untested_tally-tally.ensures
           (front_after old begun new _ _ (subst (Appends old begun) told.2 c.in_ok-write_told.ensures.written)
           c.in_err-write_sum.ensures),
       told.3,

@@ -10,4 +10,5 @@ returns-in_err-line g c = stopped _ _ _ c.from_residual.ensures.0 (front_none _ 
 pub returns-in_err-write_text : goal.returns-in_err-write_text
 returns-in_err-write_text g c =
     stopped _ _ _ c.from_residual-in_err-write_text.ensures.0
-    (subst (AppendsFront (g.O.Write.contents c.args.output.now) (g.O.Write.contents c.write_text.new.output)) (c.deref.ensures.value ∙ c.in_ok-line.ensures) c.in_err-write_text.ensures)
+    (subst (AppendsFront (g.O.Write.contents c.args.output.now) (g.O.Write.contents c.write_text.new.output))
+        (c.deref.ensures.value ∙ c.in_ok-line.ensures) c.in_err-write_text.ensures)

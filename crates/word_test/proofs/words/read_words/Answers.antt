@@ -9,19 +9,23 @@ use Rattle.word_test.proofs.words.read_words.Goals as goal
 pub returns-in-Ok-Some-clause-asked : goal.returns-in-Ok-Some-clause-asked
 returns-in-Ok-Some-clause-asked c =
     let told = rw c.in-Ok-Some.field-0-is at c.in-Ok-Some.ensures in
-    sym (told ∙ asked_found (app_of c.in_ok-test_command.field-0) (texts c.args.words.now) c.in_ok-matches.matches c.in_ok-test_command.ensures.shape c.in_ok-matches.ensures.values c.in_ok-matches.ensures.rows)
+    sym (told ∙ asked_found (app_of c.in_ok-test_command.field-0) (texts c.args.words.now) c.in_ok-matches.matches c.in_ok-test_command.ensures.shape
+        c.in_ok-matches.ensures.values c.in_ok-matches.ensures.rows)
 
 pub returns-in-Ok-None-clause-refused : goal.returns-in-Ok-None-clause-refused
 returns-in-Ok-None-clause-refused c =
     let told = rw c.in-Ok-None.field-0-is at c.in-Ok-None.ensures in (
       fits_by (app_of c.in_ok-test_command.field-0) test (texts c.args.words.now) c.in_ok-test_command.ensures.shape c.in_ok-matches.ensures.fits,
-      sym (told ∙ asked_found (app_of c.in_ok-test_command.field-0) (texts c.args.words.now) c.in_ok-matches.matches c.in_ok-test_command.ensures.shape c.in_ok-matches.ensures.values c.in_ok-matches.ensures.rows),
+      sym (told ∙ asked_found (app_of c.in_ok-test_command.field-0) (texts c.args.words.now) c.in_ok-matches.matches
+          c.in_ok-test_command.ensures.shape c.in_ok-matches.ensures.values c.in_ok-matches.ensures.rows),
     )
 
 pub returns-in-Ok-Some-clause-taken : goal.returns-in-Ok-Some-clause-taken
-returns-in-Ok-Some-clause-taken c = fits_by (app_of c.in_ok-test_command.field-0) test (texts c.args.words.now) c.in_ok-test_command.ensures.shape c.in_ok-matches.ensures.fits
+returns-in-Ok-Some-clause-taken c = fits_by (app_of c.in_ok-test_command.field-0) test (texts c.args.words.now) c.in_ok-test_command.ensures.shape
+    c.in_ok-matches.ensures.fits
 
 pub returns-in_err-matches-clause-refused : goal.returns-in_err-matches-clause-refused
 returns-in_err-matches-clause-refused c =
-    refused_by (app_of c.in_ok-test_command.field-0) test (texts c.args.words.now) (words_asked (texts c.args.words.now) ≡ None) c.in_err-matches.field-0.0 c.from_residual-in_err-matches.result
+    refused_by (app_of c.in_ok-test_command.field-0) test (texts c.args.words.now) (words_asked (texts c.args.words.now) ≡ None)
+        c.in_err-matches.field-0.0 c.from_residual-in_err-matches.result
     c.in_ok-test_command.ensures.shape c.in_err-matches.ensures.refused c.from_residual-in_err-matches.ensures.1

@@ -12,7 +12,8 @@ returns c = λ is.
     let stores = c.are_written-stores_are.result in
     let both = and_left _ stores is in
     record {
-      code = c.is_code_written-code_is.ensures (moment_of c.args.session.now.current) (sym (ap (λ r. r.pc) c.regs-regs.ensures)) (sym c.row_here-row.ensures) (and_left code reads both);
+      code = c.is_code_written-code_is.ensures (moment_of c.args.session.now.current) (sym (ap (λ r. r.pc) c.regs-regs.ensures))
+          (sym c.row_here-row.ensures) (and_left code reads both);
       reads = sym (ap (are_written cells) c.reads_here-reads.ensures) ∙ sym c.are_written-reads_are.ensures ∙ and_right code reads both;
       stores = sym (ap (are_written cells) c.stores_here-stores.ensures) ∙ sym c.are_written-stores_are.ensures ∙ and_right _ stores is;
     }

@@ -25,7 +25,8 @@ loop-steps-init g c = (
     waits = c.requires.waits;
     over = c.requires.over;
     runs = runs_none c.args.to c.args.limit c.args.session.now (known c.args.player.now) c.args.player.now.is_over;
-    makes = makes_none note_step c.args.to c.args.limit c.args.session.now (known c.args.player.now) c.args.player.now.is_over (no_text (gathered c.args.tracer.now));
+    makes = makes_none note_step c.args.to c.args.limit c.args.session.now (known c.args.player.now) c.args.player.now.is_over
+        (no_text (gathered c.args.tracer.now));
     text = gathers_none _ _ _ _ refl refl;
     out = sym (append-nil c.args.session.now.current.bus.out);
     appends = Appends-nil _;
@@ -45,9 +46,11 @@ returns-in-Ok-Some-clause-ok g c =
         consumes = Consumes-trans _ _ _ inv.0 turn.0 inv.3.consumes turn.2.consumes;
         once = once_both c.args.player.now.is_over l.player.is_over p.is_over inv.0 turn.0 inv.3.once turn.2.once;
         leads = λ rest may. (
-          ends_with c.args.to c.args.limit c.args.session.now (known c.args.player.now) inv.0 l.player.is_over l.steps l.session (known l.player) inv.3.runs c.loop-steps-test.true
+          ends_with c.args.to c.args.limit c.args.session.now (known c.args.player.now) inv.0 l.player.is_over l.steps l.session (known l.player)
+              inv.3.runs c.loop-steps-test.true
               turn.0 p.is_over (Some c.in-Ok-Some.ending) u (known p) turn.2.once turn.2.turn c.in-Ok-Some.ending refl rest may,
-          makes_with note_step c.args.to c.args.limit c.args.session.now (known c.args.player.now) inv.0 l.player.is_over l.steps l.session (known l.player) (no_text (gathered c.args.tracer.now)) (noted_in l.tracer inv.1) inv.3.makes c.loop-steps-test.true
+          makes_with note_step c.args.to c.args.limit c.args.session.now (known c.args.player.now) inv.0 l.player.is_over l.steps l.session
+              (known l.player) (no_text (gathered c.args.tracer.now)) (noted_in l.tracer inv.1) inv.3.makes c.loop-steps-test.true
               turn.0 p.is_over (Some c.in-Ok-Some.ending) u (known p) turn.2.once turn.2.turn c.in-Ok-Some.ending refl rest may
               ∙ ended_on c.in-Ok-Some.ending l.session.current u.current l.tracer c.noted_turn.new.tracer inv.1 turn.1 turn.3,
         );
@@ -76,10 +79,13 @@ returns-then-is_at-clause-ok g c =
         consumes = Consumes-trans _ _ _ inv.0 turn.0 inv.3.consumes turn.2.consumes;
         once = once_both c.args.player.now.is_over l.player.is_over p.is_over inv.0 turn.0 inv.3.once turn.2.once;
         leads = λ rest may. (
-          ends_at c.args.to c.args.limit c.args.session.now (known c.args.player.now) inv.0 l.player.is_over l.steps l.session (known l.player) inv.3.runs c.loop-steps-test.true
+          ends_at c.args.to c.args.limit c.args.session.now (known c.args.player.now) inv.0 l.player.is_over l.steps l.session (known l.player)
+              inv.3.runs c.loop-steps-test.true
               turn.0 p.is_over None u (known p) turn.2.once turn.2.turn refl at' rest may,
-          makes_at note_step c.args.to c.args.limit c.args.session.now (known c.args.player.now) inv.0 l.player.is_over l.steps l.session (known l.player) (no_text (gathered c.args.tracer.now)) (noted_in l.tracer inv.1) inv.3.makes c.loop-steps-test.true
-              turn.0 p.is_over None u (known p) turn.2.once turn.2.turn (noted_in c.noted_turn.new.tracer (inv.1 ++ step)) (turn_noted_on l.session.current u.current l.tracer c.noted_turn.new.tracer inv.1 step turn.3) refl at' rest may,
+          makes_at note_step c.args.to c.args.limit c.args.session.now (known c.args.player.now) inv.0 l.player.is_over l.steps l.session
+              (known l.player) (no_text (gathered c.args.tracer.now)) (noted_in l.tracer inv.1) inv.3.makes c.loop-steps-test.true
+              turn.0 p.is_over None u (known p) turn.2.once turn.2.turn (noted_in c.noted_turn.new.tracer (inv.1 ++ step))
+                  (turn_noted_on l.session.current u.current l.tracer c.noted_turn.new.tracer inv.1 step turn.3) refl at' rest may,
         );
       },
       gathers_both _ (g.O.Write.contents l.output) _ _ l.tracer.sheet.text.items _ inv.1 step inv.3.text turn.4,
@@ -109,10 +115,13 @@ loop-steps-preserved g c =
         once = once_both c.args.player.now.is_over l.player.is_over p.is_over inv.0 turn.0 inv.3.once turn.2.once;
         waits = c.in-Ok-None.ensures.waits;
         over = still_over l.player.is_over p.is_over _ _ turn.2.over inv.3.over;
-        runs = runs_on c.args.to c.args.limit c.args.session.now (known c.args.player.now) inv.0 l.player.is_over l.steps l.session (known l.player) inv.3.runs c.loop-steps-test.true
+        runs = runs_on c.args.to c.args.limit c.args.session.now (known c.args.player.now) inv.0 l.player.is_over l.steps l.session (known l.player)
+            inv.3.runs c.loop-steps-test.true
             turn.0 p.is_over None u (known p) turn.2.once turn.2.turn refl off;
-        makes = makes_on note_step c.args.to c.args.limit c.args.session.now (known c.args.player.now) inv.0 l.player.is_over l.steps l.session (known l.player) (no_text (gathered c.args.tracer.now)) (noted_in l.tracer inv.1) inv.3.makes c.loop-steps-test.true
-            turn.0 p.is_over None u (known p) turn.2.once turn.2.turn (noted_in c.noted_turn.new.tracer (inv.1 ++ step)) (turn_noted_on l.session.current u.current l.tracer c.noted_turn.new.tracer inv.1 step turn.3) refl off;
+        makes = makes_on note_step c.args.to c.args.limit c.args.session.now (known c.args.player.now) inv.0 l.player.is_over l.steps l.session
+            (known l.player) (no_text (gathered c.args.tracer.now)) (noted_in l.tracer inv.1) inv.3.makes c.loop-steps-test.true
+            turn.0 p.is_over None u (known p) turn.2.once turn.2.turn (noted_in c.noted_turn.new.tracer (inv.1 ++ step))
+                (turn_noted_on l.session.current u.current l.tracer c.noted_turn.new.tracer inv.1 step turn.3) refl off;
         text = gathers_both _ (g.O.Write.contents l.output) _ _ l.tracer.sheet.text.items _ inv.1 step inv.3.text turn.4;
         out = more.1 ∙ ap (λ out. out ++ more.0) inv.3.out ∙ append_assoc _ inv.2 more.0;
         appends = Appends-trans _ _ _ inv.2 more.0 inv.3.appends more.2;
@@ -129,9 +138,11 @@ returns-clause-ok g c =
         consumes = inv.3.consumes;
         once = inv.3.once;
         leads = λ rest may. (
-          ends_full c.args.to c.args.limit c.args.session.now (known c.args.player.now) inv.0 l.player.is_over l.steps l.session (known l.player) inv.3.runs (omega (arith, c.loop-steps-test.false)) (omega (arith, c.loop-steps.auto.steps-end)) rest may
+          ends_full c.args.to c.args.limit c.args.session.now (known c.args.player.now) inv.0 l.player.is_over l.steps l.session (known l.player)
+              inv.3.runs (omega (arith, c.loop-steps-test.false)) (omega (arith, c.loop-steps.auto.steps-end)) rest may
               ∙ ap (λ (e : Ending). record { steps = c.args.limit; ending = e; play = play_at l.session (known l.player) rest }) (sym c.ending_after.ensures),
-          makes_full note_step c.args.to c.args.limit c.args.session.now (known c.args.player.now) inv.0 l.player.is_over l.steps l.session (known l.player) (no_text (gathered c.args.tracer.now)) (noted_in l.tracer inv.1) inv.3.makes (omega (arith, c.loop-steps-test.false)) rest may,
+          makes_full note_step c.args.to c.args.limit c.args.session.now (known c.args.player.now) inv.0 l.player.is_over l.steps l.session
+              (known l.player) (no_text (gathered c.args.tracer.now)) (noted_in l.tracer inv.1) inv.3.makes (omega (arith, c.loop-steps-test.false)) rest may,
         );
       },
       inv.3.text,
@@ -150,9 +161,11 @@ returns-in-Err-clause-err g c =
     let p = c.noted_turn.new.player in
     let text = inv.1 ++ turn.1 in (
       text,
-      run_cut c.args.to c.args.limit (noting c.args.to c.args.limit (gathered c.args.tracer.now)) (λ (n : Noted). Begins text n.text) c.args.session.now c.args.player.now _ _ _ inv.0 l.steps l.session l.player u p turn.0
+      run_cut c.args.to c.args.limit (noting c.args.to c.args.limit (gathered c.args.tracer.now)) (λ (n : Noted). Begins text n.text)
+          c.args.session.now c.args.player.now _ _ _ inv.0 l.steps l.session l.player u p turn.0
           inv.3.consumes inv.3.once inv.3.runs c.loop-steps-test.true turn.2
-          (note_cut c.args.to c.args.limit c.args.session.now (known c.args.player.now) inv.0 l.steps l.session l.player u p turn.0 inv.1 turn.1 (no_text (gathered c.args.tracer.now)) l.tracer
+          (note_cut c.args.to c.args.limit c.args.session.now (known c.args.player.now) inv.0 l.steps l.session l.player u p turn.0 inv.1 turn.1
+              (no_text (gathered c.args.tracer.now)) l.tracer
           inv.3.makes c.loop-steps-test.true turn.2.once turn.3),
       front_then _ (g.O.Write.contents l.output) _ _ l.tracer.sheet.text.items _ inv.1 turn.1 inv.3.text turn.4,
     )

@@ -16,7 +16,8 @@ invariant-loop-steps g l = (told : List ℕ) × (noted : List ℕ) × (put : Lis
   waits : Waits l.session.current l.player.waiting;
   over : EndsAt l.player.is_over (g.R.Read.remaining l.input);
   runs : RunsOn l.fn.to l.fn.limit l.fn.session (known l.fn.player) told l.player.is_over l.steps l.session (known l.player);
-  makes : MakesOn note_step l.fn.to l.fn.limit l.fn.session (known l.fn.player) told l.player.is_over l.steps l.session (known l.player) (no_text (gathered l.fn.tracer)) (noted_in l.tracer noted);
+  makes : MakesOn note_step l.fn.to l.fn.limit l.fn.session (known l.fn.player) told l.player.is_over l.steps l.session (known l.player)
+      (no_text (gathered l.fn.tracer)) (noted_in l.tracer noted);
   text : Gathers (g.O.Write.contents l.fn.output) (g.O.Write.contents l.output) l.fn.tracer.sheet.text.items l.tracer.sheet.text.items noted;
   out : l.session.current.bus.out ≡ l.fn.session.current.bus.out ++ put;
   appends : Appends (g.E.Write.contents l.fn.errors) (g.E.Write.contents l.errors) put;

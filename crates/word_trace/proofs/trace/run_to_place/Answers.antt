@@ -23,7 +23,8 @@ loop-steps-init g c = (
     waits = c.requires.waits;
     over = c.requires.over;
     runs = runs_none c.args.place 18446744073709551615 c.args.session.now (known c.args.player.now) c.args.player.now.is_over;
-    makes = makes_none pass_step c.args.place 18446744073709551615 c.args.session.now (known c.args.player.now) c.args.player.now.is_over (gathered c.args.tracer.now);
+    makes = makes_none pass_step c.args.place 18446744073709551615 c.args.session.now (known c.args.player.now) c.args.player.now.is_over
+        (gathered c.args.tracer.now);
     sheet = refl;
     out = sym (append-nil c.args.session.now.current.bus.out);
     appends = Appends-nil _;
@@ -41,9 +42,11 @@ returns-in-Ok-Some-clause-ok g c =
       consumes = Consumes-trans _ _ _ inv.0 turn.0 inv.2.consumes turn.1.consumes;
       once = once_both c.args.player.now.is_over l.player.is_over p.is_over inv.0 turn.0 inv.2.once turn.1.once;
       leads = λ rest may. (
-        ends_with c.args.place 18446744073709551615 c.args.session.now (known c.args.player.now) inv.0 l.player.is_over l.steps l.session (known l.player) inv.2.runs c.loop-steps-test.true
+        ends_with c.args.place 18446744073709551615 c.args.session.now (known c.args.player.now) inv.0 l.player.is_over l.steps l.session
+            (known l.player) inv.2.runs c.loop-steps-test.true
             turn.0 p.is_over (Some c.in-Ok-Some.ending) u (known p) turn.1.once turn.1.turn c.in-Ok-Some.ending refl rest may,
-        makes_with pass_step c.args.place 18446744073709551615 c.args.session.now (known c.args.player.now) inv.0 l.player.is_over l.steps l.session (known l.player) (gathered c.args.tracer.now) (gathered l.tracer) inv.2.makes c.loop-steps-test.true
+        makes_with pass_step c.args.place 18446744073709551615 c.args.session.now (known c.args.player.now) inv.0 l.player.is_over l.steps l.session
+            (known l.player) (gathered c.args.tracer.now) (gathered l.tracer) inv.2.makes c.loop-steps-test.true
             turn.0 p.is_over (Some c.in-Ok-Some.ending) u (known p) turn.1.once turn.1.turn c.in-Ok-Some.ending refl rest may ∙ sym turn.2,
       );
     }
@@ -66,9 +69,11 @@ returns-then-is_at-clause-ok g c =
       consumes = Consumes-trans _ _ _ inv.0 turn.0 inv.2.consumes turn.1.consumes;
       once = once_both c.args.player.now.is_over l.player.is_over p.is_over inv.0 turn.0 inv.2.once turn.1.once;
       leads = λ rest may. (
-        ends_at c.args.place 18446744073709551615 c.args.session.now (known c.args.player.now) inv.0 l.player.is_over l.steps l.session (known l.player) inv.2.runs c.loop-steps-test.true
+        ends_at c.args.place 18446744073709551615 c.args.session.now (known c.args.player.now) inv.0 l.player.is_over l.steps l.session
+            (known l.player) inv.2.runs c.loop-steps-test.true
             turn.0 p.is_over None u (known p) turn.1.once turn.1.turn refl at' rest may,
-        makes_at pass_step c.args.place 18446744073709551615 c.args.session.now (known c.args.player.now) inv.0 l.player.is_over l.steps l.session (known l.player) (gathered c.args.tracer.now) (gathered l.tracer) inv.2.makes c.loop-steps-test.true
+        makes_at pass_step c.args.place 18446744073709551615 c.args.session.now (known c.args.player.now) inv.0 l.player.is_over l.steps l.session
+            (known l.player) (gathered c.args.tracer.now) (gathered l.tracer) inv.2.makes c.loop-steps-test.true
             turn.0 p.is_over None u (known p) turn.1.once turn.1.turn (gathered c.passed_turn.new.tracer) turn.2 refl at' rest may,
       );
     }
@@ -95,9 +100,11 @@ loop-steps-preserved g c =
         once = once_both c.args.player.now.is_over l.player.is_over p.is_over inv.0 turn.0 inv.2.once turn.1.once;
         waits = c.in-Ok-None.ensures.waits;
         over = still_over l.player.is_over p.is_over _ _ turn.1.over inv.2.over;
-        runs = runs_on c.args.place 18446744073709551615 c.args.session.now (known c.args.player.now) inv.0 l.player.is_over l.steps l.session (known l.player) inv.2.runs c.loop-steps-test.true
+        runs = runs_on c.args.place 18446744073709551615 c.args.session.now (known c.args.player.now) inv.0 l.player.is_over l.steps l.session
+            (known l.player) inv.2.runs c.loop-steps-test.true
             turn.0 p.is_over None u (known p) turn.1.once turn.1.turn refl off;
-        makes = makes_on pass_step c.args.place 18446744073709551615 c.args.session.now (known c.args.player.now) inv.0 l.player.is_over l.steps l.session (known l.player) (gathered c.args.tracer.now) (gathered l.tracer) inv.2.makes c.loop-steps-test.true
+        makes = makes_on pass_step c.args.place 18446744073709551615 c.args.session.now (known c.args.player.now) inv.0 l.player.is_over l.steps
+            l.session (known l.player) (gathered c.args.tracer.now) (gathered l.tracer) inv.2.makes c.loop-steps-test.true
             turn.0 p.is_over None u (known p) turn.1.once turn.1.turn (gathered c.passed_turn.new.tracer) turn.2 refl off;
         sheet = c.in-Ok-None.ensures.sheet ∙ inv.2.sheet;
         out = more.1 ∙ ap (λ out. out ++ more.0) inv.2.out ∙ append_assoc _ inv.1 more.0;
@@ -113,9 +120,12 @@ returns-clause-ok g c =
       consumes = inv.2.consumes;
       once = inv.2.once;
       leads = λ rest may. (
-        ends_full c.args.place 18446744073709551615 c.args.session.now (known c.args.player.now) inv.0 l.player.is_over l.steps l.session (known l.player) inv.2.runs (omega (arith, c.loop-steps-test.false)) (omega (arith, c.loop-steps.auto.steps-end)) rest may
-            ∙ ap (λ (e : Ending). record { steps = 18446744073709551615; ending = e; play = play_at l.session (known l.player) rest }) (sym c.ending_after.ensures),
-        makes_full pass_step c.args.place 18446744073709551615 c.args.session.now (known c.args.player.now) inv.0 l.player.is_over l.steps l.session (known l.player) (gathered c.args.tracer.now) (gathered l.tracer) inv.2.makes (omega (arith, c.loop-steps-test.false)) rest may,
+        ends_full c.args.place 18446744073709551615 c.args.session.now (known c.args.player.now) inv.0 l.player.is_over l.steps l.session
+            (known l.player) inv.2.runs (omega (arith, c.loop-steps-test.false)) (omega (arith, c.loop-steps.auto.steps-end)) rest may
+            ∙ ap (λ (e : Ending). record { steps = 18446744073709551615; ending = e; play = play_at l.session (known l.player) rest })
+                (sym c.ending_after.ensures),
+        makes_full pass_step c.args.place 18446744073709551615 c.args.session.now (known c.args.player.now) inv.0 l.player.is_over l.steps l.session
+            (known l.player) (gathered c.args.tracer.now) (gathered l.tracer) inv.2.makes (omega (arith, c.loop-steps-test.false)) rest may,
       );
     }
 
@@ -134,7 +144,8 @@ returns-in-Err-clause-err g c =
     let inv = c.loop-steps.invariant in
     let l = c.loop-steps in
     let turn = c.in-Err.ensures.err in
-    run_cut c.args.place 18446744073709551615 (λ (p : Play). p) (λ (p : Play). ⊤) c.args.session.now c.args.player.now _ _ _ inv.0 l.steps l.session l.player c.passed_turn.new.session c.passed_turn.new.player turn.0
+    run_cut c.args.place 18446744073709551615 (λ (p : Play). p) (λ (p : Play). ⊤) c.args.session.now c.args.player.now _ _ _ inv.0 l.steps l.session
+        l.player c.passed_turn.new.session c.passed_turn.new.player turn.0
     inv.2.consumes inv.2.once inv.2.runs c.loop-steps-test.true turn.1 (λ rest may. tt)
 
 pub returns-in-Err-clause-over : goal.returns-in-Err-clause-over

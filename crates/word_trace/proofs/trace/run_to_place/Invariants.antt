@@ -16,7 +16,8 @@ invariant-loop-steps g l = (told : List ℕ) × (put : List ℕ) × record {
   waits : Waits l.session.current l.player.waiting;
   over : EndsAt l.player.is_over (g.R.Read.remaining l.input);
   runs : RunsOn l.fn.place 18446744073709551615 l.fn.session (known l.fn.player) told l.player.is_over l.steps l.session (known l.player);
-  makes : MakesOn pass_step l.fn.place 18446744073709551615 l.fn.session (known l.fn.player) told l.player.is_over l.steps l.session (known l.player) (gathered l.fn.tracer) (gathered l.tracer);
+  makes : MakesOn pass_step l.fn.place 18446744073709551615 l.fn.session (known l.fn.player) told l.player.is_over l.steps l.session (known l.player)
+      (gathered l.fn.tracer) (gathered l.tracer);
   sheet : l.tracer.sheet ≡ l.fn.tracer.sheet;
   out : l.session.current.bus.out ≡ l.fn.session.current.bus.out ++ put;
   appends : Appends (g.E.Write.contents l.fn.errors) (g.E.Write.contents l.errors) put;

@@ -19,7 +19,8 @@ returns-then-take_counted_turn-clause-ok g c =
       [],
       [],
       turned_alone _ _ _ _ _ turn.over (turn.made is),
-      turn_counted c.args.session.now.current c.take_counted_turn.new.session.current (gathered c.args.tracer.now) (gathered c.take_counted_turn.new.tracer) (turn.noted is) (turn.text is),
+      turn_counted c.args.session.now.current c.take_counted_turn.new.session.current (gathered c.args.tracer.now)
+          (gathered c.take_counted_turn.new.tracer) (turn.noted is) (turn.text is),
       gathers_none _ _ _ _ refl (ap (λ (sheet : Sheet). sheet.text.items) turn.sheet),
     )
 
@@ -33,7 +34,8 @@ returns-clause-ok g c =
       held = g.O.Write.contents c.args.output.now;
       now = g.O.Write.contents slow.new.output;
     } in
-    let T : Tracer → Session → Player → Type 0 = λ t s p. IfOk slow.result (λ ending. NotedTurn ending s p t streams slow.new.session slow.new.player slow.new.tracer) in
+    let T : Tracer → Session → Player → Type 0 = λ t s p. IfOk slow.result
+        (λ ending. NotedTurn ending s p t streams slow.new.session slow.new.player slow.new.tracer) in
     subst (λ t. T t c.args.session.now c.args.player.now) same.2 (with_same (T c.take_counted_turn.new.tracer) same.0 same.1 slow.ensures.ok)
 
 pub returns-clause-err : goal.returns-clause-err
@@ -57,5 +59,6 @@ pub returns-clause-output : goal.returns-clause-output
 returns-clause-output g c =
     let same = c.take_counted_turn.ensures.not c.if-take_counted_turn.false in
     let slow = c.note_slowly in
-    subst (λ (s : Session). (text : List ℕ) × (slow.new.session.current.bus.out ≡ s.current.bus.out ++ text) × Writes (g.E.Write.contents c.args.errors.now) (g.E.Write.contents slow.new.errors) text slow.result)
+    subst (λ (s : Session). (text : List ℕ) × (slow.new.session.current.bus.out ≡ s.current.bus.out ++ text)
+        × Writes (g.E.Write.contents c.args.errors.now) (g.E.Write.contents slow.new.errors) text slow.result)
     same.0 slow.ensures.output

@@ -5,4 +5,5 @@ use Rattle.model.specs.Names.{number_in}
 use Rattle.emission.proofs.emit.LineBytes.add_items.Given as goal
 
 abbrev pub invariant-loop-item : goal.invariant-loop-item
-invariant-loop-item l = with_pieces l.self (item_pieces (number_in l.names) l.here (map item_view (drop l.item-index l.items))) ≡ with_pieces l.fn.self (item_pieces (number_in l.names) l.here (map item_view l.items))
+invariant-loop-item l = with_pieces l.self (item_pieces (number_in l.names) l.here (map item_view (drop l.item-index l.items)))
+    ≡ with_pieces l.fn.self (item_pieces (number_in l.names) l.here (map item_view l.items))

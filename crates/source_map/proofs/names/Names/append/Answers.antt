@@ -23,4 +23,5 @@ pub returns-clause-ok : goal.returns-clause-ok
 returns-clause-ok c =
     let a = c.args.assembly.now in
     c.loop-index.invariant.added
-    ∙ ap (λ ds. c.args.self.now ++ names_of a.image ds) (take_all c.loop-index.index (named_numbers a) (omega (arith, length-zip a.names a.labels, min-le_left (length a.names) (length a.labels))))
+    ∙ ap (λ ds. c.args.self.now ++ names_of a.image ds) (take_all c.loop-index.index (named_numbers a)
+        (omega (arith, length-zip a.names a.labels, min-le_left (length a.names) (length a.labels))))

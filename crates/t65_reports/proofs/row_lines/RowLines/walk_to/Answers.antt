@@ -32,6 +32,7 @@ loop-preserved c =
     let before : c.loop.self.next < c.args.number = grind arith in
     record {
       left = omega arith;
-      found = walked_more c.args.number c.loop.self.next c.saturating_add-self.result c.next_line.result.0.now (lines_of c.next_line.result.1.now) before (omega arith) c.saturating_add-self.ensures
+      found = walked_more c.args.number c.loop.self.next c.saturating_add-self.result c.next_line.result.0.now (lines_of c.next_line.result.1.now)
+          before (omega arith) c.saturating_add-self.ensures
           ∙ (ap (walked c.args.number c.loop.self.next) (sym c.next_line.ensures.cut) ∙ c.loop.invariant.found);
     }

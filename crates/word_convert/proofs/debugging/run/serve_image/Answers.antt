@@ -12,4 +12,5 @@ returns-in-Err-clause-begun g c = λ three.
       held = g.O.Write.contents c.args.output.now;
       now = g.O.Write.contents c.serve.new.output;
     } in
-    has_begun_on (debug_view c.args.words.now) c.args.map c.args.image streams _ c.in-Err.fault c.requires.map c.requires.image c.in-Err.ensures.serves c.in-Err.ensures.ends
+    has_begun_on (debug_view c.args.words.now) c.args.map c.args.image streams _ c.in-Err.fault c.requires.map c.requires.image
+        c.in-Err.ensures.serves c.in-Err.ensures.ends
