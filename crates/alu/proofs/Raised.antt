@@ -45,7 +45,7 @@ low_is a m c h =
     let z = pos (low_part a) -ℤ pos (low_part m) -ℤ pos k in
     let e : z +ℤ pos 16 ≡ pos (low_raised a m k) = difference 16 (a % 16) (m % 16) k (omega arith) in
     let less : modulo (z -ℤ pos 6) 16 ≡ (low_raised a m k + 10) % 16 =
-        modulo_raised (z -ℤ pos 6) 16 2 (low_raised a m k + 10) (omega arith) (omega (arith, ints)) in
+    modulo_raised (z -ℤ pos 6) 16 2 (low_raised a m k + 10) (omega arith) (omega (arith, ints)) in
     by z (low_raised a m k) (nat_lt (low_raised a m k) 16) (below_raised z 16 (low_raised a m k) e) less e
   where
     by : (z : ℤ) (n : ℕ) (b : Bool) → lt_z z (pos 0) ≡ b → modulo (z -ℤ pos 6) 16 ≡ (n + 10) % 16 → z +ℤ pos 16 ≡ pos n
@@ -59,7 +59,7 @@ high_raised a m low = 256 + high_part a - high_part m + low - 16
 
 pub decimal_is : (a m : ℕ) (c : Bool) → a < 256 → m < 256 → bit (not c) < 2
     → (sbc_decimal a m c).value ≡ (let raised = high_raised a m (lowered (low_raised a m (bit (not c)))) in
-        if nat_lt raised 256 then (raised + 160) % 256 else raised % 256)
+    if nat_lt raised 256 then (raised + 160) % 256 else raised % 256)
 decimal_is a m c ha hm h =
     let low = lowered (low_raised a m (bit (not c))) in
     let n = high_raised a m low in

@@ -23,9 +23,9 @@ clash_joined r w i h a b =
     let rest : List (Option Text) = drop (suc i) w in
     let cut : clash (r ++ take i w) (drop i w) ≡ clash (r ++ take i w) (file ∷ rest) = ap (clash (r ++ take i w)) (drop-cons w i None h) in
     let apart : clash (r ++ take i w) (file ∷ rest) ≡ clash (r ++ take i w ++ (file ∷ [])) rest =
-        ap (λ x. x || clash (r ++ take i w ++ (file ∷ [])) rest) (is_none_among r (take i w) file a b) in
+    ap (λ x. x || clash (r ++ take i w ++ (file ∷ [])) rest) (is_none_among r (take i w) file a b) in
     let joined : clash (r ++ take i w ++ (file ∷ [])) rest ≡ clash (r ++ take (suc i) w) rest =
-        ap (λ l. clash l rest) (append_assoc r (take i w) (file ∷ []) ∙ ap (λ l. r ++ l) (sym (take-suc w i None h))) in
+    ap (λ l. clash l rest) (append_assoc r (take i w) (file ∷ []) ∙ ap (λ l. r ++ l) (sym (take-suc w i None h))) in
     rw (add-one) (cut ∙ (apart ∙ joined))
 
 pub clash_stepped : (r : List (Option Text)) (files : List (Option (Bor Text))) (i : ℕ) → i < length files
@@ -35,7 +35,7 @@ clash_stepped r files i h a b =
     let within : i < length (map named files) = rw (length-map files named) h in
     let same : get_or (map named files) i None ≡ named (get_or files i None) = get_or-map named files i None in
     let apart : is_among (take i (map named files)) (named (get_or files i None)) ≡ false =
-        ap (λ l. is_among l (named (get_or files i None))) (take-map named i files) ∙ b in
+    ap (λ l. is_among l (named (get_or files i None))) (take-map named i files) ∙ b in
     clash_joined r (map named files) i within (ap (is_among r) same ∙ a) (ap (is_among (take i (map named files))) same ∙ apart)
 
 pub clash_ended : {X : Type 0} (f : X → Option Text) (r : List (Option Text)) (files : List X) (i : ℕ) → length files ≤ i

@@ -31,7 +31,7 @@ split : (parts : List (Bor Text)) (i : ℕ) (d : Bor Text) → i < length parts
     → joined (texts parts) ≡ joined (texts (take i parts)) ++ ((get_or parts i d).now ++ joined (texts (drop (suc i) parts)))
 split parts i d h =
     let whole : parts ≡ take i parts ++ (get_or parts i d ∷ drop (suc i) parts) =
-        sym (take-append-drop i parts) ∙ ap (λ l. take i parts ++ l) (drop-cons parts i d h) in
+    sym (take-append-drop i parts) ∙ ap (λ l. take i parts ++ l) (drop-cons parts i d h) in
     ap (λ l. joined (texts l)) whole
     ∙ ap joined (map-append (λ (s : Bor Text). s.now) (take i parts) (get_or parts i d ∷ drop (suc i) parts))
     ∙ joined-append (texts (take i parts)) (texts (get_or parts i d ∷ drop (suc i) parts))

@@ -37,8 +37,12 @@ says_of_words app words W (Help text) status is (inr four) =
     record { help = λ h. is.1; never = λ h. omega (arith, four, h); wrong = λ h. absurd (omega (arith, four, h)) }
 says_of_words app words W (Usage text) status is two = record
     { help = λ h. absurd (neither status two h); never = λ h. omega (arith, two, h); wrong = λ h. inl (kind_of text, is.0, is.1) }
-says_of_words app words W Value status is two = record { help = λ h. absurd (neither status two h); never = λ h. omega (arith, two, h); wrong =
-    λ h. inr (is.0, is.1) }
+says_of_words app words W Value status is two = record {
+  help = λ h. absurd (neither status two h);
+  never = λ h. omega (arith, two, h);
+  wrong =
+      λ h. inr (is.0, is.1);
+}
 says_of_words app words W (Wrong which) status is two = record
     { help = λ h. absurd (neither status two h); never = λ h. omega (arith, two, h); wrong = λ h. inr (is.0, is.1) }
 says_of_words app words W OutOfMemory status is three = record

@@ -203,11 +203,11 @@ module _ (profile : Profile) (longest : ReadsLongest) where
   unfolding directive_of
   small_directive text ts few light =
       small_if (is_directive text (codes ".BYTE")) (option_map bytes (items_of ts)) _
-          (small_bytes (length ts + weight ts) (items_of ts) (omega arith) (items_light (length ts) ts))
+      (small_bytes (length ts + weight ts) (items_of ts) (omega arith) (items_light (length ts) ts))
       (small_if (is_directive text (codes ".WORD")) (option_map words (expressions_of ts)) _
-          (small_words (length ts) (expressions_of ts) few (list_few expression_of (length ts) ts))
+      (small_words (length ts) (expressions_of ts) few (list_few expression_of (length ts) ts))
       (small_if (is_directive text (codes ".DBYTE")) (option_map words_high_first (expressions_of ts)) _
-          (small_words_high_first (length ts) (expressions_of ts) few (list_few expression_of (length ts) ts))
+      (small_words_high_first (length ts) (expressions_of ts) few (list_few expression_of (length ts) ts))
       (small_if (is_directive text (codes ".RES")) (option_map reserve (whole_expression ts)) _ (small_reserve (whole_expression ts))
       (small_if (is_directive text (codes ".END")) (finish_alone ts) None (small_finish ts) tt))))
 

@@ -196,8 +196,14 @@ module _ (profile : Profile) (longest : ReadsLongest) (one : OneExpression) wher
         index_read true e i,
       ) refl
   operand_read (in_brackets t c {e = e} {ts = ts} h d k) =
-      rw (not_a t (ts ++ c ∷ []) 40 h, symbol_other t 40 35 refl h, symbol_is t 40 h, read_before longest one e ts (c ∷ []) d
-          (41, foreign.closing, k), symbol_is c 41 k) refl
+      rw (
+        not_a t (ts ++ c ∷ []) 40 h,
+        symbol_other t 40 35 refl h,
+        symbol_is t 40 h,
+        read_before longest one e ts (c ∷ []) d
+            (41, foreign.closing, k),
+        symbol_is c 41 k,
+      ) refl
   operand_read (in_brackets_by_x t m x c {e = e} {ts = ts} h d n w k) =
       rw (
         not_a t (ts ++ m ∷ x ∷ c ∷ []) 40 h,
@@ -245,8 +251,12 @@ module _ (profile : Profile) (longest : ReadsLongest) (one : OneExpression) wher
       directive_operation profile t.kind t ts h.kind ∙ rw (h.letters, list_read IsItem item_of items (length ts) l (omega arith)) refl
   operation_read (word_directive t {ts = ts} h l) =
       directive_operation profile t.kind t ts h.kind
-      ∙ rw (other_text t.text (codes ".WORD") (codes ".BYTE") refl h.letters, h.letters, list_read IsExpression expression_of expressions (length ts)
-          l (omega arith)) refl
+      ∙ rw (
+        other_text t.text (codes ".WORD") (codes ".BYTE") refl h.letters,
+        h.letters,
+        list_read IsExpression expression_of expressions (length ts)
+            l (omega arith),
+      ) refl
   operation_read (dbyte_directive t {ts = ts} h l) =
       directive_operation profile t.kind t ts h.kind
       ∙ rw (

@@ -69,7 +69,7 @@ index_is marked e (c ∷ w ∷ []) o h = by (is_symbol 44 c && is_word (codes "X
   where
     by : (x y : Bool) → (is_symbol 44 c && is_word (codes "X") w) ≡ x → (is_symbol 44 c && is_word (codes "Y") w) ≡ y
         → (if x then Some (direct marked e Rattle.model.specs.declared.line.Index.TheVariants.X) else if y then Some
-            (direct marked e Rattle.model.specs.declared.line.Index.TheVariants.Y) else None) ≡ Some o
+        (direct marked e Rattle.model.specs.declared.line.Index.TheVariants.Y) else None) ≡ Some o
         → (by : Index) × (o ≡ direct marked e by) × IsIndex by (c ∷ w ∷ [])
     by true y hx hy k =
         let b = both (is_symbol 44 c) (is_word (codes "X") w) hx in
@@ -197,12 +197,12 @@ module _ (profile : Profile) (longest : ReadsLongest) where
             let p = both3 (is_symbol 44 a) (is_word (codes "X") b) (is_symbol 41 c) hx in
             let same : pointer_by_x e ≡ o = cc in
             subst (λ (q : Operand). IsOperand q (t ∷ (front ++ a ∷ b ∷ c ∷ []))) same
-                (in_brackets_by_x t a b c opens d (symbol_back a 44 p.0) p.1 (symbol_back c 41 p.2))
+            (in_brackets_by_x t a b c opens d (symbol_back a 44 p.0) p.1 (symbol_back c 41 p.2))
         by false true hx hy k =
             let p = both3 (is_symbol 41 a) (is_symbol 44 b) (is_word (codes "Y") c) hy in
             let same : pointer_by_y e ≡ o = cc in
             subst (λ (q : Operand). IsOperand q (t ∷ (front ++ a ∷ b ∷ c ∷ []))) same
-                (in_brackets_by_y t a b c opens d (symbol_back a 41 p.0) (symbol_back b 44 p.1) p.2)
+            (in_brackets_by_y t a b c opens d (symbol_back a 41 p.0) (symbol_back b 44 p.1) p.2)
         by false false hx hy k = cc
   closed_is t front e (a ∷ b ∷ c ∷ u ∷ us) o opens d h = cc
 
@@ -247,7 +247,7 @@ module _ (profile : Profile) (longest : ReadsLongest) where
 
   directive_by : (t : Lexeme) (ts : List Lexeme) (s : Statement) (a b c d e : Bool) → t.kind ≡ Directive
       → is_directive t.text (codes ".BYTE") ≡ a → is_directive t.text (codes ".WORD") ≡ b → is_directive t.text (codes ".DBYTE") ≡ c
-          → is_directive t.text (codes ".RES") ≡ d
+      → is_directive t.text (codes ".RES") ≡ d
       → is_directive t.text (codes ".END") ≡ e
       → (if a then option_map bytes (items_of ts)
       else if b then option_map words (expressions_of ts)
@@ -259,15 +259,15 @@ module _ (profile : Profile) (longest : ReadsLongest) where
   directive_by t ts s true b c d e k ha hb hc hd he h =
       let m = mapped bytes (items_of ts) s h in
       subst (λ (x : Statement). IsOperation profile x (t ∷ ts)) m.to
-          (byte_directive t (record { kind = k; letters = ha }) (list_is IsItem item_of items (length ts) ts m.from m.is))
+      (byte_directive t (record { kind = k; letters = ha }) (list_is IsItem item_of items (length ts) ts m.from m.is))
   directive_by t ts s false true c d e k ha hb hc hd he h =
       let m = mapped words (expressions_of ts) s h in
       subst (λ (x : Statement). IsOperation profile x (t ∷ ts)) m.to
-          (word_directive t (record { kind = k; letters = hb }) (list_is IsExpression expression_of expressions (length ts) ts m.from m.is))
+      (word_directive t (record { kind = k; letters = hb }) (list_is IsExpression expression_of expressions (length ts) ts m.from m.is))
   directive_by t ts s false false true d e k ha hb hc hd he h =
       let m = mapped words_high_first (expressions_of ts) s h in
       subst (λ (x : Statement). IsOperation profile x (t ∷ ts)) m.to
-          (dbyte_directive t (record { kind = k; letters = hc }) (list_is IsExpression expression_of expressions (length ts) ts m.from m.is))
+      (dbyte_directive t (record { kind = k; letters = hc }) (list_is IsExpression expression_of expressions (length ts) ts m.from m.is))
   directive_by t ts s false false false true e k ha hb hc hd he h =
       let m = mapped reserve (whole_expression ts) s h in
       subst (λ (x : Statement). IsOperation profile x (t ∷ ts)) m.to (res_directive t (record { kind = k; letters = hd }) (whole_is ts m.from m.is))

@@ -65,28 +65,28 @@ denoted_from meant m source (Err f) h = tt
 
 pub places_from : JudgedIsMeant → OneAssignment → (m : Map) (source : List ℕ) (r : Given) → AnswersSource verdict_view r (verdict m source)
     → IfOk r (λ a. (placed : List PlacedLine) (all : Context) → IsLaidOut (first_context m.profile) (read_lines m.profile source) placed all
-        → a.places ≡ extents_of placed)
+    → a.places ≡ extents_of placed)
 places_from meant one m source (Ok a) h = λ placed all laid.
     let x = meant_as meant m source a h in
     let same : x.judgement.placed ≡ placed = (one (read_lines m.profile source) (first_context m.profile) x.judgement.placed placed x.judgement.all
-        all x.laid laid).0 in
+    all x.laid laid).0 in
     sym (ap (λ (v : Verdict). v.places) x.shown) ∙ ap extents_of same
 places_from meant one m source (Err f) h = tt
 
 pub names_from : JudgedIsMeant → OneAssignment → (m : Map) (source : List ℕ) (r : Given) → AnswersSource verdict_view r (verdict m source)
     → IfOk r (λ a. (placed : List PlacedLine) (all : Context) → IsLaidOut (first_context m.profile) (read_lines m.profile source) placed all
-        → a.names ≡ all.names)
+    → a.names ≡ all.names)
 names_from meant one m source (Ok a) h = λ placed all laid.
     let x = meant_as meant m source a h in
     let same : x.judgement.all ≡ all = (one (read_lines m.profile source) (first_context m.profile) x.judgement.placed placed x.judgement.all all
-        x.laid laid).1 in
+    x.laid laid).1 in
     sym (ap (λ (v : Verdict). v.names) x.shown) ∙ ap (λ (f : Context). f.names) same
 names_from meant one m source (Err f) h = tt
 
 pub lines_from : JudgedIsMeant → OneAssignment → (m : Map) (source : List ℕ) (r : Given) → AnswersSource verdict_view r (verdict m source)
     → IfOk r (λ a. a.source ≡ source) → IfOk r (AreRead m.profile)
     → IfOk r (λ a. (placed : List PlacedLine) (all : Context) → IsLaidOut (first_context m.profile) (read_lines m.profile source) placed all
-        → source_lines a ≡ placed_lines m.profile source placed)
+    → source_lines a ≡ placed_lines m.profile source placed)
 lines_from meant one m source (Ok a) h kept are = λ placed all laid.
     lines_are m.profile source a placed all kept are (places_from meant one m source (Ok a) h placed all laid) laid
 lines_from meant one m source (Err f) h kept are = tt
@@ -104,8 +104,8 @@ assembled_by : (m : Map) (source : List ℕ) (a : AssemblyView) → a.source ≡
     → source_lines a ≡ placed_lines m.profile source d.placed → a.labels ≡ labels_in m.profile (read_lines m.profile source) → IsAssembled m a
 assembled_by m source a kept d names places lines labels =
     let of_its_source = subst (λ text. (e : Denotes m text a.image) × (a.names ≡ e.all.names) × (a.places ≡ extents_of e.placed)
-        × (source_lines a ≡ placed_lines m.profile text e.placed) × (a.labels ≡ labels_in m.profile (read_lines m.profile text))) (sym kept)
-        (d, names, places, lines, labels) in
+    × (source_lines a ≡ placed_lines m.profile text e.placed) × (a.labels ≡ labels_in m.profile (read_lines m.profile text))) (sym kept)
+    (d, names, places, lines, labels) in
     record { denotes = of_its_source.0; names = of_its_source.1; places = of_its_source.2; lines = of_its_source.3; labels = of_its_source.4 }
 
 pub assembled_from : JudgedIsMeant → OneAssignment → (m : Map) (source : List ℕ) (r : Given) → AnswersSource verdict_view r (verdict m source)
@@ -115,7 +115,7 @@ assembled_from meant one m source (Ok a) h kept are =
     let names = names_from meant one m source (Ok a) h d.placed d.all d.laid in
     let places = places_from meant one m source (Ok a) h d.placed d.all d.laid in
     assembled_by m source a kept d names places (lines_from meant one m source (Ok a) h kept are d.placed d.all d.laid)
-        (labels_from meant one m source (Ok a) h kept are)
+    (labels_from meant one m source (Ok a) h kept are)
 assembled_from meant one m source (Err f) h kept are = tt
 
 pub only_from : DenotedIsJudged → (m : Map) (source : List ℕ) (r : Given) → AnswersSource verdict_view r (verdict m source) → (image : Cells)
@@ -151,8 +151,15 @@ faulty_from fault m source (Err e) (inr h) f bad =
     inl (ap (λ (x : AsmFault). Err x) (err_same e f (verdict m source) (verdict m source) h there refl))
 
 listing_by : (m : Map) (source : List ℕ) (a : AssemblyView) (x : Meant m source a) → OneAssignment
-    → IsListing m source (listing_of (record { image = a.image; source = source; places = a.places; instructions = a.instructions; names =
-    a.names; labels = a.labels }))
+    → IsListing m source (listing_of (record {
+      image = a.image;
+      source = source;
+      places = a.places;
+      instructions = a.instructions;
+      names =
+          a.names;
+      labels = a.labels;
+    }))
 unfolding read_lines
 listing_by m source a x one =
     let d = x.denotes in

@@ -48,6 +48,6 @@ done profile number before found rest total empty so_far = sym so_far ∙ rw (no
 -- before the first line
 pub starts : (profile : Profile) (found : Found) (names : Definitions) (source : List ℕ) → found ≡ nothing_found → names ≡ []
     → left profile 1 (record { profile = profile; address = 0; names = names }) found source
-        ≡ found_lines 1 (first_context profile) nothing_found (read_lines profile source)
+    ≡ found_lines 1 (first_context profile) nothing_found (read_lines profile source)
 unfolding read_lines
 starts profile found names source none no_names = rw (none, no_names) refl

@@ -44,20 +44,20 @@ pub first_cut : (text : List ℕ) (at len : ℕ) → position is_end text ≡ So
     → lines_of text ≡ take len text ∷ lines_of (drop (at + 1) text)
 first_cut text at len met front inside =
     let behind : take (length text - (at + 1)) (drop (at + 1) text) ≡ drop (at + 1) text =
-        take_all _ (drop (at + 1) text) (omega (arith, length-drop (at + 1) text)) in
+    take_all _ (drop (at + 1) text) (omega (arith, length-drop (at + 1) text)) in
     let line : strip_last 13 (take at text) ≡ take len text =
-        sym front ∙ take_both len at text (omega (arith, inside, length-take at text, min-le_left at (length text))) in
+    sym front ∙ take_both len at text (omega (arith, inside, length-take at text, min-le_left at (length text))) in
     lines_of-cut text at met ∙ (ap (λ (l : List ℕ). l ∷ lines_of (take (length text - (at + 1)) (drop (at + 1) text))) line
-        ∙ ap (λ (l : List ℕ). take len text ∷ lines_of l) behind)
+    ∙ ap (λ (l : List ℕ). take len text ∷ lines_of l) behind)
 
 pub first_uncut : (text : List ℕ) → 0 < length text → position is_end text ≡ None
     → lines_of text ≡ take (length text) text ∷ lines_of (drop (length text) text)
 first_uncut text some met =
     let behind : take (length text - length text) (drop (length text) text) ≡ drop (length text) text =
-        take_all _ (drop (length text) text) (omega (arith, length-drop (length text) text)) in
+    take_all _ (drop (length text) text) (omega (arith, length-drop (length text) text)) in
     let line : text ≡ take (length text) text = sym (take_all (length text) text (omega arith)) in
     lines_of-uncut text some met ∙ (ap (λ (l : List ℕ). l ∷ lines_of (take (length text - length text) (drop (length text) text))) line
-        ∙ ap (λ (l : List ℕ). take (length text) text ∷ lines_of l) behind)
+    ∙ ap (λ (l : List ℕ). take (length text) text ∷ lines_of l) behind)
 
 -- ---- lines, one after another
 
@@ -85,13 +85,13 @@ one_label profile line = by (label_in profile line) refl
 pub text_more : (profile : Profile) (source line : List ℕ) (more : List (List ℕ)) (texts : List LineText) (text : LineText) (labels : List Bool)
     (label : Option Bool) → AreTexts profile source texts labels
     → drop (length texts) (lines_of source) ≡ line ∷ more → text_in source text ≡ line → text.is_instruction ≡ is_instruction_in profile line
-        → label ≡ label_in profile line
+    → label ≡ label_in profile line
     → AreTexts profile source (texts ++ text ∷ []) (labels ++ option_to_list label)
 text_more profile source line more texts text labels label are here is code named =
     let lines = lines_of source in
     let n = length texts in
     let next : take (length (texts ++ text ∷ [])) lines ≡ take n lines ++ line ∷ [] =
-        ap (λ (k : ℕ). take k lines) (length_push texts text) ∙ take_next lines n line more here in
+    ap (λ (k : ℕ). take k lines) (length_push texts text) ∙ take_next lines n line more here in
     record {
       cut = map-append (text_in source) texts (text ∷ [])
           ∙ (ap (λ (ts : List (List ℕ)). ts ++ text_in source text ∷ []) are.cut ∙ (ap (λ (t : List ℕ). take n lines ++ t ∷ []) is ∙ sym next));
@@ -166,7 +166,7 @@ count_by source spans texts paired cut =
     let places : length (pairs_of spans) ≡ length spans = length-map spans pair_of in
     let codes : length (instructions_of texts) ≡ length texts = length-map texts (λ (t : LineText). t.is_instruction) in
     lines_length 1 (lines_of source) (pairs_of spans) (instructions_of texts) (omega (arith, places, paired, texts_few source texts cut))
-        (omega (arith, places, codes, paired)) ∙ places
+    (omega (arith, places, codes, paired)) ∙ places
 
 past_end : (spans : List Span) (i : ℕ) → slice_get spans i ≡ None → length spans ≤ i
 past_end spans i none = elim (slice_get_cases spans i).1 [
@@ -194,7 +194,7 @@ line_there source spans texts i span text cut here there =
     let line = got_behind (lines_of source) (length texts) i (text_in source text) front in
     let place : slice_get (pairs_of spans) i ≡ Some (pair_of span) = slice_get-map pair_of spans i ∙ ap (option_map pair_of) here in
     let code : slice_get (instructions_of texts) i ≡ Some text.is_instruction =
-        slice_get-map (λ (t : LineText). t.is_instruction) texts i ∙ ap (option_map (λ (t : LineText). t.is_instruction)) there in
+    slice_get-map (λ (t : LineText). t.is_instruction) texts i ∙ ap (option_map (λ (t : LineText). t.is_instruction)) there in
     let number : 1 + i ≡ i + 1 = omega arith in
     line_at i 1 (lines_of source) (pairs_of spans) (instructions_of texts) (text_in source text) (pair_of span) text.is_instruction line place code
     ∙ ap (λ (k : ℕ). Some (line_as k (text_in source text) (pair_of span) text.is_instruction)) number
@@ -225,7 +225,7 @@ lines_read profile [] before placed all laid = let none : placed ≡ [] = laid.0
 lines_read profile (line ∷ lines) before [] all laid = absurd laid
 lines_read profile (line ∷ lines) before (p ∷ ps) all laid =
     ap (λ (ls : List (List ℕ)). line ∷ ls) (read_after profile lines (ends (read_line profile line)) laid.0 ps all
-        (λ (rest : IsLaidOut laid.0 (up_to_end profile lines) ps all). lines_read profile lines laid.0 ps all rest) laid.2)
+    (λ (rest : IsLaidOut laid.0 (up_to_end profile lines) ps all). lines_read profile lines laid.0 ps all rest) laid.2)
 
 pub lines_are : (profile : Profile) (source : List ℕ) (a : AssemblyView) (placed : List PlacedLine) (all : Context) → a.source ≡ source
     → AreRead profile a → a.places ≡ extents_of placed
@@ -346,7 +346,7 @@ pub texts_step : (profile : Profile) (source : List ℕ) (start len : ℕ) (more
     → new ≡ texts ++ text_noted start len code ∷ [] → grown ≡ labels ++ option_to_list label → AreTexts profile source new grown
 texts_step profile source start len more texts new labels grown code label are here cut coded named noted told =
     rw (noted, told) (text_more profile source (take len (drop start source)) more texts (text_noted start len code) labels label are (sym here ∙ cut)
-        refl coded named)
+    refl coded named)
 
 pub here_step : (source line : List ℕ) (start next : ℕ) (texts new : List LineText) (text : LineText)
     → lines_of (drop start source) ≡ drop (length texts) (lines_of source)
@@ -359,12 +359,12 @@ here_step source line start next texts new text here cut noted =
 pub named_step : (number : ℕ) (found new : Found) (before next : Context) (text : List ℕ) (labels grown : List Bool) (label : Option Bool)
     → with_line_found number found (layout_of before text) ≡ Ok (new, next)
     → label ≡ reads_label (read_line before.profile text) → grown ≡ labels ++ option_to_list label → length labels ≡ length before.names
-        → length grown ≡ length next.names
+    → length grown ≡ length next.names
 named_step number found new before next text labels grown label laid named told so_far =
     let more = (names_grown number found new before next text laid).0 in
     let many : length grown ≡ length labels + length (option_to_list label) = ap length told ∙ length-append labels (option_to_list label) in
     let same : length (option_to_list label) ≡ length (option_to_list (label_in before.profile text)) =
-        ap (λ (o : Option Bool). length (option_to_list o)) named in
+    ap (λ (o : Option Bool). length (option_to_list o)) named in
     omega (arith, more, many, same, so_far)
 
 pub paired_step : (number : ℕ) (found new : Found) (before next : Context) (text : List ℕ) (texts longer : List LineText) (noted : LineText)

@@ -22,7 +22,7 @@ nothing_after image (line ∷ lines) next ps all laid = let none : ps ≡ [] = l
 rows_after : (profile : Profile) (image : Cells) (lines : List (List ℕ)) (ended : Bool) (next : Context) (ps : List PlacedLine) (all : Context)
     → (IsLaidOut next (up_to_end profile lines) ps all → rows_in image lines ps ≡ rows_in image (up_to_end profile lines) ps)
     → IsLaidOut next (if ended then [] else up_to_end profile lines) ps all
-        → rows_in image lines ps ≡ rows_in image (if ended then [] else up_to_end profile lines) ps
+    → rows_in image lines ps ≡ rows_in image (if ended then [] else up_to_end profile lines) ps
 rows_after profile image lines true next ps all later laid = nothing_after image lines next ps all laid
 rows_after profile image lines false next ps all later laid = later laid
 
@@ -35,4 +35,4 @@ rows_of_read profile image (line ∷ lines) before [] all laid = refl
 rows_of_read profile image (line ∷ lines) before (p ∷ ps) all laid =
     ap (λ (x : List ℕ). line_rows p.address (bytes_at image p.address (size_of p.content)) line ++ x)
     (rows_after profile image lines (is_end (read_line profile line)) laid.0 ps all
-        (λ (rest : IsLaidOut laid.0 (up_to_end profile lines) ps all). rows_of_read profile image lines laid.0 ps all rest) laid.2)
+    (λ (rest : IsLaidOut laid.0 (up_to_end profile lines) ps all). rows_of_read profile image lines laid.0 ps all rest) laid.2)

@@ -57,7 +57,7 @@ found_is (line ∷ lines) n before f = by (λ (m : Context) (g : Found). found_i
     by : ((m : Context) (g : Found) → found_lines (n + 1) m g lines ≡ (layout_from (n + 1) m lines >>= λ l. Ok (with_all (n + 1) g l)))
         → (r : Result PlacedAndContext AsmFaultKind)
         → (on_line n (with_line_found n f r) >>= λ p. found_lines (n + 1) p.1 p.0 lines)
-            ≡ ((on_line n r >>= λ p. layout_from (n + 1) p.1 lines >>= λ rest. Ok (behind p.0 rest)) >>= λ l. Ok (with_all n f l))
+        ≡ ((on_line n r >>= λ p. layout_from (n + 1) p.1 lines >>= λ rest. Ok (behind p.0 rest)) >>= λ l. Ok (with_all n f l))
     by later (Ok s) = later s.1 (with_line n f s.0) ∙ regroup s (layout_from (n + 1) s.1 lines)
     by later (Err k) = refl
 
@@ -107,7 +107,7 @@ kept_is m numbers (p ∷ ps) n image = step (λ (i : Cells). kept_is m numbers p
     step : ((i : Cells) → image_of_lines m numbers i (kept_from (n + 1) ps) ≡ image_from m numbers (n + 1) i ps)
         → (a : ℕ) (c : Content)
         → image_of_lines m numbers image (if is_kept c then numbered_line n (record { address = a; content = c })
-            ∷ kept_from (n + 1) ps else kept_from (n + 1) ps)
+        ∷ kept_from (n + 1) ps else kept_from (n + 1) ps)
         ≡ (on_line n (image_with_line m numbers image (record { address = a; content = c })) >>= λ i. image_from m numbers (n + 1) i ps)
     step later a no_bytes = rw (put_nothing m numbers image a) (later image)
     step later a (byte_list is) = on later (on_line n (image_with_line m numbers image (record { address = a; content = byte_list is })))
@@ -166,7 +166,7 @@ right_on m (Ok l) found all image e made =
     let extents : extents_of l.0 ≡ found.extents = ap (λ (x : Found × Context). x.0.extents) same in
     let fixed : l.1 ≡ all = ap (λ (x : Found × Context). x.1) same in
     rw (made_from m l found all (Ok image) same made) (ap (λ (x : List (ℕ × ℕ)). Ok (verdict_as image x l.1.names)) extents
-        ∙ ap (λ (x : Context). Ok (verdict_as image found.extents x.names)) fixed)
+    ∙ ap (λ (x : Context). Ok (verdict_as image found.extents x.names)) fixed)
 right_on m (Err f) found all image e made = absurd (not_both (found, all) f (Ok (found, all)) (Err f) refl refl (sym e))
 
 layout_on : (m : Map) (r : Result Laid AsmFault) (f : AsmFault) → (r >>= λ l. Ok (found_in l)) ≡ Err f → judged_on m r ≡ Err f
@@ -185,31 +185,31 @@ found_of_source m source = found_lines 1 (first_context m.profile) nothing_found
 
 pub verdict_right : (m : Map) (source : List ℕ) (found : Found) (all : Context) (image : Cells) → length source ≤ most_bytes
     → found_lines 1 (first_context m.profile) nothing_found (read_lines m.profile source) ≡ Ok (found, all)
-        → image_of_lines m (number_in all.names) empty_image found.kept ≡ Ok image
+    → image_of_lines m (number_in all.names) empty_image found.kept ≡ Ok image
     → verdict m source ≡ Ok (record { image = image; places = found.extents; names = all.names })
 verdict_right m source found all image small first second =
     small_verdict m source small ∙ right_on m (layout_from 1 (first_context m.profile) (read_lines m.profile source)) found all image
-        (sym (found_all m.profile (read_lines m.profile source)) ∙ first) second
+    (sym (found_all m.profile (read_lines m.profile source)) ∙ first) second
 
 pub verdict_layout : (m : Map) (source : List ℕ) (f : AsmFault) → length source ≤ most_bytes
     → found_lines 1 (first_context m.profile) nothing_found (read_lines m.profile source) ≡ Err f → verdict m source ≡ Err f
 verdict_layout m source f small first =
     small_verdict m source small ∙ layout_on m (layout_from 1 (first_context m.profile) (read_lines m.profile source)) f
-        (sym (found_all m.profile (read_lines m.profile source)) ∙ first)
+    (sym (found_all m.profile (read_lines m.profile source)) ∙ first)
 
 pub verdict_value : (m : Map) (source : List ℕ) (found : Found) (all : Context) (f : AsmFault) → length source ≤ most_bytes
     → found_lines 1 (first_context m.profile) nothing_found (read_lines m.profile source) ≡ Ok (found, all)
-        → image_of_lines m (number_in all.names) empty_image found.kept ≡ Err f
+    → image_of_lines m (number_in all.names) empty_image found.kept ≡ Err f
     → verdict m source ≡ Err f
 verdict_value m source found all f small first second =
     small_verdict m source small ∙ value_on m (layout_from 1 (first_context m.profile) (read_lines m.profile source)) found all f
-        (sym (found_all m.profile (read_lines m.profile source)) ∙ first) second
+    (sym (found_all m.profile (read_lines m.profile source)) ∙ first) second
 
 -- ---- running out of memory
 
 pub layout_answer : (m : Map) (source : List ℕ) (f : AsmFault) → length source ≤ most_bytes
     → (f ≡ out_of_memory) ⊎ (found_lines 1 (first_context m.profile) nothing_found (read_lines m.profile source) ≡ Err f) → (f ≡ out_of_memory)
-        ⊎ (verdict m source ≡ Err f)
+    ⊎ (verdict m source ≡ Err f)
 layout_answer m source f small (inl memory) = inl memory
 layout_answer m source f small (inr first) = inr (verdict_layout m source f small first)
 

@@ -18,12 +18,12 @@ put_cells-elsewhere (cell ∷ cells) memory k h =
 -- A memory that was the same below a number before a change still is, once the change's pages are stamped.
 pub still_same : (since now : ℕ) (old new : List ℕ) (cells : List (ℕ × ℕ)) (kept before after : List ℕ) → since ≤ now
     → ((page : ℕ) → slice_index new page < now → slice_index new page ≡ slice_index old page)
-        → ((page : ℕ) → slice_index new page < now → SparesPage cells page)
+    → ((page : ℕ) → slice_index new page < now → SparesPage cells page)
     → put_cells cells after ≡ before → AreSameBelow since old kept before → AreSameBelow since new kept after
 still_same since now old new cells kept before after le stays spared back same = λ k within below.
     let here : slice_index new (k / 256) < now = omega (arith, below, le) in
     same k within (omega (arith, below, stays (k / 256) here)) ∙ sym (ap (λ m. slice_index m k) back)
-        ∙ put_cells-elsewhere cells after k (spared (k / 256) here)
+    ∙ put_cells-elsewhere cells after k (spared (k / 256) here)
 
 -- one byte stored, and its page stamped
 pub stores_one : (watches : List ℕ) (now : ℕ) (old new : List ℕ) (bus after : Bus) (address value : ℕ) → length old ≡ 256 → address < 65536
@@ -35,7 +35,7 @@ stores_one watches now old new bus after address value size within stamped is wa
       let set : slice_index new page ≡ now = ap (λ (l : List ℕ). slice_index l page) stamped ∙ get_or-set_same old page now 0 (omega (arith, size, within)) in
       let other : k / 256 ≢ page = λ e. absurd (omega (arith, below, le, ap (slice_index new) e, set)) in
       let stamp : slice_index new (k / 256) ≡ slice_index old (k / 256) =
-          ap (λ (l : List ℕ). slice_index l (k / 256)) stamped ∙ get_or-set_other old page (k / 256) now 0 other in
+      ap (λ (l : List ℕ). slice_index l (k / 256)) stamped ∙ get_or-set_other old page (k / 256) now 0 other in
       let elsewhere : k ≢ address = λ e. other (ap (λ (n : ℕ). n / 256) e) in
       same k inside (omega (arith, below, stamp)) ∙ sym (ap (λ (b : Bus). slice_index b.memory k) is ∙ get_or-set_other bus.memory address k value 0 elsewhere);
   kept = λ k watched. ap (λ (b : Bus). slice_index b.memory k) is

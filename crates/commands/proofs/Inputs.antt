@@ -50,17 +50,17 @@ pub line_of_two : (line first behind second rest third left : List ℕ) → nat_
     → IsNextWord rest third left → length third ≡ 0 → bytes_eq first (codes "asm") ≡ false → pair_command first second ≡ command_of line
 line_of_two line first behind second rest third left short p some q more r last no_asm =
     let words = next line first behind p some ∙ ap (λ ws. first ∷ ws)
-        (next behind second rest q more ∙ ap (λ ws. second ∷ ws) (no_more rest third left r last)) in
+    (next behind second rest q more ∙ ap (λ ws. second ∷ ws) (no_more rest third left r last)) in
     pair_row first second ∙ sym (other_line line first behind short p no_asm ∙ ap command_of_words words)
 
 pub line_of_three : (line first behind second rest third after fourth left : List ℕ) → nat_lt 255 (length line) ≡ false → IsNextWord line first behind
     → (length first ≡ 0 → ⊥) → IsNextWord behind second rest → (length second ≡ 0 → ⊥)
     → IsNextWord rest third after → (length third ≡ 0 → ⊥) → IsNextWord after fourth left → length fourth ≡ 0 → bytes_eq first (codes "asm") ≡ false
-        → triple_command first second third ≡ command_of line
+    → triple_command first second third ≡ command_of line
 line_of_three line first behind second rest third after fourth left short p some q more r third_some t last no_asm =
     let words = next line first behind p some ∙ ap (λ ws. first ∷ ws)
-        (next behind second rest q more ∙ ap (λ ws. second ∷ ws)
-        (next rest third after r third_some ∙ ap (λ ws. third ∷ ws) (no_more after fourth left t last))) in
+    (next behind second rest q more ∙ ap (λ ws. second ∷ ws)
+    (next rest third after r third_some ∙ ap (λ ws. third ∷ ws) (no_more after fourth left t last))) in
     triple_row first second third ∙ sym (other_line line first behind short p no_asm ∙ ap command_of_words words)
 
 pub in_line : (line first behind second rest : List ℕ) → nat_lt 255 (length line) ≡ false → IsNextWord line first behind → (length first ≡ 0 → ⊥)
@@ -70,8 +70,8 @@ in_line line first behind second rest short p some q more no_asm is_in =
     let words = next line first behind p some in
     let words_after = next behind second rest q more in
     ap (λ ws. input_command (bytes_of_words ws)) words_after
-        ∙ sym (other_line line first behind short p no_asm ∙ ap command_of_words
-        (words ∙ ap (λ w. w ∷ words_of behind) (same first is_in) ∙ ap (λ ws. codes "in" ∷ ws) words_after) ∙ input_words second (words_of rest))
+    ∙ sym (other_line line first behind short p no_asm ∙ ap command_of_words
+    (words ∙ ap (λ w. w ∷ words_of behind) (same first is_in) ∙ ap (λ ws. codes "in" ∷ ws) words_after) ∙ input_words second (words_of rest))
 
 -- ---- lines that begin with `asm`
 
@@ -169,14 +169,14 @@ pub meets_bad : (line bytes : List ℕ) (count : ℕ) (rest word behind : List �
     → Bad ≡ input_command (bytes_of_words (words_of line))
 meets_bad line bytes count rest word behind m p some e =
     sym (ap input_command (m.3 ∙ ap (λ ws. joined m.0 (bytes_of_words ws)) (next rest word behind p some)
-        ∙ ap (λ b. joined m.0 (byte_before b (bytes_of_words (words_of behind)))) e))
+    ∙ ap (λ b. joined m.0 (byte_before b (bytes_of_words (words_of behind)))) e))
 
 pub meets_more : (line bytes : List ℕ) (count : ℕ) (rest word behind : List ℕ) (b : ℕ) → Meets line bytes count rest → count < 16
     → IsNextWord rest word behind → (length word ≡ 0 → ⊥) → byte_of word ≡ Some b
     → Meets line (slice_set bytes count b) (count + 1) behind
 meets_more line bytes count rest word behind b m h p some e =
     let place : slice_set bytes count b ≡ slice_set (padded 16 m.0) (length m.0) b =
-        ap (λ l. slice_set l count b) m.2 ∙ ap (λ n. slice_set (padded 16 m.0) n b) (sym m.1) in (
+    ap (λ l. slice_set l count b) m.2 ∙ ap (λ n. slice_set (padded 16 m.0) n b) (sym m.1) in (
       m.0 ++ b ∷ [],
       omega (arith, m.1, length-append m.0 (b ∷ [])),
       place ∙ pad_more 16 m.0 b (omega (arith, m.1, h)),
@@ -188,4 +188,4 @@ pub meets_too_many : (line bytes : List ℕ) (rest word behind : List ℕ) → M
     → Bad ≡ input_command (bytes_of_words (words_of line))
 meets_too_many line bytes rest word behind m p some =
     sym (ap input_command (m.3 ∙ ap (λ ws. joined m.0 (bytes_of_words ws)) (next rest word behind p some))
-        ∙ too_many m.0 (byte_of word) (bytes_of_words (words_of behind)) m.1)
+    ∙ too_many m.0 (byte_of word) (bytes_of_words (words_of behind)) m.1)

@@ -36,6 +36,6 @@ unfolding long_command
 six w a b c rest fifth after sixth left p some q more no_in =
     let words = next rest fifth after p some ∙ ap (λ ws. fifth ∷ ws) (next after sixth left q more) in
     let bad : (if bytes_eq w (codes "in") then input_command (bytes_of_words (a ∷ b ∷ c ∷ words_of rest)) else Bad) ≡ Bad =
-        ap (λ t. if t then input_command (bytes_of_words (a ∷ b ∷ c ∷ words_of rest)) else Bad) no_in in
+    ap (λ t. if t then input_command (bytes_of_words (a ∷ b ∷ c ∷ words_of rest)) else Bad) no_in in
     either_way (bytes_eq w (codes "patch")) _ _ Bad (ap (λ ws. patch_command (address_of a) (bytes_of_words (b ∷ c ∷ ws))) words
-        ∙ too_many (address_of a) b c fifth sixth (words_of left)) bad
+    ∙ too_many (address_of a) b c fifth sixth (words_of left)) bad

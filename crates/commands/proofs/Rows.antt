@@ -38,8 +38,27 @@ plain_row w =
     by_name P (codes "set") w refl (λ set_not.
     by_name P (codes "patch") w refl (λ patch_not.
     by_name P (codes "dis") w refl (λ dis_not.
-    rw (regs_not, step_not, reset_not, nmi_not, out_not, breaks_not, quit_not, irq_not, in_not, run_not, back_not, break_not, unbreak_not, watch_not,
-        unwatch_not, mem_not, set_not, patch_not, dis_not) refl)))))))))))))))))))
+    rw (
+      regs_not,
+      step_not,
+      reset_not,
+      nmi_not,
+      out_not,
+      breaks_not,
+      quit_not,
+      irq_not,
+      in_not,
+      run_not,
+      back_not,
+      break_not,
+      unbreak_not,
+      watch_not,
+      unwatch_not,
+      mem_not,
+      set_not,
+      patch_not,
+      dis_not,
+    ) refl)))))))))))))))))))
 
 -- a patch with no byte
 no_bytes : (address : Option ℕ) → patch_command address (Some []) ≡ Bad
@@ -70,8 +89,27 @@ pair_row w a =
     by_name P (codes "set") w refl (λ set_not.
     by_name P (codes "patch") w (sym (no_bytes (address_of a))) (λ patch_not.
     by_name P (codes "dis") w refl (λ dis_not.
-    rw (regs_not, step_not, reset_not, nmi_not, out_not, breaks_not, quit_not, irq_not, in_not, run_not, back_not, break_not, unbreak_not, watch_not,
-        unwatch_not, mem_not, set_not, patch_not, dis_not) refl)))))))))))))))))))
+    rw (
+      regs_not,
+      step_not,
+      reset_not,
+      nmi_not,
+      out_not,
+      breaks_not,
+      quit_not,
+      irq_not,
+      in_not,
+      run_not,
+      back_not,
+      break_not,
+      unbreak_not,
+      watch_not,
+      unwatch_not,
+      mem_not,
+      set_not,
+      patch_not,
+      dis_not,
+    ) refl)))))))))))))))))))
 
 -- a command of three words
 pub triple_row : (w a b : List ℕ) → triple_command w a b ≡ command_of_words (w ∷ a ∷ b ∷ [])
@@ -97,8 +135,27 @@ triple_row w a b =
     by_name P (codes "set") w refl (λ set_not.
     by_name P (codes "patch") w refl (λ patch_not.
     by_name P (codes "dis") w refl (λ dis_not.
-    rw (regs_not, step_not, reset_not, nmi_not, out_not, breaks_not, quit_not, irq_not, in_not, run_not, back_not, break_not, unbreak_not, watch_not,
-        unwatch_not, mem_not, set_not, patch_not, dis_not) refl)))))))))))))))))))
+    rw (
+      regs_not,
+      step_not,
+      reset_not,
+      nmi_not,
+      out_not,
+      breaks_not,
+      quit_not,
+      irq_not,
+      in_not,
+      run_not,
+      back_not,
+      break_not,
+      unbreak_not,
+      watch_not,
+      unwatch_not,
+      mem_not,
+      set_not,
+      patch_not,
+      dis_not,
+    ) refl)))))))))))))))))))
 
 -- a command of more than three words
 pub long_row : (w a b c : List ℕ) (ws : List (List ℕ)) → long_command w a (b ∷ c ∷ ws) ≡ command_of_words (w ∷ a ∷ b ∷ c ∷ ws)
@@ -124,5 +181,24 @@ long_row w a b c ws =
     by_name P (codes "set") w refl (λ set_not.
     by_name P (codes "patch") w refl (λ patch_not.
     by_name P (codes "dis") w refl (λ dis_not.
-    rw (regs_not, step_not, reset_not, nmi_not, out_not, breaks_not, quit_not, irq_not, in_not, run_not, back_not, break_not, unbreak_not, watch_not,
-        unwatch_not, mem_not, set_not, patch_not, dis_not) refl)))))))))))))))))))
+    rw (
+      regs_not,
+      step_not,
+      reset_not,
+      nmi_not,
+      out_not,
+      breaks_not,
+      quit_not,
+      irq_not,
+      in_not,
+      run_not,
+      back_not,
+      break_not,
+      unbreak_not,
+      watch_not,
+      unwatch_not,
+      mem_not,
+      set_not,
+      patch_not,
+      dis_not,
+    ) refl)))))))))))))))))))

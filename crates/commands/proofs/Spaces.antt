@@ -93,7 +93,7 @@ word_first b (d ∷ w) rest all ends =
     let e = plain_byte b parts.0 in
     let f = plain_byte d (both (no_space d) _ parts.1).0 in
     words_byte b ((d ∷ w) ++ rest) e ∙ ap (λ g. with_byte_before b g (words_of ((d ∷ w) ++ rest))) (goes_byte d (w ++ rest) f)
-        ∙ ap (λ ws. with_byte_before b true ws) (word_first d w rest parts.1 ends)
+    ∙ ap (λ ws. with_byte_before b true ws) (word_first d w rest parts.1 ends)
 
 pub next_word : (w rest : List ℕ) → list_all no_space w ≡ true → goes_on rest ≡ false → (w ≡ [] → words_of rest ≡ []) → IsNextWord (w ++ rest) w rest
 next_word [] rest all ends none = (none refl, none refl)
@@ -130,9 +130,9 @@ found_word line front e is within all last =
     let long : length (take e front) ≡ e = omega (arith, length-take e front) in
     let starts : (length front ≡ 0) ⊎ (get_or front 0 0 ≢ 32) = subst (λ f. (length f ≡ 0) ⊎ (get_or f 0 0 ≢ 32)) (sym is) (front_starts line) in
     of_line front line (take e front) (drop e front) (ap words_of is ∙ words_unspaced line)
-        (subst (λ l. IsNextWord l (take e front) (drop e front)) (take-append-drop e front)
+    (subst (λ l. IsNextWord l (take e front) (drop e front)) (take-append-drop e front)
     (next_word (take e front) (drop e front) all (ends_by front e last)
-        (λ empty. none_by front e starts last (let z : length (take e front) ≡ 0 = ap length empty in omega arith))))
+    (λ empty. none_by front e starts last (let z : length (take e front) ≡ 0 = ap length empty in omega arith))))
 
 -- the whole rest
 pub rest_all : (line : List ℕ) (i : ℕ) → take (length line - i) (drop i line) ≡ drop i line

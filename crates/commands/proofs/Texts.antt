@@ -32,5 +32,11 @@ after_short (b ∷ bs) = elim (eqb_tells b 32) [
 ]
 
 pub text_short : (line : List ℕ) → length (text_of line) ≤ length line
-text_short line = omega (arith, unspaced_short (rest_of (rest_of line)), after_short (without_spaces (rest_of line)), unspaced_short (rest_of line),
-    after_short (without_spaces line), unspaced_short line)
+text_short line = omega (
+  arith,
+  unspaced_short (rest_of (rest_of line)),
+  after_short (without_spaces (rest_of line)),
+  unspaced_short (rest_of line),
+  after_short (without_spaces line),
+  unspaced_short line,
+)

@@ -142,11 +142,11 @@ plain_turn : (marks : List ℕ) (cells : List Bool) (place from : Option ℕ) (s
 plain_turn marks cells place from s t bound is plain input =
     let k = gliding cells from in
     turned s s k [] input false false false (sym (no_line cells from s.current plain.plain.read)) (λ rest may. refl)
-        (λ over. absurd (true≢false (sym over))) (sym (input-none s)) refl
+    (λ over. absurd (true≢false (sym over))) (sym (input-none s)) refl
     ∙ ap (λ e. unless_ended e (play_at s k input) (stepped (play_at s k input) false false (step s.current)))
-        (no_ending cells from s.current is plain.plain.no_break)
+    (no_ending cells from s.current is plain.plain.no_break)
     ∙ made s (with_state s t) t k (gliding cells (Some s.current.regs.pc)) input false false (event_is_step s.current ∙ plain.made) refl
-        (memo_kept cells from s.current t plain.plain.moves)
+    (memo_kept cells from s.current t plain.plain.moves)
     (written_kept marks cells place s.current t bound plain)
 
 plain_glide : (marks : List ℕ) (cells : List Bool) (place from : Option ℕ) (s : Session) (t : State) → Bound marks cells place
@@ -207,15 +207,15 @@ last_glide : (marks : List ℕ) (cells : List Bool) (place from last : Option �
 last_glide marks cells place from last n s m t bound all h plain =
     let here = session_at marks marks n s m all in
     let one = plain_glide marks cells place last (after_steps n s) t bound (ap (is_at place) here ∙ h.off)
-        (ap (λ (x : State). is_written cells x.regs.pc) here ∙ h.is)
+    (ap (λ (x : State). is_written cells x.regs.pc) here ∙ h.is)
     (subst (λ (x : State). IsPlainStep marks x t) (sym here) plain) in
     let both = glides_on place n 1 s (after_steps n s) (with_state (after_steps n s) t) (gliding cells from) (gliding cells last)
-        (gliding cells (Some (after_steps n s).current.regs.pc)) h.far one in
+    (gliding cells (Some (after_steps n s).current.regs.pc)) h.far one in
     let count : n + 1 ≡ suc n = omega arith in
     subst (λ k. Glides place k s (gliding cells from) (after_steps (suc n) s) (gliding cells (Some m.regs.pc))) count
     (subst (λ (x : State). Glides place (n + 1) s (gliding cells from) (after_steps (suc n) s) (gliding cells (Some x.regs.pc))) here
     (subst (λ u. Glides place (n + 1) s (gliding cells from) u (gliding cells (Some (after_steps n s).current.regs.pc)))
-        (session_next n s m t here plain.made) both))
+    (session_next n s m t here plain.made) both))
 
 glided : (marks : List ℕ) (cells : List Bool) (place from : Option ℕ) (n : ℕ) (s : Session) (m : State) → Bound marks cells place → IsState s.current
     → is_at place s.current ≡ false → is_written cells s.current.regs.pc ≡ true
@@ -306,17 +306,20 @@ steps_plainly marks n at' s u some one all end =
 pub turns_plainly : (marks : List ℕ) (k : Known) (at' : ℕ) (over : Bool) (s u : Session) → k.memo.rests ≡ false → k.memo.idle ≡ None
     → AreMarks marks k.written → length k.written ≡ 65536 → is_written k.written s.current.regs.pc ≡ true
     → StepsPlainly marks at' s u → TurnsTo s k [] over None u
-        (record { memo = record { rests = k.memo.rests; idle = k.memo.idle; from = Some at' }; written = k.written })
+    (record { memo = record { rests = k.memo.rests; idle = k.memo.idle; from = Some at' }; written = k.written })
 turns_plainly marks k at' over s u rests idle are size is h = λ rest may.
     let bound = bound_off marks k.written None size are (λ address none. absurd cc) in
     let after : gliding k.written (Some s.current.regs.pc) ≡ record
-        { memo = record { rests = k.memo.rests; idle = k.memo.idle; from = Some at' }; written = k.written }
+    { memo = record { rests = k.memo.rests; idle = k.memo.idle; from = Some at' }; written = k.written }
     = λ i. record { memo = record { rests = sym rests i; idle = sym idle i; from = Some (sym h.from i) }; written = k.written } in
     ap (λ (l : Known). turn_of (play_at s l rest)) (is_gliding k rests idle)
     ∙ plain_turn marks k.written None k.memo.from s u.current bound is h.plain rest
     ∙ ap (λ (l : Known). turn_to None (with_state s u.current) l rest) after
-    ∙ ap (λ (v : Session). turn_to None v (record { memo = record { rests = k.memo.rests; idle = k.memo.idle; from = Some at' }; written =
-        k.written }) rest) (sym h.after)
+    ∙ ap (λ (v : Session). turn_to None v (record {
+      memo = record { rests = k.memo.rests; idle = k.memo.idle; from = Some at' };
+      written =
+          k.written;
+    }) rest) (sym h.after)
 
 pub no_entry_made : (marks : List ℕ) (at' : ℕ) (s u : Session) → StepsPlainly marks at' s u → entered (moment_of s.current) u.current ≡ false
 no_entry_made marks at' s u h = not_entered marks s.current u.current h.plain

@@ -34,7 +34,7 @@ out_of p = p.session.current.bus.out
 
 byte_by : (s : Session) (byte : ℕ) (full : Bool)
     → (after_event s (cond full (Err InputFull) (Ok (record s.current
-        { bus = record s.current.bus { given = s.current.bus.given ++ byte ∷ [] } })))).current.bus.out ≡ s.current.bus.out
+    { bus = record s.current.bus { given = s.current.bus.given ++ byte ∷ [] } })))).current.bus.out ≡ s.current.bus.out
 byte_by s byte true = refl
 byte_by s byte false = refl
 

@@ -63,7 +63,7 @@ read_leads bus address = read_by bus ((address == bus.map.port + 1) && input_wai
 
 write_by : (bus : Bus) (address value : ℕ) (port first third rom : Bool)
     → Leads 0 bus (cond port (cond first (record bus { out = bus.out ++ value ∷ [] }) (cond third (record bus { control = value % 2 == 1 }) bus))
-        (cond rom bus (bus_with_byte bus address value)))
+    (cond rom bus (bus_with_byte bus address value)))
 write_by bus address value true true third rom = record { given = refl; taken = omega arith; out = (value ∷ [], refl) }
 write_by bus address value true false true rom = record { given = refl; taken = omega arith; out = ([], sym (append-nil bus.out)) }
 write_by bus address value true false false rom = stays bus
@@ -93,7 +93,7 @@ unfolding interrupt_sequence
 sequence_leads s return b vector =
     let two = after_push (after_push s (return / 256)) (return % 256) in
     then_none 0 s.bus two.bus (after_push two (status b s.regs.flags)).bus (pushes_lead s (return / 256) (return % 256))
-        (push_leads two (status b s.regs.flags))
+    (push_leads two (status b s.regs.flags))
 
 s-sequence : (s : State) (return : ℕ) (b : Bool) (vector : ℕ)
     → (interrupt_sequence s return b vector).regs.s ≡ (((s.regs.s + 255) % 256 + 255) % 256 + 255) % 256
@@ -150,7 +150,7 @@ load_leads op mode place s =
 
 modify_leads : (accumulator : Bool) (op : ModifyOp) (place : EffectiveAddress) (s : State)
     → Leads (counted s.regs.s (cond accumulator (modify_a op s) (modify_memory op place s)).regs.s
-        (take_count (modified accumulator place.address).read s.bus)) s.bus
+    (take_count (modified accumulator place.address).read s.bus)) s.bus
     (cond accumulator (modify_a op s) (modify_memory op place s)).bus
 unfolding modify_a modify_memory
 modify_leads true op place s = counts_all s.regs.s s.regs.s 0 s.bus s.bus refl (stays s.bus)
@@ -281,10 +281,10 @@ forgotten s = record s { nmi = false }
 step_by : (s after : State) (full nmi irq : Bool) → s.regs.s < 256
     → cond full (Err CyclesFull)
     (cond nmi (Ok (interrupt_entry (forgotten s) 0xFFFA)) (cond irq (Ok (interrupt_entry s 0xFFFE))
-        (attempt (row_at s.bus.map.profile (slice_index s.bus.memory s.regs.pc)) s)))
+    (attempt (row_at s.bus.map.profile (slice_index s.bus.memory s.regs.pc)) s)))
     ≡ Ok after
     → Leads (counted s.regs.s after.regs.s (take_count (access_by (row_at s.bus.map.profile (slice_index s.bus.memory s.regs.pc)) s).read s.bus))
-        s.bus after.bus
+    s.bus after.bus
 step_by s after true nmi irq small e = cc
 step_by s after false true irq small e =
     let same : interrupt_entry (forgotten s) 0xFFFA ≡ after = cc in
@@ -309,7 +309,7 @@ entry_grows s vector = sequence_leads s s.regs.pc false vector
 grows_by : (s after : State) (full nmi irq : Bool)
     → cond full (Err CyclesFull)
     (cond nmi (Ok (interrupt_entry (forgotten s) 0xFFFA)) (cond irq (Ok (interrupt_entry s 0xFFFE))
-        (attempt (row_at s.bus.map.profile (slice_index s.bus.memory s.regs.pc)) s)))
+    (attempt (row_at s.bus.map.profile (slice_index s.bus.memory s.regs.pc)) s)))
     ≡ Ok after
     → (more : List ℕ) × (after.bus.out ≡ s.bus.out ++ more)
 grows_by s after true nmi irq e = cc

@@ -47,13 +47,13 @@ pub turned : (s t : Session) (k : Known) (told rest : List ℕ) (asked over some
     → IsLine asked over (room_of s.current) told → MayCome over rest
     → t ≡ after_input s told → some ≡ came told
     → turn_of (play_at s k (told ++ rest)) ≡ unless_ended (ending_here k.memo k.written asked some t.current) (play_at t k rest)
-        (stepped (play_at t k rest) asked some (step t.current))
+    (stepped (play_at t k rest) asked some (step t.current))
 unfolding turn_of
 turned s t k told rest asked over some e line may f h =
     ap (λ b. turn_with b (line_for k.memo s.current (told ++ rest)) (play_at s k (told ++ rest))) (sym e)
     ∙ ap (λ l. turn_with asked l (play_at s k (told ++ rest))) (line_told k.memo s.current told rest asked over e line may)
     ∙ ap (λ q. unless_ended (ending_here k.memo k.written asked (came told) q.session.current) q
-        (stepped q asked (came told) (step q.session.current))) (with_told s t k told rest f)
+    (stepped q asked (came told) (step q.session.current))) (with_told s t k told rest f)
     ∙ ap (λ b. unless_ended (ending_here k.memo k.written asked b t.current) (play_at t k rest) (stepped (play_at t k rest) asked b (step t.current))) (sym h)
 
 -- ---- the step of a turn
@@ -147,7 +147,7 @@ next until m turn = after_turn until turn (λ q. played until m q)
 module _ (until : Option ℕ) (limit : ℕ) (s : Session) (first : Known) (told : List ℕ) (over : Bool) (steps : ℕ) (t : Session) (memo : Known)
     (h : RunsOn until limit s first told over steps t memo) (room : steps < limit)
     (told2 : List ℕ) (over2 : Bool) (ending : Option Ending) (u : Session) (memo2 : Known) (once : EndsOnce over over2 told2)
-        (turn : TurnsTo t memo told2 over2 ending u memo2) where
+    (turn : TurnsTo t memo told2 over2 ending u memo2) where
   one_turn : (rest : List ℕ) → MayCome over2 rest
       → played until limit (play_at s first ((told ++ told2) ++ rest)) ≡ later steps (next until (limit - (steps + 1)) (turn_to ending u memo2 rest))
   one_turn rest may =
@@ -161,7 +161,7 @@ module _ (until : Option ℕ) (limit : ℕ) (s : Session) (first : Known) (told 
     runs = λ rest may.
         one_turn rest may ∙ ap (λ e. later steps (next until (limit - (steps + 1)) (turn_to e u memo2 rest))) none
         ∙ ap (λ b. later steps (cond b (record { steps = 1; ending = Until; play = play_at u memo2 rest })
-            (later 1 (played until (limit - (steps + 1)) (play_at u memo2 rest))))) off
+        (later 1 (played until (limit - (steps + 1)) (play_at u memo2 rest))))) off
         ∙ later_twice steps 1 (played until (limit - (steps + 1)) (play_at u memo2 rest));
   }
 
@@ -170,7 +170,7 @@ module _ (until : Option ℕ) (limit : ℕ) (s : Session) (first : Known) (told 
   ends_at none on rest may =
       one_turn rest may ∙ ap (λ e. later steps (next until (limit - (steps + 1)) (turn_to e u memo2 rest))) none
       ∙ ap (λ b. later steps (cond b (record { steps = 1; ending = Until; play = play_at u memo2 rest })
-          (later 1 (played until (limit - (steps + 1)) (play_at u memo2 rest))))) on
+      (later 1 (played until (limit - (steps + 1)) (play_at u memo2 rest))))) on
 
   pub ends_with : (why : Ending) → ending ≡ Some why → (rest : List ℕ) → MayCome over2 rest
       → played until limit (play_at s first ((told ++ told2) ++ rest)) ≡ record { steps = steps; ending = why; play = play_at u memo2 rest }
@@ -198,7 +198,7 @@ goes_turn until limit s first told over steps t memo h room told2 over2 u memo2 
   where
     goes_by : (b : Bool) (steps : ℕ) (p : Play) (o : Outcome)
         → later steps (cond b (record { steps = 1; ending = Until; play = p }) (later 1 o))
-            ≡ later (steps + 1) (cond b (record { steps = 0; ending = Until; play = p }) o)
+        ≡ later (steps + 1) (cond b (record { steps = 0; ending = Until; play = p }) o)
     goes_by true steps p o = ap (λ n. record { steps = n; ending = Until; play = p }) (sym (add-zero (steps + 1)))
     goes_by false steps p o = later_twice steps 1 o
 
@@ -220,7 +220,7 @@ goes_past until limit s first told over steps t memo h off = record {
   runs = λ rest may.
       h.runs rest may
       ∙ ap (λ b. later steps (cond b (record { steps = 0; ending = Until; play = play_at t memo rest })
-          (played until (limit - steps) (play_at t memo rest)))) off;
+      (played until (limit - steps) (play_at t memo rest)))) off;
 }
 
 pub goes_there : (until : Option ℕ) (limit : ℕ) (s : Session) (first : Known) (told : List ℕ) (over : Bool) (steps : ℕ) (t : Session) (memo : Known)
@@ -235,7 +235,7 @@ goes_there until limit s first told over steps t memo h on rest may =
 pub ends_full : (until : Option ℕ) (limit : ℕ) (s : Session) (first : Known) (told : List ℕ) (over : Bool) (steps : ℕ) (t : Session) (memo : Known)
     → RunsOn until limit s first told over steps t memo → limit ≤ steps → steps ≤ limit
     → (rest : List ℕ) → MayCome over rest → played until limit (play_at s first (told ++ rest))
-        ≡ record { steps = limit; ending = ending_after memo.memo t.current; play = play_at t memo rest }
+    ≡ record { steps = limit; ending = ending_after memo.memo t.current; play = play_at t memo rest }
 ends_full until limit s first told over steps t memo h full within rest may =
     let none : limit - steps ≡ 0 = omega arith in
     let all : steps + 0 ≡ limit = omega arith in
@@ -246,7 +246,7 @@ ends_full until limit s first told over steps t memo h full within rest may =
 pub cut_run : (until : Option ℕ) (limit : ℕ) (s : Session) (first : Known) (told : List ℕ) (over : Bool) (steps : ℕ) (t : Session) (memo : Known)
     → RunsOn until limit s first told over steps t memo → steps < limit
     → (told2 : List ℕ) (over2 : Bool) (u : Session) → EndsOnce over over2 told2
-        → ((rest : List ℕ) → MayCome over2 rest → CutTurn (play_at t memo (told2 ++ rest)) told2 rest u)
+    → ((rest : List ℕ) → MayCome over2 rest → CutTurn (play_at t memo (told2 ++ rest)) told2 rest u)
     → (rest : List ℕ) → MayCome over2 rest → CutRun until limit (play_at s first ((told ++ told2) ++ rest)) u rest
 cut_run until limit s first told over steps t memo h room told2 over2 u once cut rest may = record {
   steps = steps;

@@ -27,7 +27,7 @@ module _ {A B : Type 0} (read : Data → B) (seen : A → B) where
   one_read all i e b old new within is one put so_far =
       let g : Value → B = λ v. read (view v) in
       ap (map seen) put ∙ map-append seen old (b ∷ []) ∙ ap (λ (bs : List B). bs ++ seen b ∷ []) so_far
-          ∙ ap (λ (x : B). map g (take i all) ++ x ∷ []) (one ∙ ap g is)
+      ∙ ap (λ (x : B). map g (take i all) ++ x ∷ []) (one ∙ ap g is)
       ∙ sym (map-append g (take i all) (get_or all i e ∷ [])) ∙ sym (ap (map g) (take_more all i e within))
 
   pub all_read : (all : List Value) (i : ℕ) (list : List A) (request : Data) → length all ≤ i → items_view all ≡ items_in request → AreRead all i list
@@ -35,7 +35,7 @@ module _ {A B : Type 0} (read : Data → B) (seen : A → B) where
   unfolding AreRead
   all_read all i list request past items so_far =
       so_far ∙ ap (map (λ (v : Value). read (view v))) (take_all i all past) ∙ sym (map-map read view all)
-          ∙ ap (map read) (sym (listed_of (map view all)) ∙ ap list_in items)
+      ∙ ap (map read) (sym (listed_of (map view all)) ∙ ap list_in items)
 
 pub same_list : {A : Type 0} (xs : List A) → map (λ (x : A). x) xs ≡ xs
 same_list [] = refl

@@ -29,7 +29,7 @@ pub to_more : (mon : MonState) (end n m at next count whole : ℕ) → n ≡ suc
     → count + rows_to mon end n at ≡ whole → (count + 1) + rows_to mon end m next ≡ whole
 to_more mon end n m at next count whole e before is so_far =
     let step : rows_to mon end n at ≡ suc (rows_to mon end m next) =
-        ap (λ k. rows_to mon end k at) e ∙ one_row mon end m at before ∙ ap (λ a. suc (rows_to mon end m a)) (sym is) in
+    ap (λ k. rows_to mon end k at) e ∙ one_row mon end m at before ∙ ap (λ a. suc (rows_to mon end m a)) (sym is) in
     omega (arith, step, so_far)
 
 no_row : (mon : MonState) (end n at : ℕ) → end ≤ at → rows_to mon end n at ≡ 0

@@ -14,7 +14,7 @@ located_all counting first last rows = refl
 -- the line at an index, and those behind it
 one_located : (counting : Counting) (first last : ℕ) (rows : List LineView) (i : ℕ)
     → locations_of counting first last (drop i rows) ≡ location_at counting first last (slice_get rows i)
-        ++ locations_of counting first last (drop (suc i) rows)
+    ++ locations_of counting first last (drop (suc i) rows)
 one_located counting first last [] zero = refl
 one_located counting first last [] (suc i) = refl
 one_located counting first last (row ∷ rows) zero = refl

@@ -15,7 +15,7 @@ cut all i e within = rw (add-one, drop-cons all i e within) refl
 pub answers_more : (session : Session) (counting : Counting) (all : List Wanted) (i id next : ℕ) (e : Wanted) (found whole : List Data)
     → i < length all → e ≡ get_or all i e → next ≡ next_number id
     → found ++ answers_of session counting id (drop i all) ≡ whole
-        → (found ++ answer_of session counting id e ∷ []) ++ answers_of session counting next (drop (i + 1) all) ≡ whole
+    → (found ++ answer_of session counting id e ∷ []) ++ answers_of session counting next (drop (i + 1) all) ≡ whole
 unfolding answers_of
 answers_more session counting all i id next e found whole within is number so_far =
     let rest = drop (i + 1) all in

@@ -35,7 +35,7 @@ module _ (asked : Page) (ds : List Data) (d : Data) where
   passed_by list skip left before is =
       let short : length more ≤ asked.first = omega (arith, one_more, before, is.1) in
       let none : drop asked.first more ≡ drop asked.first ds =
-          drop_all asked.first more short ∙ sym (drop_all asked.first ds (omega (arith, one_more, short))) in
+      drop_all asked.first more short ∙ sym (drop_all asked.first ds (omega (arith, one_more, short))) in
       let same : length ds - asked.first ≡ length more - asked.first = omega (arith, one_more, short) in (
         subst (λ (vs : List Data). HasValues vs list) (sym (ap (λ (vs : List Data). at_most asked.count vs) none)) is.0,
         omega (arith, one_more, is.1),
@@ -62,7 +62,7 @@ module _ (asked : Page) (ds : List Data) (d : Data) where
       let unlimited = no_limit (asked.count == 0) _ is.2 in
       let old : page_of asked ds ≡ drop asked.first ds = all_of asked.count _ unlimited in
       let all : page_of asked ds ++ d ∷ [] ≡ page_of asked more =
-          ap (λ (vs : List Data). vs ++ d ∷ []) old ∙ sym (behind is.1) ∙ sym (all_of asked.count _ unlimited) in (
+      ap (λ (vs : List Data). vs ++ d ∷ []) old ∙ sym (behind is.1) ∙ sym (all_of asked.count _ unlimited) in (
         subst (λ (vs : List Data). HasValues vs new) all has,
         begun_still is.1,
         sym (ap (λ b. if b then None else Some (asked.count - (length more - asked.first))) unlimited),
@@ -92,7 +92,7 @@ module _ (asked : Page) (ds : List Data) (d : Data) where
       let old : page_of asked ds ≡ drop asked.first ds = some_of count _ limited.0 ∙ take_all count (drop asked.first ds) (omega (arith, room)) in
       let whole : take count (drop asked.first ds ++ d ∷ []) ≡ drop asked.first ds ++ d ∷ [] = take_all count _ (omega (arith, room, longer)) in
       let all : page_of asked ds ++ d ∷ [] ≡ page_of asked more =
-          ap (λ (vs : List Data). vs ++ d ∷ []) old ∙ sym whole ∙ ap (take count) (sym (behind is.1)) ∙ sym (some_of count _ limited.0) in
+      ap (λ (vs : List Data). vs ++ d ∷ []) old ∙ sym whole ∙ ap (take count) (sym (behind is.1)) ∙ sym (some_of count _ limited.0) in
       let rest : left - 1 ≡ count - (length more - asked.first) = omega (arith, one_more, limited.1, is.1, some) in (
         subst (λ (vs : List Data). HasValues vs new) all has,
         begun_still is.1,

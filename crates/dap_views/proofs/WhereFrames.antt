@@ -36,7 +36,7 @@ module _ (s : State) (places : PlacesView) where
       let pushed = pushed_at s.bus.memory places.lines at in
       let next = at + entry_len s.bus.memory places.lines at in
       by_end (nat_le 512 at) _ _ ((λ i. one at pushed i ++ all n next i)
-          ∙ sym (flat_map-append line (frame_of at pushed) (frames_from n s.bus.memory places.lines next)))
+      ∙ sym (flat_map-append line (frame_of at pushed) (frames_from n s.bus.memory places.lines next)))
 
 pub frames_are_those_of_where : FramesAreThoseOfWhere
 frames_are_those_of_where s places = ap (λ (text : List ℕ). at_line places.names s.regs.pc ++ text) (all s places 256 (257 + s.regs.s))

@@ -9,7 +9,7 @@ use Rattle.debug_records.specs.Numbers.{not_large}
 
 pub digit_more : (value : ℕ → Option ℕ) (base n i : ℕ) (digits : List ℕ) → i < length digits
     → number_from value base n (drop i digits) ≡ option_and_then (λ digit. number_from value base (n * base + digit) (drop (i + 1) digits))
-        (value (get_or digits i 0))
+    (value (get_or digits i 0))
 digit_more value base n i digits h = at_drop_more (number_from value base n) digits i 0 h
 
 pub no_digit_left : (value : ℕ → Option ℕ) (base n i : ℕ) (digits : List ℕ) → length digits ≤ i
@@ -45,8 +45,8 @@ is_large m h = ltb-false m (2 ^ 32) (not_below (ltb m (2 ^ 32)) m h)
 pub large_digit : (value : ℕ → Option ℕ) (b n k i : ℕ) (digits : List ℕ) → i < length digits → Some k ≡ value (get_or digits i 0)
     → None ≡ not_large (Some (n * suc b + k))
     → not_large (number_from value (suc b) 0 digits) ≡ not_large (number_from value (suc b) n (drop i digits))
-        → None ≡ not_large (number_from value (suc b) 0 digits)
+    → None ≡ not_large (number_from value (suc b) 0 digits)
 large_digit value b n k i digits h d large so_far = sym (so_far
     ∙ (ap not_large (digit_more value (suc b) n i digits h ∙ ap
-        (λ (o : Option ℕ). option_and_then (λ digit. number_from value (suc b) (n * suc b + digit) (drop (i + 1) digits)) o) (sym d))
+    (λ (o : Option ℕ). option_and_then (λ digit. number_from value (suc b) (n * suc b + digit) (drop (i + 1) digits)) o) (sym d))
     ∙ stays_large value b (n * suc b + k) (drop (i + 1) digits) (is_large (n * suc b + k) large)))

@@ -53,7 +53,7 @@ first_byte : (row : Row) (address : ℕ) (b : Bool) → nat_lt row.start row.end
 first_byte row address true h = elim (cases_eq row.start address) [
   | inl same ↦ inside row.start (row.start + 1) address (omega (arith, same)) (omega (arith, same))
       ∙ sym (ap (λ b. b && (row.start == address)) (inside row.start row.end address (omega (arith, same))
-          (omega (arith, same, ltb-true row.start row.end h))) ∙ eq-eqb row.start address same)
+      (omega (arith, same, ltb-true row.start row.end h))) ∙ eq-eqb row.start address same)
   | inr other ↦ elim (cases_lt address row.start) [
     | inl under ↦ below row.start (row.start + 1) address under
         ∙ sym (and_right (within row.start row.end address) (row.start == address) (ne_eqb row.start address other))
@@ -143,7 +143,7 @@ all_left wanted rows table t = record {
 
 pub row_put : (wanted : Wanted) (d : Row) (rows : List Row) (i : ℕ) (table new : List (Option Row)) → i < length rows
     → IsTable new (λ address. with_row wanted address (record_at table address) (get_or rows i d)) → Left wanted rows (drop i rows) table
-        → Left wanted rows (drop (i + 1) rows) new
+    → Left wanted rows (drop (i + 1) rows) new
 row_put wanted d rows i table new h t l =
     let step : drop i rows ≡ get_or rows i d ∷ drop (i + 1) rows = drop_more rows i d h in record {
       size = t.size;

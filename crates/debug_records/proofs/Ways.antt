@@ -25,7 +25,7 @@ field_suc zero m fields more text rest e k = absurd (omega (arith, e))
 field_suc (suc n) m fields more text rest e k =
     let same : n ≡ m = omega (arith, e) in
     rw (← same) (rw k (elim (length rest == 0) as (λ (b : Bool). cond b (Ok more) (fields_within n more (drop 1 rest)) ≡ behind_field n more rest b)
-        [ true ↦ refl | false ↦ refl ]))
+    [ true ↦ refl | false ↦ refl ]))
 
 pub field_last : (n m : ℕ) (fields more : List Field) (text rest : List ℕ) → n ≡ m + 1 → next_field fields text ≡ Ok (more, rest) → (length rest == 0) ≡ true
     → fields_within n fields text ≡ Ok more
@@ -60,8 +60,8 @@ number_suc zero m left found more text e k = absurd (omega (arith, e))
 number_suc (suc n) m left found more text e k =
     let same : n ≡ m = omega (arith, e) in
     rw (← same) (rw k (elim (plus_in text == length text) as
-        (λ (b : Bool). cond b (Ok more) (numbers_within n more (left - (plus_in text + 1)) (drop (plus_in text + 1) text))
-        ≡ behind_number n more left text b) [ true ↦ refl | false ↦ refl ]))
+    (λ (b : Bool). cond b (Ok more) (numbers_within n more (left - (plus_in text + 1)) (drop (plus_in text + 1) text))
+    ≡ behind_number n more left text b) [ true ↦ refl | false ↦ refl ]))
 
 pub number_last : (n m left : ℕ) (found more : List Placed) (text : List ℕ) → n ≡ m + 1 → next_number found left text ≡ Ok more
     → (plus_in text == length text) ≡ true

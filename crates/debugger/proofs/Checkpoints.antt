@@ -131,7 +131,7 @@ mark_at (suc i) p (d ∷ cs) base es now c h all =
     let joined : state_after (state_after base (take p es)) (take (p * i) (drop p es)) ≡ state_after base (take (p * suc i) es) =
     ap (λ l. state_after (state_after base l) (take (p * i) (drop p es))) (sym (take-take p (p + p * i) es (omega arith)))
     ∙ ap (state_after (state_after base (take p (take (p + p * i) es)))) (sym (drop-take p (p * i) es))
-        ∙ state_after-split p base (take (p + p * i) es) ∙ ap (λ n. state_after base (take n es)) (sym m) in
+    ∙ state_after-split p base (take (p + p * i) es) ∙ ap (λ n. state_after base (take n es)) (sym m) in
     subst (LeadsBack c now) joined rest
   where
     times : (a b : ℕ) → a * suc b ≡ a + a * b
@@ -161,12 +161,12 @@ marks-back p n (c ∷ d ∷ ds) base es now t h k all whole part marks =
     let back : drop p (take n es) ≡ take (n - p) (drop p es) = ap (λ x. drop p (take x es)) q ∙ drop-take p (n - p) es in
     let there : state_after (state_after base (take p es)) (take (n - p) (drop p es)) ≡ t =
     ap (λ x. state_after (state_after base x) (take (n - p) (drop p es))) (sym front)
-        ∙ ap (state_after (state_after base (take p (take n es)))) (sym back) ∙ state_after-split p base (take n es) ∙ part in (
+    ∙ ap (state_after (state_after base (take p (take n es)))) (sym back) ∙ state_after-split p base (take n es) ∙ part in (
       back_one n c base es now t all whole part marks.0,
       subst (λ x. AllLeadBack p (d ∷ ds) (state_after base x) (drop p (take n es)) t) (sym front)
           (subst (λ x. AllLeadBack p (d ∷ ds) (state_after base (take p es)) x t) (sym back)
           (marks-back p (n - p) (d ∷ ds) (state_after base (take p es)) (drop p es) now t (omega arith) (omega (arith, length-drop p es))
-              (AllFollow-drop p base es all) (state_after-split p base es ∙ whole) there marks.1)),
+          (AllFollow-drop p base es all) (state_after-split p base es ∙ whole) there marks.1)),
     )
   where
     times : (a b : ℕ) → a * suc b ≡ a * b + a

@@ -128,7 +128,7 @@ quiet_here t p q k =
 pub settled : (t : Trail) (steps count held : ℕ) (given : List Event) (events : Buffer Event) → given ≡ replicate steps Step
     → length t.events.items + steps ≤ t.events.capacity
     → count ≡ min (length given) (t.events.capacity - length t.events.items) → events ≡ buffer (t.events.items ++ take count given) t.events.capacity
-        → held ≡ min (t.held + steps) t.history
+    → held ≡ min (t.held + steps) t.history
     → record_of t events held ≡ with_steps t steps
 settled t steps count held given events is room n all more =
     let size : length given ≡ steps = ap length is ∙ length-replicate steps Step in

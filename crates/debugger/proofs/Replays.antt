@@ -70,7 +70,7 @@ kept-drop held k xs h =
 -- going back takes the last states away
 pub kept-back : (held k n : ℕ) (s : State) (es : List Event) → held ≤ length es → k ≤ held → n ≡ length es - k
     → keep_last (held - k) (before_each s (take n es)) ++ state_after s (take n es) ∷ []
-        ≡ take (held - k + 1) (keep_last held (before_each s es) ++ state_after s es ∷ [])
+    ≡ take (held - k + 1) (keep_last held (before_each s es) ++ state_after s es ∷ [])
 kept-back held k n s es h j e =
     let short = take n es in
     let cut = length es - held in
@@ -80,13 +80,13 @@ kept-back held k n s es h j e =
     let a : length (before_each s short) - (held - k) ≡ cut = omega arith in
     let left : keep_last (held - k) (before_each s short) ++ state_after s short ∷ [] ≡ drop cut (states_along s short) =
     ap (λ m. drop m (before_each s short) ++ state_after s short ∷ []) a
-        ∙ sym (drop-append-le cut (before_each s short) (state_after s short ∷ []) (omega arith)) in
+    ∙ sym (drop-append-le cut (before_each s short) (state_after s short ∷ []) (omega arith)) in
     let b : length (before_each s es) - held ≡ cut = omega arith in
     let right : keep_last held (before_each s es) ++ state_after s es ∷ [] ≡ drop cut (states_along s es) =
     ap (λ m. drop m (before_each s es) ++ state_after s es ∷ []) b ∙ sym (drop-append-le cut (before_each s es) (state_after s es ∷ []) (omega arith)) in
     let m : suc n ≡ cut + (held - k + 1) = omega arith in
     left ∙ ap (drop cut) (states_along-take n s es (omega arith) ∙ ap (λ x. take x (states_along s es)) m)
-        ∙ drop-take cut (held - k + 1) (states_along s es) ∙ ap (take (held - k + 1)) (sym right)
+    ∙ drop-take cut (held - k + 1) (states_along s es) ∙ ap (take (held - k + 1)) (sym right)
 
 -- ---- growing
 

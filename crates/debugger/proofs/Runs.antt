@@ -34,7 +34,7 @@ run_made zero s t why h made stop = absurd (omega arith)
 run_made (suc n) s t why h made stop =
     let z : n ≡ suc n - 1 = omega arith in
     run_end-made step n s t made ∙ ap (λ m. ends_with (stop_of s s.current t) (run_end m (with_state s t))) z
-        ∙ ap (λ w. ends_with w (run_end (suc n - 1) (with_state s t))) (sym stop)
+    ∙ ap (λ w. ends_with w (run_end (suc n - 1) (with_state s t))) (sym stop)
 
 pub run_stops : (n : ℕ) (s : Session) (t : State) (why : Why) → 0 < n → step s.current ≡ Ok t → Some why ≡ stop_of s s.current t → run_end n s ≡ end_at 1 why
 run_stops n s t why h made stop = run_made n s t (Some why) h made stop
@@ -54,7 +54,7 @@ run_none n s h = ap (λ m. run_end m s) h ∙ run_end-zero step s
 pub step_after : (k : ℕ) (s u : Session) (t : State) → u ≡ after_steps k s → step u.current ≡ Ok t → with_state u t ≡ after_steps (k + 1) s
 step_after k s u t at made =
     sym (after_steps-zero step (with_state u t)) ∙ sym (after_steps-made step zero u t made) ∙ ap (after_steps 1) at
-        ∙ sym (after_steps-add k 1 s (step s.current) refl)
+    ∙ sym (after_steps-add k 1 s (step s.current) refl)
 
 pub event_is_step : (s : State) → event_of s Step ≡ step s
 unfolding event_of

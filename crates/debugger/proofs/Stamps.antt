@@ -48,7 +48,7 @@ tells_let_go now spare number stamps used unused left more c memory first rest p
           let same : number_at now (length used) (i + 1) ≡ number_at now (length left) i = omega (arith, fewer, some) in
           let next : i + 1 ≡ 1 + i = omega arith in
           subst (λ n. AreSameBelow n stamps d.bus.memory memory) same
-              (told.kept (i + 1) d (sym (slice_get-drop 1 used i (i + 1) next) ∙ ap (λ l. slice_get l i) (sym rest) ∙ at));
+          (told.kept (i + 1) d (sym (slice_get-drop 1 used i (i + 1) next) ∙ ap (λ l. slice_get l i) (sym rest) ∙ at));
       spare = λ d at.
           let place : length (unused ++ c ∷ []) - 1 ≡ length unused = omega (arith, length-append unused (c ∷ [])) in
           let last : Some c ≡ Some d = sym (slice_get-last unused c (length (unused ++ c ∷ []) - 1) place) ∙ ap last_item (sym pushed) ∙ at in

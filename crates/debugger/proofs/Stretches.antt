@@ -87,8 +87,16 @@ longer_one t bytes p q n s m now some before is =
           let middle = session_of (with_steps t (p + n)) m breaks watches replayed in
           let count : n + 1 ≡ suc n = omega arith in
           ap (λ k. session_of (with_steps t k) now breaks watches replayed) (sym same)
-          ∙ (λ i. record { earlier = noted.states i; current = now; history = t.history; breaks = breaks; watches = watches; number =
-              number i; replayed = replayed })
+          ∙ (λ i. record {
+            earlier = noted.states i;
+            current = now;
+            history = t.history;
+            breaks = breaks;
+            watches = watches;
+            number =
+                number i;
+            replayed = replayed;
+          })
           ∙ step_after n first middle now (before.states breaks watches replayed) is.made ∙ ap (λ k. after_steps k first) count;
     }
 
@@ -136,7 +144,7 @@ on_none s =
 
 goes_none : (s u : Session) (t : State) (stops bytes : List ℕ) → u.breaks ≡ s.breaks → u.watches ≡ s.watches
     → ((k : ℕ) → slice_index stops k ≡ 0 → list_any (nat_eq k) s.breaks ≡ false)
-        → ((k : ℕ) → slice_index bytes k ≡ 0 → list_any (nat_eq k) s.watches ≡ false) → GoesOn stops bytes u.current t → None ≡ stop_of u u.current t
+    → ((k : ℕ) → slice_index bytes k ≡ 0 → list_any (nat_eq k) s.watches ≡ false) → GoesOn stops bytes u.current t → None ≡ stop_of u u.current t
 unfolding stop_of
 goes_none s u t stops bytes breaks watches marks none g =
     let first = no_watch u.watches bytes u.current t (λ k h. ap (list_any (nat_eq k)) watches ∙ none k h) g.step.kept in
@@ -162,7 +170,7 @@ on_one s n m t stops bytes marks none on goes =
           let less : count - n - 1 ≡ count - suc n = omega arith in
           on.end count (omega arith) ∙ ap (beyond n) (run_goes (count - n) u t some made stop) ∙ beyond-later n (run_end (count - n - 1) (with_state u t))
           ∙ ap (λ k. beyond k (run_end (count - n - 1) (with_state u t))) count_on ∙ ap (λ k. beyond (suc n) (run_end k (with_state u t))) less
-              ∙ ap (λ x. beyond (suc n) (run_end (count - suc n) x)) next;
+          ∙ ap (λ x. beyond (suc n) (run_end (count - suc n) x)) next;
     }
 
 pub on_all : (s : Session) (n : ℕ) (t : State) (stops bytes : List ℕ) → ((k : ℕ) → slice_index stops k ≡ 0 → list_any (nat_eq k) s.breaks ≡ false)
@@ -218,9 +226,9 @@ runs_last s u (suc n) t stops bytes why marks none all told at =
           let some : 0 < count - n = omega arith in
           let after : count - n - 1 ≡ count - suc n = omega arith in
           on.end count (omega arith) ∙ ap (beyond n) (run_made (count - n) v t why some is.made stop)
-              ∙ ends_after n why (run_end (count - n - 1) (with_state v t))
+          ∙ ends_after n why (run_end (count - n - 1) (with_state v t))
           ∙ ap (λ k. end_after k why (run_end (count - n - 1) (with_state v t))) count_on
-              ∙ ap (λ k. end_after (suc n) why (run_end k (with_state v t))) after ∙ ap (λ x. end_after (suc n) why (run_end (count - suc n) x)) next,
+          ∙ ap (λ k. end_after (suc n) why (run_end k (with_state v t))) after ∙ ap (λ x. end_after (suc n) why (run_end (count - suc n) x)) next,
     )
 
 -- a step by itself comes after the others
@@ -233,7 +241,7 @@ runs_then s u t n why goes told =
           let some : 0 < count - n = omega arith in
           let less : count - n - 1 ≡ count - (n + 1) = omega arith in
           goes.end count (omega arith) ∙ ap (beyond n) (run_made (count - n) u told.0 why some told.1 told.2)
-              ∙ ends_after n why (run_end (count - n - 1) (with_state u told.0))
+          ∙ ends_after n why (run_end (count - n - 1) (with_state u told.0))
           ∙ ap (λ k. end_after (n + 1) why (run_end k (with_state u told.0))) less ∙ ap (λ x. end_after (n + 1) why (run_end (count - (n + 1)) x)) next,
     )
 
@@ -275,6 +283,8 @@ pub stops_further : (s u t : Session) (count did : ℕ) (r : Stretch) (why : Why
     → RunsTo u (Ok r) t
     → (end_at (did + r.steps) why ≡ run_end count s) × (t ≡ after_steps (did + r.steps) s)
 stops_further s u t count did r why some within before told =
-    let rest = run_end (count - did - r.steps) t in
-    (sym (before.end ∙ ap (beyond did) (told.2 (count - did) (omega arith)) ∙ ap (λ w. beyond did (end_after r.steps w rest)) some), further_steps s u
-        t did r.steps before.after told.1)
+    let rest = run_end (count - did - r.steps) t in (
+      sym (before.end ∙ ap (beyond did) (told.2 (count - did) (omega arith)) ∙ ap (λ w. beyond did (end_after r.steps w rest)) some),
+      further_steps s u
+          t did r.steps before.after told.1,
+    )

@@ -74,7 +74,7 @@ without_part p kept es now some lone h =
       states = λ held few.
           let n = length-before_each base es in
           ap (λ (x : State). keep_last held (before_each x (drop p es))) same ∙ ap (keep_last held) (before_each-drop p base es (omega arith))
-              ∙ kept-drop held p (before_each base es) (omega arith);
+          ∙ kept-drop held p (before_each base es) (omega arith);
     }
 
 -- ---- a checkpoint more
@@ -128,7 +128,7 @@ gone_back p n m kept es now few some room within h =
     let base = base_of kept now in
     let t = state_after base (take n es) in
     let marks : AllLeadBack p (take m kept) base (take n es) t =
-        marks-back p n (take m kept) base es now t room within h.follow h.whole refl (marks-take m p kept base es now h.marks) in
+    marks-back p n (take m kept) base es now t room within h.follow h.whole refl (marks-take m p kept base es now h.marks) in
     let same : base_of (take m kept) t ≡ base = back_base p m kept base (take n es) t few some marks in
     record {
       history = record {

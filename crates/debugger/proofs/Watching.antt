@@ -27,7 +27,7 @@ changed_here ws i a before after some within is differ =
 
 pub changed_later : (ws : List ℕ) (i a : ℕ) (before after : State) → 0 < i → i ≤ length ws → slice_get ws (i - 1) ≡ Some a
     → slice_index before.bus.memory a ≡ slice_index after.bus.memory a
-        → lowest (changed_addresses (drop (i - 1) ws) before after) ≡ lowest (changed_addresses (drop i ws) before after)
+    → lowest (changed_addresses (drop (i - 1) ws) before after) ≡ lowest (changed_addresses (drop i ws) before after)
 changed_later ws i a before after some within is same =
     let e : eqb (slice_index before.bus.memory a) (slice_index after.bus.memory a) ≡ true = grind (arith, nat_tests) in
     let rest = changed_addresses (drop i ws) before after in
@@ -65,7 +65,7 @@ none_kept (w ∷ ws) bytes before after marks kept =
     let byte : slice_index before.bus.memory w ≡ slice_index after.bus.memory w = sym (kept w marked) in
     let e : eqb (slice_index before.bus.memory w) (slice_index after.bus.memory w) ≡ true = grind (arith, nat_tests) in
     ap (λ b. cond (not b) (w ∷ changed_addresses ws before after) (changed_addresses ws before after)) e
-        ∙ none_kept ws bytes before after (λ k z. rest_any k w ws (marks k z)) kept
+    ∙ none_kept ws bytes before after (λ k z. rest_any k w ws (marks k z)) kept
 
 same_memory : (change : Change) (s : State) → change.count ≡ 0 → (before_of change s).bus.memory ≡ s.bus.memory
 unfolding bus_before

@@ -16,7 +16,7 @@ front (a ∷ b ∷ c ∷ xs) = let three : min (length (a ∷ b ∷ c ∷ xs)) 3
 -- the row at an address stands before the others
 pub next_row : (profile : Profile) (memory : List ℕ) (last address left : ℕ) → 0 < left → address ≤ last
     → rows_in profile memory last address left ≡ row_line address (bytes_from memory address) (row_in profile memory address)
-        ++ rows_in profile memory last (address + (row_in profile memory address).len) (left - 1)
+    ++ rows_in profile memory last (address + (row_in profile memory address).len) (left - 1)
 unfolding rows_in
 next_row profile memory last address zero some in_range = absurd (omega (arith, some))
 next_row profile memory last address (suc n) some in_range = let one : suc n - 1 ≡ n = omega arith in rw (one, le-leb address last in_range) refl
@@ -24,11 +24,11 @@ next_row profile memory last address (suc n) some in_range = let one : suc n - 1
 -- a turn of the loop
 pub turn : (profile : Profile) (memory out new bytes total : List ℕ) (last address left len : ℕ) → 0 < left → address ≤ last → bytes ≡ bytes_from memory address
     → new ≡ out ++ row_line address bytes (row_of profile bytes address) → len ≡ (row_of profile bytes address).len
-        → out ++ rows_in profile memory last address left ≡ total
+    → out ++ rows_in profile memory last address left ≡ total
     → new ++ rows_in profile memory last (address + len) (left - 1) ≡ total
 turn profile memory out new bytes total last address left len some in_range is put long so_far =
     rw (put, long, is) (append_assoc out (row_line address (bytes_from memory address) (row_in profile memory address))
-        (rows_in profile memory last (address + (row_in profile memory address).len) (left - 1))
+    (rows_in profile memory last (address + (row_in profile memory address).len) (left - 1))
     ∙ ap (λ (x : List ℕ). out ++ x) (sym (next_row profile memory last address left some in_range)) ∙ so_far)
 
 -- the bytes from an address on, three of them or fewer
@@ -36,7 +36,7 @@ pub window : (memory : List ℕ) (address n : ℕ) → n ≡ min (length (take (
     → take n (take (length memory - address) (drop address memory)) ≡ bytes_from memory address
 window memory address n is =
     let all : take (length memory - address) (drop address memory) ≡ drop address memory =
-        ap (λ (k : ℕ). take k (drop address memory)) (sym (length-drop address memory)) ∙ take-length (drop address memory) in
+    ap (λ (k : ℕ). take k (drop address memory)) (sym (length-drop address memory)) ∙ take-length (drop address memory) in
     rw is (rw all (front (drop address memory)))
 
 -- a row ends within memory

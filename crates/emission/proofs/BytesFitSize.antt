@@ -108,8 +108,12 @@ content_size numbers a (word_list es) = words_size (λ (e : Term). word_piece (e
 content_size numbers a (word_list_high_first es) = words_size (λ (e : Term). word_piece_high_first (eval_of numbers (pos a) e))
     (λ e. word_size_high_first (eval_of numbers (pos a) e)) es
 content_size numbers a (code opcode mode None) = omega (arith, operand_size a mode (eval_of numbers (pos a) here))
-content_size numbers a (code opcode mode (Some e)) = omega (arith, operand_size a mode (eval_of numbers (pos a) e), code_size
-    (operand_piece a mode (eval_of numbers (pos a) e)))
+content_size numbers a (code opcode mode (Some e)) = omega (
+  arith,
+  operand_size a mode (eval_of numbers (pos a) e),
+  code_size
+      (operand_piece a mode (eval_of numbers (pos a) e)),
+)
 
 pub line_size : (numbers : Numbers) (p : PlacedLine) → length (line_bytes numbers p) ≤ size_of p.content
 unfolding line_bytes

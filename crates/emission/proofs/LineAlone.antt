@@ -40,7 +40,7 @@ alone_is p =
     ap (λ (g : Gathering). with_fault_if g (kind_if past PastEnd)) (gathered_is nothing_gathered pieces)
     ∙ ap (λ (k : Option AsmFaultKind). both (flat_map bytes_in pieces) (lower (lowest (kinds_in pieces)) k)) (sym (lower_nothing (kind_if past PastEnd)))
     ∙ ap (λ (t : Bool). both (flat_map bytes_in pieces) (lower (lowest (kinds_in pieces)) (lower (kind_if t PastEnd) None)))
-        (sym (past_is (p.address + size_of p.content) past refl))
+    (sym (past_is (p.address + size_of p.content) past refl))
     ∙ ap (both (flat_map bytes_in pieces)) (sym (lowest-append (kinds_in pieces) (kind_if (not (nat_le (p.address + size_of p.content) 65536)) PastEnd ∷ [])))
 
 pub alone_faulty : (p : PlacedLine) (g : Gathering) (kind : AsmFaultKind) → g ≡ gathered_alone p → g.kind ≡ Some kind → bytes_alone p ≡ Err kind

@@ -67,7 +67,7 @@ put_spared m numbers image new p done s = by (value_fault m numbers image p) ref
     by None right made =
         let same : with_bytes image p.address (line_bytes numbers p) ≡ new = same_ok (with_bytes image p.address (line_bytes numbers p)) new made in
         rw (← same) (bytes_spared m (line_bytes numbers p) image p.address (size_of p.content) (line_size numbers p)
-            (placed_right m numbers image p right).port s)
+        (placed_right m numbers image p right).port s)
     by (Some kind) wrong made = absurd (no_ok new kind made)
 
 blank_cell : (n q : ℕ) → get_or (replicate n nothing) q None ≡ None
@@ -104,5 +104,10 @@ first_on m = let same : m.port + 0 ≡ m.port = omega arith in rw same at (on_po
 pub spared_is : (m : Map) (image : Cells) → IsSpared m image → has_port_byte m image ≡ false
 unfolding has_port_byte
 spared_is m image s =
-    rw (s.free m.port (first_on m), s.free (m.port + 1) (on_port m 1 (omega arith)), s.free (m.port + 2) (on_port m 2 (omega arith)), s.free
-        (m.port + 3) (on_port m 3 (omega arith))) refl
+    rw (
+      s.free m.port (first_on m),
+      s.free (m.port + 1) (on_port m 1 (omega arith)),
+      s.free (m.port + 2) (on_port m 2 (omega arith)),
+      s.free
+          (m.port + 3) (on_port m 3 (omega arith)),
+    ) refl

@@ -142,8 +142,14 @@ after_line : (a : Answer) (s : Session) (begun bs : List ℕ) → (a.quit ≡ fa
 after_line a s begun bs stays h rest = by a.quit refl
   where
     by : (q : Bool) → a.quit ≡ q → Feeds s begun (10 ∷ bs) (cond a.quit (fed a.written a.session [] true) (fed_after a.written (feed a.session [] bs)))
-    by true e = rw e (record { more = []; front = refl; goes_on = λ no. absurd (true≢false no); ends =
-        λ _ ending more. h ending more ∙ rw e refl; cuts = λ no. absurd (true≢false no) })
+    by true e = rw e (record {
+      more = [];
+      front = refl;
+      goes_on = λ no. absurd (true≢false no);
+      ends =
+          λ _ ending more. h ending more ∙ rw e refl;
+      cuts = λ no. absurd (true≢false no);
+    })
     by false e = let r = rest a.session in rw e (record {
       more = r.more;
       front = r.front;
@@ -155,12 +161,18 @@ after_line a s begun bs stays h rest = by a.quit refl
     })
 
 pub feeds : (s : Session) (begun bytes : List ℕ) → Feeds s begun bytes (feed s (take 257 begun) bytes)
-feeds s begun [] = rw feed_none (record { more = begun; front = refl; goes_on = λ _ ending rest. refl; ends =
-    λ no. absurd (true≢false (sym no)); cuts = λ _. cuts_nothing begun })
+feeds s begun [] = rw feed_none (record {
+  more = begun;
+  front = refl;
+  goes_on = λ _ ending rest. refl;
+  ends =
+      λ no. absurd (true≢false (sym no));
+  cuts = λ _. cuts_nothing begun;
+})
 feeds s begun (b ∷ bs) = elim (eqb_tells b 10) [
   | inl h ↦ subst (λ x. Feeds s begun (x ∷ bs) (feed s (take 257 begun) (x ∷ bs))) (sym h.1)
       (rw (feed_line, command-kept_line begun) (after_line (answer_to (command_of (strip_last 13 begun)) s) s begun bs
-          (not_quit (command_of (strip_last 13 begun)) s) (λ ending rest. served_line s begun (bs ++ rest) ending) (λ t. feeds t [] bs)))
+      (not_quit (command_of (strip_last 13 begun)) s) (λ ending rest. served_line s begun (bs ++ rest) ending) (λ t. feeds t [] bs)))
   | inr h ↦ let r = feeds s (begun ++ b ∷ []) bs in
       rw (feed_byte s (take 257 begun) bs b h.0, kept-more begun b) (record {
         more = r.more;

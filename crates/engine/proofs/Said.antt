@@ -60,7 +60,7 @@ said_input s n command bytes first count r q is e h after =
     subst (λ (c : Command). IfOk q (λ quit. (quit ≡ (answer_to c s).quit) × (n ≡ (answer_to c s).session))) (sym is)
     (subst (λ (l : List ℕ). IfOk q (λ quit. (quit ≡ (input_answer s l).quit) × (n ≡ (input_answer s l).session))) e
     (subst (λ (b : Bool). IfOk q (λ quit. (quit ≡ b) × (n ≡ (input_answer s first).session))) (sym (input_goes_on s first))
-        (said_after (n ≡ (input_answer s first).session) r q h after)))
+    (said_after (n ≡ (input_answer s first).session) r q h after)))
 
 pub first_all : (bytes : List ℕ) (count : ℕ) → length bytes ≤ count → bytes ≡ take count bytes
 first_all bytes count h = sym (take_all count bytes h)

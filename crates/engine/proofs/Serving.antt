@@ -39,19 +39,19 @@ module _ (start s : Session) (told text kept : List ℕ) (i : ServesSoFar start 
         front = f.front;
         goes_on = λ ending rest.
             ap (λ l. serving start (lines_from ending [] l)) (append_assoc told bytes rest) ∙ i.goes_on ending (bytes ++ rest)
-                ∙ ap (after_text text) (f.goes_on on ending rest)
+            ∙ ap (after_text text) (f.goes_on on ending rest)
             ∙ (let t = serving r.session (lines_from ending f.more rest) in
-                ap (λ w. record { written = w; session = t.session }) (sym (append_assoc text r.written t.written)));
+            ap (λ w. record { written = w; session = t.session }) (sym (append_assoc text r.written t.written)));
         cuts = cuts_then [] told i.begun bytes f.more i.cuts (f.cuts on);
       }
 
   pub served_quit : (ending : List ℕ → List (List ℕ)) (bytes rest : List ℕ) → (feed s kept bytes).quit ≡ true
       → serving start (lines_from ending [] (told ++ bytes ++ rest))
-          ≡ record { written = text ++ (feed s kept bytes).written; session = (feed s kept bytes).session }
+      ≡ record { written = text ++ (feed s kept bytes).written; session = (feed s kept bytes).session }
   served_quit ending bytes rest off =
       let f = feeds_kept s i.begun kept bytes i.front in
       ap (λ l. serving start (lines_from ending [] l)) (append_assoc told bytes rest) ∙ i.goes_on ending (bytes ++ rest)
-          ∙ ap (after_text text) (f.ends off ending rest)
+      ∙ ap (after_text text) (f.ends off ending rest)
 
   -- what bytes give is what the lines give whose end they tell
   pub served_bytes : (bytes : List ℕ) → (more : List ℕ) × ((transcript_so_far start (told ++ bytes)).written ≡ text ++ ((feed s kept bytes).written ++ more))

@@ -106,7 +106,7 @@ pub early_right : (a : Option (List ℕ)) (f : TapeReadFault) → IfSome a (λ t
     → IfSome a (λ text. (image : Image) → IsReadInPieces text image → IfTape (failed (of_tape_read f)) (λ _. ⊥))
 early_right a f only =
     with_known a (λ text. (cells : Image) → IsReadInPieces text cells → Is (read_err f) (read_ok cells))
-        (λ text. (image : Image) → IsReadInPieces text image → IfTape (failed (of_tape_read f)) (λ _. ⊥)) only
+    (λ text. (image : Image) → IsReadInPieces text image → IfTape (failed (of_tape_read f)) (λ _. ⊥)) only
     (λ text o image r. none (only_ends f image (o image r))) where
       none : (of_tape_read f ≡ Read) ⊎ (of_tape_read f ≡ OutOfMemory) → IfTape (failed (of_tape_read f)) (λ _. ⊥)
       none (inl e) = subst (λ x. IfTape (failed x) (λ _. ⊥)) (sym e) tt
@@ -120,7 +120,7 @@ pub early_port : (a : Option (List ℕ)) (f : TapeReadFault) (P : Image → Type
     → IfSome a (λ text. (image : Image) → IsReadInPieces text image → P image → Ends (of_tape_read f) (Err (Session PortAddress)))
 early_port a f P only =
     with_known a (λ text. (cells : Image) → IsReadInPieces text cells → Is (read_err f) (read_ok cells))
-        (λ text. (image : Image) → IsReadInPieces text image → P image → Ends (of_tape_read f) (Err (Session PortAddress))) only
+    (λ text. (image : Image) → IsReadInPieces text image → P image → Ends (of_tape_read f) (Err (Session PortAddress))) only
     (λ text o image r p. inr (one (only_ends f image (o image r)))) where
       one : (of_tape_read f ≡ Read) ⊎ (of_tape_read f ≡ OutOfMemory) → (failed (of_tape_read f) ≡ failed Read) ⊎ (failed (of_tape_read f) ≡ failed OutOfMemory)
       one (inl e) = inl (ap failed e)
@@ -140,7 +140,7 @@ pub early_faulty : (a : Option (List ℕ)) (f : TapeReadFault)
     → IfSome a (λ text. (fault : TapeFault) → IsRefusedInPieces text fault → Ends (of_tape_read f) (Err (Tape fault)))
 early_faulty a f only =
     with_known a (λ text. (fault : TapeFault) → IsRefusedInPieces text fault → Is (read_err f) (read_err (tape_read_fault.Tape fault)))
-        (λ text. (fault : TapeFault) → IsRefusedInPieces text fault → Ends (of_tape_read f) (Err (Tape fault))) only
+    (λ text. (fault : TapeFault) → IsRefusedInPieces text fault → Ends (of_tape_read f) (Err (Tape fault))) only
     (λ text o fault r. refusal_ends f fault (o fault r))
 
 -- ---- what was consumed of the tape
@@ -215,7 +215,7 @@ pub for_each_known : (a : Option (List ℕ)) (image : Image) (P : Image → Type
     → IfSome a (λ text. (cells : Image) → IsReadInPieces text cells → P cells)
 for_each_known a image P only p =
     with_known a (λ text. (cells : Image) → IsReadInPieces text cells → Is (read_ok image) (read_ok cells))
-        (λ text. (cells : Image) → IsReadInPieces text cells → P cells) only
+    (λ text. (cells : Image) → IsReadInPieces text cells → P cells) only
     (λ text o cells r. subst P (same_image image cells (o cells r)) p)
 
 not_refused : (image : Image) (f : TapeReadFault) → Is (read_ok image) (read_err f) → ⊥
@@ -228,7 +228,7 @@ pub read_excluded : (a : Option (List ℕ)) (image : Image) (P : TapeFault → T
     → IfSome a (λ text. (fault : TapeFault) → IsRefusedInPieces text fault → P fault)
 read_excluded a image P only =
     with_known a (λ text. (fault : TapeFault) → IsRefusedInPieces text fault → Is (read_ok image) (read_err (tape_read_fault.Tape fault)))
-        (λ text. (fault : TapeFault) → IsRefusedInPieces text fault → P fault) only
+    (λ text. (fault : TapeFault) → IsRefusedInPieces text fault → P fault) only
     (λ text o fault r. absurd (not_refused image (tape_read_fault.Tape fault) (o fault r)))
 
 pub third_answer : (A B C : Type 0) → A ⊎ C → A ⊎ (B ⊎ C)

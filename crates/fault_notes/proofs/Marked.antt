@@ -136,7 +136,7 @@ known_same profile names ns numbers ds n d = rw (n, d) refl
 pub blocks_as : {X E : Type 0} (items : X → List ℕ) (result : Result X E) (file : List ℕ) (lines same : List (List ℕ)) (one other : Known)
     (faults : List AsmFault) → lines ≡ same → one ≡ other
     → IfOk result (λ x. AreBlocks (fault_blocks (IsMeant one)) file lines faults (items x))
-        → IfOk result (λ x. AreBlocks (fault_blocks (IsMeant other)) file same faults (items x))
+    → IfOk result (λ x. AreBlocks (fault_blocks (IsMeant other)) file same faults (items x))
 blocks_as items result file lines same one other faults l k blocks =
     subst (λ (ls : List (List ℕ)). IfOk result (λ x. AreBlocks (fault_blocks (IsMeant other)) file ls faults (items x))) l
     (subst (λ (kn : Known). IfOk result (λ x. AreBlocks (fault_blocks (IsMeant kn)) file lines faults (items x))) k blocks)

@@ -28,7 +28,7 @@ digit_at (suc n) d h lt =
 both : (d : ℕ) → d < 16 → (to_ascii_uppercase (slice_index lower_digits d) ≡ hex_digit d) × (slice_index upper_digits d ≡ hex_digit d)
 both d lt =
     let parts = and_parts (to_ascii_uppercase (slice_index lower_digits d) == hex_digit d) (slice_index upper_digits d == hex_digit d)
-        (digit_at 16 d refl lt) in
+    (digit_at 16 d refl lt) in
     (eqb-true _ _ parts.0, eqb-true _ _ parts.1)
 
 -- Small digits of a byte made capital are its digits.

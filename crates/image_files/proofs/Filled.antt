@@ -25,7 +25,7 @@ pub none_at_port : (bus_map : Map) (whole part : Cells) → length part ≡ 6553
 unfolding has_port_byte
 none_at_port bus_map whole part size without =
     let none = λ (address : ℕ) (low : bus_map.port ≤ address) (high : address ≤ bus_map.port + 3).
-        none_there bus_map whole part address size without (at_port bus_map address low high) in
+    none_there bus_map whole part address size without (at_port bus_map address low high) in
     rw (
       none bus_map.port (omega arith) (omega arith),
       none (bus_map.port + 1) (omega arith) (omega arith),

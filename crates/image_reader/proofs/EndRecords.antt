@@ -22,7 +22,7 @@ end_digits (b ∷ digits) is =
     let hex = and_parts ((b == 59) && (length digits == 10)) (list_all is_hex_byte digits) says.0 in
     let sized = and_parts (b == 59) (length digits == 10) hex.0 in
     let twice = and_parts (((claim_of digits).length == 0) && ((claim_of digits).checksum == (claim_of digits).address))
-        (not ((claim_of digits).sum == (claim_of digits).checksum)) says.1 in
+    (not ((claim_of digits).sum == (claim_of digits).checksum)) says.1 in
     let none = and_parts ((claim_of digits).length == 0) ((claim_of digits).checksum == (claim_of digits).address) twice.0 in
     record {
       hex = hex.1;

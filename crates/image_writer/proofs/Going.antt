@@ -116,4 +116,4 @@ unfolding image_text
 whole_text form cells read a b c d ha hb same hc hd =
     hd ∙ ap (λ (t : List ℕ). t ++ end_text form)
     (hc ∙ ap (λ (cs : List (Option ℕ)). b ++ texts form (rows 0 [] cs)) same
-        ∙ ap (λ (t : List ℕ). t ++ texts form (rows 0 [] cells)) (hb ∙ ap (λ (t : List ℕ). t ++ front_text form) ha))
+    ∙ ap (λ (t : List ℕ). t ++ texts form (rows 0 [] cells)) (hb ∙ ap (λ (t : List ℕ). t ++ front_text form) ha))

@@ -83,7 +83,7 @@ raw_at low high fill k cells a b h =
     get_or_default (map (byte_of fill) part) (k - low) 0 fill (omega (arith, size, a, b))
     ∙ get_or-map (byte_of fill) part (k - low) None
     ∙ ap (byte_of fill) (get_or-take (high + 1 - low) (drop low cells) (k - low) None (omega (arith, a, b)) ∙ get_or-drop low cells (k - low) None
-        ∙ ap (λ (i : ℕ). get_or cells i None) back)
+    ∙ ap (λ (i : ℕ). get_or cells i None) back)
 
 is_part : (low high fill : ℕ) (cells : Cells) → low ≤ high → high < 65536 → length cells ≡ 65536
     → IsPart low high (Some fill) cells (with_bytes empty_image low (raw_bytes low high fill cells))
@@ -132,4 +132,4 @@ one_more fill part i cell below is out start e =
     ∙ append_assoc start (map (byte_of fill) (take i part)) (unwrap_or cell fill ∷ [])
     ∙ ap (λ (c : Option ℕ). start ++ (map (byte_of fill) (take i part) ++ byte_of fill c ∷ [])) read
     ∙ ap (λ (t : List ℕ). start ++ t) (sym (map-append (byte_of fill) (take i part) (get_or part i None ∷ []))
-        ∙ ap (λ (t : Cells). map (byte_of fill) t) (sym (take_more part i None below)))
+    ∙ ap (λ (t : Cells). map (byte_of fill) t) (sym (take_more part i None below)))

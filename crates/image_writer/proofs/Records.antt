@@ -31,7 +31,7 @@ regroup a m h b c e = simp append_assoc refl
 
 whole_record : (total : ℕ) (mark head bytes a : List ℕ)
     → ((((a ++ mark) ++ encode_upper head) ++ encode_upper bytes) ++ encode_upper (checksum total (head ++ bytes) ∷ [])) ++ 13 ∷ 10 ∷ [] ≡ a
-        ++ record_text mark total (head ++ bytes)
+    ++ record_text mark total (head ++ bytes)
 whole_record total mark head bytes a =
     let check = checksum total (head ++ bytes) in
     regroup a mark (encode_upper head) (encode_upper bytes) (encode_upper (check ∷ [])) (13 ∷ 10 ∷ [])
@@ -44,5 +44,5 @@ pub record_done : {E : Type 0} (r : Result Unit E) (total check : ℕ) (mark hea
 record_done (Err x) total check mark head bytes a b c d e f k hb hc hd he hf = tt
 record_done (Ok u) total check mark head bytes a b c d e f k hb hc hd he hf =
     let all : e ≡ (((a ++ mark) ++ encode_upper head) ++ encode_upper bytes) ++ encode_upper (checksum total (head ++ bytes) ∷ []) =
-        rw (he, hd, hc, hb, k) refl in
+    rw (he, hd, hc, hb, k) refl in
     hf ∙ ap (λ (t : List ℕ). t ++ 13 ∷ 10 ∷ []) all ∙ whole_record total mark head bytes a

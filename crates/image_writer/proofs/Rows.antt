@@ -83,7 +83,7 @@ stored_front (b ∷ bytes) front n address h =
     let k : length (b ∷ bytes) + n ≡ suc (length bytes + n) = omega arith in
     let one : set (front ++ none (length (b ∷ bytes) + n)) address (Some b) ≡ (front ++ Some b ∷ []) ++ none (length bytes + n) =
     ap (λ m. set (front ++ none m) address (Some b)) k ∙ set_at front None (none (length bytes + n)) (Some b) address h
-        ∙ sym (append_assoc front (Some b ∷ []) (none (length bytes + n))) in
+    ∙ sym (append_assoc front (Some b ∷ []) (none (length bytes + n))) in
     ap (λ (x : Cells). with_bytes x (address + 1) bytes) one
     ∙ stored_front bytes (front ++ Some b ∷ []) n (address + 1) (omega (arith, length-append front (Some b ∷ [])))
     ∙ append_assoc front (Some b ∷ []) (some bytes ++ none n)
@@ -112,7 +112,7 @@ rows_put (None ∷ cells) address begun front h =
     let done : Cells = front ++ some begun in
     let zero_more : length cells ≡ 0 + length cells = omega arith in
     let there : length (done ++ nothing ∷ []) + 0 ≡ address + 1 =
-        omega (arith, h, length-append done (nothing ∷ []), length-append front (some begun), length_some begun) in
+    omega (arith, h, length-append done (nothing ∷ []), length-append front (some begun), length_some begun) in
     let ended_here : put_rows (front ++ none (length begun + suc (length cells))) (ended address begun) ≡ (done ++ nothing ∷ []) ++ none (length cells) =
     ended_put begun front (suc (length cells)) address h ∙ sym (append_assoc done (nothing ∷ []) (none (length cells))) in
     put-append (ended address begun) (rows (address + 1) [] cells) (front ++ none (length begun + suc (length cells)))
@@ -129,13 +129,13 @@ rows_put (Some b ∷ cells) address begun front h =
     let zero_more : length cells ≡ 0 + length cells = omega arith in
     let back : (front ++ some more) ++ cells ≡ (front ++ some begun) ++ (byte ∷ cells) =
     ap (λ (x : Cells). (front ++ x) ++ cells) (some_more begun b) ∙ ap (λ (x : Cells). x ++ cells) (sym (append_assoc front (some begun) (byte ∷ [])))
-        ∙ append_assoc (front ++ some begun) (byte ∷ []) cells in
+    ∙ append_assoc (front ++ some begun) (byte ∷ []) cells in
     let there : length (front ++ some more) + 0 ≡ address + 1 = omega (arith, h, l, length-append front (some more), length_some more) in
     let ended_here = ended_put more front (length cells) (address + 1) (omega (arith, h, l)) in
     let behind = rows_put cells (address + 1) [] (front ++ some more) there in
     let later = rows_put cells (address + 1) more front (omega (arith, h, l)) in
     let full_row : put_rows (front ++ none (length more + length cells)) (ended (address + 1) more ++ rows (address + 1) [] cells)
-        ≡ (front ++ some begun) ++ (byte ∷ cells) =
+    ≡ (front ++ some begun) ++ (byte ∷ cells) =
     put-append (ended (address + 1) more) (rows (address + 1) [] cells) (front ++ none (length more + length cells))
     ∙ ap (λ (x : Cells). put_rows x (rows (address + 1) [] cells)) ended_here
     ∙ ap (λ (k : ℕ). put_rows ((front ++ some more) ++ none k) (rows (address + 1) [] cells)) zero_more

@@ -62,8 +62,11 @@ digits_read front extra b bs h n =
     let all = all_pass is_hex_byte digits (hex_of-encode (b ∷ bs) h) in
     let len : length digits ≡ 2 * length (b ∷ bs) = length-encode_with upper_digits (b ∷ bs) in
     let w = wanted-encode extra b bs h.0 in
-    rw (le-ltb (prefix_len is_hex_byte digits) (wanted extra digits) (omega (arith, all, len, w, n)), le-ltb (wanted extra digits) (length digits)
-        (omega (arith, len, w, n)))
+    rw (
+      le-ltb (prefix_len is_hex_byte digits) (wanted extra digits) (omega (arith, all, len, w, n)),
+      le-ltb (wanted extra digits) (length digits)
+          (omega (arith, len, w, n)),
+    )
     (ap (λ (x : List ℕ). Ok x) (bytes_of-encode (b ∷ bs) h))
 
 -- bytes with their checksum
@@ -126,7 +129,7 @@ unfolding hex_line
 hex_read row s h base =
     let fits : AreBytes (hex_bytes row) = (omega (arith, h.few), (omega (arith, h.inside), (omega arith, (omega arith, h.bytes)))) in
     ap (λ (r : Result (List ℕ) LineFault). r >>= after_hex s)
-        (bytes_read 1 5 0 (length row.1) (row.0 / 256 ∷ row.0 % 256 ∷ 0 ∷ row.1) (omega arith) fits (omega arith))
+    (bytes_read 1 5 0 (length row.1) (row.0 / 256 ∷ row.0 % 256 ∷ 0 ∷ row.1) (omega arith) fits (omega arith))
     ∙ hex_stored row s h base
 
 s_stored : (row : Stretch) (s : Progress) → IsRow row → after_s Data 2 s (whole 255 (s_bytes row)) ≡ Ok (one_more (put s row.0 row.1))
@@ -135,7 +138,7 @@ s_stored row s h =
     let c = checksum 255 (s_bytes row) in
     let n : length row.1 + 3 - 3 ≡ length row.1 = omega arith in
     let bytes : take (length row.1 + 3 - 3) (row.1 ++ c ∷ []) ≡ row.1 =
-        ap (λ (k : ℕ). take k (row.1 ++ c ∷ [])) n ∙ take_at row.1 (c ∷ []) (length row.1) refl in
+    ap (λ (k : ℕ). take k (row.1 ++ c ∷ [])) n ∙ take_at row.1 (c ∷ []) (length row.1) refl in
     let address : row.0 / 256 * 256 + row.0 % 256 ≡ row.0 = omega arith in
     rw (le-ltb (length row.1 + 3) 3 (omega arith))
     (ap (λ (x : List ℕ). stored 5 (row.0 / 256 * 256 + row.0 % 256) x s >>= λ t. Ok (one_more t)) bytes
@@ -148,7 +151,7 @@ unfolding s_line
 s_read row s h =
     let fits : AreBytes (s_bytes row) = (omega (arith, h.few), (omega (arith, h.inside), (omega arith, h.bytes))) in
     ap (λ (r : Result (List ℕ) LineFault). r >>= after_s Data 2 s)
-        (bytes_read 2 1 255 (length row.1 + 3) (row.0 / 256 ∷ row.0 % 256 ∷ row.1) (omega arith) fits (omega arith))
+    (bytes_read 2 1 255 (length row.1 + 3) (row.0 / 256 ∷ row.0 % 256 ∷ row.1) (omega arith) fits (omega arith))
     ∙ s_stored row s h
 
 -- ---- lines
@@ -165,7 +168,7 @@ cut (b ∷ line) begun rest plain =
     let p = and_parts (no_end b) (list_all no_end line) plain in
     let other : eqb b 10 ≡ false = not_end (eqb b 10) p.0 in
     rw other (cut line (begun ++ b ∷ []) rest p.1 ∙ ap (λ (l : List ℕ). strip_last 13 (l ++ 13 ∷ []) ∷ lines_from last_line [] rest)
-        (append_assoc begun (b ∷ []) line)) where
+    (append_assoc begun (b ∷ []) line)) where
       not_end : (t : Bool) → cond t false true ≡ true → t ≡ false
       not_end true e = absurd cc
       not_end false e = refl
@@ -200,7 +203,7 @@ record_cut : (mark : List ℕ) (total : ℕ) (bytes rest : List ℕ) → list_al
 record_cut mark total bytes rest plain =
     let digits = encode_upper (whole total bytes) in
     ap (lines_from last_line []) (append_assoc mark (digits ++ 13 ∷ 10 ∷ []) rest
-        ∙ ap (λ (x : List ℕ). mark ++ x) (append_assoc digits (13 ∷ 10 ∷ []) rest) ∙ sym (append_assoc mark digits (13 ∷ 10 ∷ rest)))
+    ∙ ap (λ (x : List ℕ). mark ++ x) (append_assoc digits (13 ∷ 10 ∷ []) rest) ∙ sym (append_assoc mark digits (13 ∷ 10 ∷ rest)))
     ∙ first_line (mark ++ digits) rest plain
 
 -- ---- rows
@@ -345,5 +348,5 @@ written_denotes SRecord cells image =
     ap (λ (x : List ℕ). run 1 (start SRecord) x >>= end_lines) (append_assoc s_header (flat_map s_row (rows 0 [] cells)) s_end)
     ∙ ap (λ (x : List (List ℕ)). after_lines 1 (start SRecord) x >>= end_lines) (record_cut (codes "S0") 255 (8 ∷ 0 ∷ 0 ∷ codes "mos65") more refl)
     ∙ ap (λ (x : Step). (numbered 1 x >>= λ t. run (next_line 1) t more) >>= end_lines)
-        (read_open SRecord (start SRecord) _ refl refl ∙ s_heads (start SRecord))
+    (read_open SRecord (start SRecord) _ refl refl ∙ s_heads (start SRecord))
     ∙ rows_end SRecord cells 2 (record (start SRecord) { place = Open }) image refl refl refl refl

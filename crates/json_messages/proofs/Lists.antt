@@ -17,7 +17,7 @@ module _ {A : Type 0} (g : A → Data) where
       → map view found ≡ map g (take i all) → map view new ≡ map g (take (i + 1) all)
   listed_more all i e found new v within is put so_far =
       ap (map view) put ∙ map-append view found (v ∷ []) ∙ ap (λ (ds : List Data). ds ++ view v ∷ []) so_far
-          ∙ ap (λ (d : Data). map g (take i all) ++ d ∷ []) is
+      ∙ ap (λ (d : Data). map g (take i all) ++ d ∷ []) is
       ∙ sym (map-append g (take i all) (get_or all i e ∷ [])) ∙ sym (ap (map g) (take_more all i e within))
 
   -- the list of all
@@ -38,7 +38,7 @@ module _ {A : Type 0} (g : A → Data) where
       let cut : drop i all ≡ get_or all i e ∷ drop (i + 1) all = rw (add-one, drop-cons all i e) refl in
       let at : left all i ≡ view v ∷ left all (i + 1) = ap (map g) cut ∙ ap (λ (d : Data). d ∷ left all (i + 1)) (sym is) in
       ap (λ (ds : List Data). ds ++ left all (i + 1)) (ap (map view) put ∙ map-append view found (v ∷ []))
-          ∙ append_assoc (map view found) (view v ∷ []) (left all (i + 1))
+      ∙ append_assoc (map view found) (view v ∷ []) (left all (i + 1))
       ∙ sym (ap (λ (ds : List Data). map view found ++ ds) at) ∙ so_far
 
   pub left_done : (all : List A) (i : ℕ) (found whole : List Data) → length all ≤ i → found ++ left all i ≡ whole → found ≡ whole

@@ -162,11 +162,11 @@ front_here head body rest clean gives small =
     let front : (head ++ blank_line) ++ (body ++ rest) ≡ all = append_assoc head blank_line (body ++ rest) in
     let before : length (head ++ blank_line) ≡ h + 4 = length-append head blank_line in
     let d : drop (h + 4) all ≡ body ++ rest = subst (λ k. drop k all ≡ body ++ rest) before
-        (subst (λ z. drop (length (head ++ blank_line)) z ≡ body ++ rest) front (drop-append_seam (head ++ blank_line) (body ++ rest))) in
+    (subst (λ z. drop (length (head ++ blank_line)) z ≡ body ++ rest) front (drop-append_seam (head ++ blank_line) (body ++ rest))) in
     let whole : ((head ++ blank_line) ++ body) ++ rest ≡ all = append_assoc (head ++ blank_line) body rest ∙ front in
     let count : length ((head ++ blank_line) ++ body) ≡ h + 4 + n = length-append (head ++ blank_line) body ∙ ap (λ k. k + n) before in
     let r : drop (h + 4 + n) all ≡ rest = subst (λ k. drop k all ≡ rest) count
-        (subst (λ z. drop (length ((head ++ blank_line) ++ body)) z ≡ rest) whole (drop-append_seam ((head ++ blank_line) ++ body) rest)) in
+    (subst (λ z. drop (length ((head ++ blank_line) ++ body)) z ≡ rest) whole (drop-append_seam ((head ++ blank_line) ++ body) rest)) in
     let k : (h + 4 + n) - (h + 4) ≡ n = omega arith in
     let b : take ((h + 4 + n) - (h + 4)) (drop (h + 4) all) ≡ body = rw (k, d) (take-append_seam body rest) in
     (h + 4, h + 4 + n, front_at all h n e l small long, sym b, sym r)

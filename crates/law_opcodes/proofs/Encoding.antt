@@ -222,9 +222,11 @@ encoded_of_row profile m d opcode below is = has_code_parts profile opcode m d (
 -- an opcode is the one of a mnemonic in a mode exactly where its row has both
 pub encoded_exactly : (profile : Profile) (m : Mnemonic) (d : Mode) (opcode : ℕ) → opcode < 256
     → (opcode_of profile m d ≡ Some opcode) ↔ IsRowOf m d (row_at profile opcode)
-encoded_exactly profile m d opcode below =
-    (λ is. (subst (λ code. IfSome code (λ k. (k < 256) × IsRowOf m d (row_at profile k))) is (row_of_encoded profile m d)).1, encoded_of_row profile m
-        d opcode below)
+encoded_exactly profile m d opcode below = (
+  λ is. (subst (λ code. IfSome code (λ k. (k < 256) × IsRowOf m d (row_at profile k))) is (row_of_encoded profile m d)).1,
+  encoded_of_row profile m
+      d opcode below,
+)
 
 -- ---- the rows that profile C adds stand after those of profile N
 

@@ -53,8 +53,16 @@ same_session : (s u : Session) → SameRest s u → states u ≡ states s → u 
 same_session s u rest h =
     let front = front_is u.earlier s.earlier u.current s.current h in
     let last = last_is u.earlier s.earlier u.current s.current h in
-    λ i. record { earlier = front i; current = last i; history = rest.history i; breaks = rest.breaks i; watches = rest.watches i; number =
-        rest.number i; replayed = rest.replayed i }
+    λ i. record {
+      earlier = front i;
+      current = last i;
+      history = rest.history i;
+      breaks = rest.breaks i;
+      watches = rest.watches i;
+      number =
+          rest.number i;
+      replayed = rest.replayed i;
+    }
 
 -- ---- going back
 
@@ -65,7 +73,7 @@ states-without_last k s h =
     let left = length s.earlier - k in
     let within : left < length (states s) = omega (arith, length-append s.earlier (s.current ∷ [])) in
     ap (λ l. l ++ get_or (states s) left s.current ∷ []) (sym (take-append-le left s.earlier (s.current ∷ []) (omega arith)))
-        ∙ sym (take_more (states s) left s.current within)
+    ∙ sym (take_more (states s) left s.current within)
 
 -- what has the states that are left and the same rest is the session gone back
 pub is_gone_back : (k : ℕ) (s u : Session) → k ≤ length s.earlier → SameRest (without_last k s) u
@@ -79,8 +87,14 @@ pub rest-without_last : (k : ℕ) (s u : Session) → 0 < k → u.history ≡ s.
 unfolding without_last
 rest-without_last k s u h history breaks watches number replayed =
     let some : eqb k 0 ≡ false = grind (arith, nat_tests) in
-    record { history = history; breaks = breaks; watches = watches; number = number; replayed =
-        replayed ∙ ap (λ b. cond b s.replayed (number_back k s.number)) (sym some) }
+    record {
+      history = history;
+      breaks = breaks;
+      watches = watches;
+      number = number;
+      replayed =
+          replayed ∙ ap (λ b. cond b s.replayed (number_back k s.number)) (sym some);
+    }
 
 length-without_last : (k : ℕ) (s : Session)
     → length (without_last k s).earlier ≡ length s.earlier - k
@@ -109,7 +123,7 @@ states-suc k s h =
     let whole = length-append s.earlier (s.current ∷ []) in
     let m : length (take n (states s)) - 1 ≡ length s.earlier - suc k + 1 = omega (arith, length-take n (states s)) in
     ap but_last (states-without_last k s (omega arith)) ∙ ap (λ j. take j (take n (states s))) m
-        ∙ take-take (length s.earlier - suc k + 1) n (states s) (omega arith) ∙ sym (states-without_last (suc k) s h)
+    ∙ take-take (length s.earlier - suc k + 1) n (states s) (omega arith) ∙ sym (states-without_last (suc k) s h)
 
 -- without the state that an event appended
 states_before : (n : ℕ) (s : Session) (t : State) → 0 < n → n ≤ s.history
@@ -118,7 +132,7 @@ states_before : (n : ℕ) (s : Session) (t : State) → 0 < n → n ≤ s.histor
 states_before n s t h k =
     let u = with_last_earlier n (with_state s t) in
     let kept : u.earlier ≡ keep_last (n - 1) s.earlier ++ s.current ∷ [] =
-        keep_last-keep_last n s.history (s.earlier ++ s.current ∷ []) k ∙ keep_last-push n s.earlier s.current h in
+    keep_last-keep_last n s.history (s.earlier ++ s.current ∷ []) k ∙ keep_last-push n s.earlier s.current h in
     let front = keep_last (n - 1) s.earlier ++ s.current ∷ [] in
     let m : length front ≡ length (front ++ t ∷ []) - 1 = omega (arith, length-append front (t ∷ [])) in
     ap (λ l. but_last (l ++ t ∷ [])) kept ∙ take_at front (t ∷ []) (length (front ++ t ∷ []) - 1) m
@@ -147,14 +161,14 @@ back_over [] s t h a k =
     let same : keep_last (s.history - 0) s.earlier ≡ s.earlier = keep_last-all (s.history - 0) s.earlier (omega arith) in
     let whole = length-append t.earlier (t.current ∷ []) in
     states-without_last 0 t (omega arith) ∙ take_all (length t.earlier - 0 + 1) (states t) (omega arith) ∙ ap states a
-        ∙ ap (λ l. l ++ s.current ∷ []) (sym same)
+    ∙ ap (λ l. l ++ s.current ∷ []) (sym same)
 back_over (e ∷ es) s t h a k =
     let next = with_state s a.0 in
     let one : length next.earlier ≡ min s.history (length s.earlier + 1) = length-with_state s a.0 in
     let long : length t.earlier ≡ min s.history (length next.earlier + length es) = held_after es next t (omega arith) a.2 in
     let m : s.history - length es - 1 ≡ s.history - suc (length es) = omega arith in
     sym (states-suc (length es) t (omega arith)) ∙ ap but_last (back_over es next t (omega arith) a.2 (omega arith))
-        ∙ states_before (s.history - length es) s a.0 (omega arith) (omega arith)
+    ∙ states_before (s.history - length es) s a.0 (omega arith) (omega arith)
     ∙ ap (λ n. states (with_last_earlier n s)) m
 
 pub back_of-held : (k : ℕ) (s : Session) → k ≤ length s.earlier

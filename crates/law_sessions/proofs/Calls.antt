@@ -38,11 +38,11 @@ pushed : (limit held : ℕ) (xs : List State) (x : State) → held ≤ length xs
     (xs ++ x ∷ [])
 pushed zero held xs x within few = keep_last-zero (keep_last held xs ++ x ∷ [])
     ∙ sym (ap (λ n. keep_last n (xs ++ x ∷ [])) none ∙ keep_last-zero (xs ++ x ∷ [])) where
-  none : min 0 (held + 1) ≡ 0
-  none = omega arith
+      none : min 0 (held + 1) ≡ 0
+      none = omega arith
 pushed (suc limit) held xs x within few =
     keep_last-push (suc limit) (keep_last held xs) x (omega arith) ∙ ap (λ l. l ++ x ∷ []) (fewer (cases_lt held (suc limit)))
-        ∙ sym (keep_last-push (min (suc limit) (held + 1)) xs x (omega arith)) where
+    ∙ sym (keep_last-push (min (suc limit) (held + 1)) xs x (omega arith)) where
       fewer : (held < suc limit) ⊎ (suc limit ≤ held) → keep_last (suc limit - 1) (keep_last held xs) ≡ keep_last (min (suc limit) (held + 1) - 1) xs
       fewer (inl less) =
           let n : min (suc limit) (held + 1) - 1 ≡ held = omega arith in
@@ -95,7 +95,7 @@ current_back k held xs x within there =
     let n = length xs - held in
     let m : n + (held - k) ≡ length xs - k = omega arith in
     ap (λ l. get_or l (held - k) x) (sym (drop-append-le n xs (x ∷ []) (omega arith))) ∙ get_or-drop n (xs ++ x ∷ []) (held - k) x
-        ∙ ap (λ j. get_or (xs ++ x ∷ []) j x) m
+    ∙ ap (λ j. get_or (xs ++ x ∷ []) j x) m
 
 is_before : (k : ℕ) (s : Session) (past : Past) → IsPast s past → k ≤ past.held
     → IsBefore k s past (without_last k s)

@@ -84,7 +84,7 @@ assembled : (s : Session) (address : ℕ) (r : Result (List ℕ) AsmFaultKind)
 unfolding after_call
 assembled s address (Ok bytes) =
     one_call s _ (happen (event.Patch address bytes (length bytes)))
-        (evented s (patch_of address bytes s.current) ∙ ap (after_event s) (sym (is_patch s.current address bytes)))
+    (evented s (patch_of address bytes s.current) ∙ ap (after_event s) (sym (is_patch s.current address bytes)))
 assembled s address (Err kind) = ([], refl)
 
 -- ---- commands

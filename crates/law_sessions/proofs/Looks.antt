@@ -72,7 +72,7 @@ unfolding after_input
 after_input-without_stops [] s = refl
 after_input-without_stops (byte ∷ bytes) s =
     ap (λ t. after_input t bytes) (after_event-without_stops s (event_of s.current (event.Input byte)))
-        ∙ after_input-without_stops bytes (after_event s (event_of s.current (event.Input byte)))
+    ∙ after_input-without_stops bytes (after_event s (event_of s.current (event.Input byte)))
 
 given : (s : Session) (bytes : List ℕ) (b : Bool) (text other : List ℕ)
     → SameBare (cond b (answer text (without_stops s)) (answer other (after_input (without_stops s) bytes)))
@@ -138,8 +138,11 @@ sort (Patch a bytes n) s = inr (inl (evented s (event_of s.current (event.Patch 
 sort Reset s = inr (inl (evented s (event_of s.current event.Reset), λ rest. refl))
 sort (Irq level) s = inr (inl (evented s (event_of s.current (event.Irq level)), λ rest. refl))
 sort Nmi s = inr (inl (evented s (event_of s.current event.Nmi), λ rest. refl))
-sort (Input bytes n) s = inr (inl (given s (take n bytes) (nat_lt console_size (length s.current.bus.given + length (take n bytes)))
-    (fault_line InputFull) (codes "OK\n"), λ rest. refl))
+sort (Input bytes n) s = inr (inl (
+  given s (take n bytes) (nat_lt console_size (length s.current.bus.given + length (take n bytes)))
+      (fault_line InputFull) (codes "OK\n"),
+  λ rest. refl,
+))
 sort (Back n) s = inr (inl (backed n s, λ rest. refl))
 sort (Asm a text n) s = inr (inl (assembled s a (one_line s.current.bus.map.profile a (take n text)), λ rest. refl))
 sort Quit s = inr (inl (record { session = refl; quit = refl }, λ rest. refl))
@@ -196,15 +199,15 @@ harmless (c ∷ cs) s =
             let n = h.0 in
             let is : c ≡ Run n = h.1 in
             subst (λ (d : Command). obeyed (without_stops s) (without_look d s (without_looks (answer_to d s).session cs))
-                ≡ without_stops (obeyed s (d ∷ cs))) (sym is)
+            ≡ without_stops (obeyed s (d ∷ cs))) (sym is)
             (ap (obeyed (without_stops s)) (without_look-run n s (without_looks (answer_to (Run n) s).session cs))
-                ∙ again (run_end n s).did s (without_looks (answer_to (Run n) s).session cs) ((run_can_be_repeated n s).1)
+            ∙ again (run_end n s).did s (without_looks (answer_to (Run n) s).session cs) ((run_can_be_repeated n s).1)
             ∙ ap (λ t. obeyed (without_stops t) (without_looks (answer_to (Run n) s).session cs)) (sym (session-run n s))
-                ∙ harmless cs (answer_to (Run n) s).session ∙ ap without_stops (ap (λ t. obeyed t cs) (session-run n s) ∙ sym (obeyed-run n s cs)))
+            ∙ harmless cs (answer_to (Run n) s).session ∙ ap without_stops (ap (λ t. obeyed t cs) (session-run n s) ∙ sym (obeyed-run n s cs)))
       ]
     ]
 
 pub looks_are_harmless : LooksAreHarmless
 looks_are_harmless s lines others same =
     ap states (obeyed-serving others (without_stops s) ∙ ap (obeyed (without_stops s)) same ∙ harmless (map command_of lines) s
-        ∙ ap without_stops (sym (obeyed-serving lines s)))
+    ∙ ap without_stops (sym (obeyed-serving lines s)))

@@ -168,7 +168,7 @@ unfolding after_input event_of
 after_input-unset [] s u = u
 after_input-unset (byte ∷ bytes) s u =
     after_input-unset bytes (after_event s (input_of byte s.current))
-        (after_event-unset s (input_of byte s.current) u (input_leaves byte s.current (current_unset s u)))
+    (after_event-unset s (input_of byte s.current) u (input_leaves byte s.current (current_unset s u)))
 
 given : (s : Session) (bytes : List ℕ) → AllUnset s → SameAnswer (input_answer s bytes)
     (input_answer s bytes)
@@ -187,7 +187,7 @@ without_last-unset k s h u =
     let left = length s.earlier - k in
     let within : left < length (states s) = omega (arith, length-append s.earlier (s.current ∷ [])) in
     All-push Unset (take left s.earlier) (get_or (states s) left s.current)
-        (All-take Unset left s.earlier (All-pop Unset (states s) s.earlier (Some s.current) refl u).0)
+    (All-take Unset left s.earlier (All-pop Unset (states s) s.earlier (Some s.current) refl u).0)
     (All-get_or Unset (states s) left s.current within u)
 
 backed : (k : ℕ) (s : Session) → AllUnset s → SameAnswer (back_answer s (back_of k s))
@@ -197,7 +197,7 @@ backed k s u = by (nat_le k (length s.earlier)) refl
   where
     by : (b : Bool) → nat_le k (length s.earlier) ≡ b
         → SameAnswer (back_answer s (cond b (Ok (without_last k s)) (Err (NoHistory (length s.earlier)))))
-            (back_answer s (cond b (Ok (without_last k s)) (Err (NoHistory (length s.earlier)))))
+        (back_answer s (cond b (Ok (without_last k s)) (Err (NoHistory (length s.earlier)))))
     by true h = record { same = refl; unset = without_last-unset k s (grind (arith, nat_tests)) u }
     by false h = record { same = refl; unset = u }
 

@@ -179,7 +179,7 @@ run_few None = tt
 irq_few : (level : Bytes) → FewSteps (irq_command level)
 irq_few level =
     either (bytes_eq level (codes "0")) (Irq false) (cond (bytes_eq level (codes "1")) (Irq true) Bad) tt
-        (either (bytes_eq level (codes "1")) (Irq true) Bad tt tt)
+    (either (bytes_eq level (codes "1")) (Irq true) Bad tt tt)
 
 byte_few : (register : ℕ → Setting) (given : Option ℕ) → FewSteps (set_byte register given)
 byte_few register (Some byte) = tt

@@ -113,15 +113,23 @@ by_first None None ws bs rest h k = ap (sooner (option_map one_later ws)) (soone
 
 pub run_end-zero : (one : OneStep) (s : Session) → run_end_by one zero s ≡ limit zero
 unfolding run_end_by
-run_end-zero one s = rw (first_met-zero one (watch_met s.watches) s.current, first_met-zero one (break_met s.breaks) s.current, first_refused-zero one
-    s.current) refl
+run_end-zero one s = rw (
+  first_met-zero one (watch_met s.watches) s.current,
+  first_met-zero one (break_met s.breaks) s.current,
+  first_refused-zero one
+      s.current,
+) refl
 
 pub run_end-refused : (one : OneStep) (n : ℕ) (s : Session) (f : EventFault) → one s.current ≡ Err f
     → run_end_by one (suc n) s ≡ record { did = 0; why = Refused f }
 unfolding run_end_by
 run_end-refused one n s f h =
-    rw (first_met-refused one (watch_met s.watches) n s.current f h, first_met-refused one (break_met s.breaks) n s.current f h, first_refused-now one
-        n s.current f h) refl
+    rw (
+      first_met-refused one (watch_met s.watches) n s.current f h,
+      first_met-refused one (break_met s.breaks) n s.current f h,
+      first_refused-now one
+          n s.current f h,
+    ) refl
 
 pub run_end-made : (one : OneStep) (n : ℕ) (s : Session) (t : State) → one s.current ≡ Ok t
     → run_end_by one (suc n) s
@@ -131,9 +139,9 @@ unfolding run_end_by
 run_end-made one n s t h =
     rw (first_met-suc one (watch_met s.watches) n s.current t h, first_met-suc one (break_met s.breaks) n s.current t h, first_refused-made one n s.current t h)
     (ap (λ x. sooner (met_now_or_later (watch_met s.watches s.current t) (first_met one (watch_met s.watches) n t))
-        (sooner (met_now_or_later (break_met s.breaks s.current t) (first_met one (break_met s.breaks) n t)) x)) (unwrap-later (first_refused one n t) n)
+    (sooner (met_now_or_later (break_met s.breaks s.current t) (first_met one (break_met s.breaks) n t)) x)) (unwrap-later (first_refused one n t) n)
     ∙ by_first (watch_met s.watches s.current t) (break_met s.breaks s.current t) (first_met one (watch_met s.watches) n t)
-        (first_met one (break_met s.breaks) n t) (unwrap_or (first_refused one n t) (limit n))
+    (first_met one (break_met s.breaks) n t) (unwrap_or (first_refused one n t) (limit n))
     (positive one (break_met s.breaks) n t (one t) refl) (positive one (watch_met s.watches) n t (one t) refl))
 
 -- ---- steps of a session
@@ -187,7 +195,7 @@ repeated_end zero s r h = ap (λ (e : RunEnd). run_end e.did (without_stops s)) 
 repeated_end (suc n) s (Ok t) h =
     let e = run_end-made step n s t h in
     ap (λ (x : RunEnd). run_end x.did (without_stops s)) e ∙ repeated_by n s t
-        (option_or (watch_met s.watches s.current t) (break_met s.breaks s.current t)) h (repeated_end n (with_state s t) (step t) refl)
+    (option_or (watch_met s.watches s.current t) (break_met s.breaks s.current t)) h (repeated_end n (with_state s t) (step t) refl)
     ∙ ap (λ (x : RunEnd). limit x.did) (sym e)
 repeated_end (suc n) s (Err f) h =
     let e = run_end-refused step n s f h in
@@ -221,7 +229,7 @@ none_cut : (n : ℕ) (s : Session) (why : Why) → run_end n (without_stops s) �
 none_cut n s why =
     let z : n ≡ n - 0 = omega arith in
     ap (λ m. run_end m (without_stops s)) z ∙ ap (λ x. run_end (n - 0) (without_stops x)) (sym (after_steps-zero step s))
-        ∙ sym (none_before (run_end (n - 0) (without_stops (after_steps 0 s))))
+    ∙ sym (none_before (run_end (n - 0) (without_stops (after_steps 0 s))))
 
 cut_by : (n : ℕ) (s : Session) (t : State) (why : Option Why) → step s.current ≡ Ok t
     → run_end n (without_stops (with_state s t)) ≡ rest_of n (run_end n (with_state s t))
@@ -231,7 +239,7 @@ cut_by : (n : ℕ) (s : Session) (t : State) (why : Option Why) → step s.curre
 cut_by n s t (Some why) h rest =
     let z : n ≡ suc n - 1 = omega arith in
     run_end-without_stops n s t h ∙ ap one_later (ap (λ m. run_end m (without_stops (with_state s t))) z
-        ∙ ap (λ x. run_end (suc n - 1) (without_stops x)) (sym (after_steps-made step zero s t h ∙ after_steps-zero step (with_state s t))))
+    ∙ ap (λ x. run_end (suc n - 1) (without_stops x)) (sym (after_steps-made step zero s t h ∙ after_steps-zero step (with_state s t))))
     ∙ one_before (run_end (suc n - 1) (without_stops (after_steps 1 s)))
 cut_by n s t None h rest =
     let k = (run_end n (with_state s t)).did in
@@ -245,7 +253,7 @@ cut_end_of : (n : ℕ) (s : Session) (r : Result State EventFault) → step s.cu
 cut_end_of zero s r h = none_cut zero s Limit ∙ ap (λ e. rest_of zero e s) (sym (run_end-zero step s))
 cut_end_of (suc n) s (Ok t) h =
     cut_by n s t (option_or (watch_met s.watches s.current t) (break_met s.breaks s.current t)) h (cut_end_of n (with_state s t) (step t) refl)
-        ∙ ap (λ e. rest_of (suc n) e s) (sym (run_end-made step n s t h))
+    ∙ ap (λ e. rest_of (suc n) e s) (sym (run_end-made step n s t h))
 cut_end_of (suc n) s (Err f) h = none_cut (suc n) s (Refused f) ∙ ap (λ e. rest_of (suc n) e s) (sym (run_end-refused step n s f h))
 
 -- ---- steps after steps
@@ -259,7 +267,7 @@ pub after_steps-add : (k j : ℕ) (s : Session) (r : Result State EventFault) �
 after_steps-add zero j s r h = (let z : zero + j ≡ j = omega arith in ap (λ m. after_steps m s) z) ∙ ap (after_steps j) (sym (after_steps-zero step s))
 after_steps-add (suc k) j s (Ok t) h =
     (let z : suc k + j ≡ suc (k + j) = omega arith in ap (λ m. after_steps m s) z) ∙ after_steps-made step (k + j) s t h
-        ∙ after_steps-add k j (with_state s t) (step t) refl
+    ∙ after_steps-add k j (with_state s t) (step t) refl
     ∙ ap (after_steps j) (sym (after_steps-made step k s t h))
 after_steps-add (suc k) j s (Err f) h =
     (let z : suc k + j ≡ suc (k + j) = omega arith in ap (λ m. after_steps m s) z) ∙ after_steps-refused step (k + j) s f h

@@ -125,8 +125,11 @@ modify_same op place state h e =
     let spared = subst (λ m. (eqb place.address (m.port + 3) && eqb (new_byte op place state % 2) 1) ≡ false) (sym (read_keeps state.bus place.address).1) e in
     let w = write_same read place.address (new_byte op place state) unread spared in record {
       same = ap (λ (b : Bus). record state { bus = b; regs = with_result state.regs (modify_sum op (byte_read state.bus place.address) state.regs.flags.c) }) w
-          ∙ ap (λ m. record state { bus = polled_write read place.address (modify_sum op m state.regs.flags.c).value; regs =
-              with_result state.regs (modify_sum op m state.regs.flags.c) }) (read_same state.bus place.address h);
+          ∙ ap (λ m. record state {
+            bus = polled_write read place.address (modify_sum op m state.regs.flags.c).value;
+            regs =
+                with_result state.regs (modify_sum op m state.regs.flags.c);
+          }) (read_same state.bus place.address h);
       unset = ap (λ (b : Bus). b.control) w ∙ write_keeps read place.address (new_byte op place state) ∙ unread;
     }
 
@@ -206,7 +209,7 @@ executed_same row state h e =
     let op = operation_of row.mnemonic in
     let next = past_instruction row place state in
     let spared : Spares op row.mode place next = ap (λ b. eqb place.address (state.bus.map.port + 3)
-        && option_map_or (λ byte. eqb (byte % 2) 1) b false) (byte_advanced op row place state) ∙ e in
+    && option_map_or (λ byte. eqb (byte % 2) 1) b false) (byte_advanced op row place state) ∙ e in
     by (stores op row.mode && overflows state.bus place.address) (performed_same op row.mode place next h spared)
   where
     by : (b : Bool) {new old : State} → Polled new old → PolledStep (cond b (Err ConsoleFull) (Ok new)) (cond b (Err ConsoleFull) (Ok old))
@@ -242,14 +245,14 @@ step_same state h e =
     let alike : asked ≡ (state.irq && not state.regs.flags.i) = ap (λ b. b && not state.regs.flags.i) (asked_by_line state.irq (input_waits state.bus) h) in
     let row = row_at state.bus.map.profile (slice_index state.bus.memory state.regs.pc) in
     subst (λ b. PolledStep (step state) (cond (nat_lt most_cycles state.cycles) (Err CyclesFull)
-        (cond state.nmi (Ok (interrupt_entry (record state { nmi = false }) 0xFFFA)) (cond b (Ok (interrupt_entry state 0xFFFE)) (polled_attempt row state)))))
+    (cond state.nmi (Ok (interrupt_entry (record state { nmi = false }) 0xFFFA)) (cond b (Ok (interrupt_entry state 0xFFFE)) (polled_attempt row state)))))
     alike (by (nat_lt most_cycles state.cycles) state.nmi asked row e)
   where
     by : (full nmi asked : Bool) (row : Option Row) → option_map_or (λ r. stores_odd r state) (unless full nmi asked row) false ≡ false
         → PolledStep (cond full (Err CyclesFull) (cond nmi (Ok (interrupt_entry (record state { nmi = false }) 0xFFFA))
-            (cond asked (Ok (interrupt_entry state 0xFFFE)) (attempt row state))))
+        (cond asked (Ok (interrupt_entry state 0xFFFE)) (attempt row state))))
         (cond full (Err CyclesFull) (cond nmi (Ok (interrupt_entry (record state { nmi = false }) 0xFFFA))
-            (cond asked (Ok (interrupt_entry state 0xFFFE)) (polled_attempt row state))))
+        (cond asked (Ok (interrupt_entry state 0xFFFE)) (polled_attempt row state))))
     by true nmi asked row e = refused CyclesFull
     by false true asked row e = made _ _ (record { same = refl; unset = entered_unset (record state { nmi = false }) 0xFFFA h })
     by false false true row e = made _ _ (record { same = refl; unset = entered_unset state 0xFFFE h })
@@ -280,11 +283,11 @@ pub refused_spares : (state : State) (f : EventFault) → step state ≡ Err f
 unfolding step sets_control instruction_at attempt
 refused_spares state f h =
     by (nat_lt most_cycles state.cycles) state.nmi (irq_asked state && not state.regs.flags.i)
-        (row_at state.bus.map.profile (slice_index state.bus.memory state.regs.pc)) h
+    (row_at state.bus.map.profile (slice_index state.bus.memory state.regs.pc)) h
   where
     by : (full nmi asked : Bool) (row : Option Row)
         → cond full (Err CyclesFull) (cond nmi (Ok (interrupt_entry (record state { nmi = false }) 0xFFFA))
-            (cond asked (Ok (interrupt_entry state 0xFFFE)) (attempt row state))) ≡ Err f
+        (cond asked (Ok (interrupt_entry state 0xFFFE)) (attempt row state))) ≡ Err f
         → option_map_or (λ r. stores_odd r state) (unless full nmi asked row) false ≡ false
     by true nmi asked row h = refl
     by false true asked row h = refl

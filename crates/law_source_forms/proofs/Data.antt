@@ -147,8 +147,15 @@ data_said : (profile : Profile) (b : ℕ) (bs note : List ℕ) → b < 256 → A
 unfolding read_line tokens_of
 data_said profile b bs note below small few is =
     let fits : length (data_text (b ∷ bs) note) ≤ 255 = omega (arith, length_data b bs note, is.few) in
-    rw (le-ltb 255 (length (data_text (b ∷ bs) note)) fits, line_plain b bs note below small is, data_tokens b bs note below small is, line_found
-        profile b bs, none_reserved profile (b ∷ bs), values_are (b ∷ bs) (below, small)) refl
+    rw (
+      le-ltb 255 (length (data_text (b ∷ bs) note)) fits,
+      line_plain b bs note below small is,
+      data_tokens b bs note below small is,
+      line_found
+          profile b bs,
+      none_reserved profile (b ∷ bs),
+      values_are (b ∷ bs) (below, small),
+    ) refl
 
 -- ---- numbers: their bytes
 

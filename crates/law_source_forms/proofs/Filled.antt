@@ -66,14 +66,17 @@ module _ (table : List ℕ) (m : Map) (cells : List (Option ℕ)) (image : IsIma
   row_next : (line : List ℕ) (a : ℕ) (bytes : List ℕ) (names : Definitions) (lines : List (List ℕ)) (all : Definitions)
       → Stands Near (Final table) m.profile line a bytes → 0 < length bytes → Shows cells a bytes → Near names
       → Filled table m cells (a + length bytes) (fixed_at m.profile (a + length bytes) names) lines all
-          → Filled table m cells a (fixed_at m.profile a names) (line ∷ lines) all
+      → Filled table m cells a (fixed_at m.profile a names) (line ∷ lines) all
   row_next line a bytes names lines all s some shown near_names rest = record {
     fills = record {
       placed = placed_at a s.content ∷ rest.fills.placed;
       after = rest.fills.after;
       laid = (fixed_at m.profile (a + length bytes) names, s.laid names near_names, rest.fills.laid);
-      made = λ numbers final. (row_right Near (Final table) m cells image.size spared line a bytes s some shown numbers final, rw
-          (s.bytes_are numbers final, put_below cells a bytes shown) (rest.fills.made numbers final));
+      made = λ numbers final. (
+        row_right Near (Final table) m cells image.size spared line a bytes s some shown numbers final,
+        rw
+            (s.bytes_are numbers final, put_below cells a bytes shown) (rest.fills.made numbers final),
+      );
       plain = (s.plain, rest.fills.plain);
       go_on = (s.goes_on, rest.fills.go_on);
     };
@@ -99,7 +102,7 @@ module _ (table : List ℕ) (m : Map) (cells : List (Option ℕ)) (image : IsIma
   label_next : (a : ℕ) (names : Definitions) (lines : List (List ℕ)) (all : Definitions) → a < 65536 → number_in names (label_text a) ≡ None
       → (length names == most_names) ≡ false
       → Filled table m cells a (fixed_at m.profile a (names ++ (label_text a, pos a) ∷ [])) lines all
-          → Filled table m cells a (fixed_at m.profile a names) (label_line a ∷ lines) all
+      → Filled table m cells a (fixed_at m.profile a names) (label_line a ∷ lines) all
   label_next a names lines all small new room rest =
       let read = label_said m.profile a small in
       record {
@@ -189,9 +192,9 @@ module _ (m : Map) (cells : List (Option ℕ)) (marks : List Mark) (flags : List
 
   row_filled : (n left a b x : ℕ) (ss : List ℕ) (ends : Bool) → cell_at cells a ≡ Some b → (ends ≡ true → x ≡ a) → Below a ss → length ss + left ≤ most_names
       → ((k l : ℕ) (ts : List ℕ) → a < k → Below k ts → length ts + l ≤ most_names → Fill k k ts (Lines n l k true) (ts ++ Names n l k))
-          → (named : Bool) → is_named flags left a (piece a b) ≡ named
+      → (named : Bool) → is_named flags left a (piece a b) ≡ named
       → Fill a x ss (opened ends a ++ (labelled_lines_of named a ++ text_of m.profile table a (piece a b)
-          ∷ Lines n (left_after named left) (a + len_of (piece a b)) true))
+      ∷ Lines n (left_after named left) (a + len_of (piece a b)) true))
       (ss ++ named_here m.profile cells marks flags named a (Names n (left_after named left) (a + len_of (piece a b))))
   row_filled n left a b x ss ends e here low count next named is =
       let r = has a b e in
@@ -200,10 +203,10 @@ module _ (m : Map) (cells : List (Option ℕ)) (marks : List Mark) (flags : List
       let after = a + len_of (piece a b) in
       let lines = Lines n (left_after named left) after true in
       opening_next table m cells image spared a x ends (defs ss) (labelled_lines_of named a ++ line ∷ lines)
-          (defs (ss ++ named_here m.profile cells marks flags named a (Names n (left_after named left) after))) small here
+      (defs (ss ++ named_here m.profile cells marks flags named a (Names n (left_after named left) after))) small here
       (label_filled left a b ss (Names n (left_after named left) after) (line ∷ lines) named is small low count
       (λ ts low_ts count_ts. row_next table m cells image spared line a r.bytes (defs ts) lines (defs (ts ++ Names n (left_after named left) after))
-          r.stands (omega (arith, r.size, r.some)) r.shows
+      r.stands (omega (arith, r.size, r.some)) r.shows
       (near ts after low_ts (omega (arith, shown_within cells a r.bytes (omega (arith, r.size, r.some)) r.shows, r.size, image.size)))
       (rw r.size (next after (left_after named left) ts (omega (arith, r.some)) low_ts count_ts)))
       r.some)
@@ -224,7 +227,7 @@ module _ (m : Map) (cells : List (Option ℕ)) (marks : List Mark) (flags : List
   }
   fills (suc n) left a x ss ends enough here low count =
       on (cell_at cells a) refl (fills n left (a + 1) x ss false (omega (arith, enough)) (λ (h : false ≡ true). absurd cc)
-          (below_later a (a + 1) ss (omega arith) low) count)
+      (below_later a (a + 1) ss (omega arith) low) count)
       (λ k l ts later low_ts count_ts. fills n l k k ts true (omega (arith, enough, later)) (λ h. refl) low_ts count_ts)
     where
       on : (c : Option ℕ) → cell_at cells a ≡ c → Fill (a + 1) x ss (Lines n left (a + 1) false) (ss ++ Names n left (a + 1))
@@ -234,7 +237,7 @@ module _ (m : Map) (cells : List (Option ℕ)) (marks : List Mark) (flags : List
           opened ends a ++ (labelled_lines_of named a ++ text_of m.profile table a p ∷ Lines n (left_after named left) (a + len_of p) true)))
           (ss ++ by_cell c (Names n left (a + 1))
           (λ b. let p = piece_at m.profile cells marks flags a b in let named = is_named flags left a p in
-              named_here m.profile cells marks flags named a (Names n (left_after named left) (a + len_of p))))
+          named_here m.profile cells marks flags named a (Names n (left_after named left) (a + len_of p))))
       on None e gap next = gap_next table m cells image spared a (fixed_at m.profile x (defs ss)) (Lines n left (a + 1) false)
           (defs (ss ++ Names n left (a + 1))) e gap
       on (Some b) e gap next = row_filled n left a b x ss ends e here low count next (is_named flags left a (piece a b)) refl
@@ -253,7 +256,7 @@ module _ (m : Map) (cells : List (Option ℕ)) (marks : List Mark) (flags : List
       on : (c : Option ℕ) → cell_at cells a ≡ c → Below 65536 (Names n left (a + 1)) → ((l k : ℕ) → Below 65536 (Names n l k))
           → Below 65536 (by_cell c (Names n left (a + 1))
           (λ b. let p = piece_at m.profile cells marks flags a b in let named = is_named flags left a p in
-              named_here m.profile cells marks flags named a (Names n (left_after named left) (a + len_of p))))
+          named_here m.profile cells marks flags named a (Names n (left_after named left) (a + len_of p))))
       on None e gap next = gap
       on (Some b) e gap next = put (is_named flags left a (piece a b)) _ (inside a b e)
           (next (left_after (is_named flags left a (piece a b)) left) (a + len_of (piece a b)))
@@ -289,7 +292,7 @@ module _ (m : Map) (cells : List (Option ℕ)) (marks : List Mark) (flags : List
   row_sized : (n left a b : ℕ) (ends : Bool) → cell_at cells a ≡ Some b
       → ((l k : ℕ) → length (flat_map ended (Lines n l k true)) ≤ 14 * (65536 - k) + 8 * l + 0) → (named : Bool) → is_named flags left a (piece a b) ≡ named
       → length (flat_map ended (opened ends a ++ (labelled_lines_of named a ++ text_of m.profile table a (piece a b)
-          ∷ Lines n (left_after named left) (a + len_of (piece a b)) true))) ≤ 14 * (65536 - a) + 8 * left + extra ends
+      ∷ Lines n (left_after named left) (a + len_of (piece a b)) true))) ≤ 14 * (65536 - a) + 8 * left + extra ends
   row_sized n left a b ends e next named is =
       let r = has a b e in
       let after = a + len_of (piece a b) in
@@ -297,9 +300,9 @@ module _ (m : Map) (cells : List (Option ℕ)) (marks : List Mark) (flags : List
       let lines = Lines n (left_after named left) after true in
       let fits : a + len_of (piece a b) ≤ 65536 = omega (arith, shown_within cells a r.bytes (omega (arith, r.size, r.some)) r.shows, r.size, image.size) in
       let these : length (flat_map ended (line ∷ lines)) ≤ 14 * (65536 - a) + 8 * left_after named left =
-          omega (arith, line_size line (flat_map ended lines), next (left_after named left) after, r.short, fits) in
+      omega (arith, line_size line (flat_map ended lines), next (left_after named left) after, r.short, fits) in
       opening_sized a ends (labelled_lines_of named a ++ line ∷ lines) (14 * (65536 - a) + 8 * left)
-          (label_sized left a b (line ∷ lines) named is (14 * (65536 - a)) these)
+      (label_sized left a b (line ∷ lines) named is (14 * (65536 - a)) these)
 
   gap_sized : (n left a : ℕ) (ends : Bool) → length (flat_map ended (Lines n left (a + 1) false)) ≤ 14 * (65536 - (a + 1)) + 8 * left + 8
       → length (flat_map ended (Lines n left (a + 1) false)) ≤ 14 * (65536 - a) + 8 * left + extra ends
@@ -318,7 +321,7 @@ module _ (m : Map) (cells : List (Option ℕ)) (marks : List Mark) (flags : List
           → length (flat_map ended (by_cell c (Lines n left (a + 1) false)
           (λ b. let p = piece_at m.profile cells marks flags a b in let named = is_named flags left a p in
           opened ends a ++ (labelled_lines_of named a ++ text_of m.profile table a p ∷ Lines n (left_after named left) (a + len_of p) true)))) ≤ 14 *
-              (65536 - a) + 8 * left + extra ends
+          (65536 - a) + 8 * left + extra ends
       on None e gap next = gap_sized n left a ends gap
       on (Some b) e gap next = row_sized n left a b ends e next (is_named flags left a (piece a b)) refl
 
@@ -346,7 +349,7 @@ flagged_source_denotes m cells marks flags image spared =
     let final : Final table (number_in f.fills.after.names) =
     λ s small reaches. ap (λ (ds : Definitions). number_in ds (label_text s)) f.names
     ∙ known names 65536 s (names_below m cells marks flags table image spared 65536 most_names 0) (omega arith) small
-        (table_is m.profile cells marks flags s reaches) in
+    (table_is m.profile cells marks flags s reaches) in
     record {
       size = omega (arith, size m cells marks flags table image spared 65536 most_names 0 false);
       placed = f.fills.placed;

@@ -38,7 +38,7 @@ origin_tokens : (w : ℕ) → w < 65536 → tokens_from 0 0 (origin_line w)
 origin_tokens w below =
     star_first (word_text w) ∙ ap (λ (t : Tokens). before (symbol 0 42) (before (symbol 1 61) t))
     (address_first 2 _ _ _ _ _ _ _ _ [] (high (w / 256) (first_half w below)) (low (w / 256)) (high (w % 256) (last_half w)) (low (w % 256)) refl refl
-        ∙ ap (before (number 2 (word_text w))) no_more)
+    ∙ ap (before (number 2 (word_text w))) no_more)
 
 origin_line_of : (profile : Profile) (t : List ℕ)
     → line_of profile (symbol 0 42 ∷ symbol 1 61 ∷ number 2 t ∷ [])
@@ -51,8 +51,15 @@ pub origin_said : (profile : Profile) (w : ℕ) → w < 65536
 unfolding read_line tokens_of
 origin_said profile w below =
     let value : written (word_text w) ≡ of_number w = ap literal (four_digits w below) in
-    rw ((high (w / 256) (first_half w below)).source, (low (w / 256)).source, (high (w % 256) (last_half w)).source, (low (w % 256)).source,
-        origin_tokens w below, origin_line_of profile (word_text w), value) refl
+    rw (
+      (high (w / 256) (first_half w below)).source,
+      (low (w / 256)).source,
+      (high (w % 256) (last_half w)).source,
+      (low (w % 256)).source,
+      origin_tokens w below,
+      origin_line_of profile (word_text w),
+      value,
+    ) refl
 
 -- ---- stretches
 

@@ -198,52 +198,52 @@ module _ (Near : Definitions → Type 0) (Final : Numbers → Type 0) (profile :
       → Stands Near Final profile text a (op ∷ b ∷ [])
   short_stands by e b text read coded last below =
       with_operand (zero_page_mode by) (direct false e by) e text (b ∷ []) read refl coded
-          (λ numbers final. rw (last numbers final) (zero_page_piece_of a by b below)) (short_length by)
+      (λ numbers final. rw (last numbers final) (zero_page_piece_of a by b below)) (short_length by)
 
   pub long_stands : (by : Index) (marked : Bool) (e : Term) (b c : ℕ) (text : List ℕ) → Read profile text m (direct marked e by)
       → Encodes (direct marked e by) e (absolute_mode by) → Last e (b + 256 * c)
       → b < 256 → c < 256 → Stands Near Final profile text a (op ∷ b ∷ c ∷ [])
   long_stands by marked e b c text read coded last l h =
       with_operand (absolute_mode by) (direct marked e by) e text (b ∷ c ∷ []) read refl coded
-          (λ numbers final. rw (last numbers final) (absolute_piece_of a by b c l h)) (long_length by)
+      (λ numbers final. rw (last numbers final) (absolute_piece_of a by b c l h)) (long_length by)
 
   pub branch_stands : (e : Term) (b : ℕ) (text : List ℕ) → Read profile text m (direct false e Unindexed) → opcode_of profile m Rel ≡ Some op
       → Last e (target_of a b) → a < 65536 → b < 256
       → Stands Near Final profile text a (op ∷ b ∷ [])
   branch_stands e b text read found last here below =
       with_operand Rel (direct false e Unindexed) e text (b ∷ []) read refl (λ names near. forms.branch_code profile m (number_in names) a op e found)
-          (λ numbers final. rw (last numbers final) (branch_piece a b here below)) refl
+      (λ numbers final. rw (last numbers final) (branch_piece a b here below)) refl
 
   pub immediate_stands : (e : Term) (b : ℕ) (text : List ℕ) → Read profile text m (immediate e) → opcode_of profile m Imm ≡ Some op → Last e b
       → b < 256 → Stands Near Final profile text a (op ∷ b ∷ [])
   immediate_stands e b text read found last below =
       with_operand Imm (immediate e) e text (b ∷ []) read refl (λ names near. forms.immediate_code profile m (number_in names) a op e found)
-          (λ numbers final. rw (last numbers final) (immediate_piece a b below)) refl
+      (λ numbers final. rw (last numbers final) (immediate_piece a b below)) refl
 
   pub by_x_stands : (e : Term) (b : ℕ) (text : List ℕ) → Read profile text m (pointer_by_x e) → opcode_of profile m IndX ≡ Some op → Last e b
       → b < 256 → Stands Near Final profile text a (op ∷ b ∷ [])
   by_x_stands e b text read found last below =
       with_operand IndX (pointer_by_x e) e text (b ∷ []) read refl (λ names near. forms.pointer_by_x_code profile m (number_in names) a op e found)
-          (λ numbers final. rw (last numbers final) (by_x_piece a b below)) refl
+      (λ numbers final. rw (last numbers final) (by_x_piece a b below)) refl
 
   pub by_y_stands : (e : Term) (b : ℕ) (text : List ℕ) → Read profile text m (pointer_by_y e) → opcode_of profile m IndY ≡ Some op → Last e b
       → b < 256 → Stands Near Final profile text a (op ∷ b ∷ [])
   by_y_stands e b text read found last below =
       with_operand IndY (pointer_by_y e) e text (b ∷ []) read refl (λ names near. forms.pointer_by_y_code profile m (number_in names) a op e found)
-          (λ numbers final. rw (last numbers final) (by_y_piece a b below)) refl
+      (λ numbers final. rw (last numbers final) (by_y_piece a b below)) refl
 
   pub near_pointer_stands : (e : Term) (b : ℕ) (text : List ℕ) → Read profile text m (pointer e) → opcode_of profile m IndZ ≡ Some op → Last e b
       → b < 256 → Stands Near Final profile text a (op ∷ b ∷ [])
   near_pointer_stands e b text read found last below =
       with_operand IndZ (pointer e) e text (b ∷ []) read refl (λ names near. forms.zero_page_pointer_code profile m (number_in names) a op e found)
-          (λ numbers final. rw (last numbers final) (pointer_piece a b below)) refl
+      (λ numbers final. rw (last numbers final) (pointer_piece a b below)) refl
 
   pub far_pointer_stands : (e : Term) (b c : ℕ) (text : List ℕ) → Read profile text m (pointer e) → opcode_of profile m Ind ≡ Some op
       → Last e (b + 256 * c) → b < 256 → c < 256
       → Stands Near Final profile text a (op ∷ b ∷ c ∷ [])
   far_pointer_stands e b c text read found last l h =
       with_operand Ind (pointer e) e text (b ∷ c ∷ []) read refl (λ names near. forms.pointer_code profile m (number_in names) a op e found)
-          (λ numbers final. rw (last numbers final) (far_pointer_piece a b c l h)) refl
+      (λ numbers final. rw (last numbers final) (far_pointer_piece a b c l h)) refl
 
   pub implied_stands : (text : List ℕ) → Read profile text m absent → opcode_of profile m Imp ≡ Some op → Stands Near Final profile text a (op ∷ [])
   implied_stands text read found = without_operand Imp absent text read refl (λ names. forms.implied_code profile m (number_in names) a op found) refl

@@ -100,10 +100,18 @@ operand_size profile m Zp a b c = omega arith
 operand_size profile m ZpX a b c = omega arith
 operand_size profile m ZpY a b c = omega arith
 operand_size profile m Abs a b c = omega (arith, absolute_size profile m Zp (b + 256 * c))
-operand_size profile m AbsX a b c = omega (arith, absolute_size profile m ZpX (b + 256 * c), length-append (absolute_text profile m ZpX (b + 256 * c))
-    (44 ∷ 88 ∷ []))
-operand_size profile m AbsY a b c = omega (arith, absolute_size profile m ZpY (b + 256 * c), length-append (absolute_text profile m ZpY (b + 256 * c))
-    (44 ∷ 89 ∷ []))
+operand_size profile m AbsX a b c = omega (
+  arith,
+  absolute_size profile m ZpX (b + 256 * c),
+  length-append (absolute_text profile m ZpX (b + 256 * c))
+      (44 ∷ 88 ∷ []),
+)
+operand_size profile m AbsY a b c = omega (
+  arith,
+  absolute_size profile m ZpY (b + 256 * c),
+  length-append (absolute_text profile m ZpY (b + 256 * c))
+      (44 ∷ 89 ∷ []),
+)
 operand_size profile m IndX a b c = omega arith
 operand_size profile m IndY a b c = omega arith
 operand_size profile m Ind a b c = omega arith
@@ -112,8 +120,12 @@ operand_size profile m IndZ a b c = omega arith
 
 pub text_size : (profile : Profile) (m : Mnemonic) (mode : Mode) (a b c : ℕ)
     → length (mnemonic_text m ++ operand_text profile m mode a b c) ≤ 12
-text_size profile m mode a b c = omega (arith, length-append (mnemonic_text m) (operand_text profile m mode a b c), length-mnemonic_text m,
-    operand_size profile m mode a b c)
+text_size profile m mode a b c = omega (
+  arith,
+  length-append (mnemonic_text m) (operand_text profile m mode a b c),
+  length-mnemonic_text m,
+  operand_size profile m mode a b c,
+)
 
 -- ---- instructions
 
@@ -143,14 +155,14 @@ module _ (Near : Definitions → Type 0) (Final : Numbers → Type 0) (profile :
 
       on : (t : Bool) → (nat_lt (b + 256 * c) 256 && has_row profile m (zero_page_mode by)) ≡ t
           → Stands Near Final profile (mnemonic_text m ++ (32 ∷ (absolute_text profile m (zero_page_mode by) (b + 256 * c) ++ suffix_of by))) a
-              (op ∷ b ∷ c ∷ [])
+          (op ∷ b ∷ c ∷ [])
       on true t = rw t (long_stands Near Final profile m a op by true (of_number (b + 256 * c)) b c _
           (with_number profile _ m (λ e. direct true e by) _ _ (word_number (b + 256 * c) below) (marked profile m by named (b + 256 * c) below))
           (λ names near. forms.marked_code profile m (number_in names) a op (of_number (b + 256 * c)) by code) (last_number (b + 256 * c)) l h)
       on false t = rw t (long_stands Near Final profile m a op by false (of_number (b + 256 * c)) b c _
           (with_number profile _ m (λ e. direct false e by) _ _ (word_number (b + 256 * c) below) (plain profile m by named (b + 256 * c) below))
           (λ names near. forms.absolute_code profile m (number_in names) a (b + 256 * c) op by
-              (large_if (b + 256 * c) (has_row profile m (zero_page_mode by)) t) code) (last_number (b + 256 * c)) l h)
+          (large_if (b + 256 * c) (has_row profile m (zero_page_mode by)) t) code) (last_number (b + 256 * c)) l h)
 
   pub instruction_stands : (mode : Mode) (b c : ℕ) → opcode_of profile m mode ≡ Some op → b < 256 → c < 256
       → Stands Near Final profile (mnemonic_text m ++ operand_text profile m mode a b c) a (take (length_in mode) (op ∷ b ∷ c ∷ []))
@@ -161,7 +173,7 @@ module _ (Near : Definitions → Type 0) (Final : Numbers → Type 0) (profile :
   instruction_stands Imm b c code l h =
       immediate_stands Near Final profile m a op (of_number b) b _
       (with_number profile _ m immediate _ _ (byte_number b l)
-          (texts.immediate_said profile m (named_of_code profile m Imm op code) _ _ _ _ (high b l) (low b))) code (last_number b) l
+      (texts.immediate_said profile m (named_of_code profile m Imm op code) _ _ _ _ (high b l) (low b))) code (last_number b) l
   instruction_stands Zp b c code l h = zero_page Unindexed b _
       (texts.zero_page_said profile m (named_of_code profile m Zp op code) _ _ _ _ (high b l) (low b)) code l
   instruction_stands ZpX b c code l h = zero_page X b _ (texts.zero_page_by_x_said profile m (named_of_code profile m ZpX op code) _ _ _ _ (high b l)
@@ -174,31 +186,31 @@ module _ (Near : Definitions → Type 0) (Final : Numbers → Type 0) (profile :
   instruction_stands IndX b c code l h =
       by_x_stands Near Final profile m a op (of_number b) b _
       (with_number profile _ m pointer_by_x _ _ (byte_number b l)
-          (texts.pointer_by_x_said profile m (named_of_code profile m IndX op code) _ _ _ _ (high b l) (low b))) code (last_number b) l
+      (texts.pointer_by_x_said profile m (named_of_code profile m IndX op code) _ _ _ _ (high b l) (low b))) code (last_number b) l
   instruction_stands IndY b c code l h =
       by_y_stands Near Final profile m a op (of_number b) b _
       (with_number profile _ m pointer_by_y _ _ (byte_number b l)
-          (texts.pointer_by_y_said profile m (named_of_code profile m IndY op code) _ _ _ _ (high b l) (low b))) code (last_number b) l
+      (texts.pointer_by_y_said profile m (named_of_code profile m IndY op code) _ _ _ _ (high b l) (low b))) code (last_number b) l
   instruction_stands Ind b c code l h =
       let w : ℕ = b + 256 * c in
       let below : w < 65536 = word_below b c l h in
       far_pointer_stands Near Final profile m a op (of_number w) b c _
       (with_number profile _ m pointer _ _ (word_number w below)
-          (texts.pointer_said profile m (named_of_code profile m Ind op code) _ _ _ _ _ _ _ _ (high (w / 256) (first_half w below)) (low (w / 256))
-          (high (w % 256) (last_half w)) (low (w % 256))))
+      (texts.pointer_said profile m (named_of_code profile m Ind op code) _ _ _ _ _ _ _ _ (high (w / 256) (first_half w below)) (low (w / 256))
+      (high (w % 256) (last_half w)) (low (w % 256))))
       code (last_number w) l h
   instruction_stands Rel b c code l h =
       let t : ℕ = target_of a b in
       let tb : t < 65536 = omega arith in
       branch_stands Near Final profile m a op (of_number t) b _
       (with_number profile _ m (λ e. direct false e Unindexed) _ _ (word_number t tb)
-          (texts.absolute_said profile m (named_of_code profile m Rel op code) _ _ _ _ _ _ _ _ (high (t / 256) (first_half t tb)) (low (t / 256))
-          (high (t % 256) (last_half t)) (low (t % 256))))
+      (texts.absolute_said profile m (named_of_code profile m Rel op code) _ _ _ _ _ _ _ _ (high (t / 256) (first_half t tb)) (low (t / 256))
+      (high (t % 256) (last_half t)) (low (t % 256))))
       code (last_number t) here l
   instruction_stands IndZ b c code l h =
       near_pointer_stands Near Final profile m a op (of_number b) b _
       (with_number profile _ m pointer _ _ (byte_number b l)
-          (texts.zero_page_pointer_said profile m (named_of_code profile m IndZ op code) _ _ _ _ (high b l) (low b))) code (last_number b) l
+      (texts.zero_page_pointer_said profile m (named_of_code profile m IndZ op code) _ _ _ _ (high b l) (low b))) code (last_number b) l
 
 abbrev front_of : List ℕ → List ℕ
 front_of bs = slice_index bs 0 ∷ slice_index bs 1 ∷ slice_index bs 2 ∷ []

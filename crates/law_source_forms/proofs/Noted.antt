@@ -132,8 +132,14 @@ fits_here profile opcode u below is =
     let b = and_both _ _ a.1 in
     let c = and_both _ _ b.1 in
     let d = and_both _ _ c.1 in
-    record { name = is_three (length u.name) a.0; letters = b.0; some = omega (arith, leb-true 1 u.len c.0); small = leb-true u.len 3 d.0; short =
-        leb-true _ _ d.1 }
+    record {
+      name = is_three (length u.name) a.0;
+      letters = b.0;
+      some = omega (arith, leb-true 1 u.len c.0);
+      small = leb-true u.len 3 d.0;
+      short =
+          leb-true _ _ d.1;
+    }
 
 mark_small : (len : ℕ) → length (mark_of len) ≤ 3
 mark_small len = on (len == 1)
@@ -144,8 +150,13 @@ mark_small len = on (len == 1)
 
 pub note_size : (u : Undocumented) (b c : ℕ) → Fits u → length (instruction_note u b c) ≡ length (mark_of u.len) + 3 + operand_size u.mode
 unfolding instruction_note
-note_size u b c f = omega (arith, length-append (mark_of u.len) (u.name ++ bare_operand u.mode b c), length-append u.name (bare_operand u.mode b c),
-    f.name, operand_sized u.mode b c)
+note_size u b c f = omega (
+  arith,
+  length-append (mark_of u.len) (u.name ++ bare_operand u.mode b c),
+  length-append u.name (bare_operand u.mode b c),
+  f.name,
+  operand_sized u.mode b c,
+)
 
 operand_small : (mode : Mode) → operand_size mode ≤ 8
 operand_small Imp = omega arith
@@ -256,9 +267,9 @@ run_needs_eight cells marks a bytes few = on (length bytes == 8) refl few
   where
     on : (t : Bool) → (length bytes == 8) ≡ t
         → length (if t && not (goes_on cells marks (slice_index bytes 0) a) then count_note (slice_index bytes 0)
-            (run_length cells marks (slice_index bytes 0) 65536 a) else []) ≤ 18
+        (run_length cells marks (slice_index bytes 0) 65536 a) else []) ≤ 18
         → length (if t && not (goes_on cells marks (slice_index bytes 0) a) then count_note (slice_index bytes 0)
-            (run_length cells marks (slice_index bytes 0) 65536 a) else []) ≤ 5 * (length bytes - 1)
+        (run_length cells marks (slice_index bytes 0) 65536 a) else []) ≤ 5 * (length bytes - 1)
     on true e h = let eight : length bytes ≡ 8 = is_eight (length bytes) e in omega (arith, h, eight)
       where
         is_eight : (n : ℕ) → (n == 8) ≡ true → n ≡ 8

@@ -114,7 +114,7 @@ module _ (profile : Profile) (cells : List (Option ℕ)) (marks : List Mark) (fl
   names_from (suc n) left a =
       by_cell (cell_at cells a) (names_from n left (a + 1))
       (λ b. let piece = piece_at profile cells marks flags a b in let named = is_named flags left a piece in
-          named_here named a (names_from n (left_after named left) (a + len_of piece)))
+      named_here named a (names_from n (left_after named left) (a + len_of piece)))
 
   set_reach : (named : Bool) (table rest : List ℕ) (a s r : ℕ) → (0 < reach_at (with_reach named table a r) s) ⊎ In s rest → (0 < reach_at table s)
       ⊎ In s (named_here named a rest)
@@ -139,7 +139,7 @@ module _ (profile : Profile) (cells : List (Option ℕ)) (marks : List Mark) (fl
           → ((l k : ℕ) (t : List ℕ) → 0 < reach_at (table_from profile cells marks flags n l k t) s → (0 < reach_at t s) ⊎ In s (names_from n l k))
           → (0 < reach_at table s) ⊎ In s (by_cell c (names_from n left (a + 1))
           (λ b. let piece = piece_at profile cells marks flags a b in let named = is_named flags left a piece in
-              named_here named a (names_from n (left_after named left) (a + len_of piece))))
+          named_here named a (names_from n (left_after named left) (a + len_of piece))))
       on None e h again = again left (a + 1) table h
       on (Some b) e h again =
           let piece : Piece = piece_at profile cells marks flags a b in

@@ -145,8 +145,12 @@ place_found p s t u below =
 
 pub label_plain : (s : ℕ) (rest : List ℕ) → s < 65536 → list_all is_source_byte rest ≡ true
     → list_all is_source_byte (label_text s ++ rest) ≡ true
-label_plain s rest below plain = rw ((high (s / 256) (first_half s below)).source, (low (s / 256)).source, (high (s % 256) (last_half s)).source,
-    (low (s % 256)).source) plain
+label_plain s rest below plain = rw (
+  (high (s / 256) (first_half s below)).source,
+  (low (s / 256)).source,
+  (high (s % 256) (last_half s)).source,
+  (low (s % 256)).source,
+) plain
 
 pub after_plain : (t : Tail) (u : Ending) → list_all is_source_byte (after_label t u) ≡ true
 after_plain none ends = refl

@@ -147,11 +147,11 @@ direct_said profile m named s t by below =
     let L : Letters profile m = letters profile m named in
     let few : length (L.a ∷ L.b ∷ L.c ∷ 32 ∷ text_behind s t (ending_of by)) ≤ 255 = omega (arith, after_size t (ending_of by)) in
     rw L.spelled (line_read profile m L.a L.b L.c (32 ∷ text_behind s t (ending_of by))
-        (word 0 (L.a ∷ L.b ∷ L.c ∷ []) ∷ place_tokens 4 s t (ending_of by)) (direct false (place_term s t) by)
+    (word 0 (L.a ∷ L.b ∷ L.c ∷ []) ∷ place_tokens 4 s t (ending_of by)) (direct false (place_term s t) by)
     L.first L.second L.third (le-ltb 255 _ few) (plain_place s t (ending_of by) below)
-        (direct_tokens L.a L.b L.c s t (ending_of by) L.first L.second L.third below)
+    (direct_tokens L.a L.b L.c s t (ending_of by) L.first L.second L.third below)
     (word_line profile m 0 4 (L.a ∷ L.b ∷ L.c ∷ []) (label_text s) (after_tokens (behind_label 4) t (ending_of by)) (direct false (place_term s t) by)
-        L.named (direct_read 4 s t by))
+    L.named (direct_read 4 s t by))
     (free_term profile s t false by))
 
 marked_said : (profile : Profile) (m : Mnemonic) → Named profile m → (s : ℕ) (t : Tail)
@@ -162,9 +162,9 @@ marked_said profile m named s t by below =
     let L : Letters profile m = letters profile m named in
     let few : length (L.a ∷ L.b ∷ L.c ∷ 32 ∷ 33 ∷ text_behind s t (ending_of by)) ≤ 255 = omega (arith, after_size t (ending_of by)) in
     rw L.spelled (line_read profile m L.a L.b L.c (32 ∷ 33 ∷ text_behind s t (ending_of by))
-        (word 0 (L.a ∷ L.b ∷ L.c ∷ []) ∷ symbol 4 33 ∷ place_tokens 5 s t (ending_of by)) (direct true (place_term s t) by)
+    (word 0 (L.a ∷ L.b ∷ L.c ∷ []) ∷ symbol 4 33 ∷ place_tokens 5 s t (ending_of by)) (direct true (place_term s t) by)
     L.first L.second L.third (le-ltb 255 _ few) (plain_place s t (ending_of by) below)
-        (marked_tokens L.a L.b L.c s t (ending_of by) L.first L.second L.third below)
+    (marked_tokens L.a L.b L.c s t (ending_of by) L.first L.second L.third below)
     (marked_line profile m 0 4 (L.a ∷ L.b ∷ L.c ∷ []) (place_tokens 5 s t (ending_of by)) (direct true (place_term s t) by) L.named (marked_read 4 5 s t by))
     (free_term profile s t true by))
 
@@ -175,7 +175,7 @@ pointer_said profile m named s t below =
     let L : Letters profile m = letters profile m named in
     let few : length (L.a ∷ L.b ∷ L.c ∷ 32 ∷ 40 ∷ text_behind s t closes) ≤ 255 = omega (arith, after_size t closes) in
     rw L.spelled (line_read profile m L.a L.b L.c (32 ∷ 40 ∷ text_behind s t closes)
-        (word 0 (L.a ∷ L.b ∷ L.c ∷ []) ∷ symbol 4 40 ∷ place_tokens 5 s t closes) (pointer (place_term s t))
+    (word 0 (L.a ∷ L.b ∷ L.c ∷ []) ∷ symbol 4 40 ∷ place_tokens 5 s t closes) (pointer (place_term s t))
     L.first L.second L.third (le-ltb 255 _ few) (plain_place s t closes below) (pointer_tokens L.a L.b L.c s t closes L.first L.second L.third below)
     (bracket_line profile m 0 4 (L.a ∷ L.b ∷ L.c ∷ []) (place_tokens 5 s t closes) (pointer (place_term s t)) L.named (pointer_read 4 5 s t))
     (free_pointer profile s t))
@@ -277,7 +277,7 @@ module _ (table : List ℕ) (profile : Profile) (m : Mnemonic) (a op : ℕ) (her
   absolute_label : (by : Index) (b c s : ℕ) (t : Tail) → s + added t ≡ b + 256 * c → 0 < reach_at table s
       → opcode_of profile m (absolute_mode by) ≡ Some op → b < 256 → c < 256
       → Is (mnemonic_text m ++ (direct_front profile m (zero_page_mode by) (b + 256 * c)
-          ++ ((label_text s ++ tail_text t) ++ ending_text (ending_of by)))) (op ∷ b ∷ c ∷ [])
+      ++ ((label_text s ++ tail_text t) ++ ending_text (ending_of by)))) (op ∷ b ∷ c ∷ [])
   absolute_label by b c s t adds reaches found l h = on (nat_lt (b + 256 * c) 256 && has_row profile m (zero_page_mode by)) refl
     where
       below : s < 65536
@@ -292,14 +292,14 @@ module _ (table : List ℕ) (profile : Profile) (m : Mnemonic) (a op : ℕ) (her
           (λ names near. forms.marked_code profile m (number_in names) a op (place_term s t) by found) (last_label s (b + 256 * c) t below adds reaches) l h
       on false e = long_stands Near (Final table) profile m a op by false (place_term s t) b c _ (direct_said profile m named s t by below)
           (λ names near. label_coded profile m names a (b + 256 * c) op s t by below adds near
-              (large_if (b + 256 * c) (has_row profile m (zero_page_mode by)) e) found) (last_label s (b + 256 * c) t below adds reaches) l h
+          (large_if (b + 256 * c) (has_row profile m (zero_page_mode by)) e) found) (last_label s (b + 256 * c) t below adds reaches) l h
 
   pointer_label : (b c s : ℕ) (t : Tail) → s + added t ≡ b + 256 * c → 0 < reach_at table s → opcode_of profile m Ind ≡ Some op → b < 256 → c < 256
       → Is (mnemonic_text m ++ (codes " (" ++ ((label_text s ++ tail_text t) ++ codes ")"))) (op ∷ b ∷ c ∷ [])
   pointer_label b c s t adds reaches found l h =
       let below : s < 65536 = omega (arith, adds, word_below b c l h) in
       far_pointer_stands Near (Final table) profile m a op (place_term s t) b c _
-          (pointer_said profile m (named_of_code profile m Ind op found) s t below) found (last_label s (b + 256 * c) t below adds reaches) l h
+      (pointer_said profile m (named_of_code profile m Ind op found) s t below) found (last_label s (b + 256 * c) t below adds reaches) l h
 
   branch_label : (b s : ℕ) (t : Tail) → s + added t ≡ target_of a b → 0 < reach_at table s → opcode_of profile m Rel ≡ Some op → b < 256
       → Is (mnemonic_text m ++ (codes " " ++ (label_text s ++ tail_text t))) (op ∷ b ∷ [])
@@ -307,8 +307,8 @@ module _ (table : List ℕ) (profile : Profile) (m : Mnemonic) (a op : ℕ) (her
       let target : target_of a b < 65536 = omega arith in
       let below : s < 65536 = omega (arith, adds, target) in
       branch_stands Near (Final table) profile m a op (place_term s t) b _
-          (rw (append-nil (tail_text t)) at (direct_said profile m (named_of_code profile m Rel op found) s t Unindexed below)) found
-          (last_label s (target_of a b) t below adds reaches) here l
+      (rw (append-nil (tail_text t)) at (direct_said profile m (named_of_code profile m Rel op found) s t Unindexed below)) found
+      (last_label s (target_of a b) t below adds reaches) here l
 
   -- where an address has no label the line is that of a listing
   number_same : (x : Bool) (w : ℕ) (suffix : List ℕ) → (if x then codes " !" else codes " ") ++ (word_text w ++ suffix) ≡ 32
@@ -322,9 +322,9 @@ module _ (table : List ℕ) (profile : Profile) (m : Mnemonic) (a op : ℕ) (her
       → Is (direct_text profile table m (zero_page_mode by) (b + 256 * c) (ending_text (ending_of by))) (op ∷ b ∷ c ∷ [])
   absolute by b c listed found l h =
       by_place table (b + 256 * c) (λ x. Is (mnemonic_text m
-          ++ (direct_front profile m (zero_page_mode by) (b + 256 * c) ++ (x ++ ending_text (ending_of by)))) (op ∷ b ∷ c ∷ []))
+      ++ (direct_front profile m (zero_page_mode by) (b + 256 * c) ++ (x ++ ending_text (ending_of by)))) (op ∷ b ∷ c ∷ []))
       (subst (λ (x : List ℕ). Is (mnemonic_text m ++ x) (op ∷ b ∷ c ∷ []))
-          (sym (number_same (nat_lt (b + 256 * c) 256 && has_row profile m (zero_page_mode by)) (b + 256 * c) (ending_text (ending_of by)))) listed)
+      (sym (number_same (nat_lt (b + 256 * c) 256 && has_row profile m (zero_page_mode by)) (b + 256 * c) (ending_text (ending_of by)))) listed)
       (λ s t adds reaches. absolute_label by b c s t adds reaches found l h)
 
   listed : (mode : Mode) (b c : ℕ) → opcode_of profile m mode ≡ Some op → b < 256 → c < 256
@@ -364,8 +364,16 @@ parts_size : (table : List ℕ) (m : Mnemonic) (front : List ℕ) (w : ℕ) (suf
     → length front ≤ 2 → length suffix ≤ 2
     → length (mnemonic_text m ++ (front ++ (place_text table w ++ suffix))) ≤ 15
 parts_size table m front w suffix small few =
-    omega (arith, length-append (mnemonic_text m) (front ++ (place_text table w ++ suffix)), length-append front (place_text table w ++ suffix),
-        length-append (place_text table w) suffix, length-mnemonic_text m, place_size table w, small, few)
+    omega (
+      arith,
+      length-append (mnemonic_text m) (front ++ (place_text table w ++ suffix)),
+      length-append front (place_text table w ++ suffix),
+      length-append (place_text table w) suffix,
+      length-mnemonic_text m,
+      place_size table w,
+      small,
+      few,
+    )
 
 direct_size : (profile : Profile) (table : List ℕ) (m : Mnemonic) (short : Mode) (w : ℕ)
     (suffix : List ℕ) → length suffix ≤ 2
@@ -479,8 +487,15 @@ word_label_said : (profile : Profile) (s : ℕ) (t : Tail) → s < 65536
 unfolding read_line tokens_of
 word_label_said profile s t below =
     let few : length (codes ".WORD " ++ (label_text s ++ after_label t ends)) ≤ 255 = omega (arith, after_size t ends) in
-    rw (le-ltb 255 (length (codes ".WORD " ++ (label_text s ++ after_label t ends))) few, plain_place s t ends below, directive_first
-        (label_text s ++ after_label t ends), place_found 6 s t ends below, label_words profile s t, free_words profile s t) refl
+    rw (
+      le-ltb 255 (length (codes ".WORD " ++ (label_text s ++ after_label t ends))) few,
+      plain_place s t ends below,
+      directive_first
+          (label_text s ++ after_label t ends),
+      place_found 6 s t ends below,
+      label_words profile s t,
+      free_words profile s t,
+    ) refl
 
 word_number_said : (profile : Profile) (w : ℕ) → w < 65536
     → read_line profile (codes ".WORD " ++ word_text w) ≡ Ok (labelled None (words (of_number w ∷ [])))
@@ -488,16 +503,24 @@ unfolding read_line tokens_of
 word_number_said profile w below =
     let found : tokens_from 6 0 (word_text w) ≡ before (number 6 (word_text w)) (Some []) =
     address_first 6 _ _ _ _ _ _ _ _ [] (high (w / 256) (first_half w below)) (low (w / 256)) (high (w % 256) (last_half w)) (low (w % 256)) refl refl
-        ∙ ap (before (number 6 (word_text w))) (at_end 11) in
-    rw ((high (w / 256) (first_half w below)).source, (low (w / 256)).source, (high (w % 256) (last_half w)).source, (low (w % 256)).source,
-        directive_first (word_text w), found, number_words profile (word_text w), word_number w below) refl
+    ∙ ap (before (number 6 (word_text w))) (at_end 11) in
+    rw (
+      (high (w / 256) (first_half w below)).source,
+      (low (w / 256)).source,
+      (high (w % 256) (last_half w)).source,
+      (low (w % 256)).source,
+      directive_first (word_text w),
+      found,
+      number_words profile (word_text w),
+      word_number w below,
+    ) refl
 
 pub word_stands : (table : List ℕ) (profile : Profile) (a b c : ℕ) → b < 256 → c < 256
     → Stands Near (Final table) profile (codes ".WORD " ++ place_text table (b + 256 * c)) a (b ∷ c ∷ [])
 word_stands table profile a b c l h =
     by_place table (b + 256 * c) (λ x. Stands Near (Final table) profile (codes ".WORD " ++ x) a (b ∷ c ∷ []))
     (words_stand table profile a b c (of_number (b + 256 * c)) _ (word_number_said profile (b + 256 * c) (word_below b c l h))
-        (λ numbers final. of_number_is numbers a (b + 256 * c)) l h)
+    (λ numbers final. of_number_is numbers a (b + 256 * c)) l h)
     (λ s t adds reaches.
     let below : s < 65536 = omega (arith, adds, word_below b c l h) in
     words_stand table profile a b c (place_term s t) _ (rw (append-nil (tail_text t)) at (word_label_said profile s t below))
@@ -547,8 +570,15 @@ return_label_said : (profile : Profile) (s : ℕ) (t : Tail) → s < 65536
 unfolding read_line tokens_of
 return_label_said profile s t below =
     let few : length (codes ".WORD " ++ (label_text s ++ after_label t less_one)) ≤ 255 = omega (arith, after_size t less_one) in
-    rw (le-ltb 255 (length (codes ".WORD " ++ (label_text s ++ after_label t less_one))) few, plain_place s t less_one below, directive_first
-        (label_text s ++ after_label t less_one), place_found 6 s t less_one below, label_less profile s t, free_less profile s t) refl
+    rw (
+      le-ltb 255 (length (codes ".WORD " ++ (label_text s ++ after_label t less_one))) few,
+      plain_place s t less_one below,
+      directive_first
+          (label_text s ++ after_label t less_one),
+      place_found 6 s t less_one below,
+      label_less profile s t,
+      free_less profile s t,
+    ) refl
 
 minus_one : (p : ℕ) → tokens_from p 0 (codes "-1") ≡ Some (symbol p 45 ∷ number (p + 1) (49 ∷ []) ∷ [])
 unfolding tokens_from token_at
@@ -561,9 +591,17 @@ unfolding read_line tokens_of
 return_number_said profile w below =
     let found : tokens_from 6 0 (word_text w ++ codes "-1") ≡ Some (number_tokens (word_text w)) =
     address_first 6 _ _ _ _ _ _ _ _ (codes "-1") (high (w / 256) (first_half w below)) (low (w / 256)) (high (w % 256) (last_half w)) (low (w % 256))
-        refl refl ∙ ap (before (number 6 (word_text w))) (minus_one 11) in
-    rw ((high (w / 256) (first_half w below)).source, (low (w / 256)).source, (high (w % 256) (last_half w)).source, (low (w % 256)).source,
-        directive_first (word_text w ++ codes "-1"), found, number_less profile (word_text w), word_number w below) refl
+    refl refl ∙ ap (before (number 6 (word_text w))) (minus_one 11) in
+    rw (
+      (high (w / 256) (first_half w below)).source,
+      (low (w / 256)).source,
+      (high (w % 256) (last_half w)).source,
+      (low (w % 256)).source,
+      directive_first (word_text w ++ codes "-1"),
+      found,
+      number_less profile (word_text w),
+      word_number w below,
+    ) refl
 
 -- where the address is in memory, its word stands for the bytes of the address before it
 pub return_stands : (table : List ℕ) (profile : Profile) (a b c : ℕ) → b < 256 → c < 256
@@ -577,4 +615,4 @@ return_stands table profile a b c l h small =
     let below : s < 65536 = omega (arith, adds, small) in
     words_stand table profile a b c (less (place_term s t)) _ (return_label_said profile s t below)
     (λ numbers final. less_known numbers a (b + 256 * c) (place_term s t) small
-        (place_known numbers a s t below (final s below reaches) ∙ ap (λ (n : ℕ). Ok (pos n)) adds)) l h)
+    (place_known numbers a s t below (final s below reaches) ∙ ap (λ (n : ℕ). Ok (pos n)) adds)) l h)

@@ -128,7 +128,7 @@ module _ (table : List ℕ) (profile : Profile) (cells : List (Option ℕ)) (a :
       let len : row.len ≡ length_in row.mode = len_is profile (slice_index bs 0) row (each 0) e in
       let is : IsRowOf row.mnemonic row.mode (row_at profile (slice_index bs 0)) = rw e (refl, refl) in
       let found : opcode_of profile row.mnemonic row.mode ≡ Some (slice_index bs 0) =
-          encoded_of_row profile row.mnemonic row.mode (slice_index bs 0) (each 0) is in
+      encoded_of_row profile row.mnemonic row.mode (slice_index bs 0) (each 0) is in
       let bytes_are = take_front row.mode bs (rw len at long) ∙ ap (λ (n : ℕ). take n bs) (sym len) in
       record {
         bytes = take row.len bs;
@@ -161,10 +161,17 @@ module _ (table : List ℕ) (profile : Profile) (cells : List (Option ℕ)) (a :
       let f : Fits u = fits_here profile b u small.0 e in
       let count : length (take n rest) ≡ n = length-take-le n rest (omega (arith, len, long)) in
       undocumented_has b (take n rest) (instruction_note u (slice_index (b ∷ rest) 1) (slice_index (b ∷ rest) 2))
-          (s.0, shows_front n cells (a + 1) rest s.1) (small.0, small_front n rest small.1)
+      (s.0, shows_front n cells (a + 1) rest s.1) (small.0, small_front n rest small.1)
       (omega (arith, count, len, f.small)) (instruction_is_noted u (slice_index (b ∷ rest) 1) (slice_index (b ∷ rest) 2) f (each 1) (each 2))
-      (omega (arith, length_data b (take n rest) (instruction_note u (slice_index (b ∷ rest) 1) (slice_index (b ∷ rest) 2)), note_size u
-          (slice_index (b ∷ rest) 1) (slice_index (b ∷ rest) 2) f, count, len, f.short))
+      (omega (
+        arith,
+        length_data b (take n rest) (instruction_note u (slice_index (b ∷ rest) 1) (slice_index (b ∷ rest) 2)),
+        note_size u
+            (slice_index (b ∷ rest) 1) (slice_index (b ∷ rest) 2) f,
+        count,
+        len,
+        f.short,
+      ))
 
   odd_some : (b : ℕ) (rest : List ℕ) (u : Undocumented) (n : ℕ) → u.len ≡ n → Shows cells a (b ∷ rest) → AreSmall (b ∷ rest)
       → undocumented_at profile b ≡ Some u → u.len ≤ suc (length rest)
@@ -179,7 +186,7 @@ module _ (table : List ℕ) (profile : Profile) (cells : List (Option ℕ)) (a :
     where
       on : (x : Bool) → nat_le u.len (length (b ∷ rest)) ≡ x
           → Has (if x then undocumented (take u.len (b ∷ rest)) (instruction_note u (slice_index (b ∷ rest) 1) (slice_index (b ∷ rest) 2)) else
-              numbers (b ∷ []) [])
+          numbers (b ∷ []) [])
       on true h = odd_some b rest u u.len refl s small e (leb-true _ _ h)
       on false h = plain_has b [] (s.0, tt) (small.0, tt) (omega arith)
 
@@ -237,7 +244,7 @@ module _ (table : List ℕ) (profile : Profile) (cells : List (Option ℕ)) (mar
       let small : AreSmall (b ∷ rest) = small_shown cells a (b ∷ rest) image s in
       let r = run_is_noted cells marks a (b ∷ rest) small in
       rw first (data_has table profile cells a (stretch cells marks Data 2 a) b rest (run_note cells marks a (b ∷ rest)) w
-          (small_shown cells a (stretch cells marks Data 2 a) image w) s small
+      (small_shown cells a (stretch cells marks Data 2 a) image w) s small
       (omega (arith, few cells marks Data n (a + 1), room_small flags 8 a)) r.note_is (omega (arith, run_needs_eight cells marks a (b ∷ rest) r.size)))
 
   by_text : (a b : ℕ) → cell_at cells a ≡ Some b → kind_of (mark_at marks a) b ≡ Text

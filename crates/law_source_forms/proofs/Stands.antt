@@ -66,8 +66,13 @@ place_right : (m : Map) (cells : List (Option ℕ)) (a : ℕ) (bytes : List ℕ)
 unfolding place_kinds lowest lower
 place_right m cells a bytes size spared some shown =
     let within : a + length bytes ≤ 65536 = omega (arith, shown_within cells a bytes some shown, size) in
-    rw (lt-ltb 0 (length bytes) some, le-ltb 65536 (a + length bytes) within, free_from (length bytes) a a cells (omega arith), no_port m cells a
-        bytes spared shown) refl
+    rw (
+      lt-ltb 0 (length bytes) some,
+      le-ltb 65536 (a + length bytes) within,
+      free_from (length bytes) a a cells (omega arith),
+      no_port m cells a
+          bytes spared shown,
+    ) refl
 
 module _ (Near : Definitions → Type 0) (Final : Numbers → Type 0) (m : Map) (cells : List (Option ℕ)) (size : length cells ≡ 65536)
     (spared : has_port_byte m cells ≡ false) where
@@ -81,13 +86,16 @@ module _ (Near : Definitions → Type 0) (Final : Numbers → Type 0) (m : Map) 
   pub row_first : (line : List ℕ) (a : ℕ) (bytes : List ℕ) (names : Definitions) (lines : List (List ℕ)) → Stands Near Final m.profile line a bytes
       → 0 < length bytes → Shows cells a bytes → Near names
       → Fills Final m cells (a + length bytes) (fixed_at m.profile (a + length bytes) names) lines
-          → Fills Final m cells a (fixed_at m.profile a names) (line ∷ lines)
+      → Fills Final m cells a (fixed_at m.profile a names) (line ∷ lines)
   row_first line a bytes names lines s some shown near rest = record {
     placed = placed_at a s.content ∷ rest.placed;
     after = rest.after;
     laid = (fixed_at m.profile (a + length bytes) names, s.laid names near, rest.laid);
-    made = λ numbers final. (row_right line a bytes s some shown numbers final, rw (s.bytes_are numbers final, put_below cells a bytes shown)
-        (rest.made numbers final));
+    made = λ numbers final. (
+      row_right line a bytes s some shown numbers final,
+      rw (s.bytes_are numbers final, put_below cells a bytes shown)
+          (rest.made numbers final),
+    );
     plain = (s.plain, rest.plain);
     go_on = (s.goes_on, rest.go_on);
   }

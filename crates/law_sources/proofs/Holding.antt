@@ -83,25 +83,33 @@ line_adds : (before : Context) (l : Line) (q : PlacedAndContext)
     → is_defined before.names (name_of l) ≡ false → line_at before l ≡ Ok q → Adds before l q.1
 line_adds before (labelled None s) q new h =
     let b = bind_ok (statement_at before.profile (number_in (before.names ++ [])) before.address s)
-        (λ place. Ok (placed_and_context before.profile (before.names ++ []) place)) q h in
+    (λ place. Ok (placed_and_context before.profile (before.names ++ []) place)) q h in
     record { more = []; grown = sym (ap fixed_names (ok_same (placed_and_context before.profile (before.names ++ []) b.0) q b.2)); holds = tt }
 line_adds before (labelled (Some n) s) q new h =
     let names = before.names ++ (n, pos before.address) ∷ [] in
     let b = bind_ok (statement_at before.profile (number_in names) before.address s) (λ place. Ok (placed_and_context before.profile names place)) q h in
     let grown : q.1.names ≡ names = sym (ap fixed_names (ok_same (placed_and_context before.profile names b.0) q b.2)) in
-    record { more = (n, pos before.address) ∷ []; grown = grown; holds =
-        along names q.1.names n (pos before.address) grown (given before.names n (pos before.address) new) }
+    record {
+      more = (n, pos before.address) ∷ [];
+      grown = grown;
+      holds =
+          along names q.1.names n (pos before.address) grown (given before.names n (pos before.address) new);
+    }
 line_adds before (definition n e) q new h =
     let b = bind_ok (placing_value (eval_of (number_in before.names) (pos before.address) e))
-        (λ v. Ok (placed_and_context before.profile (before.names ++ (n, v) ∷ []) (empty_and_next before.address before.address))) q h in
+    (λ v. Ok (placed_and_context before.profile (before.names ++ (n, v) ∷ []) (empty_and_next before.address before.address))) q h in
     let names = before.names ++ (n, b.0) ∷ [] in
     let grown : q.1.names ≡ names = sym (ap fixed_names (ok_same
-        (placed_and_context before.profile names (empty_and_next before.address before.address)) q b.2)) in
+    (placed_and_context before.profile names (empty_and_next before.address before.address)) q b.2)) in
     record {
       more = (n, b.0) ∷ [];
       grown = grown;
-      holds = (b.0, placing_ok (eval_of (number_in before.names) (pos before.address) e) b.0 b.1, along names q.1.names n b.0 grown
-          (given before.names n b.0 new));
+      holds = (
+        b.0,
+        placing_ok (eval_of (number_in before.names) (pos before.address) e) b.0 b.1,
+        along names q.1.names n b.0 grown
+            (given before.names n b.0 new),
+      );
     }
 
 fixed_adds : (before : Context) (l : Line) (q : PlacedAndContext) → named_line_at before l ≡ Ok q

@@ -233,7 +233,7 @@ value_fault_again m numbers [] line back n number start image k made is bad =
     rw there (ap (λ (x : ℕ). Err (fault x k)) same)
 value_fault_again m numbers (p ∷ front) line back n number start image k made is bad =
     rw made.0 (value_fault_again m numbers front line back (n + 1) number (with_bytes start p.address (line_bytes numbers p)) image k made.1
-        (omega (arith, is)) bad)
+    (omega (arith, is)) bad)
 
 -- ---- the source
 
@@ -271,14 +271,38 @@ says_err m source f small h =
     elim (bind_err (layout_from 1 (first_context m.profile) lines) _ f h) [
       | inl bad ↦
           let l = layout_fault lines 1 (first_context m.profile) f bad in
-          inr (inl (record { size = small; front = l.front; line = l.line; back = l.back; cut = l.cut; placed = l.placed; before = l.before; laid =
-              l.laid; number = l.number; kind = l.kind }))
+          inr (inl (record {
+            size = small;
+            front = l.front;
+            line = l.line;
+            back = l.back;
+            cut = l.cut;
+            placed = l.placed;
+            before = l.before;
+            laid =
+                l.laid;
+            number = l.number;
+            kind = l.kind;
+          }))
       | inr first ↦ elim (bind_err (image_from m (number_in first.0.1.names) 1 empty_image first.0.0) _ f first.2) [
         | inl bad ↦
             let v = value_fault_of m (number_in first.0.1.names) first.0.0 1 empty_image f bad in
-            inr (inr (record { size = small; placed = first.0.0; all = first.0.1; laid =
-                laid_sound lines 1 (first_context m.profile) first.0 first.1; front = v.front; line = v.line; back = v.back; cut = v.cut; image =
-                v.image; made = v.made; number = v.number; kind = v.kind }))
+            inr (inr (record {
+              size = small;
+              placed = first.0.0;
+              all = first.0.1;
+              laid =
+                  laid_sound lines 1 (first_context m.profile) first.0 first.1;
+              front = v.front;
+              line = v.line;
+              back = v.back;
+              cut = v.cut;
+              image =
+                  v.image;
+              made = v.made;
+              number = v.number;
+              kind = v.kind;
+            }))
         | inr done ↦ absurd (ok_not_err _ f done.2)
       ]
     ]
@@ -303,8 +327,11 @@ pub denotes_again : (m : Map) (source : List ℕ) (image : Cells) (d : Denotes m
 unfolding judgement_of_lines
 denotes_again m source image d =
     small_source m source d.size
-    ∙ rw (laid_again (read_lines m.profile source) d.placed 1 (first_context m.profile) d.all d.laid, made_again m (number_in d.all.names) d.placed 1
-        empty_image image d.made) refl
+    ∙ rw (
+      laid_again (read_lines m.profile source) d.placed 1 (first_context m.profile) d.all d.laid,
+      made_again m (number_in d.all.names) d.placed 1
+          empty_image image d.made,
+    ) refl
 
 same_fault : (f : AsmFault) (n : ℕ) (k : AsmFaultKind) → f.line ≡ n → f.kind ≡ k → fault n k ≡ f
 same_fault f n k line kind = rw (← line, ← kind) refl

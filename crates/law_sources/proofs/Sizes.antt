@@ -237,7 +237,7 @@ line_at_whole before (labelled label s) x h =
     let numbers = number_in (before.names ++ label_at before.address label) in
     let place = bind_ok (statement_at before.profile numbers before.address s) _ x h in
     of_standing (placed_and_context before.profile (before.names ++ label_at before.address label) place.0) x place.2
-        (laid_whole before.profile numbers before.address s place.0 place.1)
+    (laid_whole before.profile numbers before.address s place.0 place.1)
 line_at_whole before (definition name e) x h =
     let v = bind_ok (placing_value (eval_of (number_in before.names) (pos before.address) e)) _ x h in
     of_standing (placed_and_context before.profile (before.names ++ (name, v.0) ∷ []) (empty_and_next before.address before.address)) x v.2 tt

@@ -156,7 +156,7 @@ read_small bus address h = read_small_by bus address (is_port bus.map address) (
 write_by : (bus : Bus) (address value : ℕ) (port first third rom : Bool) → IsBus bus → value < 256
     → is_port bus.map address ≡ port → (first && nat_le console_size (length bus.out)) ≡ false
     → Becomes bus (cond port (cond first (record bus { out = bus.out ++ value ∷ [] }) (cond third (record bus { control = value % 2 == 1 }) bus))
-        (cond rom bus (bus_with_byte bus address value)))
+    (cond rom bus (bus_with_byte bus address value)))
 write_by bus address value true true third rom h small here room = let less : length bus.out < console_size = grind (arith, nat_tests) in
     appended bus value h small less
 write_by bus address value true false true rom h small here room = becomes_controlled bus (value % 2 == 1) h
@@ -194,4 +194,4 @@ becomes_patched (byte ∷ bytes) bus address h small away =
     let split = neither (is_port bus.map address) (meets_port bus.map (address + 1) bytes) away in
     let one = becomes_stored bus address byte h (All-head IsByte byte bytes small) split.0 in
     then bus (bus_with_byte bus address byte) (bus_with_patch (address + 1) bytes (bus_with_byte bus address byte)) one
-        (becomes_patched bytes (bus_with_byte bus address byte) (address + 1) one.bus (All-tail IsByte byte bytes small) split.1)
+    (becomes_patched bytes (bus_with_byte bus address byte) (address + 1) one.bus (All-tail IsByte byte bytes small) split.1)

@@ -89,7 +89,7 @@ modify_memory_leads op place s h room =
     let read = becomes_read s.bus place.address h.bus in
     let small : sum.value < 256 = modified_small op (byte_read s.bus place.address) s.regs.flags.c (read_small s.bus place.address h.bus) in
     let written = becomes_written (after_read s.bus place.address) place.address sum.value read.bus small
-        (room_after_read s.bus place.address place.address ∙ room) in
+    (room_after_read s.bus place.address place.address ∙ room) in
     record {
       bus = then s.bus (after_read s.bus place.address) (after_write (after_read s.bus place.address) place.address sum.value) read written;
       regs = with_flags s.regs _ h.regs;
@@ -201,7 +201,7 @@ return_leads : (s : State) → IsSound s → Leads s (return_from_call s)
 unfolding return_from_call
 return_leads s h =
     jumped_leads s (after_pull (after_pull s)) ((stack_top_address s + 1) % 65536)
-        (after_pull_leads s (after_pull s) (after_pull_leads s s (same_leads s h))) (omega arith)
+    (after_pull_leads s (after_pull s) (after_pull_leads s s (same_leads s h))) (omega arith)
 
 return_from_interrupt_leads : (s : State) → IsSound s → Leads s (return_from_interrupt s)
 unfolding return_from_interrupt

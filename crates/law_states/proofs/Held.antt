@@ -65,7 +65,7 @@ unfolding without_last
 gone_back_holds map k s h =
     let left = length s.earlier - k in
     All-push (IsWith map) (take left s.earlier) (get_or (states s) left s.current)
-        (All-take (IsWith map) left s.earlier (all_append_left (IsWith map) s.earlier (s.current ∷ []) h))
+    (All-take (IsWith map) left s.earlier (all_append_left (IsWith map) s.earlier (s.current ∷ []) h))
     (all_get (IsWith map) (states s) left s.current h (current_is map s h))
 
 back_by : (map : Map) (k : ℕ) (s t : Session) (there : Bool) → HoldsStates map s

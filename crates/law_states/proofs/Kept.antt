@@ -83,7 +83,7 @@ pub starts_are_states : StartsAreStates
 unfolding start
 starts_are_states bus_map image is whole none =
     (reset_follows (record { bus = loaded_bus bus_map image; regs = no_regs; irq = false; nmi = false; cycles = 0 })
-        (loaded_is bus_map image is whole none) no_regs_small (omega arith)).state
+    (loaded_is bus_map image is whole none) no_regs_small (omega arith)).state
 
 -- ---- events
 
@@ -120,7 +120,7 @@ input_by byte s after false h small full e =
 patch_by : (address : ℕ) (bytes : List ℕ) (s after : State) (length_wrong past port : Bool)
     → IsState s → AreBytes bytes → meets_port s.bus.map address bytes ≡ port
     → cond length_wrong (Err BadLength) (cond past (Err PastEnd)
-        (cond port (Err PortAddress) (Ok (record s { bus = bus_with_patch address bytes s.bus })))) ≡ Ok after → Follows s after
+    (cond port (Err PortAddress) (Ok (record s { bus = bus_with_patch address bytes s.bus })))) ≡ Ok after → Follows s after
 patch_by address bytes s after true past port h small away e = cc
 patch_by address bytes s after false true port h small away e = cc
 patch_by address bytes s after false false true h small away e = cc
@@ -155,7 +155,7 @@ followed s after event.Nmi h k e =
 followed s after (event.Set x) h k e =
     let same : record s { regs = set_to x s.regs } ≡ after = cc in
     let whole : Follows s (record s { regs = set_to x s.regs }) =
-        record { state = record { bus = h.bus; regs = set_small x s.regs k h.regs; cycles = h.cycles }; map = refl } in
+    record { state = record { bus = h.bus; regs = set_small x s.regs k h.regs; cycles = h.cycles }; map = refl } in
     rw same at whole
 followed s after (event.Patch address bytes count) h k e = counted_by address bytes count s after (nat_lt 3 count) h k e
 followed s after (event.Input byte) h k e = input_by byte s after (nat_le console_size (length s.bus.given)) h k refl e

@@ -111,8 +111,16 @@ modified_small modify_op.Inc m c h = omega arith
 
 pub status_small : (b : Bool) (flags : Flags) → status b flags < 256
 unfolding status
-status_small b flags = omega (arith, bit_small flags.n, bit_small flags.v, bit_small b, bit_small flags.d, bit_small flags.i, bit_small flags.z,
-    bit_small flags.c)
+status_small b flags = omega (
+  arith,
+  bit_small flags.n,
+  bit_small flags.v,
+  bit_small b,
+  bit_small flags.d,
+  bit_small flags.i,
+  bit_small flags.z,
+  bit_small flags.c,
+)
 
 -- ---- registers
 

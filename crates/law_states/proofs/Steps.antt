@@ -63,8 +63,11 @@ done_follows row place s h room few near fits =
     ap (λ b. stores (operation_of row.mnemonic) row.mode && overflows b place.address) (bus-fetched row place s) ∙ fits in
     let after = performed_leads (operation_of row.mnemonic) row.mode place before (fetched_sound row place s h) near same in
     let few_more = cycles-fetched row place s few in
-    record { state = record { bus = after.bus.bus; regs = after.regs; cycles = omega (arith, after.cycles) }; map =
-        after.bus.map ∙ ap (λ (b : Rattle.model.specs.State.Bus). b.map) (bus-fetched row place s) }
+    record {
+      state = record { bus = after.bus.bus; regs = after.regs; cycles = omega (arith, after.cycles) };
+      map =
+          after.bus.map ∙ ap (λ (b : Rattle.model.specs.State.Bus). b.map) (bus-fetched row place s);
+    }
 
 executed_by : (row : Row) (place : EffectiveAddress) (s after : State) (refused : Bool) → IsState s
     → HasRoom s → row.cycles ≤ 7 → place.address < 65536
@@ -90,7 +93,7 @@ unfolding attempt
 attempted_follows None s after h room is e = cc
 attempted_follows (Some row) s after h room is e =
     executed_follows row s after h room (cycles_small s.bus.map.profile (slice_index s.bus.memory s.regs.pc) row
-        (byte_small s.bus.memory s.regs.pc h.bus.memory) is) e
+    (byte_small s.bus.memory s.regs.pc h.bus.memory) is) e
 
 -- ---- steps
 
@@ -100,7 +103,7 @@ forgotten s = record s { nmi = false }
 step_by : (s after : State) (full nmi irq : Bool) → IsState s → nat_lt most_cycles s.cycles ≡ full
     → cond full (Err CyclesFull)
     (cond nmi (Ok (interrupt_entry (forgotten s) 0xFFFA)) (cond irq (Ok (interrupt_entry s 0xFFFE))
-        (attempt (row_at s.bus.map.profile (slice_index s.bus.memory s.regs.pc)) s)))
+    (attempt (row_at s.bus.map.profile (slice_index s.bus.memory s.regs.pc)) s)))
     ≡ Ok after
     → Follows s after
 step_by s after true nmi irq h full e = cc

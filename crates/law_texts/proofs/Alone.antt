@@ -106,8 +106,12 @@ unfolding branch_piece
 branch_again a b here below =
     let t : ℕ = target_of a b in
     let tb : t < 65536 = omega arith in
-    rw (le-ltb t 0 (omega arith), le-ltb 65535 t (omega (arith, tb)), difference t (a + 2) (distance b) tb (omega (arith, here))
-        (distance_small b below) refl) (distance_again b below)
+    rw (
+      le-ltb t 0 (omega arith),
+      le-ltb 65535 t (omega (arith, tb)),
+      difference t (a + 2) (distance b) tb (omega (arith, here))
+          (distance_small b below) refl,
+    ) (distance_again b below)
 
 -- ---- `.BYTE`
 

@@ -51,7 +51,7 @@ four_digits w below =
     let j = (digit (w % 256 / 16) (omega arith)).value in
     let k = (digit (w % 256 % 16) (omega arith)).value in
     let same : (((0 * 16 + digit_value (hex_digit (w / 256 / 16))) * 16 + digit_value (hex_digit (w / 256 % 16))) * 16 + digit_value
-        (hex_digit (w % 256 / 16))) * 16
+    (hex_digit (w % 256 / 16))) * 16
     + digit_value (hex_digit (w % 256 % 16)) ≡ w = omega (arith, h, i, j, k) in
     ap in_range same ∙ in_word w (omega (arith, below))
   where

@@ -190,4 +190,4 @@ pub absolute_code : (profile : Profile) (m : Mnemonic) (n : Numbers) (a v op : â
 unfolding form_of
 absolute_code profile m n a v op by large code =
     rw (no_branch_far profile m by op code, code) (long_code n a v (in_mode profile m (zero_page_mode by)) (as_coded op (absolute_mode by))
-        (large_code profile m v (zero_page_mode by) large))
+    (large_code profile m v (zero_page_mode by) large))

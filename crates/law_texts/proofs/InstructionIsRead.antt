@@ -65,7 +65,7 @@ unfolding operand_piece eval_of
 immediate_again profile m a op b code below fits =
     with_operand profile m Imm (immediate (of_number b)) (of_number b) a op _ (b ∷ [])
     (with_number profile _ m immediate _ _ (byte_number b below)
-        (texts.immediate_said profile m (named_of_code profile m Imm op code) _ _ _ _ (high b below) (low b)))
+    (texts.immediate_said profile m (named_of_code profile m Imm op code) _ _ _ _ (high b below) (low b)))
     refl (forms.immediate_code profile m no_numbers a op (of_number b) code) (omega arith) fits (byte_again b below)
 
 zero_page_piece_of : (a : ℕ) (by : Index) (b : ℕ) → b < 256 → operand_piece a (zero_page_mode by)
@@ -120,8 +120,8 @@ branch_again_at profile m a op b here code below fits =
     let tb : t < 65536 = omega arith in
     with_operand profile m Rel (direct false (of_number t) Unindexed) (of_number t) a op _ (b ∷ [])
     (with_number profile _ m (λ e. direct false e Unindexed) _ _ (word_number t tb)
-        (texts.absolute_said profile m (named_of_code profile m Rel op code) _ _ _ _ _ _ _ _ (high (t / 256) (first_half t tb)) (low (t / 256))
-        (high (t % 256) (last_half t)) (low (t % 256))))
+    (texts.absolute_said profile m (named_of_code profile m Rel op code) _ _ _ _ _ _ _ _ (high (t / 256) (first_half t tb)) (low (t / 256))
+    (high (t % 256) (last_half t)) (low (t % 256))))
     refl (forms.branch_code profile m no_numbers a op (of_number t) code) (omega arith) fits (branch_again a b here below)
 
 -- ---- modes with an address
@@ -172,7 +172,7 @@ absolute_again profile m by a op b c suffix plain marked code l h fits = on (nat
     on false t = rw t (with_operand profile m (absolute_mode by) (direct false (of_number (b + 256 * c)) by) (of_number (b + 256 * c)) a op _ (b ∷ c ∷ [])
         (with_number profile _ m (λ e. direct false e by) _ _ (word_number (b + 256 * c) below) plain)
         refl (forms.absolute_code profile m no_numbers a (b + 256 * c) op by (large_if (b + 256 * c) (has_row profile m (zero_page_mode by)) t) code)
-            (long_small by) fits (absolute_piece_of a by b c l h))
+        (long_small by) fits (absolute_piece_of a by b c l h))
 
 pub pointer_again : (profile : Profile) (m : Mnemonic) (a op b c : ℕ) (text : List ℕ)
     → Read profile text m (pointer (written (word_text (b + 256 * c))))

@@ -74,10 +74,10 @@ instruction_again : (profile : Profile) (m : Mnemonic) (mode : Mode) (a op b c :
 unfolding operand_text
 instruction_again profile m Imp a op b c here code l h fits =
     without_operand profile m Imp absent a op _ (texts.implied_said profile m (named_of_code profile m Imp op code)) refl
-        (forms.implied_code profile m no_numbers a op code) (omega arith) fits
+    (forms.implied_code profile m no_numbers a op code) (omega arith) fits
 instruction_again profile m Acc a op b c here code l h fits =
     without_operand profile m Acc accumulator a op _ (texts.accumulator_said profile m (named_of_code profile m Acc op code)) refl
-        (forms.accumulator_code profile m no_numbers a op code) (omega arith) fits
+    (forms.accumulator_code profile m no_numbers a op code) (omega arith) fits
 instruction_again profile m Imm a op b c here code l h fits = immediate_again profile m a op b code l fits
 instruction_again profile m Zp a op b c here code l h fits =
     zero_page_again_by profile m Unindexed a op b _ (texts.zero_page_said profile m (named_of_code profile m Zp op code) _ _ _ _ (high b l) (low b)) code l fits
@@ -90,7 +90,7 @@ instruction_again profile m Abs a op b c here code l h fits =
     let below : w < 65536 = word_below b c l h in
     let named : Named profile m = named_of_code profile m Abs op code in
     rw (append-nil (absolute_text profile m Zp w)) at (absolute_again profile m Unindexed a op b c [] (plain profile m named w below)
-        (marked profile m named w below) code l h fits)
+    (marked profile m named w below) code l h fits)
 instruction_again profile m AbsX a op b c here code l h fits =
     let w : ℕ = b + 256 * c in
     let below : w < 65536 = word_below b c l h in
@@ -109,11 +109,11 @@ instruction_again profile m Ind a op b c here code l h fits =
     let w : ℕ = b + 256 * c in
     let below : w < 65536 = word_below b c l h in
     pointer_again profile m a op b c _ (texts.pointer_said profile m (named_of_code profile m Ind op code) _ _ _ _ _ _ _ _
-        (high (w / 256) (first_half w below)) (low (w / 256)) (high (w % 256) (last_half w)) (low (w % 256))) code l h fits
+    (high (w / 256) (first_half w below)) (low (w / 256)) (high (w % 256) (last_half w)) (low (w % 256))) code l h fits
 instruction_again profile m Rel a op b c here code l h fits = branch_again_at profile m a op b here code l fits
 instruction_again profile m IndZ a op b c here code l h fits =
     zero_page_pointer_again profile m a op b _ (texts.zero_page_pointer_said profile m (named_of_code profile m IndZ op code) _ _ _ _ (high b l)
-        (low b)) code l fits
+    (low b)) code l fits
 
 -- a byte that begins no instruction
 byte_row_again : (profile : Profile) (a b : ℕ) → a < 65536 → b < 256
@@ -170,9 +170,9 @@ row_again profile bs a some each here = on (row_at profile (slice_index bs 0)) r
         let fits : a + row.len ≤ 65536 = leb-true _ _ (and_right _ _ t) in
         let is : IsRowOf row.mnemonic row.mode (row_at profile (slice_index bs 0)) = rw e (refl, refl) in
         let code : opcode_of profile row.mnemonic row.mode ≡ Some (slice_index bs 0) =
-            encoded_of_row profile row.mnemonic row.mode (slice_index bs 0) (each 0) is in
+        encoded_of_row profile row.mnemonic row.mode (slice_index bs 0) (each 0) is in
         rw t (instruction_again profile row.mnemonic row.mode a (slice_index bs 0) (slice_index bs 1) (slice_index bs 2) here code (each 1) (each 2)
-            (rw len at fits)
+        (rw len at fits)
         ∙ ap (λ (x : List ℕ). Ok x) (take_front row.mode bs (rw len at long)) ∙ ap (λ (n : ℕ). Ok (take n bs)) (sym len))
     of_row row e false t = rw t (one_byte profile a bs some here each)
 

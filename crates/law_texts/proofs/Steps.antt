@@ -98,7 +98,7 @@ pub address_tokens : (a b c d e f g h i j k : ℕ) (rest : List ℕ) → Capital
 unfolding tokens_from
 address_tokens a b c d e f g h i j k rest A B C D E F G no_more behind =
     word_first a b c (32 ∷ 36 ∷ h ∷ i ∷ j ∷ k ∷ rest) A B C refl
-        ∙ ap (before (word 0 (a ∷ b ∷ c ∷ []))) (address_first 4 d e f g h i j k rest D E F G no_more behind)
+    ∙ ap (before (word 0 (a ∷ b ∷ c ∷ []))) (address_first 4 d e f g h i j k rest D E F G no_more behind)
 
 pub marked_tokens : (a b c d e f g h i j k : ℕ) (rest : List ℕ) → Capital a → Capital b → Capital c
     → Digit d h → Digit e i → Digit f j → Digit g k → run_of is_hex_byte rest ≡ []
@@ -109,4 +109,4 @@ pub marked_tokens : (a b c d e f g h i j k : ℕ) (rest : List ℕ) → Capital 
 unfolding tokens_from token_at
 marked_tokens a b c d e f g h i j k rest A B C D E F G no_more behind =
     word_first a b c (32 ∷ 33 ∷ 36 ∷ h ∷ i ∷ j ∷ k ∷ rest) A B C refl
-        ∙ ap (λ (t : Tokens). before (word 0 (a ∷ b ∷ c ∷ [])) (before (symbol 4 33) t)) (address_first 5 d e f g h i j k rest D E F G no_more behind)
+    ∙ ap (λ (t : Tokens). before (word 0 (a ∷ b ∷ c ∷ [])) (before (symbol 4 33) t)) (address_first 5 d e f g h i j k rest D E F G no_more behind)

@@ -25,7 +25,7 @@ unfolding tokens_from
 implied_said profile m named =
     let L : Letters profile m = letters profile m named in
     rw L.spelled (line_read profile m L.a L.b L.c [] (mnemonic L.a L.b L.c ∷ []) absent L.first L.second L.third refl refl
-        (word_first L.a L.b L.c [] L.first L.second L.third refl)
+    (word_first L.a L.b L.c [] L.first L.second L.third refl)
     (alone_line profile m 0 (L.a ∷ L.b ∷ L.c ∷ []) absent L.named absent_read) refl)
 
 accumulator_tokens : (a b c : ℕ) → Capital a → Capital b → Capital c
@@ -39,7 +39,7 @@ pub accumulator_said : (profile : Profile) (m : Mnemonic) (named : Named profile
 accumulator_said profile m named =
     let L : Letters profile m = letters profile m named in
     rw L.spelled (line_read profile m L.a L.b L.c (32 ∷ 65 ∷ []) (mnemonic L.a L.b L.c ∷ word 4 (65 ∷ []) ∷ []) accumulator L.first L.second L.third
-        refl refl (accumulator_tokens L.a L.b L.c L.first L.second L.third)
+    refl refl (accumulator_tokens L.a L.b L.c L.first L.second L.third)
     (word_line profile m 0 4 (L.a ∷ L.b ∷ L.c ∷ []) (65 ∷ []) [] accumulator L.named (accumulator_read 4)) refl)
 
 immediate_tokens : (a b c d e h l : ℕ) → Capital a → Capital b → Capital c → Digit d h → Digit e l
@@ -59,7 +59,7 @@ immediate_said profile m named d e h l D E =
     let t : List ℕ = 36 ∷ h ∷ l ∷ [] in
     let source : list_all is_source_byte (32 ∷ 35 ∷ 36 ∷ h ∷ l ∷ []) ≡ true = rw (D.source, E.source) refl in
     rw L.spelled (line_read profile m L.a L.b L.c (32 ∷ 35 ∷ 36 ∷ h ∷ l ∷ []) (mnemonic L.a L.b L.c ∷ symbol 4 35 ∷ number 5 (36 ∷ h ∷ l ∷ []) ∷ [])
-        (immediate (written t)) L.first L.second L.third refl source
+    (immediate (written t)) L.first L.second L.third refl source
     (immediate_tokens L.a L.b L.c d e h l L.first L.second L.third D E)
     (hash_line profile m 0 4 (L.a ∷ L.b ∷ L.c ∷ []) (number 5 (36 ∷ h ∷ l ∷ []) ∷ []) (immediate (written t)) L.named (immediate_read 4 5 t)) refl)
 
@@ -80,7 +80,7 @@ zero_page_said profile m named d e h l D E =
     let t : List ℕ = 36 ∷ h ∷ l ∷ [] in
     let source : list_all is_source_byte (32 ∷ 36 ∷ h ∷ l ∷ []) ≡ true = rw (D.source, E.source) refl in
     rw L.spelled (line_read profile m L.a L.b L.c (32 ∷ 36 ∷ h ∷ l ∷ []) (mnemonic L.a L.b L.c ∷ number 4 (36 ∷ h ∷ l ∷ []) ∷ [])
-        (direct false (written t) Unindexed) L.first L.second L.third refl source
+    (direct false (written t) Unindexed) L.first L.second L.third refl source
     (zero_page_tokens L.a L.b L.c d e h l L.first L.second L.third D E)
     (number_line profile m 0 4 (L.a ∷ L.b ∷ L.c ∷ []) (36 ∷ h ∷ l ∷ []) ([]) (direct false (written t) Unindexed) L.named (direct_read 4 t)) refl)
 
@@ -102,11 +102,11 @@ zero_page_by_x_said profile m named d e h l D E =
     let t : List ℕ = 36 ∷ h ∷ l ∷ [] in
     let source : list_all is_source_byte (32 ∷ 36 ∷ h ∷ l ∷ 44 ∷ 88 ∷ []) ≡ true = rw (D.source, E.source) refl in
     rw L.spelled (line_read profile m L.a L.b L.c (32 ∷ 36 ∷ h ∷ l ∷ 44 ∷ 88 ∷ [])
-        (mnemonic L.a L.b L.c ∷ number 4 (36 ∷ h ∷ l ∷ []) ∷ symbol 7 44 ∷ word 8 (88 ∷ []) ∷ []) (direct false (written t) X) L.first L.second
-        L.third refl source
+    (mnemonic L.a L.b L.c ∷ number 4 (36 ∷ h ∷ l ∷ []) ∷ symbol 7 44 ∷ word 8 (88 ∷ []) ∷ []) (direct false (written t) X) L.first L.second
+    L.third refl source
     (zero_page_by_x_tokens L.a L.b L.c d e h l L.first L.second L.third D E)
     (number_line profile m 0 4 (L.a ∷ L.b ∷ L.c ∷ []) (36 ∷ h ∷ l ∷ []) (symbol 7 44 ∷ word 8 (88 ∷ []) ∷ []) (direct false (written t) X) L.named
-        (direct_by_x_read 4 7 8 t)) refl)
+    (direct_by_x_read 4 7 8 t)) refl)
 
 zero_page_by_y_tokens : (a b c d e h l : ℕ) → Capital a → Capital b → Capital c → Digit d h
     → Digit e l
@@ -126,11 +126,11 @@ zero_page_by_y_said profile m named d e h l D E =
     let t : List ℕ = 36 ∷ h ∷ l ∷ [] in
     let source : list_all is_source_byte (32 ∷ 36 ∷ h ∷ l ∷ 44 ∷ 89 ∷ []) ≡ true = rw (D.source, E.source) refl in
     rw L.spelled (line_read profile m L.a L.b L.c (32 ∷ 36 ∷ h ∷ l ∷ 44 ∷ 89 ∷ [])
-        (mnemonic L.a L.b L.c ∷ number 4 (36 ∷ h ∷ l ∷ []) ∷ symbol 7 44 ∷ word 8 (89 ∷ []) ∷ []) (direct false (written t) Y) L.first L.second
-        L.third refl source
+    (mnemonic L.a L.b L.c ∷ number 4 (36 ∷ h ∷ l ∷ []) ∷ symbol 7 44 ∷ word 8 (89 ∷ []) ∷ []) (direct false (written t) Y) L.first L.second
+    L.third refl source
     (zero_page_by_y_tokens L.a L.b L.c d e h l L.first L.second L.third D E)
     (number_line profile m 0 4 (L.a ∷ L.b ∷ L.c ∷ []) (36 ∷ h ∷ l ∷ []) (symbol 7 44 ∷ word 8 (89 ∷ []) ∷ []) (direct false (written t) Y) L.named
-        (direct_by_y_read 4 7 8 t)) refl)
+    (direct_by_y_read 4 7 8 t)) refl)
 
 absolute_tokens : (a b c d e f g h i j k : ℕ) → Capital a → Capital b → Capital c → Digit d h
     → Digit e i → Digit f j → Digit g k
@@ -150,7 +150,7 @@ absolute_said profile m named d e f g h i j k D E F G =
     let t : List ℕ = 36 ∷ h ∷ i ∷ j ∷ k ∷ [] in
     let source : list_all is_source_byte (32 ∷ 36 ∷ h ∷ i ∷ j ∷ k ∷ []) ≡ true = rw (D.source, E.source, F.source, G.source) refl in
     rw L.spelled (line_read profile m L.a L.b L.c (32 ∷ 36 ∷ h ∷ i ∷ j ∷ k ∷ []) (mnemonic L.a L.b L.c ∷ number 4 (36 ∷ h ∷ i ∷ j ∷ k ∷ []) ∷ [])
-        (direct false (written t) Unindexed) L.first L.second L.third refl source
+    (direct false (written t) Unindexed) L.first L.second L.third refl source
     (absolute_tokens L.a L.b L.c d e f g h i j k L.first L.second L.third D E F G)
     (number_line profile m 0 4 (L.a ∷ L.b ∷ L.c ∷ []) (36 ∷ h ∷ i ∷ j ∷ k ∷ []) ([]) (direct false (written t) Unindexed) L.named (direct_read 4 t)) refl)
 
@@ -172,11 +172,11 @@ absolute_by_x_said profile m named d e f g h i j k D E F G =
     let t : List ℕ = 36 ∷ h ∷ i ∷ j ∷ k ∷ [] in
     let source : list_all is_source_byte (32 ∷ 36 ∷ h ∷ i ∷ j ∷ k ∷ 44 ∷ 88 ∷ []) ≡ true = rw (D.source, E.source, F.source, G.source) refl in
     rw L.spelled (line_read profile m L.a L.b L.c (32 ∷ 36 ∷ h ∷ i ∷ j ∷ k ∷ 44 ∷ 88 ∷ [])
-        (mnemonic L.a L.b L.c ∷ number 4 (36 ∷ h ∷ i ∷ j ∷ k ∷ []) ∷ symbol 9 44 ∷ word 10 (88 ∷ []) ∷ []) (direct false (written t) X) L.first
-        L.second L.third refl source
+    (mnemonic L.a L.b L.c ∷ number 4 (36 ∷ h ∷ i ∷ j ∷ k ∷ []) ∷ symbol 9 44 ∷ word 10 (88 ∷ []) ∷ []) (direct false (written t) X) L.first
+    L.second L.third refl source
     (absolute_by_x_tokens L.a L.b L.c d e f g h i j k L.first L.second L.third D E F G)
     (number_line profile m 0 4 (L.a ∷ L.b ∷ L.c ∷ []) (36 ∷ h ∷ i ∷ j ∷ k ∷ []) (symbol 9 44 ∷ word 10 (88 ∷ []) ∷ []) (direct false (written t) X)
-        L.named (direct_by_x_read 4 9 10 t)) refl)
+    L.named (direct_by_x_read 4 9 10 t)) refl)
 
 absolute_by_y_tokens : (a b c d e f g h i j k : ℕ) → Capital a → Capital b → Capital c → Digit d h
     → Digit e i → Digit f j → Digit g k
@@ -196,11 +196,11 @@ absolute_by_y_said profile m named d e f g h i j k D E F G =
     let t : List ℕ = 36 ∷ h ∷ i ∷ j ∷ k ∷ [] in
     let source : list_all is_source_byte (32 ∷ 36 ∷ h ∷ i ∷ j ∷ k ∷ 44 ∷ 89 ∷ []) ≡ true = rw (D.source, E.source, F.source, G.source) refl in
     rw L.spelled (line_read profile m L.a L.b L.c (32 ∷ 36 ∷ h ∷ i ∷ j ∷ k ∷ 44 ∷ 89 ∷ [])
-        (mnemonic L.a L.b L.c ∷ number 4 (36 ∷ h ∷ i ∷ j ∷ k ∷ []) ∷ symbol 9 44 ∷ word 10 (89 ∷ []) ∷ []) (direct false (written t) Y) L.first
-        L.second L.third refl source
+    (mnemonic L.a L.b L.c ∷ number 4 (36 ∷ h ∷ i ∷ j ∷ k ∷ []) ∷ symbol 9 44 ∷ word 10 (89 ∷ []) ∷ []) (direct false (written t) Y) L.first
+    L.second L.third refl source
     (absolute_by_y_tokens L.a L.b L.c d e f g h i j k L.first L.second L.third D E F G)
     (number_line profile m 0 4 (L.a ∷ L.b ∷ L.c ∷ []) (36 ∷ h ∷ i ∷ j ∷ k ∷ []) (symbol 9 44 ∷ word 10 (89 ∷ []) ∷ []) (direct false (written t) Y)
-        L.named (direct_by_y_read 4 9 10 t)) refl)
+    L.named (direct_by_y_read 4 9 10 t)) refl)
 
 marked_tokens : (a b c d e f g h i j k : ℕ) → Capital a → Capital b → Capital c → Digit d h
     → Digit e i → Digit f j → Digit g k
@@ -220,10 +220,10 @@ marked_said profile m named d e f g h i j k D E F G =
     let t : List ℕ = 36 ∷ h ∷ i ∷ j ∷ k ∷ [] in
     let source : list_all is_source_byte (32 ∷ 33 ∷ 36 ∷ h ∷ i ∷ j ∷ k ∷ []) ≡ true = rw (D.source, E.source, F.source, G.source) refl in
     rw L.spelled (line_read profile m L.a L.b L.c (32 ∷ 33 ∷ 36 ∷ h ∷ i ∷ j ∷ k ∷ [])
-        (mnemonic L.a L.b L.c ∷ symbol 4 33 ∷ number 5 (36 ∷ h ∷ i ∷ j ∷ k ∷ []) ∷ []) (direct true (written t) Unindexed) L.first L.second L.third refl source
+    (mnemonic L.a L.b L.c ∷ symbol 4 33 ∷ number 5 (36 ∷ h ∷ i ∷ j ∷ k ∷ []) ∷ []) (direct true (written t) Unindexed) L.first L.second L.third refl source
     (marked_tokens L.a L.b L.c d e f g h i j k L.first L.second L.third D E F G)
     (marked_line profile m 0 4 (L.a ∷ L.b ∷ L.c ∷ []) (number 5 (36 ∷ h ∷ i ∷ j ∷ k ∷ []) ∷ []) (direct true (written t) Unindexed) L.named
-        (marked_read 4 5 t)) refl)
+    (marked_read 4 5 t)) refl)
 
 marked_by_x_tokens : (a b c d e f g h i j k : ℕ) → Capital a → Capital b → Capital c → Digit d h
     → Digit e i → Digit f j → Digit g k
@@ -243,11 +243,11 @@ marked_by_x_said profile m named d e f g h i j k D E F G =
     let t : List ℕ = 36 ∷ h ∷ i ∷ j ∷ k ∷ [] in
     let source : list_all is_source_byte (32 ∷ 33 ∷ 36 ∷ h ∷ i ∷ j ∷ k ∷ 44 ∷ 88 ∷ []) ≡ true = rw (D.source, E.source, F.source, G.source) refl in
     rw L.spelled (line_read profile m L.a L.b L.c (32 ∷ 33 ∷ 36 ∷ h ∷ i ∷ j ∷ k ∷ 44 ∷ 88 ∷ [])
-        (mnemonic L.a L.b L.c ∷ symbol 4 33 ∷ number 5 (36 ∷ h ∷ i ∷ j ∷ k ∷ []) ∷ symbol 10 44 ∷ word 11 (88 ∷ []) ∷ []) (direct true (written t) X)
-        L.first L.second L.third refl source
+    (mnemonic L.a L.b L.c ∷ symbol 4 33 ∷ number 5 (36 ∷ h ∷ i ∷ j ∷ k ∷ []) ∷ symbol 10 44 ∷ word 11 (88 ∷ []) ∷ []) (direct true (written t) X)
+    L.first L.second L.third refl source
     (marked_by_x_tokens L.a L.b L.c d e f g h i j k L.first L.second L.third D E F G)
     (marked_line profile m 0 4 (L.a ∷ L.b ∷ L.c ∷ []) (number 5 (36 ∷ h ∷ i ∷ j ∷ k ∷ []) ∷ symbol 10 44 ∷ word 11 (88 ∷ []) ∷ [])
-        (direct true (written t) X) L.named (marked_by_x_read 4 5 10 11 t)) refl)
+    (direct true (written t) X) L.named (marked_by_x_read 4 5 10 11 t)) refl)
 
 marked_by_y_tokens : (a b c d e f g h i j k : ℕ) → Capital a → Capital b → Capital c → Digit d h
     → Digit e i → Digit f j → Digit g k
@@ -267,11 +267,11 @@ marked_by_y_said profile m named d e f g h i j k D E F G =
     let t : List ℕ = 36 ∷ h ∷ i ∷ j ∷ k ∷ [] in
     let source : list_all is_source_byte (32 ∷ 33 ∷ 36 ∷ h ∷ i ∷ j ∷ k ∷ 44 ∷ 89 ∷ []) ≡ true = rw (D.source, E.source, F.source, G.source) refl in
     rw L.spelled (line_read profile m L.a L.b L.c (32 ∷ 33 ∷ 36 ∷ h ∷ i ∷ j ∷ k ∷ 44 ∷ 89 ∷ [])
-        (mnemonic L.a L.b L.c ∷ symbol 4 33 ∷ number 5 (36 ∷ h ∷ i ∷ j ∷ k ∷ []) ∷ symbol 10 44 ∷ word 11 (89 ∷ []) ∷ []) (direct true (written t) Y)
-        L.first L.second L.third refl source
+    (mnemonic L.a L.b L.c ∷ symbol 4 33 ∷ number 5 (36 ∷ h ∷ i ∷ j ∷ k ∷ []) ∷ symbol 10 44 ∷ word 11 (89 ∷ []) ∷ []) (direct true (written t) Y)
+    L.first L.second L.third refl source
     (marked_by_y_tokens L.a L.b L.c d e f g h i j k L.first L.second L.third D E F G)
     (marked_line profile m 0 4 (L.a ∷ L.b ∷ L.c ∷ []) (number 5 (36 ∷ h ∷ i ∷ j ∷ k ∷ []) ∷ symbol 10 44 ∷ word 11 (89 ∷ []) ∷ [])
-        (direct true (written t) Y) L.named (marked_by_y_read 4 5 10 11 t)) refl)
+    (direct true (written t) Y) L.named (marked_by_y_read 4 5 10 11 t)) refl)
 
 pointer_by_x_tokens : (a b c d e h l : ℕ) → Capital a → Capital b → Capital c → Digit d h
     → Digit e l
@@ -291,11 +291,11 @@ pointer_by_x_said profile m named d e h l D E =
     let t : List ℕ = 36 ∷ h ∷ l ∷ [] in
     let source : list_all is_source_byte (32 ∷ 40 ∷ 36 ∷ h ∷ l ∷ 44 ∷ 88 ∷ 41 ∷ []) ≡ true = rw (D.source, E.source) refl in
     rw L.spelled (line_read profile m L.a L.b L.c (32 ∷ 40 ∷ 36 ∷ h ∷ l ∷ 44 ∷ 88 ∷ 41 ∷ [])
-        (mnemonic L.a L.b L.c ∷ symbol 4 40 ∷ number 5 (36 ∷ h ∷ l ∷ []) ∷ symbol 8 44 ∷ word 9 (88 ∷ []) ∷ symbol 10 41 ∷ [])
-        (pointer_by_x (written t)) L.first L.second L.third refl source
+    (mnemonic L.a L.b L.c ∷ symbol 4 40 ∷ number 5 (36 ∷ h ∷ l ∷ []) ∷ symbol 8 44 ∷ word 9 (88 ∷ []) ∷ symbol 10 41 ∷ [])
+    (pointer_by_x (written t)) L.first L.second L.third refl source
     (pointer_by_x_tokens L.a L.b L.c d e h l L.first L.second L.third D E)
     (bracket_line profile m 0 4 (L.a ∷ L.b ∷ L.c ∷ []) (number 5 (36 ∷ h ∷ l ∷ []) ∷ symbol 8 44 ∷ word 9 (88 ∷ []) ∷ symbol 10 41 ∷ [])
-        (pointer_by_x (written t)) L.named (pointer_by_x_read 4 5 8 9 10 t)) refl)
+    (pointer_by_x (written t)) L.named (pointer_by_x_read 4 5 8 9 10 t)) refl)
 
 pointer_by_y_tokens : (a b c d e h l : ℕ) → Capital a → Capital b → Capital c → Digit d h
     → Digit e l
@@ -315,11 +315,11 @@ pointer_by_y_said profile m named d e h l D E =
     let t : List ℕ = 36 ∷ h ∷ l ∷ [] in
     let source : list_all is_source_byte (32 ∷ 40 ∷ 36 ∷ h ∷ l ∷ 41 ∷ 44 ∷ 89 ∷ []) ≡ true = rw (D.source, E.source) refl in
     rw L.spelled (line_read profile m L.a L.b L.c (32 ∷ 40 ∷ 36 ∷ h ∷ l ∷ 41 ∷ 44 ∷ 89 ∷ [])
-        (mnemonic L.a L.b L.c ∷ symbol 4 40 ∷ number 5 (36 ∷ h ∷ l ∷ []) ∷ symbol 8 41 ∷ symbol 9 44 ∷ word 10 (89 ∷ []) ∷ [])
-        (pointer_by_y (written t)) L.first L.second L.third refl source
+    (mnemonic L.a L.b L.c ∷ symbol 4 40 ∷ number 5 (36 ∷ h ∷ l ∷ []) ∷ symbol 8 41 ∷ symbol 9 44 ∷ word 10 (89 ∷ []) ∷ [])
+    (pointer_by_y (written t)) L.first L.second L.third refl source
     (pointer_by_y_tokens L.a L.b L.c d e h l L.first L.second L.third D E)
     (bracket_line profile m 0 4 (L.a ∷ L.b ∷ L.c ∷ []) (number 5 (36 ∷ h ∷ l ∷ []) ∷ symbol 8 41 ∷ symbol 9 44 ∷ word 10 (89 ∷ []) ∷ [])
-        (pointer_by_y (written t)) L.named (pointer_by_y_read 4 5 8 9 10 t)) refl)
+    (pointer_by_y (written t)) L.named (pointer_by_y_read 4 5 8 9 10 t)) refl)
 
 zero_page_pointer_tokens : (a b c d e h l : ℕ) → Capital a → Capital b → Capital c → Digit d h
     → Digit e l
@@ -339,10 +339,10 @@ zero_page_pointer_said profile m named d e h l D E =
     let t : List ℕ = 36 ∷ h ∷ l ∷ [] in
     let source : list_all is_source_byte (32 ∷ 40 ∷ 36 ∷ h ∷ l ∷ 41 ∷ []) ≡ true = rw (D.source, E.source) refl in
     rw L.spelled (line_read profile m L.a L.b L.c (32 ∷ 40 ∷ 36 ∷ h ∷ l ∷ 41 ∷ [])
-        (mnemonic L.a L.b L.c ∷ symbol 4 40 ∷ number 5 (36 ∷ h ∷ l ∷ []) ∷ symbol 8 41 ∷ []) (pointer (written t)) L.first L.second L.third refl source
+    (mnemonic L.a L.b L.c ∷ symbol 4 40 ∷ number 5 (36 ∷ h ∷ l ∷ []) ∷ symbol 8 41 ∷ []) (pointer (written t)) L.first L.second L.third refl source
     (zero_page_pointer_tokens L.a L.b L.c d e h l L.first L.second L.third D E)
     (bracket_line profile m 0 4 (L.a ∷ L.b ∷ L.c ∷ []) (number 5 (36 ∷ h ∷ l ∷ []) ∷ symbol 8 41 ∷ []) (pointer (written t)) L.named
-        (pointer_read 4 5 8 t)) refl)
+    (pointer_read 4 5 8 t)) refl)
 
 pointer_tokens : (a b c d e f g h i j k : ℕ) → Capital a → Capital b → Capital c → Digit d h
     → Digit e i → Digit f j → Digit g k
@@ -362,10 +362,10 @@ pointer_said profile m named d e f g h i j k D E F G =
     let t : List ℕ = 36 ∷ h ∷ i ∷ j ∷ k ∷ [] in
     let source : list_all is_source_byte (32 ∷ 40 ∷ 36 ∷ h ∷ i ∷ j ∷ k ∷ 41 ∷ []) ≡ true = rw (D.source, E.source, F.source, G.source) refl in
     rw L.spelled (line_read profile m L.a L.b L.c (32 ∷ 40 ∷ 36 ∷ h ∷ i ∷ j ∷ k ∷ 41 ∷ [])
-        (mnemonic L.a L.b L.c ∷ symbol 4 40 ∷ number 5 (36 ∷ h ∷ i ∷ j ∷ k ∷ []) ∷ symbol 10 41 ∷ []) (pointer (written t)) L.first L.second L.third refl source
+    (mnemonic L.a L.b L.c ∷ symbol 4 40 ∷ number 5 (36 ∷ h ∷ i ∷ j ∷ k ∷ []) ∷ symbol 10 41 ∷ []) (pointer (written t)) L.first L.second L.third refl source
     (pointer_tokens L.a L.b L.c d e f g h i j k L.first L.second L.third D E F G)
     (bracket_line profile m 0 4 (L.a ∷ L.b ∷ L.c ∷ []) (number 5 (36 ∷ h ∷ i ∷ j ∷ k ∷ []) ∷ symbol 10 41 ∷ []) (pointer (written t)) L.named
-        (pointer_read 4 5 10 t)) refl)
+    (pointer_read 4 5 10 t)) refl)
 
 -- ---- `.BYTE`
 
@@ -386,5 +386,11 @@ pub byte_said : (profile : Profile) (d e h l : ℕ) → Digit d h → Digit e l
     → read_line profile (46 ∷ 66 ∷ 89 ∷ 84 ∷ 69 ∷ 32 ∷ 36 ∷ h ∷ l ∷ [])
     ≡ Ok (labelled None (bytes (value (written (36 ∷ h ∷ l ∷ [])) ∷ [])))
 unfolding read_line tokens_of tokens_from
-byte_said profile d e h l D E = rw (D.source, E.source, directive_first (36 ∷ h ∷ l ∷ []), byte_first 6 d e h l [] D E refl refl, byte_line_read
-    profile (36 ∷ h ∷ l ∷ [])) refl
+byte_said profile d e h l D E = rw (
+  D.source,
+  E.source,
+  directive_first (36 ∷ h ∷ l ∷ []),
+  byte_first 6 d e h l [] D E refl refl,
+  byte_line_read
+      profile (36 ∷ h ∷ l ∷ []),
+) refl

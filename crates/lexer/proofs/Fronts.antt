@@ -38,7 +38,7 @@ word_front bytes found some h =
       | inl t ↦
           let k = rw t at h in
           at_text Word bytes (run_of is_word_byte bytes) found k
-              (record { behind = drop (length (run_of is_word_byte bytes)) bytes; spelled = run_front is_word_byte bytes; some = some })
+          (record { behind = drop (length (run_of is_word_byte bytes)) bytes; spelled = run_front is_word_byte bytes; some = some })
       | inr f ↦ let k = rw f at h in not_found bytes found k
     ]
 

@@ -88,7 +88,7 @@ pub string_is : (bytes : List ℕ) (n : ℕ) → bytes ≡ 34 ∷ drop 1 bytes �
 string_is bytes n e count some quote =
     let s : n + 2 ≡ suc (suc n) = omega arith in
     let text : take (suc (suc n)) bytes ≡ 34 ∷ (take n (drop 1 bytes) ++ 34 ∷ []) =
-        ap (λ (x : List ℕ). take (suc (suc n)) x) e ∙ ap (λ (x : List ℕ). 34 ∷ x) (quoted (drop 1 bytes) n quote) in
+    ap (λ (x : List ℕ). take (suc (suc n)) x) e ∙ ap (λ (x : List ℕ). 34 ∷ x) (quoted (drop 1 bytes) n quote) in
     rw (run_is is_string_byte (drop 1 bytes) n count, run_length is_string_byte (drop 1 bytes) n count, ne_eqb n 0 some, s, text, quote) refl
 
 pub string_empty : (bytes : List ℕ) (n : ℕ) → n ≡ prefix_len is_string_byte (drop 1 bytes) → n ≡ 0 → None ≡ string_token (drop 1 bytes)
@@ -96,8 +96,13 @@ string_empty bytes n count none = rw (run_is is_string_byte (drop 1 bytes) n cou
 
 pub string_open : (bytes : List ℕ) (n : ℕ) → n ≡ prefix_len is_string_byte (drop 1 bytes) → (n ≡ 0 → ⊥)
     → begins (λ b. b == 34) (drop n (drop 1 bytes)) ≡ false → None ≡ string_token (drop 1 bytes)
-string_open bytes n count some quote = rw (run_is is_string_byte (drop 1 bytes) n count, run_length is_string_byte (drop 1 bytes) n count, ne_eqb n 0
-    some, quote) refl
+string_open bytes n count some quote = rw (
+  run_is is_string_byte (drop 1 bytes) n count,
+  run_length is_string_byte (drop 1 bytes) n count,
+  ne_eqb n 0
+      some,
+  quote,
+) refl
 
 pub behind : (n : ℕ) (bytes : List ℕ) → take (length bytes - (n + 1)) (drop (n + 1) bytes) ≡ drop n (drop 1 bytes)
 behind n bytes =

@@ -30,7 +30,7 @@ token_then line place t (Some us) [] le front h next = absurd cc
 token_then line place t (Some us) (u ∷ vs) le front h next =
     let same : t ∷ us ≡ u ∷ vs = cc in
     let text : take (length t.text) (drop t.start line) ≡ t.text =
-        ap (λ (x : List ℕ). take (length t.text) x) front.spelled ∙ take_at t.text front.behind (length t.text) refl in
+    ap (λ (x : List ℕ). take (length t.text) x) front.spelled ∙ take_at t.text front.behind (length t.text) refl in
     subst (λ x. AreSlices line place x) same (le, front.some, text, next us refl)
 
 at_token : (line : List ℕ) (place : ℕ) (bytes rest : List ℕ) (found : Found) (ts : List Lexeme) → drop place line ≡ bytes → token_at bytes ≡ found
@@ -63,8 +63,8 @@ slices_from line place zero (b ∷ bytes) ts at h =
             | inr g ↦
                 let m = rw g at k in
                 earlier line place (place + 0) ts (omega arith)
-                    (at_token line place (b ∷ bytes) bytes (token_at (b ∷ bytes)) ts at refl m
-                    (λ covered us i. slices_from line (place + 1) covered bytes us next i))
+                (at_token line place (b ∷ bytes) bytes (token_at (b ∷ bytes)) ts at refl m
+                (λ covered us i. slices_from line (place + 1) covered bytes us next i))
           ]
     ]
 

@@ -57,7 +57,7 @@ token_inside line start kind text h =
 token_after : (place b : ℕ) (bytes : List ℕ) (kind : TokenKind) (text : List ℕ) → is_blank b ≡ false → (b == 59) ≡ false
     → token_at (b ∷ bytes) ≡ Some (kind, text) → length text - 1 ≤ length bytes
     → tokens_from place 0 (b ∷ bytes) ≡ option_map (λ ts. record { kind = kind; start = place; text = text } ∷ ts)
-        (tokens_from (place + 1 + (length text - 1)) 0 (drop (length text - 1) bytes))
+    (tokens_from (place + 1 + (length text - 1)) 0 (drop (length text - 1) bytes))
 unfolding tokens_from
 token_after place b bytes kind text dark other found le = rw (dark, other, found)
     (ap (λ (x : Tokens). option_map (λ ts. record { kind = kind; start = place; text = text } ∷ ts) x) (covered (place + 1) (length text - 1) bytes le))
@@ -66,7 +66,7 @@ pub token_passed : (front : List Lexeme) (line : List ℕ) (start : ℕ) (kind :
     → is_blank (get_or line start 0) ≡ false → (get_or line start 0 ≡ 59 → ⊥)
     → token_at (drop start line) ≡ Some (kind, text)
     → then_tokens (front ++ record { kind = kind; start = start; text = text } ∷ [])
-        (tokens_from (start + length text) 0 (drop (start + length text) line)) ≡ then_tokens front (tokens_from start 0 (drop start line))
+    (tokens_from (start + length text) 0 (drop (start + length text) line)) ≡ then_tokens front (tokens_from start 0 (drop start line))
 token_passed front line start kind text below dark semicolon found =
     let inside = token_inside line start kind text found in
     let at = drop_more line start 0 below in
@@ -74,11 +74,11 @@ token_passed front line start kind text below dark semicolon found =
     let t : Lexeme = record { kind = kind; start = start; text = text } in
     let p : start + 1 + (length text - 1) ≡ start + length text = omega (arith, inside.1) in
     let d : drop (length text - 1) (drop (start + 1) line) ≡ drop (start + length text) line =
-        drop-drop (length text - 1) (start + 1) line ∙ ap (λ n. drop n line) p in
+    drop-drop (length text - 1) (start + 1) line ∙ ap (λ n. drop n line) p in
     sym (
     ap (λ (x : List ℕ). then_tokens front (tokens_from start 0 x)) at
     ∙ ap (then_tokens front) (token_after start (get_or line start 0) (drop (start + 1) line) kind text dark
-        (ne_eqb (get_or line start 0) 59 semicolon) h (omega (arith, inside.0, length-drop (start + 1) line)))
+    (ne_eqb (get_or line start 0) 59 semicolon) h (omega (arith, inside.0, length-drop (start + 1) line)))
     ∙ then_push front t (tokens_from (start + 1 + (length text - 1)) 0 (drop (length text - 1) (drop (start + 1) line)))
     ∙ ap (λ n. then_tokens (front ++ t ∷ []) (tokens_from n 0 (drop (length text - 1) (drop (start + 1) line)))) p
     ∙ ap (λ (x : List ℕ). then_tokens (front ++ t ∷ []) (tokens_from (start + length text) 0 x)) d

@@ -55,11 +55,11 @@ token_passed line start kind text below dark semicolon found =
     let h = rw at at found in
     let p : start + 1 + (length text - 1) ≡ start + length text = omega (arith, inside.1) in
     let d : drop (length text - 1) (drop (start + 1) line) ≡ drop (start + length text) line =
-        drop-drop (length text - 1) (start + 1) line ∙ ap (λ n. drop n line) p in
+    drop-drop (length text - 1) (start + 1) line ∙ ap (λ n. drop n line) p in
     sym (
     ap (λ (x : List ℕ). stray_from start 0 x) at
     ∙ token_after start (get_or line start 0) (drop (start + 1) line) kind text dark (ne_eqb (get_or line start 0) 59 semicolon) h
-        (omega (arith, inside.0, length-drop (start + 1) line))
+    (omega (arith, inside.0, length-drop (start + 1) line))
     ∙ ap (λ n. stray_from n 0 (drop (length text - 1) (drop (start + 1) line))) p
     ∙ ap (λ (x : List ℕ). stray_from (start + length text) 0 x) d
     )

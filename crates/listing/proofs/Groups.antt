@@ -21,7 +21,7 @@ pub goes_on : (out new : List ℕ) (at next : ℕ) (rest group behind total : Li
     → next ≡ at + 3 → new ≡ out ++ group_row at group → new ++ group_rows next behind ≡ total
 goes_on out new at next rest group behind total some so_far is left place put =
     rw (put, is, left, place) (append_assoc out (group_row at (take (min (length rest) 3) rest))
-        (group_rows (at + 3) (drop (min (length rest) 3) rest)) ∙ ap (λ (x : List ℕ). out ++ x) (sym (next_group at rest some)) ∙ so_far)
+    (group_rows (at + 3) (drop (min (length rest) 3) rest)) ∙ ap (λ (x : List ℕ). out ++ x) (sym (next_group at rest some)) ∙ so_far)
 
 -- what was kept of a text is kept on
 pub kept_on : (old mid new : List ℕ) → take (length old) mid ≡ old → take (length mid) new ≡ mid → take (length old) new ≡ old

@@ -47,7 +47,7 @@ pub name_done : (out new : List ℕ) (names : Definitions) (i : ℕ) (name : Lis
 name_done out new names i name total is put so_far =
     let at : slice_get names i ≡ Some name = sym is in
     let first : drop i names ≡ name ∷ drop (i + 1) names = drop_more names i name (slice_get_within names i name at)
-        ∙ ap (λ (x : List ℕ × ℤ). x ∷ drop (i + 1) names) (get_or_from_slice_get names i name name at) in
+    ∙ ap (λ (x : List ℕ × ℤ). x ∷ drop (i + 1) names) (get_or_from_slice_get names i name name at) in
     let next : names_left names i ≡ name_row name ++ names_left names (i + 1) = rw first refl in
     rw put (append_assoc out (name_row name) (names_left names (i + 1))) ∙ ap (λ (x : List ℕ). out ++ x) (sym next) ∙ so_far
 
@@ -66,7 +66,7 @@ cells_cut cells at count = rw (drop_min at cells) (take_min count (drop at cells
 pub bytes_few : (cells : Cells) (at count : ℕ) → length (bytes_at cells at count) ≤ length cells
 bytes_few cells at count =
     rw (length-map (take count (drop at cells)) (λ (c : Option ℕ). unwrap_or c 0), length-take count (drop at cells), length-drop at cells)
-        (omega (arith, min-le_right count (length cells - at)))
+    (omega (arith, min-le_right count (length cells - at)))
 
 -- no line is left
 pub no_line : (image : Cells) (out text : List ℕ) (spans : List Span) (i : ℕ) (total : List ℕ) → length text ≡ 0

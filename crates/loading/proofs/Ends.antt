@@ -50,7 +50,7 @@ source_ends bus_map source f (Err r) (inr has) is = subst (EndsSource bus_map) (
 pub told_ends : (bus_map : Map) (file source : List ℕ) (fault : AsmFault) (text : Vec ℕ Global) (told : Option (Vec ℕ Global)) → told ≡ Some text
     → (fault ≡ out_of_memory) ⊎ HasFault bus_map source fault
     → (fault ≡ out_of_memory → told ≡ None) → IsToldText (shown_name file) source bus_map.profile (faults_of bus_map source) text.items
-        → EndsSourceFile bus_map file (Faults fault text)
+    → EndsSourceFile bus_map file (Faults fault text)
 told_ends bus_map file source fault text told some (inl memory) none is = absurd (no_text (none memory))
   where
     no_text : told ≡ None → ⊥

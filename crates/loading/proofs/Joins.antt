@@ -66,10 +66,18 @@ map_ends asked others refusal fault bad is = subst (EndsSeveral asked others) (s
 
 pub port_ends : (asked : FileAsked) (others : Others) (bus_map : Map) (image : Cells) (first last : ℕ) (free : Option ℕ)
     → bus_map ≡ map_of asked → first ≡ bus_map.port → last ≡ bus_map.port + 3 → IsJoined asked others image → has_port_byte bus_map image ≡ true
-        → fill_at asked.omits_fill bus_map image ≡ None
+    → fill_at asked.omits_fill bus_map image ≡ None
     → IsFreeBase asked.rom image free → EndsSeveral asked others (AtPort first last free)
 port_ends asked others bus_map image first last free map low high joined met kept is_free =
     let at : AtPort first last free ≡ AtPort asked.port (asked.port + 3) free
     = ap (λ n. AtPort n last free) (low ∙ ap (λ (m : Map). m.port) map) ∙ ap (λ n. AtPort asked.port n free) (high ∙ ap (λ (m : Map). m.port + 3) map) in
-    inr (inr (image, free, at, joined, subst (λ (m : Map). has_port_byte m image ≡ true) map met, subst
-        (λ (m : Map). fill_at asked.omits_fill m image ≡ None) map kept, is_free))
+    inr (inr (
+      image,
+      free,
+      at,
+      joined,
+      subst (λ (m : Map). has_port_byte m image ≡ true) map met,
+      subst
+          (λ (m : Map). fill_at asked.omits_fill m image ≡ None) map kept,
+      is_free,
+    ))

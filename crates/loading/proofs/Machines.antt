@@ -61,7 +61,7 @@ several_are : (asked : FileAsked) (o : OtherFiles) (second : Bor Text) (symbols 
     → IsSparedJoin asked (others_view o) fill image → HasNames asked symbols image assembly → IsMachine asked (others_view o) symbols fill image assembly
 several_are asked o second symbols fill image assembly some map joined names =
     subst (λ (other : Option (Bor Text)). IsMachineOf (option_map (λ s. s.now) other) asked (others_view o) symbols fill image assembly) (sym some)
-        (map, joined, names)
+    (map, joined, names)
 
 pub alone_started : {E : Type 0} (asked : FileAsked) (o : OtherFiles) (symbols : Option Text) (result : Result Loaded E) → o.second ≡ None
     → IfOk result (IsAloneStart asked symbols)
@@ -104,7 +104,7 @@ memory_files asked others = memory_of others.second asked others
 pub unmade_by_memory : (file : FileAsked) (others : Others) (symbols : Option Text) (heard : Heard) (fault : WordsFault) (status : ℕ)
     (Unread Unwritten : Type 0) → fault ≡ words_fault.OutOfMemory
     → IsStatusOf fault status → IsToldOfWords fault status heard.held heard.now → Unread → (1 ≤ status → status ≤ 3 → Unwritten)
-        → IsUnmade file others symbols heard status (Unread × Unwritten)
+    → IsUnmade file others symbols heard status (Unread × Unwritten)
 unmade_by_memory file others symbols heard fault status Unread Unwritten memory is told unread unwritten =
     let un = unnamed_by_memory file symbols heard fault status Unread Unwritten memory is told unread unwritten in
     (Alone un.0, un.1, un.2, un.3, un.4)
@@ -113,13 +113,19 @@ unmade_by_memory file others symbols heard fault status Unread Unwritten memory 
 pub unloaded_files_by_memory : (file : FileAsked) (others : Others) (heard : Heard) (fault : WordsFault) (status : ℕ) (Unread Unwritten : Type 0)
     → fault ≡ words_fault.OutOfMemory
     → IsStatusOf fault status → IsToldOfWords fault status heard.held heard.now → Unread → (1 ≤ status → status ≤ 3 → Unwritten)
-        → AreUnloaded file others heard status (Unread × Unwritten)
+    → AreUnloaded file others heard status (Unread × Unwritten)
 unfolding load_text file_line
 unloaded_files_by_memory file others heard fault status Unread Unwritten memory is told unread unwritten =
     let three : status ≡ 3 = subst (λ f. IsStatusOf f status) memory is in
-    let line = subst (λ f. IsToldOfWords f status heard.held heard.now) memory told in
-    (file.file, Refused OutOfMemory, one_of others.second file, memory_files file others, three, line,
-        (unread, unwritten (omega (arith, three)) (omega (arith, three))))
+    let line = subst (λ f. IsToldOfWords f status heard.held heard.now) memory told in (
+      file.file,
+      Refused OutOfMemory,
+      one_of others.second file,
+      memory_files file others,
+      three,
+      line,
+      (unread, unwritten (omega (arith, three)) (omega (arith, three))),
+    )
 
 -- ---- each has a status
 
@@ -146,7 +152,7 @@ alone_begun asked o A B (Err fault) none s = tt
 pub several_begun : {E : Type 0} (asked : FileAsked) (o : OtherFiles) (second : Bor Text) (A B : Cells → Loaded → Type 0) (result : Result Loaded E)
     → o.second ≡ Some second
     → IfOk result (λ loaded. (image : Cells) × (is_map asked.rom asked.port ≡ true) × IsSparedJoin asked (others_view o) loaded.fill image
-        × HasNames asked None image loaded.assembly × A image loaded × B image loaded)
+    × HasNames asked None image loaded.assembly × A image loaded × B image loaded)
     → IfOk result (λ loaded. (image : Cells) × AreLoaded asked (others_view o) loaded.fill image loaded.assembly × A image loaded × B image loaded)
 several_begun asked o second A B (Ok loaded) some s = (s.0, several_are asked o second None loaded.fill s.0 loaded.assembly some s.1 s.2 s.3, s.4, s.5)
 several_begun asked o second A B (Err fault) some s = tt

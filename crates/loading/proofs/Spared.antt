@@ -42,6 +42,9 @@ join_kept asked others bus_map image same joined none =
 pub join_left : (asked : FileAsked) (others : Others) (bus_map : Map) (whole image : Cells) (base : ℕ) (fill : Option ℕ) → bus_map ≡ map_of asked
     → IsJoined asked others whole
     → Some base ≡ fill_at asked.omits_fill bus_map whole → fill ≡ Some base → IsWithoutPort bus_map whole image → IsSparedJoin asked others fill image
-join_left asked others bus_map whole image base fill same joined there is without =
-    (whole, joined, subst (λ (m : Map). IsSpared asked.omits_fill m whole fill image) same
-        (fill_left asked.omits_fill bus_map whole image base fill there is without))
+join_left asked others bus_map whole image base fill same joined there is without = (
+  whole,
+  joined,
+  subst (λ (m : Map). IsSpared asked.omits_fill m whole fill image) same
+      (fill_left asked.omits_fill bus_map whole image base fill there is without),
+)

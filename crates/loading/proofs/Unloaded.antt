@@ -12,7 +12,7 @@ use Rattle.loading.specs.Told.{Heard, IsUnloaded}
 
 pub unloaded_by_memory : (file : FileAsked) (heard : Heard) (fault : WordsFault) (status : ℕ) (Unread Unwritten : Type 0) → fault ≡ words_fault.OutOfMemory
     → IsStatusOf fault status → IsToldOfWords fault status heard.held heard.now → Unread → (1 ≤ status → status ≤ 3 → Unwritten)
-        → IsUnloaded file heard status (Unread × Unwritten)
+    → IsUnloaded file heard status (Unread × Unwritten)
 unfolding load_text file_line
 unloaded_by_memory file heard fault status Unread Unwritten memory is told unread unwritten =
     let three : status ≡ 3 = subst (λ f. IsStatusOf f status) memory is in

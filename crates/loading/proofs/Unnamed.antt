@@ -24,7 +24,7 @@ unnamed file (Some path) heard status Alone un = (OfFile un.0, un.1, un.2, un.3,
 pub unnamed_by_memory : (file : FileAsked) (symbols : Option (List ℕ)) (heard : Heard) (fault : WordsFault) (status : ℕ) (Unread Unwritten : Type 0)
     → fault ≡ words_fault.OutOfMemory
     → IsStatusOf fault status → IsToldOfWords fault status heard.held heard.now → Unread → (1 ≤ status → status ≤ 3 → Unwritten)
-        → IsUnnamed file symbols heard status (Unread × Unwritten)
+    → IsUnnamed file symbols heard status (Unread × Unwritten)
 unnamed_by_memory file symbols heard fault status Unread Unwritten memory is told unread unwritten =
     unnamed file symbols heard status (Unread × Unwritten) (unloaded_by_memory file heard fault status Unread Unwritten memory is told unread unwritten)
 

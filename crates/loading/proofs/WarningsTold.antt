@@ -26,17 +26,23 @@ nothing = refl
 only_by : (omits : Bool) (bus_map : Map) (assembly : Option AssemblyView) (lost : ℕ) (fill : Option ℕ) (heard : Heard) → (omits ≡ false → fill ≡ None)
     → TellsWarnings bus_map assembly lost fill heard
     → OnlyWarned omits heard.held heard.now
-only_by omits bus_map None lost fill heard none told = (0, lost, fill, none, subst (λ (text : List ℕ). Tells heard (text ++ left_text lost fill))
-    (sym nothing) told)
+only_by omits bus_map None lost fill heard none told = (
+  0,
+  lost,
+  fill,
+  none,
+  subst (λ (text : List ℕ). Tells heard (text ++ left_text lost fill))
+      (sym nothing) told,
+)
 only_by omits bus_map (Some a) lost fill heard none told = (told.0, lost, fill, none, told.2)
 
 pub only_warned : {E : Type 0} (contents : E → Option (List ℕ)) (omits : Bool) (bus_map : Map) (assembly : Option AssemblyView) (lost : ℕ)
     (fill : Option ℕ) (first told last : E) → last ≡ told
     → (omits ≡ false → fill ≡ None) → TellsWarnings bus_map assembly lost fill (record { held = contents first; now = contents told })
-        → OnlyWarned omits (contents first) (contents last)
+    → OnlyWarned omits (contents first) (contents last)
 only_warned contents omits bus_map assembly lost fill first told last same none warned =
     subst (λ e. OnlyWarned omits (contents first) (contents e)) (sym same)
-        (only_by omits bus_map assembly lost fill (record { held = contents first; now = contents told }) none warned)
+    (only_by omits bus_map assembly lost fill (record { held = contents first; now = contents told }) none warned)
 
 pub untold : {E : Type 0} (contents : E → Option (List ℕ)) (omits : Bool) (first last : E) → last ≡ first → OnlyWarned omits (contents first) (contents last)
 untold contents omits first last same = subst (λ e. OnlyWarned omits (contents first) (contents e)) (sym same)

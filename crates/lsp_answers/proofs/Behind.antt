@@ -24,7 +24,7 @@ module _ {A : Type 0} (g : A → Data) (ds : List Data) where
   next_behind all i e list within put =
       let more = sym (map-append g (take i all) (get_or all i e ∷ [])) ∙ sym (ap (map g) (take_more all i e within)) in
       subst (λ (es : List Data). HasValues es list) (append_assoc ds (map g (take i all)) (g (get_or all i e) ∷ [])
-          ∙ ap (λ (es : List Data). ds ++ es) more) put
+      ∙ ap (λ (es : List Data). ds ++ es) more) put
 
   pub all_behind : (all : List A) (i : ℕ) (list : ValueList) → length all ≤ i → AreBehind all i list → HasValues (ds ++ map g all) list
   all_behind all i list past so_far = subst (λ (es : List Data). HasValues es list)

@@ -26,7 +26,7 @@ module _ (g : Use → Data) where
   other_use all i e list within other so_far =
       let none : defined (use_view (get_or all i e) ∷ []) ≡ [] = rw other refl in
       let same = defined_more all i e within ∙ ap (λ (us : List Use). defined (use_views (take i all)) ++ us) none
-          ∙ append-nil (defined (use_views (take i all))) in
+      ∙ append-nil (defined (use_views (take i all))) in
       subst (λ (us : List Use). HasValues (map g us) list) (sym same) so_far
 
   pub one_more : (all : List NameUse) (i : ℕ) (e : NameUse) (list : ValueList) → i < length all → is_defined (use_view (get_or all i e)) ≡ true
@@ -35,7 +35,7 @@ module _ (g : Use → Data) where
       let one : defined (use_view (get_or all i e) ∷ []) ≡ use_view (get_or all i e) ∷ [] = rw is refl in
       let same = defined_more all i e within ∙ ap (λ (us : List Use). defined (use_views (take i all)) ++ us) one in
       subst (λ (ds : List Data). HasValues ds list) (sym (ap (map g) same
-          ∙ map-append g (defined (use_views (take i all))) (use_view (get_or all i e) ∷ []))) has
+      ∙ map-append g (defined (use_views (take i all))) (use_view (get_or all i e) ∷ []))) has
 
   pub all_defined : (all : List NameUse) (i : ℕ) (list : ValueList) → length all ≤ i → AreDefined all i list → HasValues (map g (defined (use_views all))) list
   all_defined all i list past has = subst (λ (us : List NameUse). HasValues (map g (defined (use_views us))) list) (take_all i all past) has

@@ -15,7 +15,7 @@ module _ {A D : Type 0} (f : A → List D) where
       let cut : drop i all ≡ get_or all i e ∷ drop (i + 1) all = rw (add-one, drop-cons all i e within) refl in
       let at : left all i ≡ f (get_or all i e) ++ left all (i + 1) = ap (flat_map f) cut ∙ flat_map-cons f (get_or all i e) (drop (i + 1) all) in
       ap (λ (t : List D). t ++ left all (i + 1)) put ∙ append_assoc old (f (get_or all i e)) (left all (i + 1))
-          ∙ ap (λ (t : List D). old ++ t) (sym at) ∙ so_far
+      ∙ ap (λ (t : List D). old ++ t) (sym at) ∙ so_far
 
   pub all_made : (all : List A) (i : ℕ) (found whole : List D) → length all ≤ i → found ++ left all i ≡ whole → found ≡ whole
   all_made all i found whole past so_far =
@@ -28,11 +28,11 @@ module _ {A B D : Type 0} (f : B → List D) (g : A → B) (ds : List D) where
       → (ds ++ flat_map f (map g (take i all))) ++ f (g (get_or all i e)) ≡ ds ++ flat_map f (map g (take (i + 1) all))
   taken_more all i e within =
       let seen : map g (take (i + 1) all) ≡ map g (take i all) ++ g (get_or all i e) ∷ [] =
-          ap (map g) (take_more all i e within) ∙ map-append g (take i all) (get_or all i e ∷ []) in
+      ap (map g) (take_more all i e within) ∙ map-append g (take i all) (get_or all i e ∷ []) in
       let one : flat_map f (g (get_or all i e) ∷ []) ≡ f (g (get_or all i e)) = flat_map-cons f (g (get_or all i e)) [] ∙ append-nil (f (g (get_or all i e))) in
       append_assoc ds (flat_map f (map g (take i all))) (f (g (get_or all i e)))
       ∙ sym (ap (λ (t : List D). ds ++ t) (ap (flat_map f) seen ∙ flat_map-append f (map g (take i all)) (g (get_or all i e) ∷ [])
-          ∙ ap (λ (t : List D). flat_map f (map g (take i all)) ++ t) one))
+      ∙ ap (λ (t : List D). flat_map f (map g (take i all)) ++ t) one))
 
   pub taken_all : (all : List A) (i : ℕ) → length all ≤ i → ds ++ flat_map f (map g (take i all)) ≡ ds ++ flat_map f (map g all)
   taken_all all i past = ap (λ (es : List A). ds ++ flat_map f (map g es)) (take_all i all past)

@@ -54,7 +54,7 @@ module _ {T : Type 0} (block : BlockKind T) (kind_of : T → DiagnosticKind) (li
       → IfOk new (λ ds. IsPut found number kind note ds.items) → IfOk new (λ ds. AreMarked block kind_of lines (take (i + 1) all) ds.items)
   put_more all i e found new number kind note line shown within so_far from same numbered kinded fits put =
       IfOk-weaker new _ _ (λ ds p. one_more all i e p.before.items ds.items (record { line = number; kind = kind; note = p.said }) line shown within
-          (IfOk-at_ok (λ (v : Vec Diagnostic Global). AreMarked block kind_of lines (take i all) v.items) p.had so_far) from same numbered kinded
+      (IfOk-at_ok (λ (v : Vec Diagnostic Global). AreMarked block kind_of lines (take i all) v.items) p.had so_far) from same numbered kinded
       (IfOk-at_ok (block.Fits (get_or all i e) shown) p.noted fits) p.all) put
 
   pub all_put : (all : List T) (i : ℕ) (found : Result (Vec Diagnostic Global) AllocError) → length all ≤ i

@@ -20,7 +20,7 @@ pub one_line : (uses : List NameUse) (i : ℕ) (d : NameUse) (old new whole : Li
 one_line uses i d old new whole within put so_far =
     let cut : drop i uses ≡ get_or uses i d ∷ drop (i + 1) uses = rw (add-one, drop-cons uses i d within) refl in
     let at : lines_left uses i ≡ said_line (get_or uses i d) ++ lines_left uses (i + 1) =
-        ap (flat_map said_line) cut ∙ flat_map-cons said_line (get_or uses i d) (drop (i + 1) uses) in
+    ap (flat_map said_line) cut ∙ flat_map-cons said_line (get_or uses i d) (drop (i + 1) uses) in
     ap (λ (t : List ℕ). t ++ lines_left uses (i + 1)) put ∙ append_assoc old (said_line (get_or uses i d)) (lines_left uses (i + 1))
     ∙ ap (λ (t : List ℕ). old ++ t) (sym at) ∙ so_far
 

@@ -29,7 +29,7 @@ still_from profile word other number n (line ∷ lines) is =
     by_test (is_faulty profile word other line) number (faulty_from profile word other (number + 1) lines)
     (λ not. still_from profile word other (number + 1) n lines
     (subst (λ (b : Bool). (if b then Some number else faulty_from profile word word (number + 1) lines) ≡ Some n)
-        (not_alone (is_err (read_line profile line)) (has_word word false line) (has_word other false line) not) is))
+    (not_alone (is_err (read_line profile line)) (has_word word false line) (has_word other false line) not) is))
 
 pub still_faulty : (profile : Profile) (source word other : List ℕ) (n : ℕ) → faulty_line profile source word word ≡ Some n
     → (m : ℕ) × (faulty_line profile source word other ≡ Some m)

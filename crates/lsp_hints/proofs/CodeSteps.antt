@@ -20,7 +20,7 @@ unfolding code_from
 passed covered line i whole more within not_here is so_far =
     let opened = is ∙ ap (λ (bytes : List ℕ). covered_then covered bytes) (cut line i within) in
     let at : code_from covered (drop i line) ≡ suc (code_from (covered_then covered (get_or line i 0 ∷ drop (i + 1) line)) (drop (i + 1) line)) =
-        rw (cut line i within, not_here) refl in
+    rw (cut line i within, not_here) refl in
     rw opened (omega (arith, at, so_far))
 
 pub at_end : (covered : ℕ) (line : List ℕ) (i whole : ℕ) → length line ≤ i → i ≤ length line → whole ≡ i + code_from covered (drop i line) → length line ≡ whole

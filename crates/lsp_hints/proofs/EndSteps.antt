@@ -17,7 +17,7 @@ next_slices line place i tokens d within slices = subst (λ (ts : List Token). A
 pub token_within : (line : List ℕ) (t : Lexeme) → 0 < length t.text → take (length t.text) (drop t.start line) ≡ t.text → t.start + length t.text ≤ length line
 token_within line t some at =
     let all : min (length t.text) (length (drop t.start line)) ≡ length t.text =
-        sym (length-take (length t.text) (drop t.start line)) ∙ ap (λ (bytes : List ℕ). length bytes) at in
+    sym (length-take (length t.text) (drop t.start line)) ∙ ap (λ (bytes : List ℕ). length bytes) at in
     omega (arith, some, all, length-drop t.start line)
 
 pub next_within : (line : List ℕ) (place i : ℕ) (tokens : List Token) (d : Token) → i < length tokens → AreSlices line place (lexemes (drop i tokens))

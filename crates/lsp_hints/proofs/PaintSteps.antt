@@ -20,7 +20,7 @@ tokens_left profile line defines tokens i = tokens_paints profile line defines (
 
 pub token_next : (profile : Profile) (line i : ℕ) (defines : Bool) (tokens : List Token) (d : Token) → i < length tokens
     → tokens_left profile line defines tokens i ≡ token_paints profile line defines (lexeme_of (get_or tokens i d))
-        ++ tokens_left profile line false tokens (i + 1)
+    ++ tokens_left profile line false tokens (i + 1)
 unfolding tokens_paints
 token_next profile line i defines tokens d within = ap (λ (ts : List Token). tokens_paints profile line defines (lexemes ts)) (cut tokens i d within)
 
@@ -49,7 +49,7 @@ counts_left line start paints i = counted line start (drop i paints)
 
 pub paint_next : (line start i : ℕ) (paints : List Paint) (d : Paint) → i < length paints
     → counts_left line start paints i ≡ paint_counts line start (get_or paints i d)
-        ++ counts_left (get_or paints i d).line (get_or paints i d).start paints (i + 1)
+    ++ counts_left (get_or paints i d).line (get_or paints i d).start paints (i + 1)
 unfolding counted
 paint_next line start i paints d within = ap (λ (ps : List Paint). counted line start ps) (cut paints i d within)
 

@@ -22,7 +22,7 @@ next : (profile : Profile) (number : ℕ) (rest line behind : List ℕ) (m : Mar
 unfolding lines_read
 next profile number rest line behind m whole cut so_far =
     let here : lines_left profile number rest m ≡ then_read (line_read profile number line m) (λ read. lines_left profile (number + 1) behind read) =
-        ap (λ (ls : List (List ℕ)). lines_read profile number ls m) cut in
+    ap (λ (ls : List (List ℕ)). lines_read profile number ls m) cut in
     sym here ∙ so_far
 
 pub one_more : (profile : Profile) (number : ℕ) (rest line behind : List ℕ) (old new : Marks) (whole : Read) → lines_of rest ≡ line ∷ lines_of behind
@@ -43,7 +43,7 @@ refused profile number rest line behind old whole e (Ok m) cut is so_far passed 
 refused profile number rest line behind old whole e (Err f) cut is so_far passed =
     subst (λ (x : MarksError). IsErrorOf x whole) (sym passed)
     (by_error (line_read profile number line old) whole (λ read. lines_left profile (number + 1) behind read) e is
-        (next profile number rest line behind old whole cut so_far))
+    (next profile number rest line behind old whole cut so_far))
 
 no_lines : (text : List ℕ) → length text ≡ 0 → lines_of text ≡ []
 unfolding lines_from

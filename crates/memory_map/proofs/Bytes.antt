@@ -18,4 +18,4 @@ next_byte image i cell within is =
     let size : i < length (map (λ (c : Option ℕ). unwrap_or c 0) image) = rw (length-map image (λ (c : Option ℕ). unwrap_or c 0)) within in
     rw add-one (take-suc (map (λ (c : Option ℕ). unwrap_or c 0) image) i 0 size
     ∙ ap (λ (b : ℕ). take i (map (λ (c : Option ℕ). unwrap_or c 0) image) ++ (b ∷ []))
-        (get_or-map (λ (c : Option ℕ). unwrap_or c 0) image i None 0 within ∙ ap (λ (c : Option ℕ). unwrap_or c 0) (sym is)))
+    (get_or-map (λ (c : Option ℕ). unwrap_or c 0) image i None 0 within ∙ ap (λ (c : Option ℕ). unwrap_or c 0) (sym is)))

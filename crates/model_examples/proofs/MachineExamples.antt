@@ -370,8 +370,10 @@ control_reset = refl
 
 -- the entries' vectors: the IRQ's at $FFFE, the NMI's at $FFFA
 abbrev with_vectors : Bool → State
-with_vectors nmi = record (asking true 0 false nmi) { bus = record (asking true 0 false nmi).bus
-    { memory = replicate 0xFFFA 0 ++ 0x00 ∷ 0x03 ∷ 0x00 ∷ 0x02 ∷ 0x00 ∷ 0x04 ∷ [] } }
+with_vectors nmi = record (asking true 0 false nmi) {
+  bus = record (asking true 0 false nmi).bus
+      { memory = replicate 0xFFFA 0 ++ 0x00 ∷ 0x03 ∷ 0x00 ∷ 0x02 ∷ 0x00 ∷ 0x04 ∷ [] };
+}
 
 abbrev pc_after : Result State EventFault → ℕ
 pc_after (Ok s) = s.regs.pc

@@ -117,8 +117,11 @@ unfolding layout_of read_line tokens_of tokens_from token_at line_of statement_o
 below_here = refl
 
 above_here : layout_of (record { profile = N; address = 0; names = (codes "zpname", pos 16) ∷ [] }) (codes "LDA zpname")
-    ≡ Ok (record { address = 0; content = code 0xA5 Zp (Some (name (codes "zpname"))) }, record
-        { profile = N; address = 2; names = (codes "zpname", pos 16) ∷ [] })
+    ≡ Ok (
+      record { address = 0; content = code 0xA5 Zp (Some (name (codes "zpname"))) },
+      record
+          { profile = N; address = 2; names = (codes "zpname", pos 16) ∷ [] },
+    )
 unfolding layout_of read_line tokens_of tokens_from token_at line_of statement_of operand_of expression_of is_reserved mnemonic_named named_among
     mnemonics mnemonic_text named_line_at statement_at form_of opcode_of find_opcode table documented_opcodes eval_of size_of
 above_here = refl

@@ -20,7 +20,7 @@ pub same_number : (base : ℕ) (digits : List ℕ) (n m : ℕ) → at_most_32_bi
 same_number base [] n m h = ap (λ (x : ℕ). Some x) h
 same_number base (b ∷ digits) n m h =
     elim (digit_in base b) as (λ (o : Option ℕ). option_map at_most_32_bits
-        (option_and_then (λ digit. number_from (digit_in base) base (n * base + digit) digits) o)
+    (option_and_then (λ digit. number_from (digit_in base) base (n * base + digit) digits) o)
     ≡ option_map at_most_32_bits (option_and_then (λ digit. number_from (digit_in base) base (m * base + digit) digits) o)) [
       | None ↦ refl
       | Some d ↦ same_number base digits (n * base + d) (m * base + d) (same_sum n m base d h)
@@ -29,20 +29,20 @@ same_number base (b ∷ digits) n m h =
 pub number_more : (base number product value number' i : ℕ) (digits : List ℕ) → i < length digits → Some value ≡ digit_in base (get_or digits i 0)
     → product ≡ min (number * base) 4294967295 → number' ≡ min (product + value) 4294967295
     → option_map at_most_32_bits (number_from (digit_in base) base number (drop i digits))
-        ≡ option_map at_most_32_bits (number_from (digit_in base) base number' (drop (i + 1) digits))
+    ≡ option_map at_most_32_bits (number_from (digit_in base) base number' (drop (i + 1) digits))
 number_more base number product value number' i digits h d p q =
     let same : at_most_32_bits (number * base + value) ≡ at_most_32_bits number' = omega arith in
     rw add-one (ap (λ (ds : List ℕ). option_map at_most_32_bits (number_from (digit_in base) base number ds)) (drop-cons digits i 0 h)
     ∙ ap (λ (o : Option ℕ). option_map at_most_32_bits (option_and_then
-        (λ digit. number_from (digit_in base) base (number * base + digit) (drop (suc i) digits)) o)) (sym d)
+    (λ digit. number_from (digit_in base) base (number * base + digit) (drop (suc i) digits)) o)) (sym d)
     ∙ same_number base (drop (suc i) digits) (number * base + value) number' same)
 
 pub number_end : (base number i : ℕ) (digits : List ℕ) → length digits ≤ i → number ≤ 4294967295 → (length digits == 0) ≡ false
     → option_map at_most_32_bits (number_from (digit_in base) base 0 digits)
-        ≡ option_map at_most_32_bits (number_from (digit_in base) base number (drop i digits))
+    ≡ option_map at_most_32_bits (number_from (digit_in base) base number (drop i digits))
     → Some number ≡ number_in base digits
 unfolding number_in
 number_end base number i digits h small some e =
     let whole : at_most_32_bits number ≡ number = omega arith in
     sym (rw some (e ∙ ap (λ (ds : List ℕ). option_map at_most_32_bits (number_from (digit_in base) base number ds)) (drop_all i digits h)
-        ∙ ap (λ (n : ℕ). Some n) whole))
+    ∙ ap (λ (n : ℕ). Some n) whole))

@@ -45,8 +45,8 @@ pieces_suc zero m places found text more rest e k = absurd (omega (arith, e))
 pieces_suc (suc n) m places found text more rest e k =
     let same : n ≡ m = omega (arith, e) in
     rw (← same) (rw k (elim (is_empty (past (byte ",") rest)) as
-        (λ (b : Bool). cond b (Ok (more, past (byte ",") rest)) (pieces_of n places more (past (byte ",") rest)) ≡ next_pieces n places more rest b)
-        [ true ↦ refl | false ↦ refl ]))
+    (λ (b : Bool). cond b (Ok (more, past (byte ",") rest)) (pieces_of n places more (past (byte ",") rest)) ≡ next_pieces n places more rest b)
+    [ true ↦ refl | false ↦ refl ]))
 
 pub pieces_end : (n m : ℕ) (places : PlacesView) (found text more rest : List ℕ) → n ≡ m + 1 → piece_of places found text ≡ Ok (more, rest)
     → is_empty (past (byte ",") rest) ≡ true

@@ -18,7 +18,7 @@ tests_suc zero m places pc found text more rest e k = absurd (omega (arith, e))
 tests_suc (suc n) m places pc found text more rest e k =
     let same : n ≡ m = omega (arith, e) in
     rw (← same) (rw k (elim (is_word (codes "and") rest) as (λ (b : Bool). cond b (tests_within n places pc more (after_word rest)) (Ok (more, rest))
-        ≡ next_tests n places pc more rest b) [ true ↦ refl | false ↦ refl ]))
+    ≡ next_tests n places pc more rest b) [ true ↦ refl | false ↦ refl ]))
 
 pub tests_end : (n m : ℕ) (places : PlacesView) (pc : ℕ) (found : List Test) (text : List ℕ) (more : List Test) (rest : List ℕ) → n ≡ m + 1
     → and_then (test_of places pc text) (with_test found) ≡ Ok (more, rest)

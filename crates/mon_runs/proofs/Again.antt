@@ -33,12 +33,12 @@ follows-next : (n : ℕ) (s u : Session) (t : State) → suc n ≤ s.history →
 follows-next n s u t room f =
     let pushed = s.earlier ++ s.current ∷ [] in
     let short : length (u.earlier ++ u.current ∷ []) ≤ s.history =
-        omega (arith, length-append u.earlier (u.current ∷ []), ap length f.earlier, length-keep_last n s.earlier) in
+    omega (arith, length-append u.earlier (u.current ∷ []), ap length f.earlier, length-keep_last n s.earlier) in
     let whole : keep_last s.history (u.earlier ++ u.current ∷ []) ≡ u.earlier ++ u.current ∷ [] = keep_last-all s.history (u.earlier ++ u.current ∷ []) short in
     let same : u.earlier ++ u.current ∷ [] ≡ keep_last n s.earlier ++ s.current ∷ [] = λ i. f.earlier i ++ f.current i ∷ [] in
     let one : suc n - 1 ≡ n = omega arith in
     let more : keep_last (suc n) pushed ≡ keep_last n s.earlier ++ s.current ∷ [] =
-        keep_last-push (suc n) s.earlier s.current (omega arith) ∙ ap (λ m. keep_last m s.earlier ++ s.current ∷ []) one in
+    keep_last-push (suc n) s.earlier s.current (omega arith) ∙ ap (λ m. keep_last m s.earlier ++ s.current ∷ []) one in
     let kept : keep_last (suc n) (keep_last s.history pushed) ≡ keep_last (suc n) pushed = keep_last-keep_last (suc n) s.history pushed room in
     record {
       history = f.history;

@@ -123,4 +123,4 @@ looked_runs_are_steps watches goal until (suc n) place =
     let next = after_stretch until 1 place in
     let rest : LeadsFrom next.0 (looked_run watches goal until n next) = looked_runs_are_steps watches goal until n next in
     ended-leads (why_of_step watches goal until place) (run_end 1 place.0).did (Some place.0.current.regs.pc) place.0 next.1
-        (looked_run watches goal until n next) rest
+    (looked_run watches goal until n next) rest

@@ -84,7 +84,7 @@ pub way-none : (s : Session) (held : ℕ) → held ≡ length s.earlier → held
 way-none s held all none =
     whole s.current.regs.s held s (without_last 1 s) (was_return (without_last 1 s).current s.current) refl all refl refl
     ∙ ap (λ x. cond x (0, s) (after_first s.current.regs.s (was_return (without_last 1 s).current s.current) (held - 1) (without_last 1 s)))
-        (none-eqb held none)
+    (none-eqb held none)
 
 pub way-one : (stack held n : ℕ) (s t : Session) (b : Bool) → stack ≡ s.current.regs.s
     → held ≡ length s.earlier → held ≡ suc n → t ≡ without_last 1 s

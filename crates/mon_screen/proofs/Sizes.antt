@@ -21,8 +21,14 @@ length-cells : (width : ℕ) (line : List ℕ) → length (cells width line) ≡
 unfolding cells padded
 length-cells width line =
     let shown = flat_map cell (take (width - 1) line) in
-    omega (arith, length-append shown (blanks (width - length shown)), length-replicate {A = ℕ} (width - length shown) 32, length-cell
-        (take (width - 1) line), length-take (width - 1) line)
+    omega (
+      arith,
+      length-append shown (blanks (width - length shown)),
+      length-replicate {A = ℕ} (width - length shown) 32,
+      length-cell
+          (take (width - 1) line),
+      length-take (width - 1) line,
+    )
 
 -- ---- rows
 

@@ -16,7 +16,7 @@ of_none names text before word b rest = text_from names ((text ++ word_text name
 step : (names : List Named) (text : List ℕ) (before : Before) (word line now : List ℕ) (i d : ℕ)
     → now ≡ text_from names text before word (drop i line) → i < length line
     → now ≡ cond (is_word_byte (get_or line i d)) (of_word names text before word (get_or line i d) (drop (suc i) line))
-        (of_none names text before word (get_or line i d) (drop (suc i) line))
+    (of_none names text before word (get_or line i d) (drop (suc i) line))
 unfolding text_from
 step names text before word line now i d so_far inside = so_far ∙ ap (text_from names text before word) (drop-cons line i d inside)
 
@@ -27,18 +27,18 @@ pub more_of_word : (names : List Named) (text : List ℕ) (before : Before) (wor
 more_of_word names text before word new line now i d so_far inside is e =
     rw (e, add-one) (step names text before word line now i d so_far inside
     ∙ ap (λ b. cond b (of_word names text before word (get_or line i d) (drop (suc i) line))
-        (of_none names text before word (get_or line i d) (drop (suc i) line))) is)
+    (of_none names text before word (get_or line i d) (drop (suc i) line))) is)
 
 -- a byte behind a word
 pub word_ends : (names : List Named) (text : List ℕ) (before after : Before) (word new none line now : List ℕ) (i d : ℕ)
     → now ≡ text_from names text before word (drop i line) → i < length line
     → is_word_byte (get_or line i d) ≡ false → new ≡ (text ++ word_text names before word) ++ get_or line i d ∷ []
-        → after ≡ next_before before (get_or line i d) → none ≡ []
+    → after ≡ next_before before (get_or line i d) → none ≡ []
     → now ≡ text_from names new after none (drop (i + 1) line)
 word_ends names text before after word new none line now i d so_far inside is e turns empty =
     rw (e, turns, empty, add-one) (step names text before word line now i d so_far inside
     ∙ ap (λ b. cond b (of_word names text before word (get_or line i d) (drop (suc i) line))
-        (of_none names text before word (get_or line i d) (drop (suc i) line))) is)
+    (of_none names text before word (get_or line i d) (drop (suc i) line))) is)
 
 -- no byte is left
 pub line_ends : (names : List Named) (text : List ℕ) (before : Before) (word new line now : List ℕ) (i : ℕ)

@@ -13,23 +13,23 @@ IsWritten word source i uses line column left out whole = out ++ replaced word u
 
 opened : (word : List ℕ) (uses : List Use) (line column left b : ℕ) (text : List ℕ)
     → replaced word uses line column left (b ∷ text) ≡ piece_at word line column left uses b
-        ++ replaced word (rest_at line column left uses) (line_after b line) (column_after b column) (left_at line column left uses) text
+    ++ replaced word (rest_at line column left uses) (line_after b line) (column_after b column) (left_at line column left uses) text
 unfolding replaced
 opened word uses line column left b text = refl
 
 -- one byte more
 pub byte_done : (word source : List ℕ) (i : ℕ) (uses behind : List Use) (line column left line' column' more : ℕ) (out new whole : List ℕ) → i < length source
     → line' ≡ line_after (get_or source i 0) line → column' ≡ column_after (get_or source i 0) column
-        → new ≡ out ++ piece_at word line column left uses (get_or source i 0) → behind ≡ rest_at line column left uses → more ≡ left_at line column left uses
+    → new ≡ out ++ piece_at word line column left uses (get_or source i 0) → behind ≡ rest_at line column left uses → more ≡ left_at line column left uses
     → IsWritten word source i uses line column left out whole → IsWritten word source (i + 1) behind line' column' more new whole
 byte_done word source i uses behind line column left line' column' more out new whole inside p q put rest count w =
     let b = get_or source i 0 in
     let cut : drop i source ≡ b ∷ drop (suc i) source = drop-cons source i 0 inside in
     let after = replaced word (rest_at line column left uses) (line_after b line) (column_after b column) (left_at line column left uses)
-        (drop (suc i) source) in
+    (drop (suc i) source) in
     rw (add-one, p, q, put, rest, count)
     (append_assoc out (piece_at word line column left uses b) after
-        ∙ (ap (λ (t : List ℕ). out ++ t) (sym (opened word uses line column left b (drop (suc i) source))) ∙ rw cut at w))
+    ∙ (ap (λ (t : List ℕ). out ++ t) (sym (opened word uses line column left b (drop (suc i) source))) ∙ rw cut at w))
 
 pub text_done : (word source : List ℕ) (i : ℕ) (uses : List Use) (line column left : ℕ) (out whole : List ℕ) → length source ≤ i
     → IsWritten word source i uses line column left out whole → out ≡ whole
@@ -50,15 +50,15 @@ slice_is uses next = take_all (length uses - next) (drop next uses) (omega (arit
 pub step_done : (word source : List ℕ) (i : ℕ) (uses given : List NameUse) (next met line column left line' column' more : ℕ) (out new whole : List ℕ)
     → i < length source → given ≡ drop next uses
     → line' ≡ line_after (get_or source i 0) line → column' ≡ column_after (get_or source i 0) column
-        → new ≡ out ++ piece_at word line column left (use_views given) (get_or source i 0)
+    → new ≡ out ++ piece_at word line column left (use_views given) (get_or source i 0)
     → drop met (use_views given) ≡ rest_at line column left (use_views given) → more ≡ left_at line column left (use_views given)
     → IsWritten word source i (use_views (drop next uses)) line column left out whole
-        → IsWritten word source (i + 1) (use_views (drop (next + met) uses)) line' column' more new whole
+    → IsWritten word source (i + 1) (use_views (drop (next + met) uses)) line' column' more new whole
 step_done word source i uses given next met line column left line' column' more out new whole inside same p q put rest count w =
     byte_done word source i (use_views (drop next uses)) (use_views (drop (next + met) uses)) line column left line' column' more out new whole inside p q
     (put ∙ ap (λ (g : List NameUse). out ++ piece_at word line column left (use_views g) (get_or source i 0)) same)
     (views_drop uses next met ∙ ap (λ (g : List NameUse). drop met (use_views g)) (sym same) ∙ rest
-        ∙ ap (λ (g : List NameUse). rest_at line column left (use_views g)) same)
+    ∙ ap (λ (g : List NameUse). rest_at line column left (use_views g)) same)
     (count ∙ ap (λ (g : List NameUse). left_at line column left (use_views g)) same) w
 
 pub line_near : (b line : ℕ) → line_after b line ≤ line + 1

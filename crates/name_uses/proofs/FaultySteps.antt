@@ -28,7 +28,7 @@ word_none word behind = refl
 
 word_at_index : (word line : List ℕ) (i : ℕ) (behind : Bool) → i < length line
     → has_word word behind (drop i line) ≡ ((not behind && bytes_eq (word_at (drop i line)) word)
-        || has_word word (is_word_byte (get_or line i 0)) (drop (i + 1) line))
+    || has_word word (is_word_byte (get_or line i 0)) (drop (i + 1) line))
 word_at_index word line i behind within =
     let cut : drop i line ≡ get_or line i 0 ∷ drop (i + 1) line = rw add-one (drop-cons line i 0 within) in
     rw cut (word_behind word behind (get_or line i 0) (drop (i + 1) line))
@@ -71,7 +71,7 @@ line_faulty profile word other number rest text behind whole cut is so_far =
 -- a line that others follow
 pub line_more : (profile : Profile) (word other : List ℕ) (number : ℕ) (rest text behind : List ℕ) (whole : Option ℕ) → lines_of rest ≡ text ∷ lines_of behind
     → is_faulty profile word other text ≡ false → is_end (read_line profile text) ≡ false → faulty_left profile word other number rest ≡ whole
-        → faulty_left profile word other (number + 1) behind ≡ whole
+    → faulty_left profile word other (number + 1) behind ≡ whole
 unfolding faulty_from
 line_more profile word other number rest text behind whole cut is more so_far =
     let at : faulty_left profile word other number rest ≡ faulty_left profile word other (number + 1) behind = rw (cut, more, is) refl in

@@ -219,7 +219,7 @@ module _ (profile : Profile) where
   derived (chain t {op = op} {a = a} {b = b} {ls = ls} {rs = rs} o h k) free =
       around ls t rs (operator_none t op o)
       ∙ both_are (texts_in ls) (texts_in rs) (names_in a) (names_in b) (derived h (or_left (term_reserves profile a) (term_reserves profile b) free))
-          (derived k (or_right (term_reserves profile a) (term_reserves profile b) free))
+      (derived k (or_right (term_reserves profile a) (term_reserves profile b) free))
   derived (bare h) free = derived h free
   derived (low_byte t {ts = ts} o h) free = skipped t ts (symbol_none t 60 o) ∙ derived h free
   derived (high_byte t {ts = ts} o h) free = skipped t ts (symbol_none t 62 o) ∙ derived h free
@@ -265,7 +265,7 @@ module _ (profile : Profile) where
   listed Is reserving named one (more {a = a} {as' = as'} {ts = ts} {us = us} comma h c k) free =
       around ts comma us (symbol_none comma 44 c)
       ∙ both_are (texts_in ts) (texts_in us) (named a) (flat_map named as') (one a ts h (or_left (reserving a) (list_any reserving as') free))
-          (listed Is reserving named one k (or_right (reserving a) (list_any reserving as') free))
+      (listed Is reserving named one k (or_right (reserving a) (list_any reserving as') free))
 
   terms : (e : Term) (ts : List Lexeme) → IsExpression e ts → term_reserves profile e ≡ false → texts_in ts ≡ names_in e
   terms e ts h free = derived h free
@@ -307,11 +307,11 @@ module _ (profile : Profile) where
   lines (label w colon {s = s} {ts = ts} k c r) free =
       taken w (colon ∷ ts) (word_named w k (or_left (is_reserved profile w.text) (reserves profile s) free))
       ∙ ap (λ (x : List (List ℕ)). w.text ∷ x) (skipped colon ts (symbol_none colon 58 c)
-          ∙ rests r (or_right (is_reserved profile w.text) (reserves profile s) free))
+      ∙ rests r (or_right (is_reserved profile w.text) (reserves profile s) free))
   lines (defines w equals {e = e} {ts = ts} k q d) free =
       taken w (equals ∷ ts) (word_named w k (or_left (is_reserved profile w.text) (term_reserves profile e) free))
       ∙ ap (λ (x : List (List ℕ)). w.text ∷ x) (skipped equals ts (symbol_none equals 61 q)
-          ∙ derived d (or_right (is_reserved profile w.text) (term_reserves profile e) free))
+      ∙ derived d (or_right (is_reserved profile w.text) (term_reserves profile e) free))
 
   record WasRead (ts : List Lexeme) (l : Line) : Type 0 where
     is : line_of profile ts ≡ Some l

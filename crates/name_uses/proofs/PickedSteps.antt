@@ -32,7 +32,7 @@ one_more part name uses i d old new whole within same put so_far =
     let at : picked_left part name uses i ≡ use_view (get_or uses i d) ∷ left = opened part name uses i d within ∙ rw same refl in
     let pushed : use_views new ≡ use_views old ++ use_view (get_or uses i d) ∷ [] = ap use_views put ∙ map-append use_view old (get_or uses i d ∷ []) in
     ap (λ (us : List Use). us ++ left) pushed ∙ append_assoc (use_views old) (use_view (get_or uses i d) ∷ []) left
-        ∙ sym (ap (λ (us : List Use). use_views old ++ us) at) ∙ so_far
+    ∙ sym (ap (λ (us : List Use). use_views old ++ us) at) ∙ so_far
 
 pub picked_done : (part : Part) (name : List ℕ) (uses : List NameUse) (i : ℕ) (found whole : List Use) → length uses ≤ i
     → found ++ picked_left part name uses i ≡ whole → found ≡ whole

@@ -26,11 +26,11 @@ opened profile number i defines tokens d within =
 -- a token that is no name
 pub no_name : (profile : Profile) (number i : ℕ) (defines : Bool) (tokens : List Token) (d : Token) (found whole : List Use) → i < length tokens
     → is_name_token profile (lexeme_of (get_or tokens i d)) ≡ false → found ++ uses_left profile number defines tokens i ≡ whole
-        → found ++ uses_left profile number defines tokens (i + 1) ≡ whole
+    → found ++ uses_left profile number defines tokens (i + 1) ≡ whole
 unfolding uses_in
 no_name profile number i defines tokens d found whole within other so_far =
     let at : uses_left profile number defines tokens i ≡ uses_left profile number defines tokens (i + 1) =
-        opened profile number i defines tokens d within ∙ rw other refl in
+    opened profile number i defines tokens d within ∙ rw other refl in
     sym (ap (λ (us : List Use). found ++ us) at) ∙ so_far
 
 -- a name
@@ -41,7 +41,7 @@ pub one_name : (profile : Profile) (number i : ℕ) (defines : Bool) (tokens : L
 unfolding uses_in
 one_name profile number i defines tokens d old new u whole within named put same so_far =
     let at : uses_left profile number defines tokens i ≡ use_of number defines (lexeme_of (get_or tokens i d))
-        ∷ uses_left profile number false tokens (i + 1) = opened profile number i defines tokens d within ∙ rw named refl in
+    ∷ uses_left profile number false tokens (i + 1) = opened profile number i defines tokens d within ∙ rw named refl in
     let left = uses_left profile number false tokens (i + 1) in
     let pushed : use_views new ≡ use_views old ++ use_view u ∷ [] = ap use_views put ∙ map-append use_view old (u ∷ []) in
     ap (λ (us : List Use). us ++ left) pushed ∙ append_assoc (use_views old) (use_view u ∷ []) left
@@ -72,7 +72,7 @@ unfolding uses_from
 line_more profile number rest text behind old new whole cut more put so_far =
     let at : lines_left profile number rest ≡ line_uses profile number text ++ lines_left profile (number + 1) behind = rw (cut, more) refl in
     ap (λ (us : List Use). us ++ lines_left profile (number + 1) behind) put
-        ∙ append_assoc old (line_uses profile number text) (lines_left profile (number + 1) behind)
+    ∙ append_assoc old (line_uses profile number text) (lines_left profile (number + 1) behind)
     ∙ sym (ap (λ (us : List Use). old ++ us) at) ∙ so_far
 
 -- the line of `.END`

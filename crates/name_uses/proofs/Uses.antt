@@ -17,7 +17,7 @@ pub named_as : (name source : List ℕ) (p q : Profile) (all given found : List 
 unfolding uses_named
 named_as name source p q all given found e whole same h =
     h ∙ ap (λ (g : List NameUse). picked All name (use_views g)) same ∙ ap (λ (us : List Use). picked All name us) whole
-        ∙ ap (λ (r : Profile). picked All name (uses_of r source)) e
+    ∙ ap (λ (r : Profile). picked All name (uses_of r source)) e
 
 -- and the text with another name there
 pub renamed_as : (source old new : List ℕ) (q : Profile) (found given : List NameUse) (text : List ℕ) → use_views found ≡ uses_named q source old

@@ -44,9 +44,11 @@ put_length (b ∷ bytes) cells a = put_length bytes (slice_set cells a (Some b))
 put_has : (bytes : List ℕ) (cells : List (Option ℕ)) (a : ℕ) → a + length bytes ≤ length cells → HasAll (with_bytes cells a bytes) a (length bytes)
 put_has [] cells a inside = tt
 put_has (b ∷ bytes) cells a inside =
-    let here : a < length cells = omega (arith, inside) in
-    (put_keeps bytes (slice_set cells a (Some b)) (a + 1) a (b, get_or-set_same cells a (Some b) None here), put_has bytes
-        (slice_set cells a (Some b)) (a + 1) (omega (arith, inside, length-set cells a (Some b))))
+    let here : a < length cells = omega (arith, inside) in (
+      put_keeps bytes (slice_set cells a (Some b)) (a + 1) a (b, get_or-set_same cells a (Some b) None here),
+      put_has bytes
+          (slice_set cells a (Some b)) (a + 1) (omega (arith, inside, length-set cells a (Some b))),
+    )
 
 makes_keeps : (m : Map) (numbers : Numbers) (placed : List PlacedLine) (image final : List (Option ℕ)) (x : ℕ) → Makes m numbers image placed final
     → Has image x → Has final x
@@ -82,16 +84,16 @@ same_fault m n numbers image p one other right = rw other (rw one at right)
 line_spared : (m n : Map) (numbers : Numbers) (ps : List PlacedLine) (image final : List (Option ℕ)) (p : PlacedLine) (size : ℕ)
     → size ≡ size_of p.content → length image ≡ 65536 → length (line_bytes numbers p) ≡ size
     → value_fault m numbers image p ≡ None → Makes m numbers (with_bytes image p.address (line_bytes numbers p)) ps final
-        → has_port_byte n final ≡ false → has_port n p.address size ≡ false
+    → has_port_byte n final ≡ false → has_port n p.address size ≡ false
 unfolding has_port
 line_spared m n numbers ps image final p zero is full long right made spared = refl
 line_spared m n numbers ps image final p (suc k) is full long right made spared =
     let placed : IsPlaced m image p = placed_right m numbers image p right in
     let room : p.address + suc k ≤ 65536 = not_past p.address (suc k) (rw (sym is) at placed.past) (omega arith) in
     let all : HasAll (with_bytes image p.address (line_bytes numbers p)) p.address (length (line_bytes numbers p)) =
-        put_has (line_bytes numbers p) image p.address (omega (arith, room, long, full)) in
+    put_has (line_bytes numbers p) image p.address (omega (arith, room, long, full)) in
     let there : HasAll final p.address (suc k) = makes_keep_all m numbers ps (with_bytes image p.address (line_bytes numbers p)) final (suc k)
-        p.address made (rw long at all) in
+    p.address made (rw long at all) in
     no_port_all n final (suc k) p.address spared there
 
 -- ---- all lines
@@ -105,7 +107,7 @@ carried m n fill numbers final spared (line ∷ lines) [] before after image ful
 carried m n fill numbers final spared (line ∷ lines) (p ∷ ps) before after image full laid made =
     let long : length (line_bytes numbers p) ≡ size_of p.content = fill m numbers image before laid.0 line p laid.1 made.0 in
     let other : has_port n p.address (size_of p.content) ≡ false =
-        line_spared m n numbers ps image final p (size_of p.content) refl full long made.0 made.1 spared in (
+    line_spared m n numbers ps image final p (size_of p.content) refl full long made.0 made.1 spared in (
       same_fault m n numbers image p (placed_right m numbers image p made.0).port other made.0,
       carried m n fill numbers final spared lines ps laid.0 after (with_bytes image p.address (line_bytes numbers p))
           (put_length (line_bytes numbers p) image p.address ∙ full) laid.2 made.1,

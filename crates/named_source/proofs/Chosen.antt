@@ -12,7 +12,7 @@ use Rattle.named_source.proofs.Flags.{flagged_names}
 pub plain_is : (profile : Profile) (image : List (Option ℕ)) (marks : List Mark) (names : Definitions) (table : List ℕ) (before flags : List Bool)
     (plain : List ℕ) → IsTable names table → length before ≡ 65536
     → before ≡ flags_of profile image marks → flags ≡ flagged_by table before → plain ≡ flagged_source profile image marks flags
-        → plain ≡ plain_source profile image marks names
+    → plain ≡ plain_source profile image marks names
 unfolding plain_source
 plain_is profile image marks names table before flags plain is long own set written =
     written ∙ ap (flagged_source profile image marks) (set ∙ (flagged_names names table before is long ∙ ap (with_named names 0) own))

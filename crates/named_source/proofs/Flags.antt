@@ -43,7 +43,7 @@ flags_by names a (i ∷ table) (f ∷ flags) long each =
     let named : nat_lt 0 i ≡ is_some (name_of names a) = rw (first, here) (has_name names a) in
     let rest : flagged_by table flags ≡ with_named names (a + 1) flags =
     flags_by names (a + 1) table flags (omega (arith, long))
-        (λ k h. let next : a + 1 + k ≡ a + suc k = omega arith in rw next (each (suc k) (omega (arith, h)))) in
+    (λ k h. let next : a + 1 + k ≡ a + suc k = omega arith in rw next (each (suc k) (omega (arith, h)))) in
     ap₂ (λ (g : Bool) (gs : List Bool). (f || g) ∷ gs) named rest
 
 pub flagged_names : (names : Definitions) (table : List ℕ) (flags : List Bool) → IsTable names table → length flags ≡ 65536
@@ -76,7 +76,7 @@ set_behind false i f flags = refl
 
 one_set : (b : Bool) (i : ℕ) (table : List ℕ) (flags : List Bool) → i < length table → nat_lt 0 (slice_index table i) ≡ b
     → take (suc i) (set_by b i flags) ++ flagged_by (drop (suc i) table) (drop (suc i) (set_by b i flags)) ≡ take i flags
-        ++ flagged_by (drop i table) (drop i flags)
+    ++ flagged_by (drop i table) (drop i flags)
 unfolding flagged_by
 one_set b i [] flags h is = absurd (omega (arith, h))
 one_set b zero (n ∷ table) [] h is = rw (nothing_set b 0) refl

@@ -33,7 +33,7 @@ pub flagged_means : {X E : Type 0} (items : X → List ℕ) (law : FlaggedSource
 flagged_means items law profile image marks flags (Err e) is written = tt
 flagged_means items law profile image marks flags (Ok x) is written =
     λ bus_map same spared. let e : items x ≡ flagged_source bus_map.profile image marks flags = rw same written in
-        rw e (law bus_map image marks flags is spared)
+    rw e (law bus_map image marks flags is spared)
 
 pub same_image : (r : Result AssemblyView AsmFault) (image : List (Option ℕ)) → IsImageOrMemory r image → IfOk r (λ a. a.image ≡ image)
 same_image (Ok a) image h = h

@@ -44,7 +44,7 @@ byte_written names image line out new i before left b found whole inside is none
     let at : rest_named names image before 0 (b ∷ drop (suc i) line) ≡ written_for b found ++ rest_named names image b (left_out found) (drop (suc i) line) =
     here names image before b (drop (suc i) line) found (rw cut at place) in
     rw (add-one, put) (append_assoc out (written_for b found) (rest_named names image b (left_out found) (drop (suc i) line))
-        ∙ (ap (λ (t : List ℕ). out ++ t) (sym at) ∙ rw (cut, none) at w))
+    ∙ (ap (λ (t : List ℕ). out ++ t) (sym at) ∙ rw (cut, none) at w))
 
 pub rest_is : (line : List ℕ) (i : ℕ) → take (length line - i) (drop i line) ≡ drop i line
 rest_is line i = grind (arith, common_steps)

@@ -61,11 +61,11 @@ pub no_name : (names : Definitions) (table : List ℕ) (a : ℕ) → IsTable nam
 unfolding name_of index_of looked_at
 no_name names table a is below e =
     ap (λ (r : Option (List ℕ × ℤ)). option_map (λ d. d.0) r)
-        (none_named (gives_name a) (take 65535 names) (position_from (gives_name a) 0 (take 65535 names)) refl (sym (is.each a below) ∙ e))
+    (none_named (gives_name a) (take 65535 names) (position_from (gives_name a) 0 (take 65535 names)) refl (sym (is.each a below) ∙ e))
 
 pub a_name : (names : Definitions) (table : List ℕ) (a i : ℕ) → IsTable names table → a < 65536 → slice_index table a ≡ i → 0 < i → i < 65536
     → option_map (λ d. d.0) (slice_get names (i - 1)) ≡ name_of names a
 unfolding name_of index_of looked_at
 a_name names table a i is below e some few =
     ap (λ (r : Option (List ℕ × ℤ)). option_map (λ d. d.0) r)
-        (named_at (gives_name a) 65535 names (position_from (gives_name a) 0 (take 65535 names)) i refl (sym (is.each a below) ∙ e) some (omega (arith, few)))
+    (named_at (gives_name a) 65535 names (position_from (gives_name a) 0 (take 65535 names)) i refl (sym (is.each a below) ∙ e) some (omega (arith, few)))

@@ -16,7 +16,7 @@ pub one_more : (form : Form) (profile : Profile) (rest line behind : List ℕ) (
 unfolding more_lines
 one_more form profile rest line behind old new whole cut made so_far =
     let here : lines_left form profile rest old ≡ lines_left form profile behind (one_line_more form profile line old) =
-        ap (λ (ls : List (List ℕ)). more_lines form profile ls old) cut in
+    ap (λ (ls : List (List ℕ)). more_lines form profile ls old) cut in
     ap (lines_left form profile behind) made ∙ sym here ∙ so_far
 
 no_lines : (text : List ℕ) → length text ≡ 0 → lines_of text ≡ []

@@ -33,7 +33,7 @@ pub found : (profile : Profile) (m : Mnemonic) (d : Mode) (code : Option ℕ) �
     → IfSome code (λ opcode. IsRowOf m d (row_at profile opcode))
 found profile m d code is =
     IfSome_then code (subst (λ r. IfSome r (λ opcode. (opcode < 256) × IsRowOf m d (row_at profile opcode))) (sym is) (row_of_encoded profile m d))
-        (λ opcode h. h.1)
+    (λ opcode h. h.1)
 
 pub none : (profile : Profile) (m : Mnemonic) (d : Mode) (code : Option ℕ) → code ≡ opcode_of profile m d
     → IfNone code ((opcode : ℕ) → opcode < 256 → ¬ IsRowOf m d (row_at profile opcode))

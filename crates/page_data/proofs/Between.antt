@@ -124,7 +124,7 @@ leads_back given s t h =
 -- where it has stored, by whether an entry was due
 step_by : (s t : State) (full nmi irq : Bool) → InRange s → s.nmi ≡ nmi
     → cond full (Err CyclesFull) (cond nmi (Ok (interrupt_entry (record s { nmi = false }) 0xFFFA))
-        (cond irq (Ok (interrupt_entry s 0xFFFE)) (attempt (row_here s) s))) ≡ Ok t
+    (cond irq (Ok (interrupt_entry s 0xFFFE)) (attempt (row_here s) s))) ≡ Ok t
     → Steps (stored_by (nmi || irq) s.regs.s (stores_here s)) s t
 step_by s t true nmi irq h is made = cc
 step_by s t false true irq h is made =
@@ -132,7 +132,7 @@ step_by s t false true irq h is made =
     let same : interrupt_entry none 0xFFFA ≡ t = cc in
     let entry = entry_steps none 0xFFFA h.s refl in
     let whole : Steps (entry_stores s.regs.s) s (interrupt_entry none 0xFFFA) =
-        record { bus = entry.bus; irq = entry.irq; nmi = entry.nmi; from = entry.from; to = entry.to } in
+    record { bus = entry.bus; irq = entry.irq; nmi = entry.nmi; from = entry.from; to = entry.to } in
     subst (λ (x : State). Steps (entry_stores s.regs.s) s x) same whole
 step_by s t false false true h is made =
     let same : interrupt_entry s 0xFFFE ≡ t = cc in
@@ -143,7 +143,7 @@ steps : (s t : State) → InRange s → step s ≡ Ok t → Steps (step_stores s
 unfolding step
 steps s t h made =
     let all : Steps (stored_by (entry_due s) s.regs.s (stores_here s)) s t =
-        step_by s t (nat_lt most_cycles s.cycles) s.nmi (irq_asked s && not s.regs.flags.i) h refl made in
+    step_by s t (nat_lt most_cycles s.cycles) s.nmi (irq_asked s && not s.regs.flags.i) h refl made in
     subst (λ (b : Bool). Steps (stored_by b s.regs.s (stores_here s)) s t) (sym (entered_is s t all.bus.given)) all
 
 -- ---- where input was handed in before

@@ -96,7 +96,7 @@ byte_leads n m at bus address value within = record {
 
 write_by : (at : List ℕ) (bus : Bus) (address value : ℕ) (port first third rom : Bool) → ((k : ℕ) → Outside k at → k ≢ address)
     → Leads 0 1 at bus (cond port (cond first (record bus { out = bus.out ++ value ∷ [] }) (cond third (record bus { control = value % 2 == 1 }) bus))
-        (cond rom bus (bus_with_byte bus address value)))
+    (cond rom bus (bus_with_byte bus address value)))
 write_by at bus address value true true third rom within = record {
   map = refl;
   given = refl;

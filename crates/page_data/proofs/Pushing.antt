@@ -69,7 +69,7 @@ step_told given ahead s t start front old new earlier few e h sound made told =
     let differs = step_differs given s t sound made in
     let grown : (front ++ old) ++ bytes_of c ≡ front ++ new =
     append_assoc front old (bytes_of c) ∙ ap (λ (l : List ℕ). front ++ (old ++ l)) (sym (ap bytes_of (change_is given ahead s t h)))
-        ∙ ap (λ (l : List ℕ). front ++ l) (sym e) in
+    ∙ ap (λ (l : List ℕ). front ++ l) (sym e) in
     subst (λ (l : List ℕ). Tells start l (earlier ++ s ∷ []) t × (changes_in l ≡ changes_in (front ++ old) ++ c ∷ [])) grown
     (told_more start s t (front ++ old) earlier c (step_small given s t sound few made) (leads_forth given s t differs) (leads_back given s t differs) told)
 
@@ -84,7 +84,7 @@ parts_joined old a b c d e f x m present reads stores out given ea eb ec ed ee e
     ∙ ap (λ (l : List ℕ). l ++ (stores ++ (out ++ given))) ec ∙ append_assoc b reads (stores ++ (out ++ given))
     ∙ ap (λ (l : List ℕ). l ++ (reads ++ (stores ++ (out ++ given)))) eb ∙ append_assoc a (m ∷ present) (reads ++ (stores ++ (out ++ given)))
     ∙ ap (λ (l : List ℕ). l ++ m ∷ (present ++ (reads ++ (stores ++ (out ++ given))))) ea
-        ∙ append_assoc old (x ∷ []) (m ∷ (present ++ (reads ++ (stores ++ (out ++ given)))))
+    ∙ append_assoc old (x ∷ []) (m ∷ (present ++ (reads ++ (stores ++ (out ++ given)))))
 
 pub any_is : (bytes : List ℕ) → not (length bytes == 0) ≡ is_any bytes
 any_is [] = refl
@@ -104,8 +104,8 @@ unfolding change_by bytes_of
 record_pushed given ahead t old a b c d e f eight x ea first changed eb ec ed ee ef =
     let change = change_from given ahead t in
     parts_joined old a b c d e f x (marks eight) (without_zeros eight) (flat_map word change.reads) (flat_map cell change.stores)
-        (option_to_list change.out) (counted given) ea eb ec ed ee ef
+    (option_to_list change.out) (counted given) ea eb ec ed ee ef
     ∙ ap (λ (y : ℕ). old ++ y ∷ marks eight ∷ (without_zeros eight
-        ++ (flat_map word change.reads ++ (flat_map cell change.stores ++ (option_to_list change.out ++ counted given))))) first
+    ++ (flat_map word change.reads ++ (flat_map cell change.stores ++ (option_to_list change.out ++ counted given))))) first
     ∙ ap (λ (l : List ℕ). old ++ head change ∷ marks l ∷ (without_zeros l
-        ++ (flat_map word change.reads ++ (flat_map cell change.stores ++ (option_to_list change.out ++ counted given))))) changed
+    ++ (flat_map word change.reads ++ (flat_map cell change.stores ++ (option_to_list change.out ++ counted given))))) changed

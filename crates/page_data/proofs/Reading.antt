@@ -80,7 +80,7 @@ given_by given rest small =
     let front : take 8 ((count ++ given) ++ rest) ≡ count = ap (take 8) whole ∙ take_at count (given ++ rest) 8 refl in
     let behind : drop 8 ((count ++ given) ++ rest) ≡ given ++ rest = ap (drop 8) whole ∙ drop_at count (given ++ rest) 8 refl in
     let number : from_le_bytes w64 (take 8 ((count ++ given) ++ rest)) ≡ length given =
-        ap (from_le_bytes w64) front ∙ from_le_bytes-to_le_bytes_8 (length given) small in
+    ap (from_le_bytes w64) front ∙ from_le_bytes-to_le_bytes_8 (length given) small in
     ap (λ (n : ℕ). (take n (drop 8 ((count ++ given) ++ rest)), drop n (drop 8 ((count ++ given) ++ rest)))) number
     ∙ ap (λ (l : List ℕ). (take (length given) l, drop (length given) l)) behind
     ∙ ap (λ (l : List ℕ). (l, drop (length given) (given ++ rest))) (take_at given rest (length given) refl)
@@ -99,13 +99,29 @@ module _ (out takes control irq nmi given entry : Bool) where
 
   pub has_takes : has_bit 2 (signals_by out takes control irq nmi given entry) ≡ takes
   unfolding signals_by
-  has_takes = from_bit _ takes (omega (arith, bit_small out, bit_small takes, bit_small control, bit_small irq, bit_small nmi, bit_small given,
-      bit_small entry))
+  has_takes = from_bit _ takes (omega (
+    arith,
+    bit_small out,
+    bit_small takes,
+    bit_small control,
+    bit_small irq,
+    bit_small nmi,
+    bit_small given,
+    bit_small entry,
+  ))
 
   pub has_control : has_bit 4 (signals_by out takes control irq nmi given entry) ≡ control
   unfolding signals_by
-  has_control = from_bit _ control (omega (arith, bit_small out, bit_small takes, bit_small control, bit_small irq, bit_small nmi, bit_small given,
-      bit_small entry))
+  has_control = from_bit _ control (omega (
+    arith,
+    bit_small out,
+    bit_small takes,
+    bit_small control,
+    bit_small irq,
+    bit_small nmi,
+    bit_small given,
+    bit_small entry,
+  ))
 
   pub has_irq : has_bit 8 (signals_by out takes control irq nmi given entry) ≡ irq
   unfolding signals_by
@@ -117,13 +133,29 @@ module _ (out takes control irq nmi given entry : Bool) where
 
   pub has_given : has_bit 32 (signals_by out takes control irq nmi given entry) ≡ given
   unfolding signals_by
-  has_given = from_bit _ given (omega (arith, bit_small out, bit_small takes, bit_small control, bit_small irq, bit_small nmi, bit_small given,
-      bit_small entry))
+  has_given = from_bit _ given (omega (
+    arith,
+    bit_small out,
+    bit_small takes,
+    bit_small control,
+    bit_small irq,
+    bit_small nmi,
+    bit_small given,
+    bit_small entry,
+  ))
 
   pub has_entry : has_bit 64 (signals_by out takes control irq nmi given entry) ≡ entry
   unfolding signals_by
-  has_entry = from_bit _ entry (omega (arith, bit_small out, bit_small takes, bit_small control, bit_small irq, bit_small nmi, bit_small given,
-      bit_small entry))
+  has_entry = from_bit _ entry (omega (
+    arith,
+    bit_small out,
+    bit_small takes,
+    bit_small control,
+    bit_small irq,
+    bit_small nmi,
+    bit_small given,
+    bit_small entry,
+  ))
 
 -- ---- a record, part by part
 
@@ -238,7 +270,7 @@ change_again c rest small =
     ∙ ap (λ b. from_out first bytes c.reads c.stores (out_at b after_stores)) (has_out (is_some c.out) c.takes c.control c.irq c.nmi (is_any c.given) c.entry)
     ∙ ap (from_out first bytes c.reads c.stores) (out_again c.out after_out)
     ∙ ap (λ b. whole first bytes c.reads c.stores c.out (given_at b after_out))
-        (has_given (is_some c.out) c.takes c.control c.irq c.nmi (is_any c.given) c.entry)
+    (has_given (is_some c.out) c.takes c.control c.irq c.nmi (is_any c.given) c.entry)
     ∙ ap (whole first bytes c.reads c.stores c.out) (given_again c.given rest small.given)
     ∙ assembled c rest small
 

@@ -191,7 +191,7 @@ start_joined old a b c d e f g memory regs cycles taken out given lines ea eb ec
 
 pub start_pushed : (s : State) (old a b c d e f g : List ℕ) (taken : ℕ) → taken ≡ s.bus.taken
     → a ≡ old ++ pages 256 s.bus.memory → b ≡ a ++ registers_of s → c ≡ b ++ number s.cycles → d ≡ c ++ lines_of s ∷ [] → e ≡ d ++ number taken
-        → f ≡ e ++ listed s.bus.out → g ≡ f ++ listed s.bus.given
+    → f ≡ e ++ listed s.bus.out → g ≡ f ++ listed s.bus.given
     → g ≡ old ++ start_bytes s
 unfolding start_bytes
 start_pushed s old a b c d e f g taken is_taken ea eb ec ed ee ef eg =

@@ -177,7 +177,7 @@ patch_turns address bytes count s t made =
     let put = take count bytes in
     let bus = bus_with_patch address put s.bus in
     let by = patch_by (nat_lt 3 count) ((length put == 0) || nat_lt 3 (length put)) (nat_lt 65536 (address + length put))
-        (meets_port s.bus.map address put) s t bus made in
+    (meets_port s.bus.map address put) s t bus made in
     let keeps = patched_keeps put address s.bus in
     let room = patch_room (address + length put) by.1 in
     subst (λ (x : State). Turns [] (patched_from address count) s x) by.2 (record {
@@ -378,13 +378,13 @@ other_told e before s t start old new not_step made known grown room h =
     let change = event_change e s.current t in
     let whole : new ≡ old ++ bytes_of change = grown ∙ ap (λ c. old ++ bytes_of c) (change_same e before s.current t known) in
     let told = told_more start s.current t old s.earlier change (event_small e s.current t turns) (event_forth e s.current t turns)
-        (event_back e s.current t turns) h in
+    (event_back e s.current t turns) h in
     held_told start t s new room (subst (λ (l : List ℕ). Tells start l (s.earlier ++ s.current ∷ []) t) (sym whole) told.0)
 
 pub other_recorded : (e : Event) (before : Before) (s new : Session) (start : State) (bytes more : List ℕ) → is_step e ≡ false
     → (t : State) × (event_of s.current e ≡ Ok t) × (new ≡ with_state s t) → IsBefore before e s.current
     → more ≡ bytes ++ bytes_of (change_told e before new.current) → length s.earlier < s.history → Tells start bytes s.earlier s.current
-        → Tells start more new.earlier new.current
+    → Tells start more new.earlier new.current
 other_recorded e before s new start bytes more not_step made known grown room h =
     let now : new.current ≡ made.0 = ap (λ (u : Session). u.current) made.2 in
     let whole : more ≡ bytes ++ bytes_of (change_told e before made.0) = grown ∙ ap (λ (t : State). bytes ++ bytes_of (change_told e before t)) now in
@@ -412,7 +412,7 @@ step_told s new start more made tells room =
     let now : new.current ≡ made.0 = ap (λ (u : Session). u.current) made.2 in
     let stepped : step (with_input [] s.current) ≡ Ok new.current = step_made s.current made.0 made.1 ∙ sym (ap (λ (x : State). Ok x) now) in
     let all : Tells start more (s.earlier ++ s.current ∷ []) made.0 =
-        subst (λ (t : State). Tells start more (s.earlier ++ s.current ∷ []) t) now (tells stepped) in
+    subst (λ (t : State). Tells start more (s.earlier ++ s.current ∷ []) t) now (tells stepped) in
     subst (λ (u : Session). ToldTo start more u) (sym made.2) (held_told start made.0 s more room all)
 
 pub step_recorded : (e : Event) (s new : Session) (start : State) (more : List ℕ) → is_step e ≡ true → (t : State) × (event_of s.current e ≡ Ok t)
@@ -436,7 +436,7 @@ refused_led e s new fault h = h.1 ∙ sym (ap (if_led s) h.0)
 pub event_pushed : (e : Event) (before : Before) (t : State) (old a b c d eight : List ℕ) (x : ℕ) → a ≡ old ++ x ∷ []
     → x ≡ head (change_told e before t) → eight ≡ eight_of (change_told e before t)
     → b ≡ a ++ marks eight ∷ without_zeros eight → c ≡ b ++ flat_map cell (cells_after t.bus.memory before.cells.items)
-        → d ≡ c ++ counted (handed_by e) → d ≡ old ++ bytes_of (change_told e before t)
+    → d ≡ c ++ counted (handed_by e) → d ≡ old ++ bytes_of (change_told e before t)
 unfolding change_told bytes_of
 event_pushed e before t old a b c d eight x ea first changed eb ec ed =
     let change = change_told e before t in

@@ -18,7 +18,7 @@ twice x y z w a b e f = omega (arith, a, b, e, f)
 pub xor_again : (a b : ℕ) → bit_xor a (bit_xor a b) ≡ b
 xor_again a b = same_from_bits (bit_xor a (bit_xor a b)) b
     (λ i. twice (bit_at a i) (bit_at b i) (bit_at (bit_xor a b) i) (bit_at (bit_xor a (bit_xor a b)) i) (bit_at-lt a i) (bit_at-lt b i)
-        (bit_at_xor a b i) (bit_at_xor a (bit_xor a b) i))
+    (bit_at_xor a b i) (bit_at_xor a (bit_xor a b) i))
 
 pub xor_back : (a b : ℕ) → bit_xor b (bit_xor a b) ≡ a
 xor_back a b = ap (bit_xor b) (xor_comm a b) ∙ xor_again b a

@@ -24,7 +24,7 @@ pub one_longer : (text old : List ℕ) (address len : ℕ) (cells : List Bool) �
     → text ++ loaded_facts address len (drop address cells) ≡ old → text ++ loaded_facts (address + 1) (len + 1) (drop (address + 1) cells) ≡ old
 one_longer text old address len cells inside is h =
     ap (λ (l : List ℕ). text ++ l) (sym (ap (loaded_facts address len) (written_here cells address inside)
-        ∙ longer address len (is_written cells address) (drop (address + 1) cells) is)) ∙ h
+    ∙ longer address len (is_written cells address) (drop (address + 1) cells) is)) ∙ h
 
 -- One that was not ends it.
 pub one_ended : (text now old : List ℕ) (address len : ℕ) (cells : List Bool) → address < length cells → is_written cells address ≡ false
@@ -34,7 +34,7 @@ one_ended text now old address len cells inside is more h =
     ap (λ (l : List ℕ). l ++ loaded_facts (address + 1) 0 (drop (address + 1) cells)) more
     ∙ append_assoc text (stretch_fact address len) (loaded_facts (address + 1) 0 (drop (address + 1) cells))
     ∙ ap (λ (l : List ℕ). text ++ l) (sym (ap (loaded_facts address len) (written_here cells address inside)
-        ∙ ended address len (is_written cells address) (drop (address + 1) cells) is))
+    ∙ ended address len (is_written cells address) (drop (address + 1) cells) is))
     ∙ h
 
 -- At the end the last stretch is told.

@@ -41,7 +41,7 @@ one_record start s t given steps records old new h last step =
     let differs = step_differs given s t step.sound step.made in
     let told : Tells start records (map before_of steps) s = subst (Tells start records (map before_of steps)) last h.told in
     let more = told_more start s t records (map before_of steps) c (step_small given s t step.sound step.few step.made)
-        (leads_forth given s t differs) (leads_back given s t differs) told in
+    (leads_forth given s t differs) (leads_back given s t differs) told in
     record {
       changes = more.1 ∙ ap (λ (l : List Change). l ++ c ∷ []) h.changes ∙ sym (map_more change_in steps m);
       told = subst (λ (l : List State). Tells start (records ++ bytes_of c) l (last_of start (steps ++ m ∷ []))) (sym (map_more before_of steps m))

@@ -82,7 +82,7 @@ pub all_sent : (a b c : Option (List ℕ)) (bytes waiting : List ℕ) → IsSent
 all_sent a b c bytes waiting h small ends =
     let front = h.sent.sent in
     let joined : encode_of standard bytes ≡ encode_of standard front ++ encode_of standard waiting =
-        ap (encode_of standard) h.sent.parts ∙ encoded_joined front waiting h.sent.whole in (
+    ap (encode_of standard) h.sent.parts ∙ encoded_joined front waiting h.sent.whole in (
       subst (Appends a c) (sym joined) (Appends-trans a b c (encode_of standard front) (encode_of standard waiting) h.sent.appends ends),
       ap is_safe_text joined ∙ safe_both (encode_of standard front) (encode_of standard waiting) h.safe (encoded_safe waiting small),
     )

@@ -64,7 +64,7 @@ turn_left p =
     let line = line_for p.memo p.session.current p.input in
     let q = with_line line p in
     left_by (ending_here p.memo p.written (asks p.memo p.session.current) (came line) q.session.current) q (asks p.memo p.session.current) (came line)
-        (step q.session.current)
+    (step q.session.current)
 
 -- the line of a turn is what was read
 pub turn_line : (s t : Session) (k after : Known) (told rest : List ℕ) (ending : Option Ending)
@@ -94,7 +94,7 @@ turn_steps p t none is =
     let line = line_for p.memo p.session.current p.input in
     let q = with_line line p in
     stepped_to (ending_here p.memo p.written (asks p.memo p.session.current) (came line) q.session.current) q (asks p.memo p.session.current)
-        (came line) (step q.session.current) t none is
+    (came line) (step q.session.current) t none is
 
 -- ---- input that has room
 

@@ -147,8 +147,16 @@ refused_there : (pieces : List Part) (digits more : List ℕ) → AllByRecursion
     → (claim_of digits).sum ≢ (claim_of digits).checksum
     → FirstFault (front_of pieces ++ (59 ∷ digits ++ more)) BadChecksum (length (front_of pieces))
 refused_there pieces digits more each all wrong_sum =
-    record { pieces = pieces; rest = 59 ∷ digits ++ more; place = 0; spelled = refl; each = each; breaks =
-        (digits, more, refl, all, wrong_sum, refl); there = omega arith }
+    record {
+      pieces = pieces;
+      rest = 59 ∷ digits ++ more;
+      place = 0;
+      spelled = refl;
+      each = each;
+      breaks =
+          (digits, more, refl, all, wrong_sum, refl);
+      there = omega arith;
+    }
 
 -- a record of a text that denotes an image has the right checksum
 right_there : (pieces : List Part) (digits more : List ℕ) (cells : List (Option ℕ)) → AllByRecursion IsPiece pieces → AreAllDigits digits
@@ -159,7 +167,7 @@ right_there pieces digits more cells each all d =
       | inr ne ↦
           let text = front_of pieces ++ (59 ∷ digits ++ more) in
           absurd (not_both (sym (read_again text cells d) ∙ fault_again text BadChecksum (length (front_of pieces))
-              (refused_there pieces digits more each all ne)))
+          (refused_there pieces digits more each all ne)))
     ] where
       not_both : {A : Type 0} {x : A} {f : TapeFault} → Ok x ≡ Err f → ⊥
       not_both e = cc
@@ -184,7 +192,7 @@ then_wrong (a ∷ b ∷ digits) (suc (suc j)) d all two lt other right =
     let n = digit_value a * 16 + digit_value b in
     let len : length digits ≡ 2 * (4 + n) = omega (arith, all.1) in
     wrong_claim n (bytes_of_digits digits) (bytes_of_digits (set digits j d)) (length-bytes_of digits (4 + n) len)
-        (one_byte digits j d (4 + n) len (omega (arith, lt)) other) right
+    (one_byte digits j d (4 + n) len (omega (arith, lt)) other) right
 
 pub one_digit : OneDigitIsRefused
 one_digit text cells pieces digits more k d den spelled each all two lt hex other =

@@ -35,7 +35,7 @@ stored_front (b ∷ bytes) front n address h =
     let k : length (b ∷ bytes) + n ≡ suc (length bytes + n) = omega arith in
     let one : set (front ++ none (length (b ∷ bytes) + n)) address (Some b) ≡ (front ++ Some b ∷ []) ++ none (length bytes + n) =
     ap (λ m. set (front ++ none m) address (Some b)) k ∙ set_at front None (none (length bytes + n)) (Some b) address h
-        ∙ sym (append_assoc front (Some b ∷ []) (none (length bytes + n))) in
+    ∙ sym (append_assoc front (Some b ∷ []) (none (length bytes + n))) in
     ap (λ (x : List (Option ℕ)). with_bytes x (address + 1) bytes) one
     ∙ stored_front bytes (front ++ Some b ∷ []) n (address + 1) (omega (arith, length-append front (Some b ∷ [])))
     ∙ append_assoc front (Some b ∷ []) (some bytes ++ none n)

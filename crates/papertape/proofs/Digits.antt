@@ -40,7 +40,7 @@ length-bytes_of (high ∷ low ∷ digits) n len = let e = length-bytes_of digits
 pub value_small : (d : ℕ) → digit_value d ≤ 15
 value_small d =
     cond_both (leb 65 d && leb d 70) (Some (d - 55)) (cond (leb 97 d && leb d 102) (Some (d - 87)) (cond (leb 48 d && leb d 57) (Some (d - 48)) None))
-        (λ (o : Option ℕ). unwrap_or o 0 ≤ 15)
+    (λ (o : Option ℕ). unwrap_or o 0 ≤ 15)
     (λ e. let p = leb-true d 70 (and_parts (leb 65 d) (leb d 70) e).1 in omega (arith, p))
     (λ n. cond_both (leb 97 d && leb d 102) (Some (d - 87)) (cond (leb 48 d && leb d 57) (Some (d - 48)) None) (λ (o : Option ℕ). unwrap_or o 0 ≤ 15)
     (λ e. let p = leb-true d 102 (and_parts (leb 97 d) (leb d 102) e).1 in omega (arith, p))

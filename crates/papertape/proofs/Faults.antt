@@ -29,7 +29,7 @@ answer_run n s t rest e = ap (λ (r : Result Progress TapeFault). r >>= λ u. re
 answer_fault : (n : ℕ) (s : Progress) (rest more : List ℕ) (f : TapeFault) → run n s rest ≡ Err f → answer n s (rest ++ more) ≡ Err f
 answer_fault n s rest more f e =
     ap (λ (r : Result Progress TapeFault). r >>= λ u. result_at (n + length (rest ++ more)) u)
-        (run-append rest more n s ∙ ap (λ (r : Result Progress TapeFault). r >>= λ u. run (n + length rest) u more) e)
+    (run-append rest more n s ∙ ap (λ (r : Result Progress TapeFault). r >>= λ u. run (n + length rest) u more) e)
 
 -- some of the digits of a record
 few_run : (es : List ℕ) (n : ℕ) (s : Progress) → s.place ≡ Within → list_all is_hex_byte es ≡ true → length (s.digits ++ es) < needed (s.digits ++ es)
@@ -91,15 +91,19 @@ count_settled : (ds : List ℕ) (n count : ℕ) (s : Progress) → (claim_of ds)
     → (claim_of ds).address ≢ count → s.count ≡ min 65536 count
     → after_record (record s { place = Within; start = n }) (claim_of ds) ≡ fault_at kinds.BadCount n
 unfolding after_record
-count_settled ds n count s none same other e = rw (eq-eqb _ _ same, eq-eqb _ _ none, ne_eqb (claim_of ds).address s.count
-    (λ h. other (omega (arith, h, e, address_small ds)))) refl
+count_settled ds n count s none same other e = rw (
+  eq-eqb _ _ same,
+  eq-eqb _ _ none,
+  ne_eqb (claim_of ds).address s.count
+      (λ h. other (omega (arith, h, e, address_small ds))),
+) refl
 
 -- a byte that is refused, after what was read
 byte_fault : (n : ℕ) (s t : Progress) (front : List ℕ) (b : ℕ) (more : List ℕ) (f : TapeFault) → run n s front ≡ Ok t
     → step (n + length front) t b ≡ Err f → answer n s (front ++ b ∷ more) ≡ Err f
 byte_fault n s t front b more f r e =
     let one : run n s (front ++ b ∷ []) ≡ Err f = run-append front (b ∷ []) n s
-        ∙ ap (λ (x : Result Progress TapeFault). x >>= λ u. run (n + length front) u (b ∷ [])) r ∙ ap (λ (x : Result Progress TapeFault). x >>= λ u. Ok u) e in
+    ∙ ap (λ (x : Result Progress TapeFault). x >>= λ u. run (n + length front) u (b ∷ [])) r ∙ ap (λ (x : Result Progress TapeFault). x >>= λ u. Ok u) e in
     ap (answer n s) (sym (append_assoc front (b ∷ []) more)) ∙ answer_fault n s (front ++ b ∷ []) more f one
 
 breaks_answer : (kind : TapeFaultKind) (n count : ℕ) (s : Progress) (rest : List ℕ) (place : ℕ) → s.place ≡ Between → s.count ≡ min 65536 count
@@ -108,32 +112,32 @@ breaks_answer kinds.NoRecord n count s rest place b c (none, e, z) =
     ap (answer n s) e ∙ ap (λ k. result_at k s) (omega arith) ∙ finished_none (n + place) s b (omega (arith, c, none))
 breaks_answer kinds.JunkBetween n count s rest place b c (x, more, e, k, h, z) =
     ap (answer n s) e ∙ answer_fault n s (x ∷ []) more (record { offset = n; kind = kinds.JunkBetween })
-        (ap (λ (r : Result Progress TapeFault). r >>= λ u. Ok u) (junk_step n x s b h k)) ∙ ap (fault kinds.JunkBetween) (omega arith)
+    (ap (λ (r : Result Progress TapeFault). r >>= λ u. Ok u) (junk_step n x s b h k)) ∙ ap (fault kinds.JunkBetween) (omega arith)
 breaks_answer kinds.BadHex n count s rest place b c (ds, x, more, e, few, h, z) =
     ap (answer n s) e ∙ byte_fault n s _ (59 ∷ ds) x more (record { offset = n + length (59 ∷ ds); kind = kinds.BadHex }) (begin_run ds n s b few)
-        (hex_step (n + length (59 ∷ ds)) x (record s { place = Within; start = n; digits = ds }) refl h) ∙ ap (fault kinds.BadHex) (omega arith)
+    (hex_step (n + length (59 ∷ ds)) x (record s { place = Within; start = n; digits = ds }) refl h) ∙ ap (fault kinds.BadHex) (omega arith)
 breaks_answer kinds.Truncated n count s rest place b c (inl (some, e, z)) =
     ap (answer n s) e ∙ ap (λ k. result_at k s) (omega arith) ∙ finished_some (n + place) s b (λ h. some (omega (arith, h, c)))
 breaks_answer kinds.Truncated n count s rest place b c (inr (ds, e, few, z)) =
     ap (answer n s) e ∙ answer_run n s (record s { place = Within; start = n; digits = ds }) (59 ∷ ds) (begin_run ds n s b few)
-        ∙ finished_Within (n + length (59 ∷ ds)) (record s { place = Within; start = n; digits = ds }) refl ∙ ap (fault kinds.Truncated) (omega arith)
+    ∙ finished_Within (n + length (59 ∷ ds)) (record s { place = Within; start = n; digits = ds }) refl ∙ ap (fault kinds.Truncated) (omega arith)
 breaks_answer kinds.BadChecksum n count s rest place b c (ds, more, e, all, h, z) =
     ap (answer n s) e ∙ answer_fault n s (59 ∷ ds) more (record { offset = n; kind = kinds.BadChecksum })
-        (record_run ds n s b all ∙ sum_settled ds n s h) ∙ ap (fault kinds.BadChecksum) (omega arith)
+    (record_run ds n s b all ∙ sum_settled ds n s h) ∙ ap (fault kinds.BadChecksum) (omega arith)
 breaks_answer kinds.PastEnd n count s rest place b c (ds, more, e, all, some, same, far, z) =
     ap (answer n s) e ∙ answer_fault n s (59 ∷ ds) more (record { offset = n; kind = kinds.PastEnd })
-        (record_run ds n s b all ∙ past_settled ds n s some same far) ∙ ap (fault kinds.PastEnd) (omega arith)
+    (record_run ds n s b all ∙ past_settled ds n s some same far) ∙ ap (fault kinds.PastEnd) (omega arith)
 breaks_answer kinds.BadCount n count s rest place b c (ds, more, e, all, none, same, other, z) =
     ap (answer n s) e ∙ answer_fault n s (59 ∷ ds) more (record { offset = n; kind = kinds.BadCount })
-        (record_run ds n s b all ∙ count_settled ds n count s none same other c) ∙ ap (fault kinds.BadCount) (omega arith)
+    (record_run ds n s b all ∙ count_settled ds n count s none same other c) ∙ ap (fault kinds.BadCount) (omega arith)
 breaks_answer kinds.JunkAfterEnd n count s rest place b c (ds, tail, x, more, e, end, skipped, k, z) =
     let t : Progress = record s { place = After; start = n; digits = [] } in
     let ended : run n s (59 ∷ ds) ≡ Ok t = record_run ds n s b end.all ∙ end_settled ds count n s end c in
     let behind : run n s (59 ∷ (ds ++ tail)) ≡ Ok t = run-append (59 ∷ ds) tail n s
-        ∙ ap (λ (r : Result Progress TapeFault). r >>= λ u. run (n + length (59 ∷ ds)) u tail) ended ∙ tail_run tail (n + length (59 ∷ ds)) t refl skipped in
+    ∙ ap (λ (r : Result Progress TapeFault). r >>= λ u. run (n + length (59 ∷ ds)) u tail) ended ∙ tail_run tail (n + length (59 ∷ ds)) t refl skipped in
     ap (answer n s) (e ∙ ap (λ (y : List ℕ). 59 ∷ y) (sym (append_assoc ds tail (x ∷ more))))
     ∙ byte_fault n s t (59 ∷ (ds ++ tail)) x more (record { offset = n + length (59 ∷ (ds ++ tail)); kind = kinds.JunkAfterEnd }) behind
-        (after_step (n + length (59 ∷ (ds ++ tail))) x t refl k)
+    (after_step (n + length (59 ∷ (ds ++ tail))) x t refl k)
     ∙ ap (fault kinds.JunkAfterEnd) (omega (arith, length-append ds tail))
 breaks_answer kinds.OutOfMemory n count s rest place b c h = absurd h
 breaks_answer kinds.TooLong n count s rest place b c h = absurd h
@@ -145,7 +149,7 @@ fault_again text kind offset f =
     let n = length (front_of f.pieces) in
     let ran : run 0 start text ≡ run n l.state f.rest =
     ap (run 0 start) f.spelled ∙ run-append (front_of f.pieces) f.rest 0 start
-        ∙ ap (λ (r : Result Progress TapeFault). r >>= λ u. run (0 + n) u f.rest) l.ran ∙ ap (λ k. run k l.state f.rest) (omega arith) in
+    ∙ ap (λ (r : Result Progress TapeFault). r >>= λ u. run (0 + n) u f.rest) l.ran ∙ ap (λ k. run k l.state f.rest) (omega arith) in
     let len : length text ≡ n + length f.rest = ap length f.spelled ∙ length-append (front_of f.pieces) f.rest in
     ap (λ (r : Result Progress TapeFault). r >>= λ u. result_at (length text) u) ran
     ∙ ap (λ k. run n l.state f.rest >>= λ u. result_at k u) len

@@ -80,8 +80,16 @@ settled_sound text s b digits pieces front at spelled all =
     let whole : (more : List ℕ) → text ++ b ∷ more ≡ front_of pieces ++ (59 ∷ (digits ++ more)) =
     λ more. sym (append_assoc text (b ∷ []) more) ∙ ap (λ (t : List ℕ). t ++ more) spelled ∙ append_assoc (front_of pieces) (59 ∷ digits) more in
     elim (cases_Bool (c.sum == c.checksum)) [
-      | inr e ↦ rw e (λ more. record { pieces = pieces; rest = 59 ∷ (digits ++ more); place = 0; spelled = whole more; each = front.each; breaks =
-          (digits, more, refl, all, eqb-false _ _ e, refl); there = omega (arith, at) })
+      | inr e ↦ rw e (λ more. record {
+        pieces = pieces;
+        rest = 59 ∷ (digits ++ more);
+        place = 0;
+        spelled = whole more;
+        each = front.each;
+        breaks =
+            (digits, more, refl, all, eqb-false _ _ e, refl);
+        there = omega (arith, at);
+      })
       | inl e ↦
           let same = eqb-true _ _ e in
           rw e (elim (cases_Bool (c.length == 0)) [
@@ -90,12 +98,36 @@ settled_sound text s b digits pieces front at spelled all =
                 rw z (elim (cases_Bool (c.address == s.count)) [
                   | inl k ↦
                       let counted : c.address ≡ count_of pieces = omega (arith, eqb-true _ _ k, front.count, address_small digits) in
-                      rw k (pieces, record { each = front.each; cells = front.cells; count = front.count }, digits, [], spelled
-                          ∙ ap (λ (t : List ℕ). front_of pieces ++ (59 ∷ t)) (sym (append-nil digits)), record
-                          { all = all; none = none; checked = same; counted = counted }, refl)
-                  | inr k ↦ rw k (λ more. record { pieces = pieces; rest = 59 ∷ (digits ++ more); place = 0; spelled = whole more; each =
-                      front.each; breaks = (digits, more, refl, all, none, same,
-                      (λ h. eqb-false _ _ k (omega (arith, h, front.count, address_small digits))), refl); there = omega (arith, at) })
+                      rw k (
+                        pieces,
+                        record { each = front.each; cells = front.cells; count = front.count },
+                        digits,
+                        [],
+                        spelled
+                            ∙ ap (λ (t : List ℕ). front_of pieces ++ (59 ∷ t)) (sym (append-nil digits)),
+                        record
+                            { all = all; none = none; checked = same; counted = counted },
+                        refl,
+                      )
+                  | inr k ↦ rw k (λ more. record {
+                    pieces = pieces;
+                    rest = 59 ∷ (digits ++ more);
+                    place = 0;
+                    spelled = whole more;
+                    each =
+                        front.each;
+                    breaks = (
+                      digits,
+                      more,
+                      refl,
+                      all,
+                      none,
+                      same,
+                      (λ h. eqb-false _ _ k (omega (arith, h, front.count, address_small digits))),
+                      refl,
+                    );
+                    there = omega (arith, at);
+                  })
                 ])
             | inr z ↦
                 let some : 0 < c.length = omega (arith, eqb-false _ _ z) in
@@ -112,8 +144,16 @@ settled_sound text s b digits pieces front at spelled all =
                         spelled ∙ sym (front_of-push pieces (record_of digits)),
                         refl,
                       )
-                  | inr k ↦ rw k (λ more. record { pieces = pieces; rest = 59 ∷ (digits ++ more); place = 0; spelled = whole more; each =
-                      front.each; breaks = (digits, more, refl, all, some, same, leb-false _ _ k, refl); there = omega (arith, at) })
+                  | inr k ↦ rw k (λ more. record {
+                    pieces = pieces;
+                    rest = 59 ∷ (digits ++ more);
+                    place = 0;
+                    spelled = whole more;
+                    each =
+                        front.each;
+                    breaks = (digits, more, refl, all, some, same, leb-false _ _ k, refl);
+                    there = omega (arith, at);
+                  })
                 ])
           ])
     ]
@@ -136,8 +176,14 @@ step_in_sound text s b Between place (pieces, front, spelled, none) =
     elim (cases_Bool (b == 59)) [
       | inl t ↦
           let e : b ≡ 59 = eqb-true _ _ t in
-          rw t (pieces, record { each = front.each; cells = front.cells; count = front.count }, ap (λ (x : List ℕ). x ++ b ∷ []) spelled
-              ∙ ap (λ (x : ℕ). front_of pieces ++ x ∷ []) e, (refl, omega arith), ap length spelled)
+          rw t (
+            pieces,
+            record { each = front.each; cells = front.cells; count = front.count },
+            ap (λ (x : List ℕ). x ++ b ∷ []) spelled
+                ∙ ap (λ (x : ℕ). front_of pieces ++ x ∷ []) e,
+            (refl, omega arith),
+            ap length spelled,
+          )
       | inr f ↦ rw f (elim (cases_Bool (is_skipped b)) [
         | inl k ↦ rw k (rw place (
           pieces ++ gap b ∷ [],
@@ -149,8 +195,16 @@ step_in_sound text s b Between place (pieces, front, spelled, none) =
           ap (λ (x : List ℕ). x ++ b ∷ []) spelled ∙ sym (front_of-push pieces (gap b)),
           none,
         ))
-        | inr k ↦ rw k (λ more. record { pieces = pieces; rest = b ∷ more; place = 0; spelled = ap (λ (x : List ℕ). x ++ b ∷ more) spelled; each =
-            front.each; breaks = (b, more, refl, k, eqb-false _ _ f, refl); there = omega (arith, ap length spelled) })
+        | inr k ↦ rw k (λ more. record {
+          pieces = pieces;
+          rest = b ∷ more;
+          place = 0;
+          spelled = ap (λ (x : List ℕ). x ++ b ∷ more) spelled;
+          each =
+              front.each;
+          breaks = (b, more, refl, k, eqb-false _ _ f, refl);
+          there = omega (arith, ap length spelled);
+        })
       ])
     ]
 step_in_sound text s b Within place (pieces, front, spelled, few, at) =
@@ -169,10 +223,18 @@ step_in_sound text s b Within place (pieces, front, spelled, few, at) =
 step_in_sound text s b After place (pieces, front, digits, tail, spelled, end, skipped) =
     let whole : (more : List ℕ) → text ++ b ∷ more ≡ front_of pieces ++ (59 ∷ (digits ++ (tail ++ b ∷ more))) =
     λ more. ap (λ (x : List ℕ). x ++ b ∷ more) spelled ∙ append_assoc (front_of pieces) (59 ∷ (digits ++ tail)) (b ∷ more)
-        ∙ ap (λ (x : List ℕ). front_of pieces ++ (59 ∷ x)) (append_assoc digits tail (b ∷ more)) in
+    ∙ ap (λ (x : List ℕ). front_of pieces ++ (59 ∷ x)) (append_assoc digits tail (b ∷ more)) in
     elim (cases_Bool (is_skipped b)) [
-      | inl k ↦ rw k (rw place (pieces, record { each = front.each; cells = front.cells; count = front.count }, digits, tail ++ b
-          ∷ [], whole [], end, list_all-append is_skipped tail (b ∷ []) skipped (and_from (is_skipped b) true k refl)))
+      | inl k ↦ rw k (rw place (
+        pieces,
+        record { each = front.each; cells = front.cells; count = front.count },
+        digits,
+        tail ++ b
+            ∷ [],
+        whole [],
+        end,
+        list_all-append is_skipped tail (b ∷ []) skipped (and_from (is_skipped b) true k refl),
+      ))
       | inr k ↦ rw k (λ more. record {
         pieces = pieces;
         rest = 59 ∷ (digits ++ (tail ++ b ∷ more));
@@ -201,13 +263,13 @@ unfolding step
 run_sound [] text s h = rw append-nil h
 run_sound (b ∷ rest) text s h = go (λ t k. run_sound rest (text ++ b ∷ []) t k) (step_in (length text) s b s.place)
     (step_in_sound text s b s.place refl h) where
-  go : ((t : Progress) → Reached (text ++ b ∷ []) t t.place → SoundRun (text ++ b ∷ []) rest (run (length (text ++ b ∷ [])) t rest))
-      → (r : Result Progress TapeFault) → Sound text b r → SoundRun text (b ∷ rest) (r >>= λ t. run (length text + 1) t rest)
-  go next (Err f) k = k rest
-  go next (Ok t) k =
-      let len : length (text ++ b ∷ []) ≡ length text + 1 = length-append text (b ∷ []) in
-      let same : (text ++ b ∷ []) ++ rest ≡ text ++ (b ∷ rest) = append_assoc text (b ∷ []) rest in
-      moved rest text b t same (rw len at (next t k))
+      go : ((t : Progress) → Reached (text ++ b ∷ []) t t.place → SoundRun (text ++ b ∷ []) rest (run (length (text ++ b ∷ [])) t rest))
+          → (r : Result Progress TapeFault) → Sound text b r → SoundRun text (b ∷ rest) (r >>= λ t. run (length text + 1) t rest)
+      go next (Err f) k = k rest
+      go next (Ok t) k =
+          let len : length (text ++ b ∷ []) ≡ length text + 1 = length-append text (b ∷ []) in
+          let same : (text ++ b ∷ []) ++ rest ≡ text ++ (b ∷ rest) = append_assoc text (b ∷ []) rest in
+          moved rest text b t same (rw len at (next t k))
 
 abbrev pub SoundRead : List ℕ → Result (List (Option ℕ)) TapeFault → Type 0
 SoundRead text (Ok cells) = TapeDenotes text cells
@@ -219,14 +281,38 @@ none_min n m e z = omega arith
 finished_sound : (text : List ℕ) (s : Progress) (p : Place) → Reached text s p → SoundRead text (result_in (length text) s p)
 finished_sound text s Between (pieces, front, spelled, none) =
     elim (cases_Bool (s.count == 0)) [
-      | inl t ↦ rw t (record { pieces = pieces; rest = []; place = 0; spelled = spelled ∙ sym (append-nil (front_of pieces)); each =
-          front.each; breaks = (none_min _ _ front.count (eqb-true _ _ t), refl, refl); there = omega (arith, ap length spelled) })
-      | inr f ↦ rw f (record { pieces = pieces; rest = []; place = 0; spelled = spelled ∙ sym (append-nil (front_of pieces)); each =
-          front.each; breaks = inl ((λ z. eqb-false _ _ f (omega (arith, front.count, z))), refl, refl); there = omega (arith, ap length spelled) })
+      | inl t ↦ rw t (record {
+        pieces = pieces;
+        rest = [];
+        place = 0;
+        spelled = spelled ∙ sym (append-nil (front_of pieces));
+        each =
+            front.each;
+        breaks = (none_min _ _ front.count (eqb-true _ _ t), refl, refl);
+        there = omega (arith, ap length spelled);
+      })
+      | inr f ↦ rw f (record {
+        pieces = pieces;
+        rest = [];
+        place = 0;
+        spelled = spelled ∙ sym (append-nil (front_of pieces));
+        each =
+            front.each;
+        breaks = inl ((λ z. eqb-false _ _ f (omega (arith, front.count, z))), refl, refl);
+        there = omega (arith, ap length spelled);
+      })
     ]
 finished_sound text s Within (pieces, front, spelled, few, at) =
-    record { pieces = pieces; rest = 59 ∷ s.digits; place = 1 + length s.digits; spelled = spelled; each = front.each; breaks =
-        inr (s.digits, refl, few, refl); there = omega (arith, ap length spelled, length-append (front_of pieces) (59 ∷ s.digits)) }
+    record {
+      pieces = pieces;
+      rest = 59 ∷ s.digits;
+      place = 1 + length s.digits;
+      spelled = spelled;
+      each = front.each;
+      breaks =
+          inr (s.digits, refl, few, refl);
+      there = omega (arith, ap length spelled, length-append (front_of pieces) (59 ∷ s.digits));
+    }
 finished_sound text s After (pieces, front, digits, tail, spelled, end, skipped) =
     record { pieces = pieces; digits = digits; tail = tail; spelled = spelled; each = front.each; end = end; rest = skipped; union = front.cells }
 

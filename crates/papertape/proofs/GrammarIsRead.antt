@@ -49,7 +49,7 @@ pub digits_run : (es : List ℕ) (b offset : ℕ) (s : Progress) → s.place ≡
     → run offset s (b ∷ es) ≡ after_record s (claim_of (s.digits ++ b ∷ es))
 digits_run [] b offset s place hexes len =
     ap (λ (r : Result Progress TapeFault). r >>= λ t. Ok t) (step_last offset b s place (and_parts (is_hex_byte b) true hexes).0 (omega (arith, len)))
-        ∙ bind-Ok _
+    ∙ bind-Ok _
 digits_run (c ∷ es) b offset s place hexes len =
     let h = and_parts (is_hex_byte b) (list_all is_hex_byte (c ∷ es)) hexes in
     let t : Progress = record s { digits = s.digits ++ b ∷ [] } in
@@ -89,8 +89,14 @@ tail_run (b ∷ tail) offset s place h =
 
 -- the state after a data record
 abbrev after_data : ℕ → Progress → List ℕ → Progress
-after_data offset s ds = record { cells = with_bytes s.cells (claim_of ds).address (claim_of ds).bytes; count = next_count s.count; place =
-    Between; start = offset; digits = [] }
+after_data offset s ds = record {
+  cells = with_bytes s.cells (claim_of ds).address (claim_of ds).bytes;
+  count = next_count s.count;
+  place =
+      Between;
+  start = offset;
+  digits = [];
+}
 
 data_settled : (ds : List ℕ) (offset : ℕ) (s : Progress) → IsData ds
     → after_record (record s { place = Within; start = offset }) (claim_of ds) ≡ Ok (after_data offset s ds)
@@ -100,8 +106,12 @@ data_settled ds offset s h = rw (eq-eqb _ _ h.checked, ne_eqb (claim_of ds).leng
 pub end_settled : (ds : List ℕ) (count offset : ℕ) (s : Progress) → IsEnd count ds → s.count ≡ min 65536 count
     → after_record (record s { place = Within; start = offset }) (claim_of ds) ≡ Ok (record s { place = After; start = offset; digits = [] })
 unfolding after_record
-end_settled ds count offset s h e = rw (eq-eqb _ _ h.checked, eq-eqb _ _ h.none, eq-eqb (claim_of ds).address s.count
-    (omega (arith, h.counted, e, address_small ds))) refl
+end_settled ds count offset s h e = rw (
+  eq-eqb _ _ h.checked,
+  eq-eqb _ _ h.none,
+  eq-eqb (claim_of ds).address s.count
+      (omega (arith, h.counted, e, address_small ds)),
+) refl
 
 -- where pieces lead
 pub record Led (offset : ℕ) (s : Progress) (pieces : List Part) (n : ℕ) : Type 0 where
@@ -130,7 +140,7 @@ front_run (record_of ds ∷ pieces) offset s n each place count =
       state = l.state;
       ran = run-append (59 ∷ ds) (front_of pieces) offset s
           ∙ ap (λ (r : Result Progress TapeFault). r >>= λ u. run (offset + length (59 ∷ ds)) u (front_of pieces))
-              (record_run ds offset s place each.0.all ∙ data_settled ds offset s each.0)
+          (record_run ds offset s place each.0.all ∙ data_settled ds offset s each.0)
           ∙ l.ran;
       place = l.place;
       cells = l.cells;
@@ -148,10 +158,10 @@ read_again text cells d =
     let n = 0 + length (front_of d.pieces) in
     let s : Progress = record l.state { place = After; start = n; digits = [] } in
     let ended : run n l.state (59 ∷ d.digits) ≡ Ok s = record_run d.digits n l.state l.place d.end.all
-        ∙ end_settled d.digits (count_of d.pieces) n l.state d.end (omega (arith, l.count)) in
+    ∙ end_settled d.digits (count_of d.pieces) n l.state d.end (omega (arith, l.count)) in
     let behind : run n l.state (59 ∷ d.digits ++ d.tail) ≡ Ok s =
     run-append (59 ∷ d.digits) d.tail n l.state ∙ ap (λ (r : Result Progress TapeFault). r >>= λ u. run (n + length (59 ∷ d.digits)) u d.tail) ended
-        ∙ tail_run d.tail (n + length (59 ∷ d.digits)) s refl d.rest in
+    ∙ tail_run d.tail (n + length (59 ∷ d.digits)) s refl d.rest in
     let all : run 0 start text ≡ Ok s =
     ap (run 0 start) d.spelled ∙ run-append (front_of d.pieces) (59 ∷ d.digits ++ d.tail) 0 start
     ∙ ap (λ (r : Result Progress TapeFault). r >>= λ u. run n u (59 ∷ d.digits ++ d.tail)) l.ran ∙ behind in

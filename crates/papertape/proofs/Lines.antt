@@ -19,8 +19,14 @@ bytes_of-encode (b ∷ bs) h =
     rw (hi, lo, bytes_of-encode bs h.1) (ap (λ x. x ∷ bs) (omega arith))
 
 pub claim_line : (n hi lo : ℕ) (bs : List ℕ) → n ≡ length bs
-    → claim_in (with_sum (n ∷ hi ∷ lo ∷ bs)) ≡ record { length = n; address = hi * 256 + lo; bytes = bs; sum =
-        sum (n ∷ hi ∷ lo ∷ bs) % 65536; checksum = sum (n ∷ hi ∷ lo ∷ bs) % 65536 / 256 * 256 + sum (n ∷ hi ∷ lo ∷ bs) % 65536 % 256 }
+    → claim_in (with_sum (n ∷ hi ∷ lo ∷ bs)) ≡ record {
+      length = n;
+      address = hi * 256 + lo;
+      bytes = bs;
+      sum =
+          sum (n ∷ hi ∷ lo ∷ bs) % 65536;
+      checksum = sum (n ∷ hi ∷ lo ∷ bs) % 65536 / 256 * 256 + sum (n ∷ hi ∷ lo ∷ bs) % 65536 % 256;
+    }
 claim_line n hi lo bs e =
     let s = sum (n ∷ hi ∷ lo ∷ bs) % 65536 in
     let x = s / 256 in
@@ -29,5 +35,5 @@ claim_line n hi lo bs e =
     let four : 4 + n ≡ suc (suc (suc (suc n))) = omega arith in
     let last : slice_index (bs ++ x ∷ y ∷ []) (suc n) ≡ y =
     ap (λ (t : List ℕ). slice_index t (suc n)) (sym (append_assoc bs (x ∷ []) (y ∷ [])))
-        ∙ get_or_at (bs ++ x ∷ []) y [] 0 (suc n) (omega (arith, e, length-append bs (x ∷ []))) in
+    ∙ get_or_at (bs ++ x ∷ []) y [] 0 (suc n) (omega (arith, e, length-append bs (x ∷ []))) in
     rw (three, four, take_at bs (x ∷ y ∷ []) n (sym e), get_or_at bs x (y ∷ []) 0 n (sym e), last) refl

@@ -20,7 +20,7 @@ pushed held b n digits len h hex e lt =
     let t : take (held + 1) (set digits held b) ≡ take held digits ++ b ∷ [] = take_more_set digits held b below in
     let small = needed_small (take (held + 1) (set digits held b)) in
     let count : length (take (held + 1) (set digits held b)) ≡ held + 1 =
-        length-take-le (held + 1) (set digits held b) (omega (arith, length-set digits held b)) in
+    length-take-le (held + 1) (set digits held b) (omega (arith, length-set digits held b)) in
     record {
       room = omega (arith, small);
       few = (
@@ -36,7 +36,7 @@ unfolding with_digit after_record
 digit_done held b digits s claim e below le c =
     let t : take (held + 1) (set digits held b) ≡ s.digits ++ b ∷ [] = take_more_set digits held b below ∙ ap (λ (ds : List ℕ). ds ++ b ∷ []) (sym e) in
     let count : length (take (held + 1) (set digits held b)) ≡ held + 1 =
-        length-take-le (held + 1) (set digits held b) (omega (arith, length-set digits held b)) in
+    length-take-le (held + 1) (set digits held b) (omega (arith, length-set digits held b)) in
     let ge : needed (s.digits ++ b ∷ []) ≤ length (s.digits ++ b ∷ []) = rw (← t) (omega (arith, count)) in
     ap (λ (x : Claim). after_record s x) (c ∙ ap claim_of t)
-        ∙ sym (cond-false (ltb (length (s.digits ++ b ∷ [])) (needed (s.digits ++ b ∷ []))) _ (after_record s (claim_of (s.digits ++ b ∷ []))) (le-ltb _ _ ge))
+    ∙ sym (cond-false (ltb (length (s.digits ++ b ∷ [])) (needed (s.digits ++ b ∷ []))) _ (after_record s (claim_of (s.digits ++ b ∷ []))) (le-ltb _ _ ge))

@@ -35,7 +35,7 @@ goes_on front e = (short, λ fault tells. not_said fault (ap answer_of (sym ((to
 pub refused_already : (front : List ℕ) (fault : TapeFault) → fed nothing_fed front ≡ Err fault → IsRefusedAlready front fault
 refused_already front fault e =
     λ more. (refused_in_pieces (front ++ more) fault).0 (ap end_of_feeding (fed-append longest front more nothing_fed)
-        ∙ ap (λ (s : Fed). end_of_feeding (fed s more)) e ∙ ap end_of_feeding (fed-Err longest more fault))
+    ∙ ap (λ (s : Fed). end_of_feeding (fed s more)) e ∙ ap end_of_feeding (fed-Err longest more fault))
 
 still : (a b c : Option (List ℕ)) (front : List ℕ) → Consumes a b front → Consumes b c [] → Consumes a c front
 still a b c front p q = subst (Consumes a c) (append-nil front) (Consumes-trans a b c front [] p q)
@@ -48,7 +48,7 @@ reads_nothing a (Err e) f h memory = subst (λ (x : TapeReadFault). Reads a a (f
 
 pub reads_refused : (a b c : Option (List ℕ)) (answer : Answer) (f : TapeFault) (front bytes : List ℕ) (reader : Fed) → IsErrAnd answer (λ e. e ≡ Tape f)
     → Consumes a b front → Consumes b c bytes → length bytes ≤ 4096 → reader ≡ fed nothing_fed front → answer_of reader ≡ said_ok
-        → fed reader bytes ≡ Err f → Reads a c answer
+    → fed reader bytes ≡ Err f → Reads a c answer
 reads_refused a b c (Ok image) f front bytes reader h p q short same on refused = absurd h
 reads_refused a b c (Err e) f front bytes reader h p q short same on refused =
     subst (λ (x : TapeReadFault). Reads a c (failed x)) (sym h) (

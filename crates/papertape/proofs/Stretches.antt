@@ -115,7 +115,7 @@ cut (suc most) address (b ∷ bytes) h =
     ∙ ap (λ a. (a, b ∷ take 23 bytes) ∷ map (λ k. piece_of_run (address, b ∷ bytes) k) (range_with_len 1 n)) start
     ∙ ap (λ (ps : List Stretch). (address, b ∷ take 23 bytes) ∷ ps)
     (shifted address (b ∷ bytes) n 0 ∙ cut most (address + 24) left (omega (arith, long, h)) ∙ ap (λ a. pieces_after 0 a left) there
-        ∙ sym (skipped 23 (address + 1) bytes))
+    ∙ sym (skipped 23 (address + 1) bytes))
 
 pub pieces_are : (rs : List Stretch) → flat_map pieces_of_run rs ≡ flat_map pieces_within rs
 pieces_are [] = refl

@@ -62,7 +62,7 @@ record_text n number check bytes a b c d e f sum_is hb hc hd he hf =
     let s = sum (n ∷ word number ++ bytes) % 65536 in
     let sum_same : check ≡ s = sum_is ∙ ap (λ (k : ℕ). k % 65536) (sym (record_sum n number bytes)) in
     let digits : encode_upper (n ∷ []) ++ (encode_upper (word number) ++ (encode_upper bytes ++ encode_upper (word s)))
-        ≡ encode_upper (with_sum (n ∷ word number ++ bytes)) =
+    ≡ encode_upper (with_sum (n ∷ word number ++ bytes)) =
     ap (λ (t : List ℕ). encode_upper (n ∷ []) ++ (encode_upper (word number) ++ t)) (sym (encode-append bytes (word s)))
     ∙ ap (λ (t : List ℕ). encode_upper (n ∷ []) ++ t) (sym (encode-append (word number) (bytes ++ word s)))
     ∙ sym (encode-append (n ∷ []) (word number ++ (bytes ++ word s))) in
@@ -80,10 +80,10 @@ ended (Ok u) f g t h k = h ∙ k
 -- no piece is left
 pub text_done : (cells : List (Option ℕ)) (out new : List ℕ) (from count : ℕ) → IsNext cells from None
     → out ++ flat_map data_line (cuts from 0 (drop from cells)) ≡ flat_map data_line (cuts 0 0 cells)
-        → count + length (cuts from 0 (drop from cells)) ≡ length (cuts 0 0 cells)
+    → count + length (cuts from 0 (drop from cells)) ≡ length (cuts 0 0 cells)
     → new ≡ out ++ end_line count → new ≡ tape_text cells
 text_done cells out new from count none text number e =
     let all : out ≡ flat_map data_line (cuts 0 0 cells) = sym (append-nil out)
-        ∙ ap (λ (ps : List (ℕ × List ℕ)). out ++ flat_map data_line ps) (sym none) ∙ text in
+    ∙ ap (λ (ps : List (ℕ × List ℕ)). out ++ flat_map data_line ps) (sym none) ∙ text in
     let every : count ≡ length (cuts 0 0 cells) = omega (arith, number, ap length none) in
     e ∙ ap (λ (t : List ℕ). t ++ end_line count) all ∙ ap (λ (k : ℕ). flat_map data_line (cuts 0 0 cells) ++ end_line k) every ∙ ap cut_text (cuts_pieces cells)

@@ -70,7 +70,7 @@ read_failed : (text more : List ℕ) (f : TapeFault) → run 0 start text ≡ Er
 unfolding read_of
 read_failed text more f e =
     ap (λ (r : Run). r >>= λ u. result_at (length (text ++ more)) u)
-        (run-append text more 0 start ∙ ap (λ (r : Run). r >>= λ u. run (0 + length text) u more) e)
+    (run-append text more 0 start ∙ ap (λ (r : Run). r >>= λ u. run (0 + length text) u more) e)
 
 read_went_on : (text : List ℕ) (s : Progress) → run 0 start text ≡ Ok s → read_of text ≡ result_at (length text) s
 unfolding read_of
@@ -125,17 +125,17 @@ tells_not text f s After place h e =
     not_both (read_of text) s.cells f (read_went_on text s e ∙ finished_is (length text) s After place) (told_now text f h)
 tells_not text f s Within place h e =
     let now = same_fault (read_of text) (at kinds.Truncated (length text)) f (read_went_on text s e ∙ finished_is (length text) s Within place)
-        (told_now text f h) in
+    (told_now text f h) in
     let then = same_fault (read_of (text ++ 71 ∷ [])) (at kinds.BadHex (length text)) f
     (read_one text 71 s e ∙ ap (λ (r : Run). (r >>= λ t. Ok t) >>= λ u. result_at (length (text ++ 71 ∷ [])) u) (bad_digit (length text) s place))
-        (told_again text (71 ∷ []) f h) in
+    (told_again text (71 ∷ []) f h) in
     not_hex f (length text) (length text) now then
 tells_not text f s Between place h e =
     let now = offset_between (length text) s f (sym (finished_is (length text) s Between place) ∙ sym (read_went_on text s e) ∙ told_now text f h) in
     let more = length (text ++ 0 ∷ []) in
     let then = offset_between more s f (sym (finished_is more s Between place)
     ∙ sym (read_one text 0 s e ∙ ap (λ (r : Run). (r >>= λ t. Ok t) >>= λ u. result_at more u) (skipped_zero (length text) s place))
-        ∙ told_again text (0 ∷ []) f h) in
+    ∙ told_again text (0 ∷ []) f h) in
     omega (arith, now, then, length-append text (0 ∷ []))
 
 pub tells_failed : (text : List ℕ) (f : TapeFault) → Tells text f → run 0 start text ≡ Err f
@@ -147,8 +147,11 @@ tells_failed text f h = go (run 0 start text) refl where
 -- ---- texts that are not too long
 
 pub told : (text : List ℕ) (f : TapeFault) → length text ≤ longest → (fed nothing_fed text ≡ Err f) ↔ Tells text f
-told text f short = (λ e. failed_tells text f (back (run 0 start text) (sym ran_fed ∙ e)), λ h. ran_fed
-    ∙ ap (λ (r : Run). r >>= λ t. Ok (0 + length text, t)) (tells_failed text f h)) where
+told text f short = (
+  λ e. failed_tells text f (back (run 0 start text) (sym ran_fed ∙ e)),
+  λ h. ran_fed
+      ∙ ap (λ (r : Run). r >>= λ t. Ok (0 + length text, t)) (tells_failed text f h),
+) where
   ran_fed : fed nothing_fed text ≡ (run 0 start text >>= λ t. Ok (0 + length text, t))
   ran_fed = fed-run longest text 0 start (omega (arith, short))
 
@@ -171,7 +174,7 @@ over_fed : (limit : ℕ) (front more : List ℕ) → length front ≡ limit → 
     → fed_up_to limit nothing_fed (front ++ more) ≡ over limit (run 0 start front)
 over_fed limit front more full some =
     fed-append limit front more nothing_fed ∙ ap (λ (r : Fed). fed_up_to limit r more) (fed-run limit front 0 start (omega (arith, full)))
-        ∙ go (run 0 start front) more some where
+    ∙ go (run 0 start front) more some where
       go : (r : Run) (bytes : List ℕ) → 0 < length bytes → fed_up_to limit (r >>= λ t. Ok (0 + length front, t)) bytes ≡ over limit r
       go (Err f) bytes h = fed-Err limit bytes f
       go (Ok t) [] h = absurd (omega arith)
@@ -182,8 +185,14 @@ abbrev Cut : ℕ → List ℕ → Type 0
 Cut limit text = (front : List ℕ) × (more : List ℕ) × (text ≡ front ++ more) × (length front ≡ limit) × (0 < length more)
 
 cut : (limit : ℕ) (text : List ℕ) → limit < length text → Cut limit text
-cut limit text h = (take limit text, drop limit text, sym (take-append-drop limit text), length-take-le limit text (omega (arith, h)), omega
-    (arith, h, length-drop limit text))
+cut limit text h = (
+  take limit text,
+  drop limit text,
+  sym (take-append-drop limit text),
+  length-take-le limit text (omega (arith, h)),
+  omega
+      (arith, h, length-drop limit text),
+)
 
 over_told : (front : List ℕ) (f : TapeFault) → end_of_feeding (over longest (run 0 start front)) ≡ Err f → Tells front f
     ⊎ (((other : TapeFault) → Tells front other → ⊥) × (f ≡ too_long))
@@ -219,8 +228,11 @@ over_said text h e =
 -- ---- what feeding and ending give
 
 pub in_pieces : (text : List ℕ) (cells : List (Option ℕ)) → (end_of_feeding (fed nothing_fed text) ≡ Ok cells) ↔ IsReadInPieces text cells
-in_pieces text cells = (λ e. elim (cases_lt longest (length text)) [ inl h ↦ absurd (long h e) | inr h ↦ short h e ], λ r.
-    whole_fed longest text r.short ∙ read_again text cells r.denoted) where
+in_pieces text cells = (
+  λ e. elim (cases_lt longest (length text)) [ inl h ↦ absurd (long h e) | inr h ↦ short h e ],
+  λ r.
+      whole_fed longest text r.short ∙ read_again text cells r.denoted,
+) where
   long : longest < length text → end_of_feeding (fed nothing_fed text) ≡ Ok cells → ⊥
   long h e =
       let c = cut longest text h in

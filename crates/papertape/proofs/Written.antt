@@ -103,9 +103,11 @@ are_cuts (c ∷ cells) address (suc n) h le = are_cuts cells (address + 1) n h.1
 are_cuts (None ∷ cells) address zero h le = are_cuts cells (address + 1) 0 h.1 (omega arith)
 are_cuts (Some b ∷ cells) address zero h le =
     let short = front_short 23 cells in
-    let few = front_few 23 cells in
-    (record { some = omega arith; few = omega (arith, few); bytes = (h.0, front_fits 23 cells h.1); fits = omega (arith, short) }, are_cuts cells
-        (address + 1) (length (front_bytes 23 cells)) h.1 (omega arith))
+    let few = front_few 23 cells in (
+      record { some = omega arith; few = omega (arith, few); bytes = (h.0, front_fits 23 cells h.1); fits = omega (arith, short) },
+      are_cuts cells
+          (address + 1) (length (front_bytes 23 cells)) h.1 (omega arith),
+    )
 
 -- there are at most as many cuts as cells that are not covered
 cuts_few : (cells : List (Option ℕ)) (address covered : ℕ) → covered ≤ length cells → length (cuts address covered cells) + covered ≤ length cells
@@ -144,9 +146,10 @@ line_of_cut c h = is_line (length c.1) c.0 c.1 (omega (arith, h.few)) refl (omeg
 pieces_each : (cs : List (ℕ × List ℕ)) → AllByRecursion IsCut cs → AllByRecursion IsPiece (pieces_of cs)
 pieces_each [] h = tt
 pieces_each (c ∷ cs) h =
-    let l = line_of_cut c h.0 in
-    (record { all = l.all; some = omega (arith, l.length, h.0.some); checked = l.checked; fits = omega (arith, l.address, l.length, h.0.fits) },
-        (refl, (refl, pieces_each cs h.1)))
+    let l = line_of_cut c h.0 in (
+      record { all = l.all; some = omega (arith, l.length, h.0.some); checked = l.checked; fits = omega (arith, l.address, l.length, h.0.fits) },
+      (refl, (refl, pieces_each cs h.1)),
+    )
 
 pieces_count : (cs : List (ℕ × List ℕ)) → count_of (pieces_of cs) ≡ length cs
 pieces_count [] = refl
@@ -164,7 +167,7 @@ pieces_front : (cs : List (ℕ × List ℕ)) → front_of (pieces_of cs) ≡ fla
 pieces_front [] = refl
 pieces_front (c ∷ cs) =
     ap (λ (t : List ℕ). 59 ∷ (piece_digits c ++ (13 ∷ 10 ∷ t))) (pieces_front cs)
-        ∙ sym (append_assoc (59 ∷ piece_digits c) (13 ∷ 10 ∷ []) (flat_map data_line cs))
+    ∙ sym (append_assoc (59 ∷ piece_digits c) (13 ∷ 10 ∷ []) (flat_map data_line cs))
 
 -- ---- an image
 

@@ -102,13 +102,13 @@ more_derived : (d : ℕ) (inner : List Lexeme → Read) → Inner d inner → (n
 more_derived d inner h zero e front tokens k = record { front = front; cut = refl; derived = k }
 more_derived d inner h (suc n) e front tokens k = go (next_with inner tokens) (next_derived d inner h tokens)
     (λ x xs ts y. more_derived d inner h n x xs ts y) where
-  go : (o : Option (Operator × Term × List Lexeme)) → Longer d tokens o
-      → ((x : Term) (xs ts : List Lexeme) → Derives sum d x xs → Spelled sum d (more_with inner n x ts).0 (xs ++ ts) (more_with inner n x ts).1)
-      → Spelled sum d (went_on (λ x xs. more_with inner n x xs) e tokens o).0 (front ++ tokens) (went_on (λ x xs. more_with inner n x xs) e tokens o).1
-  go None l again = record { front = front; cut = refl; derived = k }
-  go (Some q) l again =
-      let s = again (binary q.0 e q.1) (front ++ l.0) q.2 (l.2 e front k) in
-      record { front = s.front; cut = ap (λ xs. front ++ xs) l.1 ∙ sym (append_assoc front l.0 q.2) ∙ s.cut; derived = s.derived }
+      go : (o : Option (Operator × Term × List Lexeme)) → Longer d tokens o
+          → ((x : Term) (xs ts : List Lexeme) → Derives sum d x xs → Spelled sum d (more_with inner n x ts).0 (xs ++ ts) (more_with inner n x ts).1)
+          → Spelled sum d (went_on (λ x xs. more_with inner n x xs) e tokens o).0 (front ++ tokens) (went_on (λ x xs. more_with inner n x xs) e tokens o).1
+      go None l again = record { front = front; cut = refl; derived = k }
+      go (Some q) l again =
+          let s = again (binary q.0 e q.1) (front ++ l.0) q.2 (l.2 e front k) in
+          record { front = s.front; cut = ap (λ xs. front ++ xs) l.1 ∙ sym (append_assoc front l.0 q.2) ∙ s.cut; derived = s.derived }
 
 sum_of_unary : (d : ℕ) (inner : List Lexeme → Read) → Inner d inner → (tokens : List Lexeme) (r : Read) → Of unary d tokens r
     → Of sum d tokens (option_map (λ p. more_with inner (length p.1) p.0 p.1) r)

@@ -66,7 +66,7 @@ finds_group : (d : ℕ) (t close : Lexeme) (e : Term) (ts : List Lexeme) → sym
 finds_group d t close e ts o c f rest =
     let p = f (close ∷ rest) in
     let q : sum_with (inner_at d) (ts ++ close ∷ rest) ≡ Some (e, close ∷ rest) =
-        p.2 ∙ ap Some (stops (inner_at d) p.0 e close rest (close_is_no_operator close c)) in
+    p.2 ∙ ap Some (stops (inner_at d) p.0 e close rest (close_is_no_operator close c)) in
     rw (is_symbol_from 91 t o, append_assoc ts (close ∷ []) rest, q, is_symbol_from 93 close c) refl
 
 -- a primary that stands alone is a unary

@@ -32,11 +32,11 @@ capped_step base n digits h = go (nat_lt n 2147483648) refl where
       let le = ltb-false n 2147483648 t in
       let e : 2147483648 ≤ min n 2147483648 = omega (arith, le) in
       is_past (number_after base (min n 2147483648) digits) (past base (min n 2147483648) digits h e)
-          ∙ sym (is_past (number_after base n digits) (past base n digits h le))
+      ∙ sym (is_past (number_after base n digits) (past base n digits h le))
 
 -- a turn of the loop over the digits
 pub capped_turn : (base n i : ℕ) (digits : List ℕ) → 1 ≤ base → i < length digits
     → in_range (number_after base (min (n * base + digit_value (get_or digits i 0)) 2147483648) (drop (i + 1) digits))
-        ≡ in_range (number_after base n (drop i digits))
+    ≡ in_range (number_after base n (drop i digits))
 capped_turn base n i digits h lt =
     rw (drop-cons digits i 0 lt, add-one i) (capped_step base (n * base + digit_value (get_or digits i 0)) (drop (suc i) digits) h)

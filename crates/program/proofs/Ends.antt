@@ -120,7 +120,7 @@ pub each_image : (a : Option (List ℕ)) (image : Image) (P : Image → Type 0)
     → IfSome a (λ text. (cells : Image) → IsReadInPieces text cells → P cells)
 each_image a image P only p =
     with_known a (λ text. (cells : Image) → IsReadInPieces text cells → Is (read_ok image) (read_ok cells))
-        (λ text. (cells : Image) → IsReadInPieces text cells → P cells) only
+    (λ text. (cells : Image) → IsReadInPieces text cells → P cells) only
     (λ text o cells r. subst P (same_image image cells (o cells r)) p)
 
 -- a text whose image was read has no fault
@@ -129,7 +129,7 @@ pub each_fault : (a : Option (List ℕ)) (image : Image) (P : TapeFault → Type
     → IfSome a (λ text. (fault : TapeFault) → IsRefusedInPieces text fault → P fault)
 each_fault a image P only =
     with_known a (λ text. (fault : TapeFault) → IsRefusedInPieces text fault → Is (read_ok image) (read_err (tape_read_fault.Tape fault)))
-        (λ text. (fault : TapeFault) → IsRefusedInPieces text fault → P fault) only
+    (λ text. (fault : TapeFault) → IsRefusedInPieces text fault → P fault) only
     (λ text o fault r. absurd (no_fault image (tape_read_fault.Tape fault) (o fault r)))
 
 abbrev IsUnread : TapeReadFault → Type 0
@@ -152,7 +152,7 @@ pub each_unread : {X : Type 0} (a : Option (List ℕ)) (result : Result X TapeRe
     → IfSome a (λ text. (cells : Image) → IsReadInPieces text cells → MatchResult result (P cells) IsUnread)
 each_unread a result f P h only =
     with_known a (λ text. (cells : Image) → IsReadInPieces text cells → Is (read_err f) (read_ok cells))
-        (λ text. (cells : Image) → IsReadInPieces text cells → MatchResult result (P cells) IsUnread) only
+    (λ text. (cells : Image) → IsReadInPieces text cells → MatchResult result (P cells) IsUnread) only
     (λ text o cells r. answer_unread result f (P cells) h (unread f cells (o cells r)))
 
 same_answer : {X : Type 0} (result : Result X TapeReadFault) (f g : TapeReadFault) → IsErrAnd result (λ e. e ≡ f) → Is (read_err f) (read_err g)
@@ -168,7 +168,7 @@ pub each_refused : {X : Type 0} (a : Option (List ℕ)) (result : Result X TapeR
     → IfSome a (λ text. (fault : TapeFault) → IsRefusedInPieces text fault → Is result (Err (tape_read_fault.Tape fault)))
 each_refused a result f h only =
     with_known a (λ text. (fault : TapeFault) → IsRefusedInPieces text fault → Is (read_err f) (read_err (tape_read_fault.Tape fault)))
-        (λ text. (fault : TapeFault) → IsRefusedInPieces text fault → Is result (Err (tape_read_fault.Tape fault))) only
+    (λ text. (fault : TapeFault) → IsRefusedInPieces text fault → Is result (Err (tape_read_fault.Tape fault))) only
     (λ text o fault r. same_answer result f (tape_read_fault.Tape fault) h (o fault r))
 
 -- where memory ran out, no text was read
@@ -191,8 +191,12 @@ shows_fault X told AtEnd (tape_read_fault.Tape g) (inr fault) = inr fault
 pub reads_fault : (X : Type 0) (result : Result X TapeReadFault) (f : TapeReadFault) (before now : Option (List ℕ)) → IsErrAnd result (λ e. e ≡ f)
     → Reads before now (read_err f) → ReadsText before now result
 reads_fault X (Ok x) f before now h reads = absurd h
-reads_fault X (Err e) f before now h (told, c, shows) = (told, c, subst (λ r. ShowsText told (IsAtEnd now) (failed X TapeReadFault r)) (sym h)
-    (shows_fault X told (IsAtEnd now) f shows))
+reads_fault X (Err e) f before now h (told, c, shows) = (
+  told,
+  c,
+  subst (λ r. ShowsText told (IsAtEnd now) (failed X TapeReadFault r)) (sym h)
+      (shows_fault X told (IsAtEnd now) f shows),
+)
 
 -- What was consumed where an image was read.
 pub reads_text : (image : Image) (before now : Option (List ℕ)) → Reads before now (read_ok image) → ReadsText before now (read_ok image)
@@ -234,7 +238,7 @@ refusal_in d (Err e) = e
 pub listed_of : (result : Result (Unit {0}) Refusal) (profile : Profile) (first last : ℕ) (held now : Option (List ℕ)) (Alone : Type 0)
     (image : Image) (text : List ℕ)
     → text ≡ rows_in profile (memory_of image) last first 65536 → Writes held now text result → OnErr result (result ≡ Err Write)
-        → IsListed profile first last held now result Alone
+    → IsListed profile first last held now result Alone
 listed_of (Ok x) profile first last held now Alone image text e writes only = (image, subst (Appends held now) e writes)
 listed_of (Err r) profile first last held now Alone image text e writes only =
     subst (λ q. IsListed profile first last held now (Err q) Alone) (sym (ap (refusal_in r) only)) (image, subst (AppendsFront held now) e writes)
@@ -295,7 +299,7 @@ refused_from map is_tape known (Err (engine_fault.Tape f)) result is tape sessio
     subst (λ (r : Result (Unit {0}) Refusal). IfErr r (EndsDebug is_tape map)) (sym said) (is, (tape.0, tape.2))
 refused_from map is_tape known (Err (engine_fault.Session f)) result is tape session source said =
     subst (λ (r : Result (Unit {0}) Refusal). IfErr r (EndsDebug is_tape map)) (sym said)
-        (is, session.0, (session.1.1.0, session.1.0, session.1.1.2, session.1.2))
+    (is, session.0, (session.1.1.0, session.1.0, session.1.1.2, session.1.2))
 refused_from map is_tape known (Err engine_fault.Read) result is tape session source said =
     subst (λ (r : Result (Unit {0}) Refusal). IfErr r (EndsDebug is_tape map)) (sym said) tt
 refused_from map is_tape known (Err engine_fault.Write) result is tape session source said =

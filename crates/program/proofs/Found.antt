@@ -73,12 +73,23 @@ both_are (Some p) name rows h k =
     ap₂ (λ (n : Text) (r : List Row). Some (n, r)) (ap (λ (o : Option Text). unwrap_or o name) h) (ap (λ (o : Option (List Row)). unwrap_or o rows) k)
 
 asm_by_rows : (f : Found) → asm_asked (first_value f) ≡ asm_asked (λ name. first_of name (rows_of f))
-asm_by_rows f = rw (first_value-rows f (codes "SOURCE"), first_value-rows f (codes "TAPE"), first_value-rows f (codes "listing"), first_value-rows f
-    (codes "port"), first_value-rows f (codes "profile")) refl
+asm_by_rows f = rw (
+  first_value-rows f (codes "SOURCE"),
+  first_value-rows f (codes "TAPE"),
+  first_value-rows f (codes "listing"),
+  first_value-rows f
+      (codes "port"),
+  first_value-rows f (codes "profile"),
+) refl
 
 dis_by_rows : (f : Found) → dis_asked (first_value f) ≡ dis_asked (λ name. first_of name (rows_of f))
-dis_by_rows f = rw (first_value-rows f (codes "TAPE"), first_value-rows f (codes "LO"), first_value-rows f (codes "HI"), first_value-rows f
-    (codes "profile")) refl
+dis_by_rows f = rw (
+  first_value-rows f (codes "TAPE"),
+  first_value-rows f (codes "LO"),
+  first_value-rows f (codes "HI"),
+  first_value-rows f
+      (codes "profile"),
+) refl
 
 debug_by_rows : (f : Found) → debug_asked (first_value f) ≡ debug_asked (λ name. first_of name (rows_of f))
 debug_by_rows f =
@@ -96,18 +107,18 @@ pub asm_found : (m : ArgMatches) (f : Found) (name : Text) → Some name ≡ sub
     → option_map asm (asm_asked (first_value f)) ≡ asked_of (subcommand_rows_of m)
 asm_found m f name names rows is =
     ap (option_map asm) (asm_by_rows f) ∙ ap asked_of (sym (both_are (subcommand_rows_of m) (codes "asm") (rows_of f)
-        (sym (name_among m) ∙ sym names ∙ ap (λ t. Some t) is) (sym rows)))
+    (sym (name_among m) ∙ sym names ∙ ap (λ t. Some t) is) (sym rows)))
 
 pub dis_found : (m : ArgMatches) (f : Found) (name : Text) → Some name ≡ subcommand_name_of m
     → Some (rows_of f) ≡ option_map (λ (p : Text × List Row). p.1) (subcommand_rows_of m) → name ≡ codes "dis"
     → option_map dis (dis_asked (first_value f)) ≡ asked_of (subcommand_rows_of m)
 dis_found m f name names rows is =
     ap (option_map dis) (dis_by_rows f) ∙ ap asked_of (sym (both_are (subcommand_rows_of m) (codes "dis") (rows_of f)
-        (sym (name_among m) ∙ sym names ∙ ap (λ t. Some t) is) (sym rows)))
+    (sym (name_among m) ∙ sym names ∙ ap (λ t. Some t) is) (sym rows)))
 
 pub debug_found : (m : ArgMatches) (f : Found) (name : Text) → Some name ≡ subcommand_name_of m
     → Some (rows_of f) ≡ option_map (λ (p : Text × List Row). p.1) (subcommand_rows_of m) → name ≡ codes "debug"
     → option_map debug (debug_asked (first_value f)) ≡ asked_of (subcommand_rows_of m)
 debug_found m f name names rows is =
     ap (option_map debug) (debug_by_rows f) ∙ ap asked_of (sym
-        (both_are (subcommand_rows_of m) (codes "debug") (rows_of f) (sym (name_among m) ∙ sym names ∙ ap (λ t. Some t) is) (sym rows)))
+    (both_are (subcommand_rows_of m) (codes "debug") (rows_of f) (sym (name_among m) ∙ sym names ∙ ap (λ t. Some t) is) (sym rows)))

@@ -67,7 +67,7 @@ right_status is_tape map (Err refusal) status ends is makes two = not_two is_tap
 pub runs_debug : (v d : DebugAsked) (streams : Streams) (Alone : Type 0) (outcome : Result ⊤ Refusal) (status : ℕ) → v ≡ d
     → (is_map v.rom v.port ≡ false → outcome ≡ Err (Map BadMap)) → IfErr outcome (EndsDebug v.is_tape (map_asked v))
     → IsServed (map_asked v) v.history streams.given streams.left streams.held streams.now outcome Alone → IsStatus outcome status
-        → RunsDebug d streams status Alone
+    → RunsDebug d streams status Alone
 runs_debug v d streams Alone outcome status same bad ends served is = subst (λ (a : DebugAsked). RunsDebug a streams status Alone) same (record {
   tells = record { bad = λ no. inl (bad_status outcome status (bad no) is); right = right_status v.is_tape (map_asked v) outcome status ends is };
   serves = (outcome, is, served);

@@ -13,5 +13,5 @@ pub more : (items new : List Mark) (n : ℕ) (f : ℕ → Mark) (m : Mark) → l
 more items new n f m size put each last =
     below_more (λ (a : ℕ). get_or new a Code ≡ f a) n
     (λ a h. let inside : a < length items = omega (arith, h, size) in
-        ap (λ (x : List Mark). get_or x a Code) put ∙ get_or_append_left items (m ∷ []) Code a inside ∙ each a h)
+    ap (λ (x : List Mark). get_or x a Code) put ∙ get_or_append_left items (m ∷ []) Code a inside ∙ each a h)
     (ap (λ (x : List Mark). get_or x n Code) put ∙ ap (λ (k : ℕ). get_or (items ++ m ∷ []) k Code) (sym size) ∙ get_or-append_seam items m [] Code ∙ last)

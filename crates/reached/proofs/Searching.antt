@@ -174,14 +174,14 @@ module _ (profile : Profile) (cells : List (Option ℕ)) (marks : List Mark) (ro
   pub went : (begun done address : ℕ) (ways : Ways) (s t new : Seen) → Is begun done s → done < length s.found → address ≡ slice_index s.found done
       → ways ≡ ways_at profile cells marks routines address
       → IfSome ways.target (λ a. a < 65536) → IfSome ways.next (λ a. a < 65536) → t ≡ with_address s ways.target → new ≡ with_address t ways.next
-          → Is begun (done + 1) new
+      → Is begun (done + 1) new
   unfolding Reaches
   went begun done address ways s t new h within is leads first second to on =
       let came : CanReach address = rw is (h.reaches (slice_index s.found done) (h.flagged done within)) in
       let can : (a : ℕ) → LeadTo ways a → CanReach a = λ a lead. (suc came.0, (address, came.1, subst (λ (w : Ways). LeadTo w a) leads lead)) in
       let one : Is begun done (with_address s ways.target) = found_way begun done s ways.target h first (λ a e. can a (inl e)) in
       let two : Is begun done (with_address (with_address s ways.target) ways.next) =
-          found_way begun done (with_address s ways.target) ways.next one second (λ a e. can a (inr e)) in
+      found_way begun done (with_address s ways.target) ways.next one second (λ a e. can a (inr e)) in
       let f = same_found s ways.target done within in
       let g = same_found (with_address s ways.target) ways.next done f.0 in
       rw (on, to) (record {
@@ -195,9 +195,9 @@ module _ (profile : Profile) (cells : List (Option ℕ)) (marks : List Mark) (ro
         closed = λ i b lt lead. elim (eqb_tells i done) [
           | inl same ↦
               let there : slice_index (with_address (with_address s ways.target) ways.next).found i ≡ address =
-                  ap (λ (k : ℕ). slice_index (with_address (with_address s ways.target) ways.next).found k) same.1 ∙ g.1 ∙ f.1 ∙ sym is in
+              ap (λ (k : ℕ). slice_index (with_address (with_address s ways.target) ways.next).found k) same.1 ∙ g.1 ∙ f.1 ∙ sym is in
               let from : LeadTo (ways_at profile cells marks routines address) b =
-                  subst (λ (k : ℕ). LeadTo (ways_at profile cells marks routines k) b) there lead in
+              subst (λ (k : ℕ). LeadTo (ways_at profile cells marks routines k) b) there lead in
               elim (subst (λ (w : Ways). LeadTo w b) (sym leads) from) [
                 | inl e ↦ keeps (with_address s ways.target) ways.next b one.size second (here s ways.target b h.size first e)
                 | inr e ↦ here (with_address s ways.target) ways.next b one.size second e

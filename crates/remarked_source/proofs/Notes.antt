@@ -11,7 +11,7 @@ pub here : (texts : List ℕ) (low high : ℕ) (first : Bool) (r : Remark) (rs :
 unfolding notes
 here texts low high first r rs out new is put =
     rw (put, is) (append_assoc (out ++ note_front first) (text_of texts r) (notes texts low high false rs)
-        ∙ append_assoc out (note_front first) (text_of texts r ++ notes texts low high false rs))
+    ∙ append_assoc out (note_front first) (text_of texts r ++ notes texts low high false rs))
 
 -- one that stands elsewhere
 pub elsewhere : (texts : List ℕ) (low high : ℕ) (first : Bool) (r : Remark) (rs : List Remark) (out : List ℕ) → is_note low high r ≡ false

@@ -14,7 +14,7 @@ pub line_more : (image : List (Option ℕ)) (splits : List Split) (lines : List 
 unfolding split_from
 line_more image splits lines before i ls l out new whole is put w =
     rw (put, add-one) (append_assoc out (split_row image splits lines before l) (split_from image splits lines (Some l) (drop (suc i) ls))
-        ∙ rw (cut ls i l is) at w)
+    ∙ rw (cut ls i l is) at w)
 
 pub lines_end : (image : List (Option ℕ)) (splits : List Split) (lines : List LineView) (before : Option LineView) (i : ℕ) (ls : List LineView)
     (out : List ℕ) → length ls ≤ i → out ++ split_from image splits lines before (drop i ls) ≡ out
@@ -31,7 +31,7 @@ bytes_more image splits lines n address i out new whole h put w =
     let one : n - i ≡ suc (n - (i + 1)) = omega (arith, h) in
     let next : address + (i + 1) ≡ address + i + 1 = omega arith in
     rw (put, next) (append_assoc out (byte_line image lines (address + i) (entry_at image splits (address + i)))
-        (byte_lines image splits lines (n - (i + 1)) (address + i + 1)) ∙ rw one at w)
+    (byte_lines image splits lines (n - (i + 1)) (address + i + 1)) ∙ rw one at w)
 
 pub bytes_end : (image : List (Option ℕ)) (splits : List Split) (lines : List LineView) (n address i : ℕ) (out : List ℕ) → n ≤ i
     → out ++ byte_lines image splits lines (n - i) (address + i) ≡ out

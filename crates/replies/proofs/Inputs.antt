@@ -61,7 +61,7 @@ pub given_at : (before now more : List ℕ) (bytes : List ℕ) (i : ℕ) → i <
     → more ≡ now ++ get_or bytes i 0 ∷ [] → more ≡ before ++ take (i + 1) bytes
 given_at before now more bytes i h e f =
     f ∙ ap (λ l. l ++ get_or bytes i 0 ∷ []) e ∙ append_assoc before (take i bytes) (get_or bytes i 0 ∷ [])
-        ∙ ap (λ l. before ++ l) (sym (take_more bytes i 0 h))
+    ∙ ap (λ l. before ++ l) (sym (take_more bytes i 0 h))
 
 pub room_at : (before now : List ℕ) (bytes : List ℕ) (i : ℕ) → i < length bytes → length before + length bytes ≤ 65536 → now ≡ before ++ take i bytes
     → length now + 1 ≤ 65536

@@ -23,13 +23,15 @@ pub addresses_more : (breaks : List ℕ) (n : ℕ) → n < length breaks → add
 unfolding addresses_to
 addresses_more breaks n within =
     ap (flat_map address_part) (take_more breaks n 0 within) ∙ flat_map-append address_part (take n breaks) (get_or breaks n 0 ∷ [])
-        ∙ ap (λ l. flat_map address_part (take n breaks) ++ l) (append-nil (address_part (get_or breaks n 0)))
+    ∙ ap (λ l. flat_map address_part (take n breaks) ++ l) (append-nil (address_part (get_or breaks n 0)))
 
 pub addresses_front : (breaks : List ℕ) (n : ℕ) → (more : List ℕ) × (flat_map address_part breaks ≡ addresses_to breaks n ++ more)
 unfolding addresses_to
-addresses_front breaks n =
-    (flat_map address_part (drop n breaks), ap (flat_map address_part) (sym (take-append-drop n breaks))
-        ∙ flat_map-append address_part (take n breaks) (drop n breaks))
+addresses_front breaks n = (
+  flat_map address_part (drop n breaks),
+  ap (flat_map address_part) (sym (take-append-drop n breaks))
+      ∙ flat_map-append address_part (take n breaks) (drop n breaks),
+)
 
 pub addresses_all : (breaks : List ℕ) (n : ℕ) → length breaks ≤ n → flat_map address_part breaks ≡ addresses_to breaks n
 unfolding addresses_to
@@ -48,13 +50,13 @@ rows_none profile memory address n none = rw none refl
 
 pub rows_more : (profile : Profile) (memory : List ℕ) (address n : ℕ) → address ≤ 65535 → 0 < n
     → rows_in profile memory 65535 address n ≡ row_line address (bytes_from memory address) (row_in profile memory address)
-        ++ rows_in profile memory 65535 (address + (row_in profile memory address).len) (n - 1)
+    ++ rows_in profile memory 65535 (address + (row_in profile memory address).len) (n - 1)
 unfolding rows_in
 rows_more profile memory address zero here some = absurd (omega arith)
 rows_more profile memory address (suc n) here some =
     let less : n ≡ suc n - 1 = omega arith in
     rw (le-leb address 65535 here) (ap (λ k. row_line address (bytes_from memory address) (row_in profile memory address)
-        ++ rows_in profile memory 65535 (address + (row_in profile memory address).len) k) less)
+    ++ rows_in profile memory 65535 (address + (row_in profile memory address).len) k) less)
 
 -- ---- the bytes of an instruction
 
@@ -62,21 +64,21 @@ pub bytes_first : (memory : List ℕ) (address : ℕ) → address < length memor
 bytes_first memory address within =
     let inside : 0 < length (drop address memory) = omega (arith, length-drop address memory) in
     take_more (drop address memory) 0 0 inside ∙ ap (λ b. b ∷ [])
-        (get_or-drop address memory 0 0 ∙ ap (λ k. get_or memory k 0) (let e : address + 0 ≡ address = omega arith in e))
+    (get_or-drop address memory 0 0 ∙ ap (λ k. get_or memory k 0) (let e : address + 0 ≡ address = omega arith in e))
 
 pub bytes_more : (memory : List ℕ) (address n : ℕ) → address + 1 + n < length memory
     → take (n + 1) (drop address memory) ++ slice_index memory (address + 1 + n) ∷ [] ≡ take (n + 1 + 1) (drop address memory)
 bytes_more memory address n within =
     let inside : n + 1 < length (drop address memory) = omega (arith, length-drop address memory) in
     sym (take_more (drop address memory) (n + 1) 0 inside ∙ ap (λ b. take (n + 1) (drop address memory) ++ b ∷ [])
-        (get_or-drop address memory (n + 1) 0 ∙ ap (λ k. get_or memory k 0) (let e : address + (n + 1) ≡ address + 1 + n = omega arith in e)))
+    (get_or-drop address memory (n + 1) 0 ∙ ap (λ k. get_or memory k 0) (let e : address + (n + 1) ≡ address + 1 + n = omega arith in e)))
 
 pub bytes_all : (memory : List ℕ) (address more : ℕ) → length memory ≡ 65536 → address ≤ 65535 → more ≡ min (65535 - address) 2
     → take (more + 1) (drop address memory) ≡ bytes_from memory address
 bytes_all memory address more size here e = elim (cases_lt (65535 - address) 2) [
   | inl few ↦
       take_all (more + 1) (drop address memory) (omega (arith, length-drop address memory))
-          ∙ sym (take_all 3 (drop address memory) (omega (arith, length-drop address memory)))
+      ∙ sym (take_all 3 (drop address memory) (omega (arith, length-drop address memory)))
   | inr many ↦
       let three : more + 1 ≡ 3 = omega arith in
       ap (λ k. take k (drop address memory)) three

@@ -26,7 +26,7 @@ unfolding spaced_from spaced_bytes
 spaced_more memory first n within =
     let inside : n < length (drop first memory) = omega (arith, length-drop first memory) in
     ap (flat_map (λ b. 32 ∷ hex_byte b)) (take_more (drop first memory) n 0 inside
-        ∙ ap (λ b. take n (drop first memory) ++ b ∷ []) (get_or-drop first memory n 0))
+    ∙ ap (λ b. take n (drop first memory) ++ b ∷ []) (get_or-drop first memory n 0))
     ∙ flat_map-append (λ b. 32 ∷ hex_byte b) (take n (drop first memory)) (get_or memory (first + n) 0 ∷ [])
 
 pub row_is : (memory : List ℕ) (first last n : ℕ) → n ≡ last + 1 - first
@@ -96,7 +96,7 @@ row_step memory first address byte items spaced new le within value before e f =
     let inside : first + n < length memory = omega arith in
     let more : spaced_from memory first n ++ 32 ∷ hex_byte byte ≡ spaced_from memory first (address + 1 - first) =
     ap (λ v. spaced_from memory first n ++ 32 ∷ hex_byte v) (value ∙ ap (λ a. get_or memory a 0) (sym at)) ∙ sym (spaced_more memory first n inside)
-        ∙ ap (spaced_from memory first) next in
+    ∙ ap (spaced_from memory first) next in
     f ∙ ap (λ l. l ++ hex_byte byte) (e ∙ ap (λ l. l ++ 32 ∷ []) before)
     ∙ ap (λ l. hex_address first ++ 32 ∷ l) (append_assoc (spaced_from memory first n) (32 ∷ []) (hex_byte byte) ∙ more)
 

@@ -13,8 +13,12 @@ use Rattle.slot.specs.contracts.parts.Parts as Parts
 use Rattle.slot.specs.contracts.assembly.AssemblySlot as AssemblySlot
 
 abbrev pub E : Bx
-E = record { row = Assembly.the_row; laws = assembly.the_row_laws; al =
-    record { row = Heap.the_row; laws = heap.the_row_laws; g = ghosts; d = dict; drops = impl [] tnil dnil } }
+E = record {
+  row = Assembly.the_row;
+  laws = assembly.the_row_laws;
+  al =
+      record { row = Heap.the_row; laws = heap.the_row_laws; g = ghosts; d = dict; drops = impl [] tnil dnil };
+}
 
 abbrev pub FromParts : Slot 0
 FromParts = plain (λ _. Parts.the_row Assembly.the_row Heap.the_row ghosts)

@@ -13,8 +13,12 @@ use Rattle.slot.specs.contracts.parts.Parts as Parts
 use Rattle.slot.specs.contracts.session.SessionSlot as SessionSlot
 
 abbrev pub E : Bx
-E = record { row = Session.the_row; laws = session.the_row_laws; al =
-    record { row = Heap.the_row; laws = heap.the_row_laws; g = ghosts; d = dict; drops = impl [] tnil dnil } }
+E = record {
+  row = Session.the_row;
+  laws = session.the_row_laws;
+  al =
+      record { row = Heap.the_row; laws = heap.the_row_laws; g = ghosts; d = dict; drops = impl [] tnil dnil };
+}
 
 abbrev pub FromParts : Slot 0
 FromParts = plain (λ _. Parts.the_row Session.the_row Heap.the_row ghosts)

@@ -93,7 +93,7 @@ step n before line lines ps all e = by (layout_of before line) refl e
 
 layout_first : (m : Map) (lines : Lines) (n : ℕ) (before : Context) (na nb : Numbers) (ma mb : Made) (fault : AsmFault) → layout_from n before lines ≡ Err fault
     → slice_get (told_by layout_told n (judged_found m na ma (found_lines smallest before lines))
-        (judged_found m nb mb (found_lines largest before lines))) 0 ≡ Some fault
+    (judged_found m nb mb (found_lines largest before lines))) 0 ≡ Some fault
 unfolding in_both
 layout_first m [] n before na nb ma mb fault e = absurd (ok_err ([], before) fault e)
 layout_first m (line ∷ lines) n before na nb ma mb fault e =
@@ -106,7 +106,7 @@ layout_first m (line ∷ lines) n before na nb ma mb fault e =
 
     by : ((s : PlacedAndContext) (xa xb : Made) → layout_from (n + 1) s.1 lines ≡ Err fault
         → slice_get (told_by layout_told (n + 1) (judged_found m na xa (found_lines smallest s.1 lines))
-            (judged_found m nb xb (found_lines largest s.1 lines))) 0 ≡ Some fault)
+        (judged_found m nb xb (found_lines largest s.1 lines))) 0 ≡ Some fault)
         → (r : Result PlacedAndContext AsmFaultKind) → (on_line n r >>= λ p. layout_from (n + 1) p.1 lines >>= λ rest. Ok (behind p.0 rest)) ≡ Err fault
         → slice_get (told_by layout_told n (judged_found m na ma (found_line before line r ∷ found_lines smallest (fixed_after smallest before line r) lines))
         (judged_found m nb mb (found_line before line r ∷ found_lines largest (fixed_after largest before line r) lines))) 0 ≡ Some fault
@@ -134,7 +134,7 @@ fixed_same m (line ∷ lines) n before ps all e =
 no_layout : (m : Map) (lines : Lines) (n : ℕ) (before : Context) (ps : List PlacedLine) (all : Context) (numbers : Numbers) (made : Made)
     → layout_from n before lines ≡ Ok (ps, all)
     → told_by layout_told n (judged_found m numbers made (found_lines smallest before lines))
-        (judged_found m numbers made (found_lines smallest before lines)) ≡ []
+    (judged_found m numbers made (found_lines smallest before lines)) ≡ []
 unfolding in_both
 no_layout m [] n before ps all numbers made e = refl
 no_layout m (line ∷ lines) n before ps all numbers made e =
@@ -169,7 +169,7 @@ values_agree m [] n before ps all numbers image e =
 values_agree m (line ∷ lines) n before ps all numbers image e =
     let s = step n before line lines ps all e in
     rw (s.parts, s.here) (by s.first s.rest (λ i. values_agree m lines (n + 1) s.first.1 s.rest all numbers i s.later)
-        (value_fault m numbers image s.first.0) refl)
+    (value_fault m numbers image s.first.0) refl)
   where
     by : (s : PlacedAndContext) (rest : List PlacedLine) → ((i : Cells)
         → Agrees (image_from m numbers (n + 1) i rest) (values m numbers (n + 1) i (found_lines smallest s.1 lines))) → (kind : Option AsmFaultKind)
@@ -177,7 +177,7 @@ values_agree m (line ∷ lines) n before ps all numbers image e =
         → Agrees (image_from m numbers n image (s.0 ∷ rest)) (values m numbers n image (found_line before line (Ok s) ∷ found_lines smallest s.1 lines))
     by s rest later None is =
         rw (is, eq-eqb s.0.address s.0.address refl, never (found_line before line (Ok s)).begins)
-            (later (with_bytes image s.0.address (line_bytes numbers s.0)))
+        (later (with_bytes image s.0.address (line_bytes numbers s.0)))
     by s rest later (Some kind) is =
         rw (is, eq-eqb s.0.address s.0.address refl, eq-eqb (source_fault_number kind) (source_fault_number kind) refl) refl
 
@@ -210,13 +210,13 @@ lines_tell m lines = by (layout_from 1 (first_context m.profile) lines) refl
 
     by : (r : Result Laid AsmFault) → layout_from 1 (first_context m.profile) lines ≡ r
         → Tells (continued m r) (told (judged_found m (number_in (fixed_by smallest (first_context m.profile) lines).names) nothing_made
-            (found_lines smallest (first_context m.profile) lines))
+        (found_lines smallest (first_context m.profile) lines))
         (judged_found m (number_in (fixed_by largest (first_context m.profile) lines).names) nothing_made
-            (found_lines largest (first_context m.profile) lines)))
+        (found_lines largest (first_context m.profile) lines)))
     by (Err fault) e =
         head_stays _ _ fault
         (layout_first m lines 1 (first_context m.profile) (number_in (fixed_by smallest (first_context m.profile) lines).names)
-            (number_in (fixed_by largest (first_context m.profile) lines).names)
+        (number_in (fixed_by largest (first_context m.profile) lines).names)
         nothing_made nothing_made fault e)
     by (Ok l) e =
         let start = first_context m.profile in

@@ -33,7 +33,7 @@ pub goes_on : (m : all.Mending) (profile : Profile) (before next : Context) (fs 
     → lines_of rest ≡ text ∷ lines_of behind → is_end (read_line profile text) ≡ false
     → found_view f ≡ found_line before text (layout_of before text) → fixed_after m before text (layout_of before text) ≡ next
     → found_all fs ++ found_lines m before (lines_left profile rest) ≡ total
-        → found_all (fs ++ f ∷ []) ++ found_lines m next (lines_left profile behind) ≡ total
+    → found_all (fs ++ f ∷ []) ++ found_lines m next (lines_left profile behind) ≡ total
 goes_on m profile before next fs f rest text behind total cut more is after so_far =
     snoc fs f (found_lines m next (lines_left profile behind)) ∙ sym (rw (cut, more, after, ← is) refl) ∙ so_far
 
@@ -42,7 +42,7 @@ pub fixed_on : (m : all.Mending) (profile : Profile) (before next : Context) (re
     → fixed_by m before (lines_left profile rest) ≡ total → fixed_by m next (lines_left profile behind) ≡ total
 fixed_on m profile before next rest text behind total cut more after so_far =
     let opened : fixed_by m before (lines_left profile rest)
-        ≡ fixed_by m (fixed_after m before text (layout_of before text)) (lines_left profile behind) = rw (cut, more) refl in
+    ≡ fixed_by m (fixed_after m before text (layout_of before text)) (lines_left profile behind) = rw (cut, more) refl in
     sym (opened ∙ ap (λ (x : Context). fixed_by m x (lines_left profile behind)) after) ∙ so_far
 
 -- the line of `.END`
@@ -71,13 +71,13 @@ fixed_done m profile before rest total empty so_far = sym (rw (no_lines rest emp
 -- before the first line
 pub starts : (m : all.Mending) (profile : Profile) (names : Definitions) (source : List ℕ) → names ≡ []
     → found_lines m (record { profile = profile; address = 0; names = names }) (lines_left profile source)
-        ≡ found_lines m (first_context profile) (read_lines profile source)
+    ≡ found_lines m (first_context profile) (read_lines profile source)
 unfolding read_lines
 starts m profile names source none = rw none refl
 
 pub fixed_starts : (m : all.Mending) (profile : Profile) (names : Definitions) (source : List ℕ) → names ≡ []
     → fixed_by m (record { profile = profile; address = 0; names = names }) (lines_left profile source)
-        ≡ fixed_by m (first_context profile) (read_lines profile source)
+    ≡ fixed_by m (first_context profile) (read_lines profile source)
 unfolding read_lines
 fixed_starts m profile names source none = rw none refl
 

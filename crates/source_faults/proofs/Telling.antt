@@ -25,7 +25,7 @@ so_on rule faults i xs ys = faults ++ told_by rule (i + 1) (judged_views (drop i
 opened : (rule : Rule) (faults : List AsmFault) (i : ℕ) (xs ys : List Judged) (x y : Judged) → i < length xs → i < length ys → x ≡ get_or xs i x
     → y ≡ get_or ys i y
     → so_on rule faults i xs ys ≡ faults ++ before_told (i + 1) (rule (judged_view x) (judged_view y))
-        (told_by rule (i + 1 + 1) (judged_views (drop (i + 1) xs)) (judged_views (drop (i + 1) ys)))
+    (told_by rule (i + 1 + 1) (judged_views (drop (i + 1) xs)) (judged_views (drop (i + 1) ys)))
 opened rule faults i xs ys x y in_xs in_ys is_x is_y = rw (first_left xs i x in_xs is_x, first_left ys i y in_ys is_y) refl
 
 -- a line of which nothing is told

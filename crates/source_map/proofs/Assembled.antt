@@ -89,7 +89,7 @@ first_by line row rest false z more next = next
 
 first : (image : List (Option ℕ)) (line number : ℕ) (texts : List (List ℕ)) (places : List (ℕ × ℕ)) (instructions : List Bool)
     → site_from 0 line None (sites_of (rows_of image (lines_with number texts places instructions)))
-        ≡ option_map site_of (row_from (rows_of image (lines_with number texts places instructions)) line)
+    ≡ option_map site_of (row_from (rows_of image (lines_with number texts places instructions)) line)
 unfolding lines_with
 first image line number [] places instructions = refl
 first image line number (text ∷ texts) [] instructions = refl
@@ -146,7 +146,7 @@ in_one_file file texts image (l ∷ lines) address =
 -- Where a line of an assembly begins, its file's name and its number are said.
 pub words_at : (file : List ℕ) (assembly : AssemblyView) (address : ℕ)
     → line_words (places_of file assembly).sources (row_at (places_of file assembly).lines address)
-        ≡ words_of file (line_at (places_of file assembly).lines address)
+    ≡ words_of file (line_at (places_of file assembly).lines address)
 words_at file assembly address = in_one_file file (texts_of (source_lines assembly)) assembly.image (source_lines assembly) address
 
 -- The texts of an assembly's file are those of its lines.

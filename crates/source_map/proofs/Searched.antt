@@ -41,7 +41,7 @@ found_from program rows at zero address h k = absurd (omega (arith, h, k))
 found_from program rows at (suc count) address h k = elim (cases_eq at address) [
   | inl same ↦ subst (λ a. row_at (pieces_from program rows at (suc count)) a ≡ piece_at program rows a) same
       (piece_here program at (begun_at rows at) (shown_at rows at) (pieces_from program rows (at + 1) count)
-          (none_below program rows (at + 1) count at (omega arith)))
+      (none_below program rows (at + 1) count at (omega arith)))
   | inr other ↦ piece_elsewhere program at address (begun_at rows at) (shown_at rows at) (pieces_from program rows (at + 1) count) other
       ∙ found_from program rows (at + 1) count address (omega (arith, h, other)) (omega (arith, k))
 ]

@@ -69,14 +69,20 @@ label false a lines = refl
 pub lines_piece : (profile : Profile) (cells : List (Option ℕ)) (marks : List Mark) (flags : List Bool) (table : List ℕ) (n left a b len next : ℕ)
     (ends named : Bool) (p : Piece) (old new : List ℕ) → cell_at cells a ≡ Some b
     → p ≡ piece_at profile cells marks flags a b → named ≡ is_named flags left a p
-        → new ≡ ((old ++ flat_map ended (opened ends a)) ++ flat_map ended (labelled named a)) ++ ended (text_of profile table a p)
+    → new ≡ ((old ++ flat_map ended (opened ends a)) ++ flat_map ended (labelled named a)) ++ ended (text_of profile table a p)
     → len ≡ len_of p → next ≡ left_after named left
     → new ++ text_from profile cells marks flags table n next (a + len) true ≡ old ++ text_from profile cells marks flags table (suc n) left a ends
 unfolding labelled_lines
 lines_piece profile cells marks flags table n left a b len next ends named p old new here is has written long less =
-    rw (here, sym is, sym has) (rw (opening ends a (labelled named a ++ text_of profile table a p
-        ∷ labelled_lines profile cells marks flags table n (left_after named left) (a + len_of p) true), label named a
-        (text_of profile table a p ∷ labelled_lines profile cells marks flags table n (left_after named left) (a + len_of p) true), written, long, less)
+    rw (here, sym is, sym has) (rw (
+      opening ends a (labelled named a ++ text_of profile table a p
+          ∷ labelled_lines profile cells marks flags table n (left_after named left) (a + len_of p) true),
+      label named a
+          (text_of profile table a p ∷ labelled_lines profile cells marks flags table n (left_after named left) (a + len_of p) true),
+      written,
+      long,
+      less,
+    )
     (rw (append_assoc, append_assoc, append_assoc) refl))
 
 pub lines_end : (profile : Profile) (cells : List (Option ℕ)) (marks : List Mark) (flags : List Bool) (table : List ℕ) (left a : ℕ) (ends : Bool)

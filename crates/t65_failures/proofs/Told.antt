@@ -21,7 +21,7 @@ use Rattle.t65_failures.specs.Failures.{about_text, if_done, is_back, refusal_te
 module _ (about : List ℕ) (values : Values) (items : List Item) (i : ℕ) (s : Session) where
   told-next : (item : Item) → i < length items → refusal_text about values (drop i items) s
       ≡ if_done (untaken_text (get_or items i item) (number_of values s.current.bus.memory (get_or items i item).value) ++ about)
-          (refusal_text about values (drop (i + 1) items)) (given_one values (get_or items i item) s)
+      (refusal_text about values (drop (i + 1) items)) (given_one values (get_or items i item) s)
   unfolding refusal_text
   told-next item h = rw (drop_more items i item h) refl
 
@@ -31,7 +31,7 @@ module _ (about : List ℕ) (values : Values) (items : List Item) (i : ℕ) (s :
       → refusal_text about values (drop (i + 1) items) next ≡ whole
   one_taken item next whole h taken left =
       sym (told-next item h ∙ ap (if_done (untaken_text (get_or items i item) (number_of values s.current.bus.memory (get_or items i item).value)
-          ++ about) (refusal_text about values (drop (i + 1) items))) taken) ∙ left
+      ++ about) (refusal_text about values (drop (i + 1) items))) taken) ∙ left
 
   -- The next item cannot be given.
   pub one_refused : (item : Item) (number : ℕ) (whole : List ℕ) → i < length items
@@ -41,7 +41,7 @@ module _ (about : List ℕ) (values : Values) (items : List Item) (i : ℕ) (s :
   one_refused item number whole h number_is refused left =
       ap (λ (n : ℕ). untaken_text (get_or items i item) n ++ about) number_is
       ∙ (sym (told-next item h ∙ ap (if_done (untaken_text (get_or items i item) (number_of values s.current.bus.memory (get_or items i item).value)
-          ++ about) (refusal_text about values (drop (i + 1) items))) refused) ∙ left)
+      ++ about) (refusal_text about values (drop (i + 1) items))) refused) ∙ left)
 
 module _ (values : Values) (items : List Item) (i : ℕ) (s : Session) where
   -- The next item was given, of all.
@@ -81,7 +81,7 @@ module _ (values : Values) (wanted : List Item) (s t : Session) (end : CallEnd) 
       → passed_after values wanted s ran ≡ Some t
   call_passes is told passed_all = ap (passed_after values wanted s) is
       ∙ picked (is_return end.end.why) (t.current.regs.s == s.current.regs.s) (list_all (item_holds values s.current t.current) wanted) (Some t) None
-          (sym told ∙ passed_all)
+      (sym told ∙ passed_all)
 
   -- A call fails.
   pub call_fails : ran ≡ Ok (end, t) → b ≡ (is_back s.current.regs.s end.end.why t.current.regs
@@ -89,7 +89,7 @@ module _ (values : Values) (wanted : List Item) (s t : Session) (end : CallEnd) 
       → passed_after values wanted s ran ≡ None
   call_fails is told failed_one = ap (passed_after values wanted s) is
       ∙ unpicked (is_return end.end.why) (t.current.regs.s == s.current.regs.s) (list_all (item_holds values s.current t.current) wanted) (Some t)
-          None (sym told ∙ failed_one)
+      None (sym told ∙ failed_one)
 
 -- ---- rows
 

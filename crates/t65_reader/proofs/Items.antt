@@ -75,7 +75,7 @@ item_read zero m names letters side text rest front found e h k = absurd (omega 
 item_read (suc n) m names letters side text rest front found e h k =
     let same : n ≡ m = omega arith in
     rw (← same) (sym (ap (before front) (within_more n names letters side text h)
-        ∙ read_item front found rest (item_of names letters side text) (items_within n names letters side) k))
+    ∙ read_item front found rest (item_of names letters side text) (items_within n names letters side) k))
 
 pub item_refused : (n m : ℕ) (names : Definitions) (letters : Letters) (side : Side) (text : List ℕ) (front : List Item) (fault : RowFault)
     → n ≡ m + 1 → is_over side text ≡ false

@@ -57,7 +57,7 @@ pieces_suc zero m names letters start found text e h = absurd (omega (arith, e))
 pieces_suc (suc n) m names letters start found text e h =
     let same : n ≡ m = omega (arith, e) in
     rw h (ap (λ (i : ℕ). and_then (piece_of names letters start found (skip_blanks (drop 1 text)))
-        (λ more rest. pieces_after i names letters start more rest)) same)
+    (λ more rest. pieces_after i names letters start more rest)) same)
 
 pub piece_read : (n m : ℕ) (names : Definitions) (letters : Letters) (start : ℕ) (found more : List Value) (text rest : List ℕ) → n ≡ m + 1
     → is_last text ≡ false

@@ -13,8 +13,12 @@ walked number next lines = (line_at number next lines, lines_after number next l
 
 -- by what the test says
 walked_by : Bool → ℕ → ℕ → List (List ℕ) → List ℕ × List (List ℕ) × ℕ
-walked_by b number next lines = (cond b [] (unwrap_or (slice_get lines (number - next)) []), cond b lines (drop (number + 1 - next) lines), cond b
-    next (min (min (number + 1) (next + length lines)) 4294967295))
+walked_by b number next lines = (
+  cond b [] (unwrap_or (slice_get lines (number - next)) []),
+  cond b lines (drop (number + 1 - next) lines),
+  cond b
+      next (min (min (number + 1) (next + length lines)) 4294967295),
+)
 
 by_test : (number next : ℕ) (lines : List (List ℕ)) (b : Bool) → nat_lt number next ≡ b → walked number next lines ≡ walked_by b number next lines
 unfolding walked_by
@@ -49,8 +53,12 @@ walked_found number next here line lines e f =
     let one : number + 1 - next ≡ 1 = omega arith in
     let last : min (min (number + 1) (next + suc (length lines))) 4294967295 ≡ here = omega arith in
     by_test number next (line ∷ lines) false (not_past number next (omega arith))
-    ∙ (ap (λ k. (unwrap_or (slice_get (line ∷ lines) k) [], drop (number + 1 - next) (line ∷ lines), min
-        (min (number + 1) (next + suc (length lines))) 4294967295)) none
+    ∙ (ap (λ k. (
+      unwrap_or (slice_get (line ∷ lines) k) [],
+      drop (number + 1 - next) (line ∷ lines),
+      min
+          (min (number + 1) (next + suc (length lines))) 4294967295,
+    )) none
     ∙ (ap (λ k. (line, drop k (line ∷ lines), min (min (number + 1) (next + suc (length lines))) 4294967295)) one
     ∙ ap (λ k. (line, lines, k)) last))
 
@@ -63,8 +71,12 @@ walked_more number next here line lines h k e =
     let d : min (min (number + 1) (next + suc (length lines))) 4294967295 ≡ min (min (number + 1) (here + length lines)) 4294967295 = omega arith in
     by_test number here lines false (not_past number here (omega arith))
     ∙ sym (by_test number next (line ∷ lines) false (not_past number next (omega arith))
-    ∙ (ap (λ k. (unwrap_or (slice_get (line ∷ lines) k) [], drop (number + 1 - next) (line ∷ lines), min
-        (min (number + 1) (next + suc (length lines))) 4294967295)) a
+    ∙ (ap (λ k. (
+      unwrap_or (slice_get (line ∷ lines) k) [],
+      drop (number + 1 - next) (line ∷ lines),
+      min
+          (min (number + 1) (next + suc (length lines))) 4294967295,
+    )) a
     ∙ (ap (λ k. (unwrap_or (slice_get lines (number - here)) [], drop k (line ∷ lines), min (min (number + 1) (next + suc (length lines))) 4294967295)) b
     ∙ ap (λ k. (unwrap_or (slice_get lines (number - here)) [], drop (number + 1 - here) lines, k)) d)))
 

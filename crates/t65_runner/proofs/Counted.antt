@@ -66,7 +66,7 @@ pub goes_on : (s t : Session) (state : State) (before : Moment) (counts new : Co
     → counted_on (counted_at s counts) next (step s.current) ≡ next (counted_at t new)
 goes_on s t state before counts new back next made is moment told back_is on =
     step_on s state counts next made (same_place s t state is ∙ (sym back_is ∙ not_true back on))
-        ∙ ap next (noted_step s t state before counts new is moment told)
+    ∙ ap next (noted_step s t state before counts new is moment told)
 
 -- The call ends with a step.
 pub ends : (s t : Session) (state : State) (before : Moment) (counts new : Counts) (back : Bool) (next : Next) → event_of s.current Step ≡ Ok state
@@ -75,7 +75,7 @@ pub ends : (s t : Session) (state : State) (before : Moment) (counts new : Count
     → counted_on (counted_at s counts) next (step s.current) ≡ (None, counted_at t new)
 ends s t state before counts new back next made is moment told back_is on =
     step_back s state counts next made (same_place s t state is ∙ (sym back_is ∙ not_false back on))
-        ∙ ap (λ (c : Counted). (None, c)) (noted_step s t state before counts new is moment told)
+    ∙ ap (λ (c : Counted). (None, c)) (noted_step s t state before counts new is moment told)
 
 module _ (awaited : Option Awaited) (c : Counted) where
   -- An interrupt is due.
@@ -114,7 +114,7 @@ module _ (values : Values) (rows : List (Bor (ℕ × Row))) (i : ℕ) (s : Sessi
 
   call-next : (row : Bor (ℕ × Row)) → i < length rows → row ≡ get_or rows i row
       → rows_counted values (drop i (rows_seen rows)) (counted_at s counts)
-          ≡ if_returned counts rest (call_counted values (row_seen row).1.call (counted_at s counts))
+      ≡ if_returned counts rest (call_counted values (row_seen row).1.call (counted_at s counts))
   unfolding rows_counted
   call-next row h is = rw (seen_next rows i row h is) refl
 
@@ -130,7 +130,7 @@ module _ (values : Values) (rows : List (Bor (ℕ × Row))) (i : ℕ) (s : Sessi
       → (t.current.regs.pc == return_address) ≡ false → rows_counted values (drop i (rows_seen rows)) (counted_at s counts) ≡ whole → new ≡ whole
   stuck row t new whole h is made off left =
       sym (call-next row h is ∙ (ap (λ (c : Option Counted). if_returned counts rest c) made
-          ∙ not_chosen (t.current.regs.pc == return_address) (rest (counted_at t new)) new off)) ∙ left
+      ∙ not_chosen (t.current.regs.pc == return_address) (rest (counted_at t new)) new off)) ∙ left
 
   -- The next call returns.
   pub returned : (row : Bor (ℕ × Row)) (t : Session) (new whole : Counts) → i < length rows → row ≡ get_or rows i row
@@ -139,7 +139,7 @@ module _ (values : Values) (rows : List (Bor (ℕ × Row))) (i : ℕ) (s : Sessi
       → rows_counted values (drop (i + 1) (rows_seen rows)) (counted_at t new) ≡ whole
   returned row t new whole h is made back left =
       sym (call-next row h is ∙ (ap (λ (c : Option Counted). if_returned counts rest c) made
-          ∙ chosen (t.current.regs.pc == return_address) (rest (counted_at t new)) new back)) ∙ left
+      ∙ chosen (t.current.regs.pc == return_address) (rest (counted_at t new)) new back)) ∙ left
 
   pub no_call : length rows ≤ i → rows_counted values (drop i (rows_seen rows)) (counted_at s counts) ≡ counts
   unfolding rows_counted

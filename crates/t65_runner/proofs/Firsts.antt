@@ -61,7 +61,7 @@ module _ (values : Values) (rows : List (Bor (ℕ × Row))) (i : ℕ) (s : Sessi
       → all_passed values (drop i (rows_seen rows)) s ≡ whole → false ≡ is_some whole
   one_fails row whole h is fails left =
       sym (ap (λ (p : Option Session). is_some p) (sym left ∙
-          (passed-next row h is ∙ ap (λ (p : Option Session). if_given p (all_passed values (drop (i + 1) (rows_seen rows)))) fails)))
+      (passed-next row h is ∙ ap (λ (p : Option Session). if_given p (all_passed values (drop (i + 1) (rows_seen rows)))) fails)))
 
   -- The next call passes.
   pub one_passes : (row : Bor (ℕ × Row)) (next : Session) (whole : Option Session) → i < length rows → row ≡ get_or rows i row
@@ -96,7 +96,7 @@ module _ (values : Values) (rows : List (Bor (ℕ × Row))) (i : ℕ) (s : Sessi
   run_ends row whole h is fails left =
       one_more row h is
       ∙ (ap (λ (t : List (ℕ × SeenRow)). rows_seen (take i rows) ++ t)
-          (sym (run-next row h is ∙ ap (λ (p : Option Session). row_seen row ∷ run_after p rest_run) fails)) ∙ left)
+      (sym (run-next row h is ∙ ap (λ (p : Option Session). row_seen row ∷ run_after p rest_run) fails)) ∙ left)
 
   -- The next call passes.
   pub run_goes_on : (row : Bor (ℕ × Row)) (next : Session) (whole : List (ℕ × SeenRow)) → i < length rows → row ≡ get_or rows i row
@@ -106,7 +106,7 @@ module _ (values : Values) (rows : List (Bor (ℕ × Row))) (i : ℕ) (s : Sessi
       ap (λ (t : List (ℕ × SeenRow)). t ++ rest_run next) (one_more row h is)
       ∙ (append_assoc (rows_seen (take i rows)) (row_seen row ∷ []) (rest_run next)
       ∙ (ap (λ (t : List (ℕ × SeenRow)). rows_seen (take i rows) ++ t)
-          (sym (run-next row h is ∙ ap (λ (p : Option Session). row_seen row ∷ run_after p rest_run) passes)) ∙ left))
+      (sym (run-next row h is ∙ ap (λ (p : Option Session). row_seen row ∷ run_after p rest_run) passes)) ∙ left))
 
   run-end : length rows ≤ i → rows_run values (drop i (rows_seen rows)) s ≡ []
   unfolding rows_run

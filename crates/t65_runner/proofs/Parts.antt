@@ -33,7 +33,7 @@ module _ (lines : List Line) (i : ℕ) where
       → found ++ rows_of part (drop i seen) ≡ whole → found ++ rows_of part (drop (i + 1) seen) ≡ whole
   row_left_out part line found whole h is other left =
       ap (λ (r : List (ℕ × SeenRow)). found ++ r) (sym (rows_next part line h is
-          ∙ ap (λ (r : Option (ℕ × SeenRow)). one_or_none r ++ rows_of part (drop (i + 1) seen)) other)) ∙ left
+      ∙ ap (λ (r : Option (ℕ × SeenRow)). one_or_none r ++ rows_of part (drop (i + 1) seen)) other)) ∙ left
 
   -- The next line is a row of the part, which was found.
   pub row_pushed : (part : Part) (line : Line) (row : Bor (ℕ × Row)) (found now : List (Bor (ℕ × Row))) (whole : List (ℕ × SeenRow))
@@ -42,10 +42,10 @@ module _ (lines : List Line) (i : ℕ) where
       → rows_seen found ++ rows_of part (drop i seen) ≡ whole → rows_seen now ++ rows_of part (drop (i + 1) seen) ≡ whole
   row_pushed part line row found now whole h is same grown left =
       ap (λ (r : List (ℕ × SeenRow)). r ++ rows_of part (drop (i + 1) seen))
-          (ap (λ (r : List (Bor (ℕ × Row))). rows_seen r) grown ∙ map-append row_seen found (row ∷ []))
+      (ap (λ (r : List (Bor (ℕ × Row))). rows_seen r) grown ∙ map-append row_seen found (row ∷ []))
       ∙ (append_assoc (rows_seen found) (row_seen row ∷ []) (rows_of part (drop (i + 1) seen))
       ∙ (ap (λ (r : List (ℕ × SeenRow)). rows_seen found ++ r)
-          (sym (rows_next part line h is ∙ ap (λ (r : Option (ℕ × SeenRow)). one_or_none r ++ rows_of part (drop (i + 1) seen)) same)) ∙ left))
+      (sym (rows_next part line h is ∙ ap (λ (r : Option (ℕ × SeenRow)). one_or_none r ++ rows_of part (drop (i + 1) seen)) same)) ∙ left))
 
   pub no_row_left : (part : Part) (found whole : List (ℕ × SeenRow)) → length lines ≤ i → found ++ rows_of part (drop i seen) ≡ whole → found ≡ whole
   no_row_left part found whole h left =
@@ -73,7 +73,7 @@ module _ (lines : List Line) (i : ℕ) where
       ap (λ (r : List SeenLine). r ++ tests_of (drop (i + 1) seen)) (ap (λ (r : List (Bor Line)). lines_seen r) grown ∙ map-append line_seen found (line ∷ []))
       ∙ (append_assoc (lines_seen found) (line_seen line ∷ []) (tests_of (drop (i + 1) seen))
       ∙ (ap (λ (r : List SeenLine). lines_seen found ++ r) (sym
-          (ap tests_of (line_next line.now h is) ∙ test_in (line_view line.now) (drop (i + 1) seen) same)) ∙ left))
+      (ap tests_of (line_next line.now h is) ∙ test_in (line_view line.now) (drop (i + 1) seen) same)) ∙ left))
 
   pub no_test_left : (found whole : List SeenLine) → length lines ≤ i → found ++ tests_of (drop i seen) ≡ whole → found ≡ whole
   no_test_left found whole h left =

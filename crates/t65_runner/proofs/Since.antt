@@ -53,7 +53,7 @@ since_state s now state since =
       number = λ few.
           let fits : length now.earlier + 1 ≤ now.history = omega (arith, few, count, room) in
           let long : length (keep_last now.history (now.earlier ++ now.current ∷ [])) ≡ length now.earlier + 1 =
-              ap length (all_kept now.history now.earlier now.current fits) ∙ pushed now.earlier now.current in
+          ap length (all_kept now.history now.earlier now.current fits) ∙ pushed now.earlier now.current in
           ap (λ n. (n + 1) % 1024) (since.number (omega (arith, fits, room)))
           ∙ (mod-add-mod (length now.earlier) 1024 1 ∙ ap (λ n. n % 1024) (sym long));
       replayed = since.replayed;
@@ -163,7 +163,7 @@ since_call s address limit now t end none h since =
     let ready = called address (record now { breaks = return_address ∷ [] }) in
     subst (IsSince s) (sym (called_is address limit now t end none h))
     (since_without s return_address (after_run limit ready) (since_steps s step (run_end limit ready).did ready
-        (since_called s address (record now { breaks = return_address ∷ [] }) (since_breaks s now (return_address ∷ []) since))))
+    (since_called s address (record now { breaks = return_address ∷ [] }) (since_breaks s now (return_address ∷ []) since))))
 
 cleared_alone : (address : ℕ) (now : Session) → now.breaks ≡ 65535 ∷ [] → (without_break 65535 now).breaks ≡ []
 unfolding without_break break_cleared table_without
@@ -174,7 +174,7 @@ breaks_call address limit now t end none h =
     let ready = called address (record now { breaks = return_address ∷ [] }) in
     ap (λ (x : Session). x.breaks) (called_is address limit now t end none h)
     ∙ cleared_alone address (after_run limit ready) (breaks_steps step (run_end limit ready).did ready
-        ∙ breaks_called address (record now { breaks = return_address ∷ [] }))
+    ∙ breaks_called address (record now { breaks = return_address ∷ [] }))
 
 -- ---- an interrupt
 
@@ -222,7 +222,7 @@ since_run s limit now t end none h since =
     let ready = record now { breaks = return_address ∷ [] } in
     subst (IsSince s) (sym (run_is limit now t end none h))
     (since_without s return_address (after_run limit ready) (since_steps s step (run_end limit ready).did ready
-        (since_breaks s now (return_address ∷ []) since)))
+    (since_breaks s now (return_address ∷ []) since)))
 
 pub breaks_run : (limit : ℕ) (now t : Session) (end : RunEnd) → now.breaks ≡ [] → run_to_of return_address limit now ≡ Ok (end, t) → t.breaks ≡ []
 breaks_run limit now t end none h =
@@ -271,7 +271,7 @@ back_to_start map image now since none few =
     let zero_left : k - k ≡ 0 = omega arith in
     let number : number_back k now.number ≡ 0 = ap (number_back k) (since.number few) ∙ number_zero k in
     let first : get_or (states now) (k - k) now.current ≡ start map image =
-        ap (λ n. get_or (states now) n now.current) zero_left ∙ (first_state now.earlier now.current ∙ since.first few) in
+    ap (λ n. get_or (states now) n now.current) zero_left ∙ (first_state now.earlier now.current ∙ since.first few) in
     let emptied : take (k - k) now.earlier ≡ [] = ap (λ n. take n now.earlier) zero_left in
     let replayed : (if k == 0 then now.replayed else number_back k now.number) ≡ 0 = chosen (k == 0) since.replayed number in
     same_record since.history none since.watches emptied first number replayed

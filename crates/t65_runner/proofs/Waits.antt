@@ -37,7 +37,7 @@ pub leads_back : (did : ℕ) (s t : Session) (state : State) (next : Next) → e
     → waited_on did s next (step s.current) ≡ (Ended (record { did = did + 1; why = Break return_address }), t)
 leads_back did s t state next made is back =
     back_on did s state next made (same_place s t state is ∙ back)
-        ∙ ap (λ (u : Session). (Ended (record { did = did + 1; why = Break return_address }), u)) (sym is)
+    ∙ ap (λ (u : Session). (Ended (record { did = did + 1; why = Break return_address }), u)) (sym is)
 
 -- A step leads on.
 pub leads_on : (did : ℕ) (s t : Session) (state : State) (next : Next) → event_of s.current Step ≡ Ok state → t ≡ with_state s state

@@ -50,7 +50,7 @@ map_ends text head next lines fault headed is none =
 pub program_ends : (reading : ReadingAsked) (text : List ℕ) (head : SeenHead) (next : ℕ) (lines : List (List ℕ)) (path : String Global)
     (name : List ℕ) (fault : NamedFault) (points : ℕ)
     → head_from 1 (lines_of text) ≡ Ok (head, next, lines) → name ≡ string_bytes path
-        → EndsProgram (file_asked reading head name) reading.symbols fault → points ≡ points_of reading.only lines
+    → EndsProgram (file_asked reading head name) reading.symbols fault → points ≡ points_of reading.only lines
     → EndsFile reading points (InProgram path fault)
 program_ends reading text head next lines path name fault points headed named ends are =
     (headed_file text head next lines headed, subst (λ n. EndsProgram (file_asked reading head n) reading.symbols fault) named ends, are)
@@ -58,7 +58,7 @@ program_ends reading text head next lines path name fault points headed named en
 pub rows_end : (reading : ReadingAsked) (text : List ℕ) (head : SeenHead) (next : ℕ) (lines : List (List ℕ)) (path : List ℕ) (assembly : AssemblyView)
     (steps : ℕ) (fault : TestFault) (points : ℕ)
     → head_from 1 (lines_of text) ≡ Ok (head, next, lines) → IsProgram (file_asked reading head path) reading.symbols assembly
-        → EndsRows (asking_of steps reading) assembly.names next lines fault → points ≡ points_of reading.only lines
+    → EndsRows (asking_of steps reading) assembly.names next lines fault → points ≡ points_of reading.only lines
     → EndsTest reading points fault
 rows_end reading text head next lines path assembly steps (Rows fault) points headed program ends are =
     inr (record {

@@ -28,7 +28,7 @@ use Rattle.t65_suites.specs.Programs.{AreNames, EndsProgram, IsProgram}
 -- A source without a line defines no name.
 pub no_line : (bus_map : Map) (source : List ℕ) (names : Definitions) → source ≡ []
     → ((placed : List PlacedLine) (all : Context) → IsLaidOut (first_context bus_map.profile) (read_lines bus_map.profile source) placed all
-        → names ≡ all.names)
+    → names ≡ all.names)
     → names ≡ []
 unfolding read_lines lines_from
 no_line bus_map [] names is laid = laid [] (first_context bus_map.profile) (refl, refl)
@@ -43,8 +43,11 @@ pub of_source : (asked : FileAsked) (bus_map : Map) (a : AssemblyView) → bus_m
     → IsAssembled bus_map a → has_port_byte bus_map a.image ≡ false → IsProgram asked None a
 of_source asked bus_map a same on_map is assembled spared = record {
   loaded = Some a;
-  named = (on_map, subst (λ (f : FileForm). IsImageOf f asked.omits_fill (map_of asked) None a.image (Some a)) (sym is)
-      (subst (λ (m : Map). IsAssembled m a) same assembled, refl, refl));
+  named = (
+    on_map,
+    subst (λ (f : FileForm). IsImageOf f asked.omits_fill (map_of asked) None a.image (Some a)) (sym is)
+        (subst (λ (m : Map). IsAssembled m a) same assembled, refl, refl),
+  );
   shown = refl;
   spared = subst (λ (m : Map). has_port_byte m a.image ≡ false) same spared;
 }
@@ -59,7 +62,7 @@ whole_file asked bus_map image same spared of_file =
 pub of_image : (asked : FileAsked) (symbols : Option (List ℕ)) (bus_map : Map) (image : List (Option ℕ)) (names a : AssemblyView)
     → bus_map ≡ map_of asked → is_map asked.rom asked.port ≡ true
     → (asked.form ≡ form.Source → ⊥) → IsOfFile (said_of asked.form) image → has_port_byte bus_map image ≡ false
-        → AreNames (map_of asked) symbols names → a ≡ named_image image names
+    → AreNames (map_of asked) symbols names → a ≡ named_image image names
     → IsProgram asked symbols a
 of_image asked None bus_map image names a same on_map apart of_file spared are is =
     subst (IsProgram asked None) (sym is) (record {

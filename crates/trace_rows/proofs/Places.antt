@@ -86,7 +86,7 @@ position_push p xs y =
     let n = length xs in
     let whole : position p (xs ++ y ∷ []) ≡ found (cond (at == n) (n + cond (p y) 0 1) at) (n + 1) =
     found_is p (xs ++ y ∷ []) ∙ (ap (λ k. found k (length (xs ++ y ∷ []))) (position_or_len_push p xs y)
-        ∙ ap (found (cond (at == n) (n + cond (p y) 0 1) at)) (length_push xs y)) in
+    ∙ ap (found (cond (at == n) (n + cond (p y) 0 1) at)) (length_push xs y)) in
     elim (cases_lt at n) [
       | inl before ↦
           let apart : (at == n) ≡ false = ne_eqb at n (λ e. omega (arith, e, before)) in
@@ -152,7 +152,7 @@ put_at table row index address h e =
 
 put_by : (table : List ℕ) (row index address : ℕ) (b c : Bool) → (row == address) ≡ b → nat_lt index 4294967295 ≡ c → address < length table
     → index_at (if c then put_if_none table row (index + 1) else table) address
-        ≡ option_or (index_at table address) (if b then (if c then Some index else None) else None)
+    ≡ option_or (index_at table address) (if b then (if c then Some index else None) else None)
 put_by table row index address true true e l h = put_at table row index address h (eqb-true row address e)
 put_by table row index address false true e l h = ap index_of
     (put_elsewhere table row (index + 1) address (λ same. eqb-false row address e (sym same))) ∙ sym (or_none (index_at table address))
@@ -186,8 +186,11 @@ row_more base table new rows i row h r e t = record {
 
 pub no_rows : (table : List ℕ) (rows : List ℕ) → length table ≡ 65536
     → IsTable table (λ address. option_or (index_at table address) (first_at (take 0 rows) address))
-no_rows table rows size = record { size = size; rows = λ address below.
-    sym (ap (option_or (index_at table address)) (first_none address) ∙ or_none (index_at table address)) }
+no_rows table rows size = record {
+  size = size;
+  rows = λ address below.
+      sym (ap (option_or (index_at table address)) (first_none address) ∙ or_none (index_at table address));
+}
 
 pub all_rows : (base : ℕ → Option ℕ) (table : List ℕ) (rows : List ℕ) (i : ℕ) → length rows ≤ i
     → IsTable table (λ address. option_or (base address) (first_at (take i rows) address))
@@ -297,7 +300,7 @@ below_same image place other most h zero lt = h 0 lt
 below_same image place other most h (suc address) lt =
     ap (λ o. option_or o (if is_some (cell_at image (suc address)) then or_below image place address else None)) (h (suc address) lt)
     ∙ ap (λ o. option_or (other (suc address)) (if is_some (cell_at image (suc address)) then o else None))
-        (below_same image place other most h address (omega (arith, lt)))
+    (below_same image place other most h address (omega (arith, lt)))
 
 pub spread_table : (image : List (Option ℕ)) (old table : List ℕ) (place : ℕ → Option ℕ) → IsTable old place
     → IsTable table (or_below image (index_at old)) → IsTable table (or_below image place)
@@ -317,14 +320,14 @@ zeros table e = record {
 
 names_suc : (image : List (Option ℕ)) (place : ℕ → Option ℕ) (labels : Bool) (names : List Numbered) (i : ℕ)
     → names_of image place labels (take (suc i) names) ≡ names_of image place labels (take i names)
-        ++ names_of image place labels (option_to_list (slice_get names i))
+    ++ names_of image place labels (option_to_list (slice_get names i))
 unfolding names_of
 names_suc image place labels [] zero = refl
 names_suc image place labels [] (suc i) = refl
 names_suc image place labels (d ∷ ds) zero = refl
 names_suc image place labels (d ∷ ds) (suc i) = ap (λ (ls : List Labelled). name_of image place labels d ++ ls) (names_suc image place labels ds i)
     ∙ sym (append_assoc (name_of image place labels d) (names_of image place labels (take i ds))
-        (names_of image place labels (option_to_list (slice_get ds i))))
+    (names_of image place labels (option_to_list (slice_get ds i))))
 
 pub names_more : (image : List (Option ℕ)) (place : ℕ → Option ℕ) (labels : Bool) (names : List Numbered) (i : ℕ) (before old new : List Labelled)
     → old ≡ before ++ names_of image place labels (take i names)
@@ -372,7 +375,7 @@ free_same image table place text (pos n) t = by (nat_le n 65535) refl
     by true e =
         let within : n ≤ 65535 = leb-true n 65535 e in
         ap (λ o. if nat_le n 65535 && is_some (cell_at image n) && is_none o then record { text = text; address = n } ∷ [] else [])
-            (t.rows n (omega (arith, within)))
+        (t.rows n (omega (arith, within)))
     by false e = rw e refl
 free_same image table place text (negsuc n) t = refl
 
@@ -387,7 +390,7 @@ same_names image table place labels (d ∷ ds) t =
 -- A name is put where an address belongs to no other, and what the address below has, is there.
 pub spread_over : (image : List (Option ℕ)) (old table : List ℕ) (place first : ℕ → Option ℕ) → IsTable old place
     → IsTable table (or_below image (λ address. option_or (index_at old address) (first address)))
-        → IsTable table (or_below image (λ address. option_or (place address) (first address)))
+    → IsTable table (or_below image (λ address. option_or (place address) (first address)))
 spread_over image old table place first o t = record {
   size = t.size;
   rows = λ address lt. t.rows address lt ∙ below_same image (λ a. option_or (index_at old a) (first a)) (λ a. option_or (place a) (first a)) 65536

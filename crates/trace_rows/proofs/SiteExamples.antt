@@ -6,7 +6,7 @@ use Rattle.trace_rows.specs.Sites.{first_at, names_of, nowhere, or_below}
 -- An image with bytes at 1, 2 and 4: a label names an address only there.
 pub labels : names_of (None ∷ Some 9 ∷ Some 9 ∷ None ∷ Some 9 ∷ []) nowhere true
     (((codes "a", pos 1), true) ∷ ((codes "b", pos 0), true) ∷ ((codes "c", negsuc 0), true) ∷ ((codes "d", pos 65536), true)
-        ∷ ((codes "e", pos 2), true) ∷ ((codes "f", pos 2), false) ∷ [])
+    ∷ ((codes "e", pos 2), true) ∷ ((codes "f", pos 2), false) ∷ [])
     ≡ record { text = codes "a"; address = 1 } ∷ record { text = codes "e"; address = 2 } ∷ []
 unfolding names_of
 labels = refl

@@ -17,7 +17,7 @@ unfolding behind_brackets
 goes_on ts i depth next d total within told more so_far =
     let left : (depth_behind depth (lexeme_of (get_or ts i d)) == 0) ≡ false = sym (ap (λ (n : ℕ). n == 0) told) ∙ ne_eqb next 0 more in
     let opened : behind_brackets depth (lexemes (drop i ts))
-        ≡ behind_brackets (depth_behind depth (lexeme_of (get_or ts i d))) (lexemes (drop (i + 1) ts)) = rw (drop_more ts i d within, left) refl in
+    ≡ behind_brackets (depth_behind depth (lexeme_of (get_or ts i d))) (lexemes (drop (i + 1) ts)) = rw (drop_more ts i d within, left) refl in
     ap (λ (n : ℕ). behind_brackets n (lexemes (drop (i + 1) ts))) told ∙ sym opened ∙ so_far
 
 rest_is : (n : ℕ) (ts : List Token) → take (length ts - n) (drop n ts) ≡ drop n ts

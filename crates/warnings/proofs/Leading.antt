@@ -15,7 +15,7 @@ first_left xs i x within is = drop_more xs i x within ∙ ap (λ (y : PlacedLine
 opened : (address : ℕ) (ps : List PlacedLine) (i : ℕ) (p : PlacedLine) (has : Bool) → i < length ps → p ≡ get_or ps i p
     → has_byte_at address (placed_view p) ≡ has
     → data_at address (i + 1) (placed_views (drop i ps)) ≡ (if has then if_data (i + 1) (placed_view p).line else data_at address (i + 1 + 1)
-        (placed_views (drop (i + 1) ps)))
+    (placed_views (drop (i + 1) ps)))
 unfolding data_at
 opened address ps i p has within is told =
     let cut : data_at address (i + 1) (placed_views (drop i ps)) ≡ data_at address (i + 1) (placed_views (p ∷ drop (i + 1) ps)) =
@@ -52,7 +52,7 @@ pub walks_on : (ps : List PlacedLine) (i : ℕ) (p : PlacedLine) (walk now total
 unfolding walked
 walks_on ps i p walk now total within is went so_far =
     let cut : walks_left ps i walk ≡ walked walk (placed_views (p ∷ drop (i + 1) ps)) =
-        ap (λ (xs : List PlacedLine). walked walk (placed_views xs)) (first_left ps i p within is) in
+    ap (λ (xs : List PlacedLine). walked walk (placed_views xs)) (first_left ps i p within is) in
     let here : walks_left ps (i + 1) now ≡ walked walk (placed_views (p ∷ drop (i + 1) ps)) = ap (λ (w : Walk). walks_left ps (i + 1) w) went in
     here ∙ sym cut ∙ so_far
 

@@ -44,7 +44,7 @@ goes_on k ws new i n capitals now ps p alike total within is count same noted to
     let left : Definitions → List Warning = λ (c : Definitions). lines_warnings k (i + 1 + 1) c (placed_views (drop (i + 1) ps)) in
     let here : ℕ → Bool → List Warning = λ (m : ℕ) (b : Bool). warnings_with k m b (placed_view p) (placed_views (drop m ps)) in
     let opened : so_on k ws i capitals ps ≡ ws ++ (here (i + 1) (is_alike capitals (name_in (placed_view p).line))
-        ++ left (with_capitals (name_in (placed_view p).line) capitals)) = rw (first_left ps i p within is) refl in
+    ++ left (with_capitals (name_in (placed_view p).line) capitals)) = rw (first_left ps i p within is) refl in
     ap (λ (x : List Warning). x ++ left now) told
     ∙ append_assoc ws (here n alike) (left now)
     ∙ ap (λ (m : ℕ). ws ++ (here m alike ++ left now)) count
@@ -71,7 +71,7 @@ passed profile n rest text behind total cut without so_far =
 pub found : {X E : Type 0} (r : Result X E) (profile : Profile) (n : ℕ) (rest text behind : List ℕ) (first ws new total : List Warning)
     (silenced : Bool) → ws ≡ first → lines_of rest ≡ text ∷ lines_of behind
     → says_bytes (meaning_of profile text) ≡ true → silenced ≡ is_silenced text → OnOk r (new ≡ ws ++ one_if (not silenced) n AfterEnd)
-        → cut_off profile n (lines_of rest) ≡ total
+    → cut_off profile n (lines_of rest) ≡ total
     → OnOk r (new ≡ first ++ total)
 found (Ok x) profile n rest text behind first ws new total silenced same cut within quiet told so_far =
     let opened : cut_off profile n (lines_of rest) ≡ one_if (not (is_silenced text)) n AfterEnd = rw (cut, within) refl in
@@ -159,7 +159,7 @@ pub whole : (profile : Profile) (texts : List (List ℕ)) (fs : List Found) (is 
 whole profile texts fs is names lines behind ws found_is lines_is behind_is told =
     told ∙ ap (λ (x : List Placed). warnings_in profile names x behind) lines_is
     ∙ ap (λ (x : List (List ℕ)). warnings_in profile names (placed_lines profile texts (found_all fs)) x)
-        (behind_is ∙ ap (λ (n : ℕ). drop n texts) (sym (length-map fs found_view)))
+    (behind_is ∙ ap (λ (n : ℕ). drop n texts) (sym (length-map fs found_view)))
     ∙ ap (λ (x : List all.Found). warnings_found profile texts x names) found_is
 
 -- the same of a call's result

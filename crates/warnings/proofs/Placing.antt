@@ -38,7 +38,7 @@ so_on profile ps rest i fs = placed_views ps ++ placed_lines profile (lines_of r
 -- a line more
 pub goes_on : (profile : Profile) (ps new : List PlacedLine) (rest text behind : List ℕ) (i : ℕ) (fs : List Found) (f : Found) (total : List Placed)
     → lines_of rest ≡ text ∷ lines_of behind → i < length fs → f ≡ get_or fs i f
-        → placed_views new ≡ placed_views ps ++ placed_line profile text (found_view f) ∷ []
+    → placed_views new ≡ placed_views ps ++ placed_line profile text (found_view f) ∷ []
     → so_on profile ps rest i fs ≡ total → so_on profile new behind (i + 1) fs ≡ total
 goes_on profile ps new rest text behind i fs f total cut within is view so_far =
     let left : List Placed = placed_lines profile (lines_of behind) (found_all (drop (i + 1) fs)) in

@@ -17,11 +17,11 @@ names_left format names i = flat_map (row_in format) (drop i names)
 -- a name
 pub name_done : (format : SymbolsFormat) (out new : List ℕ) (names : Definitions) (i : ℕ) (name : List ℕ × ℤ) (total : List ℕ)
     → Some name ≡ slice_get names i → new ≡ out ++ row_in format name → out ++ names_left format names i ≡ total
-        → new ++ names_left format names (i + 1) ≡ total
+    → new ++ names_left format names (i + 1) ≡ total
 name_done format out new names i name total is put so_far =
     let at : slice_get names i ≡ Some name = sym is in
     let first : drop i names ≡ name ∷ drop (i + 1) names = drop_more names i name (slice_get_within names i name at)
-        ∙ ap (λ (x : List ℕ × ℤ). x ∷ drop (i + 1) names) (get_or_from_slice_get names i name name at) in
+    ∙ ap (λ (x : List ℕ × ℤ). x ∷ drop (i + 1) names) (get_or_from_slice_get names i name name at) in
     let next : names_left format names i ≡ row_in format name ++ names_left format names (i + 1) = rw first refl in
     rw put (append_assoc out (row_in format name) (names_left format names (i + 1))) ∙ ap (λ (x : List ℕ). out ++ x) (sym next) ∙ so_far
 

@@ -148,11 +148,11 @@ pub tried_more : (asked : CheckAsked) (files : List (Bor Text)) (i : ℕ) (d : B
     (U V W : Type 0) (worst status next : ℕ)
     → i < length files → file ≡ (get_or files i d).now → next ≡ max worst status → (U → V → W)
     → AreTried asked (texts (take i files)) held between U worst → IsTried asked file between now V status
-        → AreTried asked (texts (take (i + 1) files)) held now W next
+    → AreTried asked (texts (take (i + 1) files)) held now W next
 tried_more asked files i d file held between now U V W worst status next within is higher both before one =
     let outcome : Outcome = record { said = one.said; status = status } in
     let longer : texts (take (i + 1) files) ≡ texts (take i files) ++ file ∷ [] =
-        map_more (λ (f : Bor Text). f.now) files i d within ∙ ap (λ (t : Text). texts (take i files) ++ t ∷ []) (sym is) in
+    map_more (λ (f : Bor Text). f.now) files i d within ∙ ap (λ (t : Text). texts (take i files) ++ t ∷ []) (sym is) in
     record {
       outcomes = before.outcomes ++ outcome ∷ [];
       are = subst (λ (fs : List Text). AreOutcomes asked fs (before.outcomes ++ outcome ∷ [])) (sym longer)
@@ -171,9 +171,13 @@ all_tried asked files n held now U worst past before =
 
 front_behind : (held between now : Option (List ℕ)) (first next : List ℕ) → Appends held between first → AppendsFront between now next
     → AppendsFront held now (first ++ next)
-front_behind held between now first next before front =
-    (first ++ front.0, front.1, ap (λ (x : List ℕ). first ++ x) front.2
-        ∙ sym (append_assoc first front.0 front.1), Appends-trans held between now first front.0 before front.3)
+front_behind held between now first next before front = (
+  first ++ front.0,
+  front.1,
+  ap (λ (x : List ℕ). first ++ x) front.2
+      ∙ sym (append_assoc first front.0 front.1),
+  Appends-trans held between now first front.0 before front.3,
+)
 
 -- the output failed at one more file
 pub begun_at : (asked : CheckAsked) (files : List (Bor Text)) (i : ℕ) (d : Bor Text) (file : Text) (held between now : Option (List ℕ)) (U : Type 0) (worst : ℕ)
@@ -181,7 +185,7 @@ pub begun_at : (asked : CheckAsked) (files : List (Bor Text)) (i : ℕ) (d : Bor
     → AreTried asked (texts (take i files)) held between U worst → IsBegun asked file between now → AreBegun asked (texts files) held now
 begun_at asked files i d file held between now U worst within is before one =
     let longer : texts (take (i + 1) files) ≡ texts (take i files) ++ file ∷ [] =
-        map_more (λ (f : Bor Text). f.now) files i d within ∙ ap (λ (t : Text). texts (take i files) ++ t ∷ []) (sym is) in
+    map_more (λ (f : Bor Text). f.now) files i d within ∙ ap (λ (t : Text). texts (take i files) ++ t ∷ []) (sym is) in
     record {
       tried = texts (take (i + 1) files);
       left = texts (drop (i + 1) files);

@@ -106,4 +106,4 @@ unfolding rows_after
 all_end one other [] h = absurd (omega arith)
 all_end one other (address ∷ more) h =
     one_then_more (first_row one other address more) (rows_after one other (Some address) more) (first_ends one other address more)
-        (rows_end one other (Some address) more)
+    (rows_end one other (Some address) more)

@@ -11,7 +11,7 @@ one_text f xs n d text more inside so_far grown =
     let x = get_or xs n d in
     let step : flat_map f (take (n + 1) xs) ≡ flat_map f (take n xs) ++ f x =
     ap (λ t. flat_map f t) (take_more xs n d inside) ∙ (flat_map-append f (take n xs) (x ∷ [])
-        ∙ ap (λ (t : List ℕ). flat_map f (take n xs) ++ t) (append-nil (f x))) in
+    ∙ ap (λ (t : List ℕ). flat_map f (take n xs) ++ t) (append-nil (f x))) in
     grown ∙ (ap (λ (t : List ℕ). t ++ f x) so_far ∙ sym step)
 
 pub all_texts : {X : Type 0} (f : X → List ℕ) (xs : List X) (n : ℕ) (text : List ℕ) → length xs ≤ n → text ≡ flat_map f (take n xs) → text ≡ flat_map f xs

@@ -52,10 +52,10 @@ has_begun asked image streams Alone (Session f) read reaches ends = absurd ends
 pub has_begun_on : (asked : DebugImageAsked) (map : Map) (image : List (Option ℕ)) (streams : Streams) (Alone : Type 0) (fault : EngineFault)
     → map ≡ map_asked asked → IsOfFile asked.form image
     → Reaches {X = ⊤} (Err fault) (IsServedOn (new_session asked.history (start map image)) streams (Err fault)) Alone → EndsServing fault
-        → HasBegun asked streams Alone
+    → HasBegun asked streams Alone
 has_begun_on asked map image streams Alone fault is read reaches ends =
     has_begun asked image streams Alone fault read (subst (λ (m : Map).
-        Reaches {X = ⊤} (Err fault) (IsServedOn (new_session asked.history (start m image)) streams (Err fault)) Alone) is reaches) ends
+    Reaches {X = ⊤} (Err fault) (IsServedOn (new_session asked.history (start m image)) streams (Err fault)) Alone) is reaches) ends
 
 -- the status of a file that is no image
 abbrev Says : Option Form → ℕ → Type 0

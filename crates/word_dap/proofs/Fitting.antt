@@ -37,7 +37,12 @@ cut_first seen status given before after three none = (
   fault.OutOfMemory,
   three,
   [],
-  (first, refl, refl, cut_between (Turns seen) given given given [] [] (first, 0) (first, 0) fault.OutOfMemory []
-      (unserved (Turns seen) given (first, 0)) (Consumes-nil given) tt),
+  (
+    first,
+    refl,
+    refl,
+    cut_between (Turns seen) given given given [] [] (first, 0) (first, 0) fault.OutOfMemory []
+        (unserved (Turns seen) given (first, 0)) (Consumes-nil given) tt,
+  ),
   none,
 )

@@ -73,4 +73,4 @@ pub begins : (seen : Option Text) (body : List ℕ) (a : Adapter) (n : ℕ) (req
     (written : List ℕ) → ServesBody body a b request said run end → IsRunCut seen run request said b n written → BeginsTurn (Turns seen) body (a, n) written
 begins seen body a n request said run b end written serves cut =
     subst (BeginsTurn (Turns seen) body (a, n)) (sym cut.9) (begins_by seen body a n request said run b end cut.0 cut.2 cut.3 cut.4 cut.5 cut.6 serves
-        cut.1 cut.7 cut.8)
+    cut.1 cut.7 cut.8)

@@ -16,7 +16,7 @@ pub ends_of : (words : List Text) (watch own : Streams) (status result : ℕ) (f
     → watch.given ≡ own.given
     → (status ≡ 0 → result ≡ (if fault then 5 else 0)) → (1 ≤ status → result ≡ status) → status ≤ 4
     → (status ≡ 0 → AsksForHelp debug words ⊎ plain.Asks words
-        (λ asked. plain.HasEnded asked (record { given = watch.given; left = watch.left; held = watch.held; now = watch.now })))
+    (λ asked. plain.HasEnded asked (record { given = watch.given; left = watch.left; held = watch.held; now = watch.now })))
     → EndsOnImage words own result
 ends_of words watch own status result fault passes given ended failed four served = λ done.
     let zero = ended_of status result failed four done in

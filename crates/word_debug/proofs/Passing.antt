@@ -22,7 +22,7 @@ Passes watched seen held now fault = (text : List ℕ) → Appends watched seen 
 
 pub passes_of : (watched seen held now : Option (List ℕ)) (fault : Bool) → watched ≡ Some (known_framed held)
     → ((before : Option (List ℕ)) (text : List ℕ) → Appends (Some (known_framed before)) seen text → (fault ≡ (seen_in text).has_fault)
-        × Appends before now text)
+    × Appends before now text)
     → Passes watched seen held now fault
 passes_of watched seen held now fault first passed text wrote = passed held text (rw first at wrote)
 

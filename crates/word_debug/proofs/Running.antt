@@ -19,7 +19,7 @@ pub runs_of : (d : DebugAsked) (watch own : Streams) (status result : ℕ) (faul
     → Passes watch.held watch.now own.held own.now fault
     → watch.given ≡ own.given → watch.left ≡ own.left
     → (status ≡ 0 → result ≡ (if fault then 5 else 0)) → (1 ≤ status → result ≡ status) → status ≤ 4 → RunsDebug d watch status Alone
-        → RunsStrict d own result Left
+    → RunsStrict d own result Left
 runs_of d watch own status result fault Alone Left alone passes given left ended failed four plain = record {
   tells = tells_of d.rom d.port status result fault ended failed plain.tells;
   serves = (
@@ -30,9 +30,11 @@ runs_of d watch own status result fault Alone Left alone passes given left ended
   );
   ended = λ done.
       let zero = ended_of status result failed four done in
-      let served = plain.ended zero in
-      (served.0, rw given at (strict_served (new_session d.history (start (map_asked d) served.0)) watch.given watch.held watch.now own.held own.now
-          fault result passes (ended zero) served.1));
+      let served = plain.ended zero in (
+        served.0,
+        rw given at (strict_served (new_session d.history (start (map_asked d) served.0)) watch.given watch.held watch.now own.held own.now
+            fault result passes (ended zero) served.1),
+      );
 }
 
 -- Memory ran out before a session began.

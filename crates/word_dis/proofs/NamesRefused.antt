@@ -31,4 +31,4 @@ pub names_refused : {X : Type 0} (profile : Profile) (source : List ℕ) (bus_ma
 names_refused profile source bus_map fault (Ok x) same ends passed = absurd passed
 names_refused profile source bus_map fault (Err r) same ends passed =
     subst (EndsNames profile source) (sym passed) (fault_ends profile source fault
-        (subst (λ (m : Map). (fault ≡ out_of_memory) ⊎ HasFault m source fault) same ends))
+    (subst (λ (m : Map). (fault ≡ out_of_memory) ⊎ HasFault m source fault) same ends))

@@ -26,38 +26,42 @@ use Rattle.word_dis.specs.Written.{AreFollowedBy, AreMarked, AreMarkedBy, AreRea
 pub source_is : (asked : SourceAsked) (image : List (Option ℕ)) (names : Option Definitions) (whole part : List (Option ℕ)) (marks : List Mark)
     (plain halves strings text : List ℕ) (at_port : Bool) (left_out : ℕ) → ((a : ℕ) → a < 65536 → cell_at whole a ≡ cell_between image asked.first asked.last a)
     → AreKept whole asked.fill part → left_out ≡ bytes_left_out whole part → AreMarkedBy asked part marks → IsText asked part marks names plain
-        → AreSplitText asked.profile part asked.said.splits plain halves → AreJoinedText asked.profile part marks halves strings
-        → IsRemarkedText asked.profile part (beside_of asked) strings text
+    → AreSplitText asked.profile part asked.said.splits plain halves → AreJoinedText asked.profile part marks halves strings
+    → IsRemarkedText asked.profile part (beside_of asked) strings text
     → ((bus_map : Map) → bus_map.profile ≡ asked.profile → has_port_byte bus_map part ≡ false → Denotes bus_map text part) → at_port ≡ is_at_port part
-        → IsWritten asked image names text at_port left_out
+    → IsWritten asked image names text at_port left_out
 source_is asked image names whole part marks plain halves strings text at_port left_out cells kept counted marked says split joined remarked means
     same = record {
-  source = record {
-    whole = whole;
-    cells = cells;
-    part = part;
-    kept = kept;
-    filled = same_filled asked.fill whole part kept;
-    marks = marks;
-    marked = marked;
-    plain = plain;
-    says = says;
-    halves = halves;
-    split = split;
-    strings = strings;
-    joined = joined;
-    remarked = remarked;
-    denotes = means;
-  };
-  same = same;
-  counted = counted;
-}
+      source = record {
+        whole = whole;
+        cells = cells;
+        part = part;
+        kept = kept;
+        filled = same_filled asked.fill whole part kept;
+        marks = marks;
+        marked = marked;
+        plain = plain;
+        says = says;
+        halves = halves;
+        split = split;
+        strings = strings;
+        joined = joined;
+        remarked = remarked;
+        denotes = means;
+      };
+      same = same;
+      counted = counted;
+    }
 
 -- marks where control is not followed, and where it is
 pub unfollowed : (asked : SourceAsked) (part : List (Option ℕ)) (marks : List Mark) → AreMarked asked marks → is_followed asked ≡ false
     → AreReached asked part marks
-unfollowed asked part marks marked none = record { plain = marks; marked = marked; followed =
-    subst (λ (t : Bool). AreFollowedBy t asked part marks marks) (sym none) refl }
+unfollowed asked part marks marked none = record {
+  plain = marks;
+  marked = marked;
+  followed =
+      subst (λ (t : Bool). AreFollowedBy t asked part marks marks) (sym none) refl;
+}
 
 pub followed : {X E : Type 0} (items : X → List Mark) (asked : SourceAsked) (part : List (Option ℕ)) (plain : List Mark) (r : Result X E)
     → AreMarked asked plain → is_followed asked ≡ true
@@ -84,7 +88,7 @@ of_file held left_out profile labels file source count (Err e) same counted name
 
 pub given_path : (asked : Option Text) (path : Text) (profile : Profile) (labels : List ℕ) (n : Names) → asked ≡ Some path
     → ((a : AssemblyView) × (n.assembly ≡ Some a) × AreFileNames profile labels a.names n.left_out.items)
-        → AreGiven asked profile labels (option_map (λ a. a.names) n.assembly) n.left_out.items
+    → AreGiven asked profile labels (option_map (λ a. a.names) n.assembly) n.left_out.items
 given_path asked path profile labels n is given =
     let A : Option AssemblyView → Type 0 = λ h. AreGiven (Some path) profile labels (option_map (λ a. a.names) h) n.left_out.items in
     subst (λ (o : Option Text). AreGiven o profile labels (option_map (λ a. a.names) n.assembly) n.left_out.items) (sym is) (subst A (sym given.1) given.2)
@@ -93,10 +97,15 @@ given_path asked path profile labels n is given =
 pub known : {X E : Type 0} (items : X → List Mark) (asked : SourceAsked) (part : List (Option ℕ)) (reached : List Mark) (ranges : List (ℕ × ℕ))
     (before : List Mark) (r : Result X E) → ranges ≡ asked.said.instructions → before ≡ reached
     → AreReached asked part reached → IfOk r (λ x. length (items x) ≡ 65536)
-        → IfOk r (λ x. (a : ℕ) → a < 65536 → mark_at (items x) a ≡ said_mark ranges before a) → IfOk r (λ x. AreMarkedBy asked part (items x))
+    → IfOk r (λ x. (a : ℕ) → a < 65536 → mark_at (items x) a ≡ said_mark ranges before a) → IfOk r (λ x. AreMarkedBy asked part (items x))
 known items asked part reached ranges before (Ok x) same own has size each =
-    record { reached = reached; known = has; size = size; each =
-        λ a below. each a below ∙ ap₂ (λ (rs : List (ℕ × ℕ)) (ms : List Mark). said_mark rs ms a) same own }
+    record {
+      reached = reached;
+      known = has;
+      size = size;
+      each =
+          λ a below. each a below ∙ ap₂ (λ (rs : List (ℕ × ℕ)) (ms : List Mark). said_mark rs ms a) same own;
+    }
 known items asked part reached ranges before (Err e) same own has size each = tt
 
 -- the names of labels alone

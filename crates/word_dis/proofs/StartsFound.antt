@@ -41,4 +41,4 @@ unfolding half_targets
 halves_more part split n first out new so_far put =
     let one : n + 1 ≡ suc n = omega arith in
     rw one (put ∙ (ap (λ (t : List ℕ). t ++ target_list (target_at part split n)) so_far
-        ∙ append_assoc first (half_targets part split n) (target_list (target_at part split n))))
+    ∙ append_assoc first (half_targets part split n) (target_list (target_at part split n))))

@@ -25,7 +25,7 @@ pub one_more : {A W : Type 0} (now : W → List ℕ) (read : List ℕ → Option
     → read (now (get_or words index d)) ≡ Some a → new ≡ items ++ a ∷ [] → Reads now read words (index + 1) new
 one_more now read words index items new d a so_far inside e more =
     let step : all_of read (map now (drop index words)) ≡ option_map (λ others. a ∷ others) (all_of read (map now (drop (suc index) words))) =
-        rw (drop-cons words index d, e) refl in
+    rw (drop-cons words index d, e) refl in
     rw (more, add-one) (so_far ∙ ap (option_map (λ rest. items ++ rest)) step ∙ joined items a (all_of read (map now (drop (suc index) words))))
 
 pub one_wrong : {A W : Type 0} (now : W → List ℕ) (read : List ℕ → Option A) (words : List W) (index : ℕ) (items : List A) (d : W)

@@ -49,7 +49,7 @@ pub tape_overlaps : (said : Option Form) (bytes read : List ℕ) (overlaps : Lis
     → AreOverlaps (form_by said bytes) bytes overlaps
 tape_overlaps said bytes read overlaps is same each =
     subst (λ (t : Result Form OtherText). AreOverlaps t bytes overlaps) (sym (the_form (form_by said bytes) is))
-        (subst (λ t. (cells : List (Option ℕ)) → (tape : TapeDenotes t cells) → overlaps ≡ overlaps_of tape.pieces) same each)
+    (subst (λ t. (cells : List (Option ℕ)) → (tape : TapeDenotes t cells) → overlaps ≡ overlaps_of tape.pieces) same each)
 
 -- another form
 pub no_records : (told : Result Form OtherText) (bytes : List ℕ) → is_tape told ≡ false → None ≡ records_in told bytes
@@ -66,7 +66,7 @@ no_records (Err like) bytes is = refl
 pub right_image : (asked : InfoAsked) (bytes : List ℕ) (image : List (Option ℕ)) (port : ℕ) (records : Option ℕ) (overlaps : List Range)
     (front end said : List ℕ) → port ≡ asked.port → IsImage asked.form bytes image
     → records ≡ records_in (form_by asked.form bytes) bytes → AreOverlaps (form_by asked.form bytes) bytes overlaps
-        → AreRows asked.profile image port records overlaps front → IsEndText (form_by asked.form bytes) bytes end
+    → AreRows asked.profile image port records overlaps front → IsEndText (form_by asked.form bytes) bytes end
     → said ≡ front ++ end → IsRightImage asked said
 right_image asked bytes image port records overlaps front end said at is counts over rows ends told = record {
   bytes = bytes;

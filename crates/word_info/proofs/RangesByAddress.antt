@@ -37,7 +37,7 @@ turn cells old new n some inside so_far put =
     let back : n ≡ a + 1 = omega (arith, some) in
     let cut : drop a cells ≡ get_or cells a None ∷ drop (a + 1) cells = rw (add-one, drop-cons cells a None (omega (arith, some, inside))) refl in
     put ∙ ap (λ (x : List Range). with_cell a (get_or cells a None) x) (so_far ∙ ap (λ (k : ℕ). map range_of_run (runs k (drop k cells))) back)
-        ∙ by_cell cells a (get_or cells a None) cut
+    ∙ by_cell cells a (get_or cells a None) cut
 
 drop_all : (cells : Cells) → drop (length cells) cells ≡ []
 drop_all [] = refl

@@ -42,7 +42,7 @@ module _ (front digits tail : List ℕ) (hex : list_all is_hex_byte digits ≡ t
   last =
       let at : length body - 1 - length front ≡ 10 = omega (arith, long) in
       get_or_append_left body tail 0 (length body - 1) (omega (arith, long))
-          ∙ get_or-append_right front (59 ∷ digits) (length front) (length body - 1) 0 refl (omega (arith, long))
+      ∙ get_or-append_right front (59 ∷ digits) (length front) (length body - 1) 0 refl (omega (arith, long))
       ∙ ap (λ i. get_or (59 ∷ digits) i 0) at
 
   tail_size : suffix_len is_skipped (body ++ tail) ≡ length tail
@@ -50,7 +50,7 @@ module _ (front digits tail : List ℕ) (hex : list_all is_hex_byte digits ≡ t
       let whole = length-append body tail in
       let by = suffix_len_is is_skipped (body ++ tail) (length body) 0 (omega (arith, whole))
       (λ k from within. ap is_skipped (get_or-append_right body tail (length body) k 0 refl from)
-          ∙ AllPass-from_list_all is_skipped tail skipped (k - length body) 0 (omega (arith, whole, from, within)))
+      ∙ AllPass-from_list_all is_skipped tail skipped (k - length body) 0 (omega (arith, whole, from, within)))
       (λ some. ap is_skipped last ∙ not_skipped (get_or digits 9 0) (AllPass-from_list_all is_hex_byte digits hex 9 0 (omega (arith, ten)))) in
       omega (arith, by, whole)
 
@@ -89,10 +89,10 @@ unfolding has_count_twice
 right_has_none text cells tape =
     let ten = ten_digits tape.digits tape.end.all tape.end.none in
     let spelled : text ≡ (front_of tape.pieces ++ 59 ∷ tape.digits) ++ tape.tail =
-        tape.spelled ∙ sym (append_assoc (front_of tape.pieces) (59 ∷ tape.digits) tape.tail) in
+    tape.spelled ∙ sym (append_assoc (front_of tape.pieces) (59 ∷ tape.digits) tape.tail) in
     ap (λ t. is_count_twice (last_record t)) spelled ∙ ap is_count_twice (ends_with (front_of tape.pieces) tape.digits tape.tail tape.end.all.0 ten tape.rest)
     ∙ no_count ((59 == 59) && (length tape.digits == 10) && list_all is_hex_byte tape.digits) (counts_twice (claim_of tape.digits))
-        (right_sum tape.digits tape.end.checked)
+    (right_sum tape.digits tape.end.checked)
   where
     no_count : (a b : Bool) → b ≡ false → (a && b) ≡ false
     no_count true b e = e

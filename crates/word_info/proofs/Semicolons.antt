@@ -48,7 +48,7 @@ in_tape : (text : List ℕ) (cells : List (Option ℕ)) (tape : TapeDenotes text
 in_tape text cells tape =
     let tail : filter is_semicolon (tape.digits ++ tape.tail) ≡ [] =
     filter-append is_semicolon tape.digits tape.tail ∙ ap (λ (t : List ℕ). t ++ filter is_semicolon tape.tail)
-        (none_in_digits tape.digits tape.end.all.0) ∙ none_in_gaps tape.tail tape.rest in
+    (none_in_digits tape.digits tape.end.all.0) ∙ none_in_gaps tape.tail tape.rest in
     let whole : filter is_semicolon text ≡ filter is_semicolon (front_of tape.pieces) ++ 59 ∷ filter is_semicolon (tape.digits ++ tape.tail) =
     ap (λ (t : List ℕ). filter is_semicolon t) tape.spelled ∙ filter-append is_semicolon (front_of tape.pieces) (59 ∷ tape.digits ++ tape.tail) in
     let size = ap (λ (t : List ℕ). length t) (whole ∙ ap (λ (t : List ℕ). filter is_semicolon (front_of tape.pieces) ++ 59 ∷ t) tail) in

@@ -58,7 +58,7 @@ in_front [] rest a h = omega arith
 in_front (gap b ∷ ps) rest a h = rw (no_gap b h.0) (zero-add (writes_in (front_of ps ++ rest) a) ∙ in_front ps rest a h.1)
 in_front (record_of ds ∷ ps) rest a h =
     let apart : writes_in (59 ∷ (ds ++ front_of ps) ++ rest) a ≡ writes_in (59 ∷ ds ++ (front_of ps ++ rest)) a =
-        ap (λ (t : List ℕ). writes_in (59 ∷ t) a) (append_assoc ds (front_of ps) rest) in
+    ap (λ (t : List ℕ). writes_in (59 ∷ t) a) (append_assoc ds (front_of ps) rest) in
     let here = record_writes ds (front_of ps ++ rest) a h.0.all in
     let more = in_front ps rest a h.1 in
     omega (arith, apart, here, more)
@@ -91,7 +91,7 @@ at_place text place a inside =
     let next : drop (place + 1) text ≡ drop (suc place) text = ap (λ (n : ℕ). drop n text) (add-one place) in
     let split = ap (λ (t : List ℕ). writes_in t a) cut in
     let same : written_at text place a ≡ begun_by (get_or text place 0) (drop (suc place) text) a =
-        ap (λ (t : List ℕ). begun_by (get_or text place 0) t a) next in
+    ap (λ (t : List ℕ). begun_by (get_or text place 0) t a) next in
     omega (arith, split, same)
 
 pub before_place : (text : List ℕ) (place a : ℕ) → place ≤ length text → writes_before text place a + writes_in (drop place text) a ≡ writes_in text a

@@ -23,7 +23,7 @@ cut_at_once bus_map given before after kept =
 pub cut_early : (words : List Text) (fault : WordsFault) (status : ℕ) (a : LspAsked) (given before after : Option (List ℕ))
     → IsRefusalOf lsp_app words (lsp_asked words ≡ None) fault → IsStatusOf fault status
     → lsp_asked words ≡ Some a → Fits lsp_app words → status ≢ 2 → (1 ≤ status → status ≤ 3 → after ≡ before)
-        → IsServed (map_for a) given given status before after
+    → IsServed (map_for a) given given status before after
 cut_early words (Help text) status a given before after is said asked fits other kept = absurd (subst (IsAmong kind.DisplayHelp) fits is.1)
 cut_early words (Usage text) status a given before after is said asked fits other kept = absurd (subst (IsAmong (kind_of text)) fits is.1)
 cut_early words Value status a given before after is said asked fits other kept = absurd (other said)

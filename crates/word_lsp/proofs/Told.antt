@@ -32,9 +32,9 @@ told_step bus_map docs i d within is v behind one more =
 -- a value is put behind those that are told
 pub told_more : (bus_map : Map) (docs : List Document) (told new : List Value) (one : Value) (behind : List Data) → new ≡ told ++ one ∷ []
     → AreToldOfAll bus_map (map document_view docs) (map view told ++ (view one ∷ behind))
-        → AreToldOfAll bus_map (map document_view docs) (map view new ++ behind)
+    → AreToldOfAll bus_map (map document_view docs) (map view new ++ behind)
 told_more bus_map docs told new one behind is all =
     let same : map view told ++ (view one ∷ behind) ≡ map view new ++ behind
     = sym (ap (λ (vs : List Value). map view vs ++ behind) is ∙ ap (λ (vs : List Data). vs ++ behind) (map-append view told (one ∷ []))
-        ∙ append_assoc (map view told) (view one ∷ []) behind) in
+    ∙ append_assoc (map view told) (view one ∷ []) behind) in
     subst (λ (vs : List Data). AreToldOfAll bus_map (map document_view docs) vs) same all

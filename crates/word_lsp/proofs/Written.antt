@@ -37,4 +37,4 @@ some_written (d ∷ ds) = let more = some_written ds in (framed (compact_text d)
 pub front_behind : (before text front rest more : List ℕ) → text ≡ front ++ rest → before ++ (text ++ more) ≡ (before ++ front) ++ (rest ++ more)
 front_behind before text front rest more is =
     ap (λ (t : List ℕ). before ++ (t ++ more)) is ∙ ap (λ (t : List ℕ). before ++ t) (append_assoc front rest more)
-        ∙ sym (append_assoc before front (rest ++ more))
+    ∙ sym (append_assoc before front (rest ++ more))

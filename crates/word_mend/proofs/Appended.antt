@@ -48,12 +48,12 @@ regroup a b c d e f g t = simp append_assoc refl
 pub end_text : {E : Type 0} (r : Result Unit E) (n s : ℕ) (a b c d e f g h : List ℕ) → s ≡ n / 256 + n % 256 → n < 65536 → b ≡ a ++ 59 ∷ []
     → c ≡ b ++ encode_upper (0 ∷ []) → d ≡ c ++ encode_upper (n / 256 ∷ [])
     → e ≡ d ++ encode_upper (n % 256 ∷ []) → f ≡ e ++ encode_upper (s / 256 ∷ []) → g ≡ f ++ encode_upper (s % 256 ∷ [])
-        → h ≡ cond (is_ok r) (g ++ 13 ∷ 10 ∷ []) g → IfOk r (λ _. h ≡ a ++ end_line n)
+    → h ≡ cond (is_ok r) (g ++ 13 ∷ 10 ∷ []) g → IfOk r (λ _. h ≡ a ++ end_line n)
 unfolding encode_with
 end_text (Err x) n s a b c d e f g h sum_is small hb hc hd he hf hg hh = tt
 end_text (Ok u) n s a b c d e f g h sum_is small hb hc hd he hf hg hh =
     let same : s ≡ (0 + n / 256 + n % 256) % 65536 = omega (arith, sum_is, small) in
     rw (hh, hg, hf, he, hd, hc, hb)
     (regroup a (59 ∷ []) (encode_upper (0 ∷ [])) (encode_upper (n / 256 ∷ [])) (encode_upper (n % 256 ∷ [])) (encode_upper (s / 256 ∷ []))
-        (encode_upper (s % 256 ∷ [])) (13 ∷ 10 ∷ [])
+    (encode_upper (s % 256 ∷ [])) (13 ∷ 10 ∷ [])
     ∙ rw same refl)

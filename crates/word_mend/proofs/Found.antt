@@ -129,7 +129,7 @@ pub four_put : {X E : Type 0} (result : Result X E) (old one two three new first
     → three ≡ two ++ third → new ≡ (if is_ok result then three ++ fourth else three) → OnOk result (new ≡ old ++ (first ++ (second ++ (third ++ fourth))))
 four_put (Ok done) old one two three new first second third fourth f s t is =
     is ∙ rw (t, s, f) (append_assoc ((old ++ first) ++ second) third fourth
-        ∙ (append_assoc (old ++ first) second (third ++ fourth) ∙ append_assoc old first (second ++ (third ++ fourth))))
+    ∙ (append_assoc (old ++ first) second (third ++ fourth) ∙ append_assoc old first (second ++ (third ++ fourth))))
 four_put (Err fault) old one two three new first second third fourth f s t is = tt
 
 -- ---- the place of a fault

@@ -254,7 +254,7 @@ hex_none (b ∷ line) few = absurd (omega (arith, few))
 
 pub hex_there : (line : List ℕ) → 1 ≤ length line → slice_index line 0 ≡ 58
     → checksums_if (is_sum_fault (record_bytes 1 5 0 (take (length line - 1) (drop 1 line)))) 0
-        (bytes_of_digits (take (length line - 1) (drop 1 line))) ≡ wrong_sum Hex line
+    (bytes_of_digits (take (length line - 1) (drop 1 line))) ≡ wrong_sum Hex line
 hex_there [] some is = absurd (omega (arith, some))
 hex_there (b ∷ line) some is = rw (is, taken line (length (b ∷ line) - 1) (omega arith)) (hex_marked line)
 
@@ -269,7 +269,7 @@ s_one (b ∷ c ∷ line) some few = absurd (omega (arith, few))
 
 pub s_there : (line : List ℕ) → 2 ≤ length line → slice_index line 0 ≡ 83 → is_type (slice_index line 1) ≡ true
     → checksums_if (is_sum_fault (record_bytes 2 1 255 (take (length line - 2) (drop 2 line)))) 255
-        (bytes_of_digits (take (length line - 2) (drop 2 line))) ≡ wrong_sum SRecord line
+    (bytes_of_digits (take (length line - 2) (drop 2 line))) ≡ wrong_sum SRecord line
 s_there [] some is there = absurd (omega (arith, some))
 s_there (b ∷ []) some is there = absurd (omega (arith, some))
 s_there (b ∷ c ∷ line) some is there = rw (is, taken line (length (b ∷ c ∷ line) - 2) (omega arith)) (s_marked c line there)

@@ -171,7 +171,7 @@ unfolding with_line_ends
 kept_lines [] = refl
 kept_lines (b ∷ bytes) =
     let more : cond (is_kept b) (b ∷ filter is_kept (with_line_ends bytes)) (filter is_kept (with_line_ends bytes))
-        ≡ cond (is_kept b) (b ∷ filter is_kept bytes) (filter is_kept bytes) =
+    ≡ cond (is_kept b) (b ∷ filter is_kept bytes) (filter is_kept bytes) =
     ap (λ (t : List ℕ). cond (is_kept b) (b ∷ t) t) (kept_lines bytes) in
     elim (cases_Bool (is_at_end bytes)) [ inl t ↦ rw t more | inr f ↦ rw f more ]
 
@@ -251,7 +251,7 @@ of_kept text (b ∷ bytes) out cells is all e d =
     ∙ ap (λ (t : List ℕ). filter is_kept (with_line_ends r) ++ t) (sym (kept_end n (omega arith)))
     ∙ sym (filter-append is_kept (with_line_ends r) (end_line n)) ∙ ap (λ (t : List ℕ). filter is_kept t) (sym e) ∙ l.spelled in
     let same : r ≡ front_of l.pieces = same_fronts r (59 ∷ encode_upper (end_bytes n)) (front_of l.pieces) (59 ∷ l.digits)
-        (omega (arith, ten, l.end.ten)) stripped in
+    (omega (arith, ten, l.end.ten)) stripped in
     record {
       pieces = l.pieces;
       ending = rest.ending;

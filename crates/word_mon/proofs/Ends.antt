@@ -23,9 +23,16 @@ use Rattle.word_mon.specs.Starts.{EndsDebugInfo, EndsNamed}
 memory_unloads : (file : FileAsked) (others : Others) (heard : Heard) (path : List ℕ) (fault : Refusal) (status : ℕ) (Alone : Type 0) → fault ≡ OutOfMemory
     → status ≡ status_of fault → Tells heard (file_line path fault) → Alone → AreUnloaded file others heard status Alone
 unfolding load_text file_line
-memory_unloads file others heard path fault status A memory is told alone =
-    (file.file, Refused OutOfMemory, one_of others.second file, memory_files file others, subst (λ f. status ≡ status_of f) memory is, subst
-        (λ f. Tells heard (file_line path f)) memory told, alone)
+memory_unloads file others heard path fault status A memory is told alone = (
+  file.file,
+  Refused OutOfMemory,
+  one_of others.second file,
+  memory_files file others,
+  subst (λ f. status ≡ status_of f) memory is,
+  subst
+      (λ f. Tells heard (file_line path f)) memory told,
+  alone,
+)
 
 unnamed_ends : (symbols : Option (Bor (List ℕ))) (other : Bor (List ℕ)) (file : FileAsked) (heard : Heard) (fault : Refusal) (status : ℕ) (Alone : Type 0)
     → EndsNamed (option_map (λ s. s.now) symbols) file fault → status ≡ status_of fault → Tells heard (file_line (unwrap_or symbols other).now fault) → Alone
@@ -37,7 +44,7 @@ unnamed_ends (Some path) other file heard fault status A ends is told alone = (f
 pub ends_named : (symbols : Option (Bor (List ℕ))) (other : Bor (List ℕ)) (file : FileAsked) (others : Others) (heard : Heard) (fault : Refusal)
     (status : ℕ) (Alone Undebugged Begun : Type 0)
     → (fault ≡ OutOfMemory) ⊎ EndsNamed (option_map (λ s. s.now) symbols) file fault → status ≡ status_of fault
-        → Tells heard (file_line (unwrap_or symbols other).now fault) → Alone
+    → Tells heard (file_line (unwrap_or symbols other).now fault) → Alone
     → AreUnloaded file others heard status Alone ⊎ ((IsUnnamed (option_map (λ s. s.now) symbols) file heard status Alone ⊎ Undebugged) ⊎ Begun)
 ends_named symbols other file others heard fault status A U B (inl memory) is told alone =
     inl (memory_unloads file others heard (unwrap_or symbols other).now fault status A memory is told alone)

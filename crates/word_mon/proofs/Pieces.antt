@@ -125,7 +125,7 @@ module _ (prompt told kept : List ℕ) (first now : Terminal) (before : List ℕ
     front = refl;
     served = lines_more prompt g.lines (strip_last 13 g.begun ∷ []) false first now new before (answer_text false prompt new said) g.served
         (line_on prompt (strip_last 13 g.begun) now new said
-            (line_kept g.begun false now new said (subst (λ k. ServesLine (strip_last 13 k) false now new said) g.front p)));
+        (line_kept g.begun false now new said (subst (λ k. ServesLine (strip_last 13 k) false now new said) g.front p)));
   }
 
   pub line_ends : (new : Terminal) (said : List ℕ) → ServesLine (strip_last 13 kept) true now new said
@@ -134,7 +134,7 @@ module _ (prompt told kept : List ℕ) (first now : Terminal) (before : List ℕ
       (sym (more_cut (10 ∷ []) ending rest ∙ ap (λ l. g.lines ++ l) (from_line ending g.begun rest)))
       (lines_more prompt g.lines (strip_last 13 g.begun ∷ lines_from ending [] rest) true first now new before said g.served
       (line_over prompt (strip_last 13 g.begun) (lines_from ending [] rest) now new said
-          (line_kept g.begun true now new said (subst (λ k. ServesLine (strip_last 13 k) true now new said) g.front p))))
+      (line_kept g.begun true now new said (subst (λ k. ServesLine (strip_last 13 k) true now new said) g.front p))))
 
   ended : ended_lines_of told ≡ g.lines
   ended = ap ended_lines_of (sym (append-nil told)) ∙ g.cut no_line []
@@ -181,7 +181,7 @@ module _ (prompt told kept : List ℕ) (first now : Terminal) (before : List ℕ
     is_over,
     lines_more prompt g.lines (strip_last 13 g.begun ∷ []) is_over first now new before (answer_text is_over prompt new said) g.served
         (one_line prompt (strip_last 13 g.begun) is_over now new said
-            (line_kept g.begun is_over now new said (subst (λ k. ServesLine (strip_last 13 k) is_over now new said) g.front p))),
+        (line_kept g.begun is_over now new said (subst (λ k. ServesLine (strip_last 13 k) is_over now new said) g.front p))),
   )
 
   -- at the end no line is begun
@@ -246,7 +246,7 @@ line_fed prompt true byte kept more old new said e p none = λ told first before
 line_fed prompt false byte kept more old new said e p none = λ told first before g.
     let written = answer_text false prompt new said in
     subst (λ b. GoesOn prompt (told ++ b ∷ []) more first new (before ++ written)) (sym e)
-        (subst (λ k. GoesOn prompt (told ++ 10 ∷ []) k first new (before ++ written)) (sym none) (line_goes prompt told kept first old before g new said p))
+    (subst (λ k. GoesOn prompt (told ++ 10 ∷ []) k first new (before ++ written)) (sym none) (line_goes prompt told kept first old before g new said p))
 
 pub fed_of : (prompt : List ℕ) (r : Result Bool Refusal) (byte : ℕ) (kept more : List ℕ)
     (old new : Terminal) (Wrote : List ℕ → Type 0) → byte ≡ 10
@@ -309,9 +309,9 @@ pub around : (told bytes rest : List ℕ) (i : ℕ) → i < length bytes
 around told bytes rest i h =
     let all : take i bytes ++ (get_or bytes i 0 ∷ drop (i + 1) bytes) ≡ bytes = rw (add-one i, ← drop-cons bytes i 0 h) (take-append-drop i bytes) in
     append_assoc (told ++ take i bytes) (get_or bytes i 0 ∷ []) (drop (i + 1) bytes ++ rest)
-        ∙ append_assoc told (take i bytes) (get_or bytes i 0 ∷ drop (i + 1) bytes ++ rest)
+    ∙ append_assoc told (take i bytes) (get_or bytes i 0 ∷ drop (i + 1) bytes ++ rest)
     ∙ ap (λ l. told ++ l) (sym (append_assoc (take i bytes) (get_or bytes i 0 ∷ drop (i + 1) bytes) rest) ∙ ap (λ l. l ++ rest) all)
-        ∙ sym (append_assoc told bytes rest)
+    ∙ sym (append_assoc told bytes rest)
 
 -- whatever the result, what holds anyway
 pub if_err_anyway : {X E : Type 0} (r : Result X E) (P : Type 0) → P → IfErr r (λ _. P)

@@ -22,7 +22,7 @@ use Rattle.arguments_play.specs.Mon.{MonAsked}
 pub named_starts : (asked : MonAsked) (session : Session) (assembly : Option AssemblyView) (fill : Option ℕ) (written loaded : List Bool)
     (mon : MonState) (warning_line : List ℕ)
     → (image : List (Option ℕ)) × AreLoaded asked.file asked.others fill image assembly
-        × (session ≡ new_session asked.history (start (map_of asked.file) image)) × (written ≡ bytes_in image)
+    × (session ≡ new_session asked.history (start (map_of asked.file) image)) × (written ≡ bytes_in image)
     → (places : PlacesView) × ArePlaces asked.debug_info asked.file.file session assembly written places
     × (names : Option ImageNames) × AreNamed asked.symbols asked.file names × IsNewState session asked.history (with_names names places) mon
     → loaded ≡ written → IsWarningLine (map_of asked.file) assembly fill warning_line → StartsMon asked mon loaded warning_line

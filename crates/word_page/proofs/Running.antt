@@ -29,7 +29,7 @@ told_at file x y heard why steps pc at same there told =
 pub shown : (a : PageAsked) (assembly : Option AssemblyView) (until : Option ℕ) (s : Start) (t : Session) (heard : Heard) (end : Played) (status : ℕ)
     (input : List ℕ) → IsInput a.input input → Ran until a.steps s input end t
     → status ≡ status_of_ending end.ending 0 → TellsEnding a.file.file assembly heard end.ending end.steps t.current.regs.pc
-        → IsShown a assembly until s heard status
+    → IsShown a assembly until s heard status
 shown a assembly until s t heard end status input is ran ended told =
     let outcome : Outcome = played until a.steps (begun s.session s.written input) in
     let same = ran.1 in
@@ -69,8 +69,16 @@ done_named a s w assembly names told fill image place lost heard between status 
     let H : Heard = record { held = between; now = heard.now } in
     let found = subst (λ r. ShownIfFound a assembly r S H status) is shown in
     done_by a s w assembly fill image heard status loaded begins bytes
-    (inr (names, named, lost, may, between, left, subst (λ x. ShownIfFound a assembly (place_in (names_of assembly) (names_of x) a.until) S H status)
-        same found))
+    (inr (
+      names,
+      named,
+      lost,
+      may,
+      between,
+      left,
+      subst (λ x. ShownIfFound a assembly (place_in (names_of assembly) (names_of x) a.until) S H status)
+          same found,
+    ))
 
 -- A place that was not found.
 pub done_unplaced : (a : PageAsked) (s : Session) (w : List Bool) (assembly names told : Option AssemblyView) (fill : Option ℕ)
@@ -88,11 +96,11 @@ pub done_placed : {E : Type 0} (contents : E → Option (List ℕ)) (a : PageAsk
     (begun_at first middle last : E) (status : ℕ) → IsLoaded a.file fill image assembly
     → s ≡ new_session 0 (start (map_of a.file) image) → w ≡ bytes_in image
     → AreNamed a.symbols a.file names → MayLose a.file.profile a.symbols lost
-        → Tells (record { held = contents begun_at; now = contents first }) (left_text lost fill)
+    → Tells (record { held = contents begun_at; now = contents first }) (left_text lost fill)
     → told ≡ names → Ok until ≡ place_in (names_of assembly) (names_of told) a.until → middle ≡ first
     → IsShown a assembly until (start_in a.is_free s w) (record { held = contents middle; now = contents last }) status
     → IsDone a (record { held = contents begun_at; now = contents last }) status
 done_placed contents a s w assembly names told fill image until lost begun_at first middle last status loaded begins bytes named may left same is quiet shown =
     done_named a s w assembly names told fill image (Ok until) lost (record { held = contents begun_at; now = contents last }) (contents first) status
-        loaded begins bytes named may left same is
+    loaded begins bytes named may left same is
     (subst (λ e. IsShown a assembly until (start_in a.is_free s w) (record { held = contents e; now = contents last }) status) quiet shown)

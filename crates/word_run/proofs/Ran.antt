@@ -123,11 +123,11 @@ ran_file : (a : RunAsked) (s : Session) (w : List Bool) (assembly : Option Assem
     → s ≡ new_session 0 (start (map_of a.file) image) → w ≡ bytes_in image
     → (lost : ℕ) → MayLose a.file.profile a.symbols lost → TellsWarnings (map_of a.file) assembly lost fill (record { held = held; now = between })
     → RanIfFound a assembly (place_asked (names_of assembly) a.until) (record { session = s; written = or_everywhere a.is_free w }) streams
-        interrupted (record { held = between; now = now }) status Alone
+    interrupted (record { held = between; now = now }) status Alone
     → IsDone a streams interrupted (record { held = held; now = now }) status Alone
 ran_file a s w assembly fill image streams interrupted held between now status A loaded begins bytes lost may warned ran =
     let T : Start → Type 0 = λ x. RanIfFound a assembly (place_asked (names_of assembly) a.until) x streams interrupted
-        (record { held = between; now = now }) status A in
+    (record { held = between; now = now }) status A in
     let at : record { session = s; written = or_everywhere a.is_free w } ≡ start_of a image =
     ap (λ (t : Session). record { session = t; written = or_everywhere a.is_free w }) begins
     ∙ ap (λ (v : List Bool). record { session = new_session 0 (start (map_of a.file) image); written = or_everywhere a.is_free v }) bytes in
@@ -142,10 +142,10 @@ warned_of bus_map source assembly lost fill heard same warned = subst (λ (o : O
 pub ran_found : {E : Type 0} (contents : E → Option (List ℕ)) (a : RunAsked) (s : Session) (w v : List Bool)
     (assembly source told : Option AssemblyView) (fill : Option ℕ) (image : List (Option ℕ)) (until : Option ℕ)
     (streams : Streams) (interrupted : Bool) (first second middle last : E) (status : ℕ) (Alone : Type 0)
-        → IsMachine a.file a.others a.symbols fill image assembly
+    → IsMachine a.file a.others a.symbols fill image assembly
     → s ≡ new_session 0 (start (map_of a.file) image) → w ≡ bytes_in image
     → source ≡ assembly → (lost : ℕ) → MayLose a.file.profile a.symbols lost
-        → TellsWarnings (map_of a.file) source lost fill (record { held = contents first; now = contents second })
+    → TellsWarnings (map_of a.file) source lost fill (record { held = contents first; now = contents second })
     → Ok until ≡ place_asked (names_of assembly) a.until → middle ≡ second → told ≡ assembly → v ≡ or_everywhere a.is_free w
     → RanOrInterrupted a told until (record { session = s; written = v }) streams interrupted (record { held = contents middle; now = contents last }) status
     → IsDone a streams interrupted (record { held = contents first; now = contents last }) status Alone
@@ -154,7 +154,7 @@ ran_found contents a s w v assembly source told fill image until streams interru
     let H : Heard = record { held = contents second; now = contents last } in
     let T : Start = record { session = s; written = or_everywhere a.is_free w } in
     let heard = subst (λ e. RanOrInterrupted a told until (record { session = s; written = v }) streams interrupted
-        (record { held = contents e; now = contents last }) status) quiet ran in
+    (record { held = contents e; now = contents last }) status) quiet ran in
     let known = subst (λ x. RanOrInterrupted a x until (record { session = s; written = v }) streams interrupted H status) names heard in
     let from = subst (λ x. RanOrInterrupted a assembly until (record { session = s; written = x }) streams interrupted H status) counts known in
     ran_file a s w assembly fill image streams interrupted (contents first) (contents second) (contents last) status A loaded begins bytes lost may
@@ -166,13 +166,13 @@ pub ran_unfound : (a : RunAsked) (s : Session) (w : List Bool) (assembly source 
     (streams : Streams) (interrupted : Bool) (held between now : Option (List ℕ)) (status : ℕ) (Alone : Type 0)
     → IsMachine a.file a.others a.symbols fill image assembly → s ≡ new_session 0 (start (map_of a.file) image) → w ≡ bytes_in image
     → source ≡ assembly → (lost : ℕ) → MayLose a.file.profile a.symbols lost
-        → TellsWarnings (map_of a.file) source lost fill (record { held = held; now = between })
+    → TellsWarnings (map_of a.file) source lost fill (record { held = held; now = between })
     → Err status ≡ place_asked (names_of assembly) a.until → Tells (record { held = between; now = now }) (unplaced_line a.until) → Alone
     → IsDone a streams interrupted (record { held = held; now = now }) status Alone
 ran_unfound a s w assembly source fill image streams interrupted held between now status A loaded begins bytes same lost may warned place told alone =
     let T : Start = record { session = s; written = or_everywhere a.is_free w } in
     ran_file a s w assembly fill image streams interrupted held between now status A loaded begins bytes lost may
-        (warned_of (map_of a.file) source assembly lost fill (record { held = held; now = between }) same warned)
+    (warned_of (map_of a.file) source assembly lost fill (record { held = held; now = between }) same warned)
     (subst (λ r. RanIfFound a assembly r T streams interrupted (record { held = between; now = now }) status A) place (refl, told, alone))
 
 -- The status of a place that was not found is not 0.

@@ -85,7 +85,7 @@ pub one_run : (manner : Manner) (suites : List Suite) (i : ℕ) (d suite : Suite
     → AreRun manner (map suite_view (take (i + 1) suites)) old now tally.count both
 one_run manner suites i d suite old between now count passes both tally within is both_is before one =
     let longer : map suite_view (take (i + 1) suites) ≡ map suite_view (take i suites) ++ suite_view suite ∷ [] =
-        map_more suite_view suites i d within ∙ ap (λ (s : Suite). map suite_view (take i suites) ++ suite_view s ∷ []) (sym is) in
+    map_more suite_view suites i d within ∙ ap (λ (s : Suite). map suite_view (take i suites) ++ suite_view s ∷ []) (sym is) in
     let next = subst (λ (n : ℕ). IsOutcome manner (suite_view suite) n one.outcome) (sym before.count_is) one.is in
     record {
       all = joined before.all one.outcome;
@@ -192,7 +192,7 @@ none_begun manner suite count old = record {
 tested_outcome : (manner : Manner) (suite : SuiteAsked) (count : ℕ) (prepared : Prepared) (tally : Tally) → IsPrepared manner.steps suite prepared
     → tally ≡ tally_rows (ground_in prepared) (fresh_tally count) (tests_in prepared)
     → IsOutcome manner suite count (outcome_by manner.telling suite
-        (rows_text manner.telling (ground_in prepared) suite count 1 (lines_of prepared.text.items) (tests_in prepared)) tally)
+    (rows_text manner.telling (ground_in prepared) suite count 1 (lines_of prepared.text.items) (tests_in prepared)) tally)
 tested_outcome manner suite count prepared tally p is =
     let text : List ℕ = rows_text manner.telling (ground_in prepared) suite count 1 (lines_of prepared.text.items) (tests_in prepared) in
     let rows_are : List SeenLine → List ℕ → Ground → Outcome = λ rows lines bench. outcome_by manner.telling suite
@@ -233,7 +233,7 @@ pub tested_result : (manner : Manner) (suite : SuiteAsked) (count : ℕ) (old ne
     → IfOk result (λ tally. tally ≡ tally_rows (ground_in prepared) (fresh_tally count) (tests_in prepared))
     → IfOk result (λ tally. Appends old new (tested_text prepared manner.telling suite count tally))
     → IfErr result (λ _. AppendsFront old new (tested_text prepared manner.telling suite count
-        (tally_rows (ground_in prepared) (fresh_tally count) (tests_in prepared))))
+    (tally_rows (ground_in prepared) (fresh_tally count) (tests_in prepared))))
     → EndsSuite manner suite count old new result
 tested_result manner suite count old new prepared (Err stop) p is written begun =
     let tally = tally_rows (ground_in prepared) (fresh_tally count) (tests_in prepared) in
@@ -260,10 +260,10 @@ pub untested_result : {E : Type 0} (contents : E → Option (List ℕ)) (manner 
     (fault : FileFault) (result : Result Tally Stop)
     → EndsFile suite.reading points fault → IfOk result (λ tally. tally ≡ tally_after false points (fresh_tally count))
     → IfOk result (λ tally. (title : List ℕ) × (remarks : List ℕ)
-        × Appends (contents old) (contents new) (untested_text manner.telling suite tally title remarks) × IsFaultText fault title remarks)
+    × Appends (contents old) (contents new) (untested_text manner.telling suite tally title remarks) × IsFaultText fault title remarks)
     → IfErr result (λ _. (new ≡ old) ⊎ ((title : List ℕ) × (remarks : List ℕ)
     × AppendsFront (contents old) (contents new) (untested_text manner.telling suite (tally_after false points (fresh_tally count)) title remarks)
-        × IsFaultText fault title remarks))
+    × IsFaultText fault title remarks))
     → EndsSuite manner suite count (contents old) (contents new) result
 untested_result contents manner suite count old new points fault (Ok tally) ends is told begun = record {
   outcome = outcome_by manner.telling suite (fault_text manner.telling tally.count (name_of suite) told.0 told.1) tally;
@@ -285,11 +285,11 @@ untested_result contents manner suite count old new points fault (Err stop) ends
 -- All that is written.
 pub all_told : (asked : TestAsked) (suites : List SuiteAsked) (old begun run new : Option (List ℕ)) (count : ℕ) (passes : Bool)
     → suites ≡ suites_of asked.reading asked.sources asked.files → Appends old begun (begin_text asked.telling)
-        → AreRun (manner_of asked) suites begun run count passes
+    → AreRun (manner_of asked) suites begun run count passes
     → Appends run new (end_text asked.telling count) → AreTested asked old new passes
 all_told asked suites old begun run new count passes are first ran last =
     let told = Appends-trans begun run new ran.all.text (end_text asked.telling ran.all.count) ran.written
-        (subst (λ (n : ℕ). Appends run new (end_text asked.telling n)) (sym ran.count_is) last) in (
+    (subst (λ (n : ℕ). Appends run new (end_text asked.telling n)) (sym ran.count_is) last) in (
       ran.all,
       subst (λ (s : List SuiteAsked). AreOutcomes (manner_of asked) 0 s ran.all) are ran.are,
       ran.passes_is,
@@ -313,7 +313,7 @@ nothing_told asked old = front_of_first asked old old (front_none old (begin_tex
 -- Not all suites were run.
 pub front_of_suites : (asked : TestAsked) (suites : List SuiteAsked) (old begun new : Option (List ℕ))
     → suites ≡ suites_of asked.reading asked.sources asked.files → Appends old begun (begin_text asked.telling)
-        → AreBegun (manner_of asked) suites begun new → HasBegun asked old new
+    → AreBegun (manner_of asked) suites begun new → HasBegun asked old new
 front_of_suites asked suites old begun new are first ran = (
   ran.all,
   subst (λ (s : List SuiteAsked). AreOutcomes (manner_of asked) 0 s ran.all) are ran.are,
@@ -324,12 +324,12 @@ front_of_suites asked suites old begun new are first ran = (
 -- The last line was not written whole.
 pub front_of_plan : (asked : TestAsked) (suites : List SuiteAsked) (old begun run new : Option (List ℕ)) (count : ℕ) (passes : Bool)
     → suites ≡ suites_of asked.reading asked.sources asked.files → Appends old begun (begin_text asked.telling)
-        → AreRun (manner_of asked) suites begun run count passes
+    → AreRun (manner_of asked) suites begun run count passes
     → AppendsFront run new (end_text asked.telling count) → HasBegun asked old new
 front_of_plan asked suites old begun run new count passes are first ran last = (
   ran.all,
   subst (λ (s : List SuiteAsked). AreOutcomes (manner_of asked) 0 s ran.all) are ran.are,
   front_after old begun new (begin_text asked.telling) (ran.all.text ++ end_text asked.telling ran.all.count) first
       (front_after begun run new ran.all.text (end_text asked.telling ran.all.count) ran.written
-          (subst (λ (n : ℕ). AppendsFront run new (end_text asked.telling n)) (sym ran.count_is) last)),
+      (subst (λ (n : ℕ). AppendsFront run new (end_text asked.telling n)) (sym ran.count_is) last)),
 )

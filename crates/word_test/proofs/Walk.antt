@@ -57,7 +57,7 @@ more_begun : (old now new : Option (List ℕ)) (left rest whole text : List ℕ)
     → left ≡ text ++ rest → AppendsFront old new whole
 more_begun old now new left rest whole text t front is =
     subst (AppendsFront old new) t.left_is (front_after old now new t.text left t.written
-        (subst (AppendsFront now new) (sym is) (front_more now new text rest front)))
+    (subst (AppendsFront now new) (sym is) (front_more now new text rest front)))
 
 module _ (telling : Telling) (bench : Ground) (suite : SuiteAsked) (tests : List (Bor Line)) (i : ℕ) where
   abbrev left : ℕ → ℕ → ℕ → List (List ℕ) → List ℕ
@@ -65,7 +65,7 @@ module _ (telling : Telling) (bench : Ground) (suite : SuiteAsked) (tests : List
 
   text-more : (count next : ℕ) (lines : List (List ℕ)) (test other : Bor Line) → i < length tests → test ≡ get_or tests i other → left i count next lines
       ≡ told_case telling (plus count 1) (name_of suite) (line_number (line_seen test)) (line_points (line_seen test))
-          (line_at (line_number (line_seen test)) next lines) (why bench suite.rows (line_at (line_number (line_seen test)) next lines) (line_seen test))
+      (line_at (line_number (line_seen test)) next lines) (why bench suite.rows (line_at (line_number (line_seen test)) next lines) (line_seen test))
       ++ left (i + 1) (plus count 1) (next_after (line_number (line_seen test)) next lines) (lines_after (line_number (line_seen test)) next lines)
   unfolding rows_text
   text-more count next lines test other h is = rw (drop_more tests i other h, is) refl
@@ -75,7 +75,7 @@ module _ (telling : Telling) (bench : Ground) (suite : SuiteAsked) (tests : List
       (test other : Bor Line) (file line tap whole : List ℕ)
       → i < length tests → test ≡ get_or tests i other → TextLeft old now (left i count next lines) whole → Appends now new tap
       → tap ≡ told_case telling number file at (line_points (line_seen test)) line (why bench suite.rows line (line_seen test)) → file ≡ name_of suite
-          → at ≡ line_number (line_seen test)
+      → at ≡ line_number (line_seen test)
       → number ≡ plus count 1 → line ≡ line_at at next lines
       → lines_then ≡ lines_after at next lines → next_then ≡ next_after at next lines
       → count_then ≡ plus count 1
@@ -89,13 +89,13 @@ module _ (telling : Telling) (bench : Ground) (suite : SuiteAsked) (tests : List
   pub test_begun : (old now new : Option (List ℕ)) (count number at next : ℕ) (lines : List (List ℕ)) (test other : Bor Line) (file line tap whole : List ℕ)
       → i < length tests → test ≡ get_or tests i other → TextLeft old now (left i count next lines) whole → AppendsFront now new tap
       → tap ≡ told_case telling number file at (line_points (line_seen test)) line (why bench suite.rows line (line_seen test)) → file ≡ name_of suite
-          → at ≡ line_number (line_seen test)
+      → at ≡ line_number (line_seen test)
       → number ≡ plus count 1 → line ≡ line_at at next lines
       → AppendsFront old new whole
   test_begun old now new count number at next lines test other file line tap whole h is so_far front tap_is file_is at_is number_is line_is =
       more_begun old now new (left i count next lines)
       (left (i + 1) (plus count 1) (next_after (line_number (line_seen test)) next lines) (lines_after (line_number (line_seen test)) next lines))
-          whole tap so_far front
+      whole tap so_far front
       (rw (tap_is, file_is, number_is, line_is, at_is) (text-more count next lines test other h is))
 
   pub no_test_left : (count next : ℕ) (lines : List (List ℕ)) → length tests ≤ i → left i count next lines ≡ []
@@ -109,8 +109,8 @@ module _ (telling : Telling) (bench : Ground) (suite : SuiteAsked) (tests : List
       → reported_left i next lines report
       ≡ reported_left (i + 1) (next_after (line_number (line_seen test)) next lines) (lines_after (line_number (line_seen test)) next lines)
       (with_test (passes bench (line_seen test)) (told_junit (name_of suite) suite.rows (line_number (line_seen test)) (line_points (line_seen test))
-          (line_at (line_number (line_seen test)) next lines)
-          (why bench suite.rows (line_at (line_number (line_seen test)) next lines) (line_seen test))) report)
+      (line_at (line_number (line_seen test)) next lines)
+      (why bench suite.rows (line_at (line_number (line_seen test)) next lines) (line_seen test))) report)
   unfolding rows_reported
   reported-more next lines test other report h is = rw (drop_more tests i other h, is) refl
 
@@ -120,7 +120,7 @@ module _ (telling : Telling) (bench : Ground) (suite : SuiteAsked) (tests : List
       → i < length tests → test ≡ get_or tests i other → new ≡ option_map (with_test passing junit) now
       → passing ≡ passes bench (line_seen test)
       → junit ≡ told_junit file suite.rows at (line_points (line_seen test)) line (why bench suite.rows line (line_seen test)) → file ≡ name_of suite
-          → at ≡ line_number (line_seen test)
+      → at ≡ line_number (line_seen test)
       → line ≡ line_at at next lines
       → lines_then ≡ lines_after at next lines → next_then ≡ next_after at next lines
       → option_map (reported_left i next lines) now ≡ whole → option_map (reported_left (i + 1) next_then lines_then) new ≡ whole

@@ -110,7 +110,7 @@ passes_nothing g s t touches plain =
     let left : Bool → List ℕ = λ b. kept t.bus.map g.asked.file.rom g.asked.file.port (stored_by b s.regs.s (if_asked asks (stores_here s))) in
     sym (ap (λ b. marked (with_all_written g.written (left b)) g) plain
     ∙ ap (λ w. marked w g) (left_kept t.bus.map g.asked.file.rom g.asked.file.port g.written (if_asked asks (stores_here s))
-        (known_stores g.written asks s touches)))
+    (known_stores g.written asks s touches)))
 
 pub counts_only : (g : Gathered) (s t : State) (cycles : ℕ) → TouchesNoOther g.written s → entered (moment_of s) t ≡ false
     → cycles ≡ cycles_of (moment_of s) t → counted_step false s.regs.pc cycles g ≡ noted_here t (ahead_of g s) g
@@ -126,7 +126,7 @@ counts_only g s t cycles touches plain took =
     let counted = counted_step false s.regs.pc (cycles_of (moment_of s) t) g in
     ap (λ n. counted_step false s.regs.pc n g) took
     ∙ sym (ap (λ b. marked (with_all_written (with_reads b m (ahead_of g s) w) (left_at t g.asked.file b (ahead_of g s)))
-        (counted_step b s.regs.pc (cycles_of (moment_of s) t) g)) plain
+    (counted_step b s.regs.pc (cycles_of (moment_of s) t) g)) plain
     ∙ ap (λ u. marked (with_all_written (with_told m u reads) (kept m rom port stores)) counted) (told_kept m w code (known_code w s touches))
     ∙ ap (λ u. marked (with_all_written u (kept m rom port stores)) counted) (told_kept m w reads (known_reads w asks s touches))
     ∙ ap (λ u. marked u counted) (left_kept m rom port w stores (known_stores w asks s touches)))
@@ -143,7 +143,7 @@ tells_nothing g s t asked touches plain =
     let row = row_text g.asked t g.sites (step_of t g.asked.file (entered (moment_of s) t) (ahead_of g s)) in
     ap (λ b. reads_text b t g.sites number (ahead_of g s) w ++ row) plain
     ∙ ap (λ xs. (findings t g.sites (moment_of s) number Code xs ++ findings t g.sites (moment_of s) number Data (told m (with_told m w code) reads))
-        ++ row) (told_none m w code (known_code w s touches))
+    ++ row) (told_none m w code (known_code w s touches))
     ∙ ap (λ u. findings t g.sites (moment_of s) number Data (told m u reads) ++ row) (told_kept m w code (known_code w s touches))
     ∙ ap (λ xs. findings t g.sites (moment_of s) number Data xs ++ row) (told_none m w reads (known_reads w asks s touches))
     ∙ ap (λ b. if b then [] else step_row t g.sites (step_of t g.asked.file (entered (moment_of s) t) (ahead_of g s)) g.asked.shows_stores) asked

@@ -66,7 +66,7 @@ head_begins what text =
     let whole : List ℕ = named ++ codes "\n" in
     begins_on text gap whole (begins_with text (gap_behind text))
     (begins_on gap front whole (begins_with gap (codes "  visits      cycles  "))
-        (begins_on front named whole (begins_with front what) (begins_with named (codes "\n"))))
+    (begins_on front named whole (begins_with front what) (begins_with named (codes "\n"))))
 
 rows_begin : (text headed : List ℕ) (rows : List (List ℕ)) → Begins text headed → Begins text (with_rows text headed rows)
 rows_begin text headed [] begins = begins_itself text
@@ -89,7 +89,7 @@ sums_begin entries all text =
     let whole : List ℕ = counted ++ codes "steps\n" in
     begins_on text head whole (head_begins (codes "in all") text)
     (begins_on head entered whole (begins_with head (entries_row entries))
-        (begins_on entered counted whole (begins_with entered (columns_text all)) (begins_with counted (codes "steps\n"))))
+    (begins_on entered counted whole (begins_with entered (columns_text all)) (begins_with counted (codes "steps\n"))))
 
 counts_begin : (sites : Sites) (counts : Counts) (entries all : Count) (text : List ℕ) → Begins text (with_counts sites counts entries all text)
 unfolding with_counts
@@ -165,18 +165,18 @@ pub note_cut : (to : Option ℕ) (limit : ℕ) (s : Session) (first : Known) (to
 note_cut to limit s first told steps t p u q told2 text text2 a old makes room once noted rest may = elim noted [
   | inl none ↦
       let there = ap (λ l. by_steps note_step to limit (play_at s first l) a) (append_assoc told told2 rest)
-          ∙ makes.makes (told2 ++ rest) (may_all p.is_over q.is_over told2 rest once may) in
+      ∙ makes.makes (told2 ++ rest) (may_all p.is_over q.is_over told2 rest once may) in
       let same : text ++ text2 ≡ text = ap (λ xs. text ++ xs) none ∙ append-nil text in
       subst (λ xs. Begins xs (by_steps note_step to limit (play_at s first ((told ++ told2) ++ rest)) a).text) (sym same)
       (subst (λ (n : Noted). Begins text n.text) (sym there) (steps_begin to (limit - steps) (play_at t (known p) (told2 ++ rest)) (noted_in old text)))
   | inr made ↦
       let there = noted_turn_made note_step to limit s first told p.is_over steps t (known p) a (noted_in old text) makes room told2 q.is_over None u
-          (known q) once made.0 rest may in
+      (known q) once made.0 rest may in
       let same : text ++ text2 ≡ text ++ text_of_step u.current (ahead_of (gathered old) t.current) (gathered old) = ap (λ xs. text ++ xs) made.1 in
       subst (λ xs. Begins xs (by_steps note_step to limit (play_at s first ((told ++ told2) ++ rest)) a).text) (sym same)
       (subst (λ (n : Noted). Begins (note_step t.current u.current (noted_in old text)).text n.text) (sym there)
       (made_begins to t.current (play_at u (known q) rest) (noted_in old text) (λ r c. by_steps note_step to (limit - (steps + 1)) r c)
-          (steps_begin to (limit - (steps + 1)))))
+      (steps_begin to (limit - (steps + 1)))))
 ]
 
 -- ---- a run up to the place where a trace begins
@@ -264,9 +264,12 @@ end_cut part makes s before given left u after held mid now first sheet text g e
   leads = λ rest may.
       let there = went.leads rest may in (
         ([], ap (λ (o : Outcome). o.play.session.current.bus.out) there.0 ∙ sym (append-nil u.current.bus.out)),
-        subst (λ (n : Noted). GotFront (Some n) held now) (sym there.1)
-            (gathers.written ++ text_at_end g sheet, (gathers.written, sheet, sym (gathers.whole ∙ ap (λ xs. xs ++ text) none), refl), front_after
-                held mid now gathers.written (text_at_end g sheet) gathers.appends front),
+        subst (λ (n : Noted). GotFront (Some n) held now) (sym there.1) (
+          gathers.written ++ text_at_end g sheet,
+          (gathers.written, sheet, sym (gathers.whole ∙ ap (λ xs. xs ++ text) none), refl),
+          front_after
+              held mid now gathers.written (text_at_end g sheet) gathers.appends front,
+        ),
       );
 }
 
@@ -277,7 +280,7 @@ pub whole_cut_before : (from to : Option ℕ) (limit : ℕ) (s u : Session) (a :
     (written : List Bool) (g : Gathered) → known a ≡ first_known written → EndsAt over left
     → WasCut (reached from) (λ (p : Play). p) (λ (p : Play). ⊤) s a given left u over
     → (input : List ℕ) × AreBytesOf given input × CutIn (traced from to limit (begun s written input)) u
-        × GotFront (trace_noted from to limit g (begun s written input)) held held
+    × GotFront (trace_noted from to limit g (begun s written input)) held held
 whole_cut_before from to limit s u a given left held over written g none ends cut =
     let whole = whole_input given left cut.told over (λ input rest. CutIn (traced from to limit (begun s written input)) u) cut.consumes ends
     (λ rest may. begins_on u.current.bus.out _ _
@@ -291,10 +294,10 @@ pub whole_cut_on : (from to : Option ℕ) (limit : ℕ) (s t u : Session) (a b :
     → known a ≡ first_known written → first.ending ≡ Until → EndsAt over left → WentOn (reached from) (gathered_at from g) s a given mid first t b h
     → WasCut (played to limit) (noting to limit h) (λ n. GotFront (Some n) held now) t b mid left u over
     → (input : List ℕ) × AreBytesOf given input × CutIn (traced from to limit (begun s written input)) u
-        × GotFront (trace_noted from to limit g (begun s written input)) held now
+    × GotFront (trace_noted from to limit g (begun s written input)) held now
 whole_cut_on from to limit s t u a b given mid left held now over written g h first none until ends went cut =
     let whole = whole_input given left (went.told ++ cut.told) over
-        (λ input rest. CutIn (traced from to limit (begun s written input)) u × GotFront (trace_noted from to limit g (begun s written input)) held now)
+    (λ input rest. CutIn (traced from to limit (begun s written input)) u × GotFront (trace_noted from to limit g (begun s written input)) held now)
     (Consumes-trans given mid left went.told cut.told went.consumes cut.consumes) ends
     (λ rest may.
     let all : List ℕ = cut.told ++ rest in
@@ -321,7 +324,7 @@ pub whole_cut_if : (from to : Option ℕ) (limit : ℕ) (s t u : Session) (a b :
     → known a ≡ first_known written → first.ending ≡ Until → EndsAt over left → WentOn (reached from) (gathered_at from g) s a given mid first t b h
     → OnErr r (WasCut (played to limit) (noting to limit h) (λ n. GotFront (Some n) held now) t b mid left u over)
     → OnErr r ((input : List ℕ) × AreBytesOf given input × CutIn (traced from to limit (begun s written input)) u
-        × GotFront (trace_noted from to limit g (begun s written input)) held now)
+    × GotFront (trace_noted from to limit g (begun s written input)) held now)
 whole_cut_if from to limit s t u a b given mid left held now over written g h first (Ok end) none until ends went cut = tt
 whole_cut_if from to limit s t u a b given mid left held now over written g h first (Err fault) none until ends went cut =
     whole_cut_on from to limit s t u a b given mid left held now over written g h first none until ends went cut
@@ -336,7 +339,7 @@ some_bytes (Some bytes) = (bytes, refl)
 -- A trace that failed before its first step.
 pub none_traced : (a : TraceAsked) (b : Begin) (from to : Option ℕ) (limit : ℕ) (given held : Option (List ℕ))
     → (input : List ℕ) × AreBytesOf given input × CutIn (traced from to limit (play_of a b input)) b.session
-        × WroteFront a b (λ g. trace_noted from to limit g (play_of a b input)) held held
+    × WroteFront a b (λ g. trace_noted from to limit g (play_of a b input)) held held
 none_traced a b from to limit given held =
     let some = some_bytes given in (some.0, some.1, trace_begins from to limit (play_of a b some.0), inl (Appends-nil held))
 
@@ -346,9 +349,9 @@ pub wrote_front : (a : TraceAsked) (b : Begin) (from to : Option ℕ) (limit : �
     → ((sites : Sites) × AreSites b.assembly sites × (g ≡ none_gathered a sites (first_written a.finds_unwritten b.written)))
     → written ≡ or_everywhere a.is_free b.written
     → (input : List ℕ) × AreBytesOf given input × CutIn (traced from to limit (begun b.session written input)) u
-        × GotFront (trace_noted from to limit g (begun b.session written input)) held now
+    × GotFront (trace_noted from to limit g (begun b.session written input)) held now
     → (input : List ℕ) × AreBytesOf given input × CutIn (traced from to limit (play_of a b input)) u
-        × WroteFront a b (λ h. trace_noted from to limit h (play_of a b input)) held now
+    × WroteFront a b (λ h. trace_noted from to limit h (play_of a b input)) held now
 wrote_front a b from to limit u written given held now g new is run =
     let cut = subst (λ w. CutIn (traced from to limit (begun b.session w run.0)) u) is run.2 in
     let got = subst (λ w. GotFront (trace_noted from to limit g (begun b.session w run.0)) held now) is run.3 in
@@ -357,9 +360,9 @@ wrote_front a b from to limit u written given held now g new is run =
 -- A trace whose file for lcov was not written.
 pub wrote_all : (a : TraceAsked) (b : Begin) (from to : Option ℕ) (limit : ℕ) (u : Session) (given left held now : Option (List ℕ)) (end : Played)
     → ((input : List ℕ) × (rest : List ℕ) × AreBytesOf given input × AreBytesOf left rest
-        × RanAs (traced from to limit (play_of a b input)) end u rest × WroteNotes a b (λ g. trace_noted from to limit g (play_of a b input)) held now)
+    × RanAs (traced from to limit (play_of a b input)) end u rest × WroteNotes a b (λ g. trace_noted from to limit g (play_of a b input)) held now)
     → (input : List ℕ) × AreBytesOf given input × CutIn (traced from to limit (play_of a b input)) u
-        × WroteFront a b (λ g. trace_noted from to limit g (play_of a b input)) held now
+    × WroteFront a b (λ g. trace_noted from to limit g (play_of a b input)) held now
 wrote_all a b from to limit u given left held now end run =
     let notes = run.5 in
     let got = notes.2 in (

@@ -29,7 +29,7 @@ use Rattle.word_trace.specs.Traces.{Begin, CutIn, IsApart, IsDone, IsOfStreams, 
 abbrev TracedAs : TraceAsked → Begin → Option ℕ → Option ℕ → ℕ → Streams → Session → Played → Bool → Type 0
 TracedAs a b from to limit streams now end flag = (input : List ℕ) × (rest : List ℕ) × AreBytesOf streams.given input × AreBytesOf streams.left rest
     × RanAs (traced from to limit (play_of a b input)) end now rest
-        × WroteNotes a b (λ g. trace_noted from to limit g (play_of a b input)) streams.held streams.now
+    × WroteNotes a b (λ g. trace_noted from to limit g (play_of a b input)) streams.held streams.now
     × (flag ≡ has_begun (reached from (play_of a b input)).ending)
 
 -- What was told of a run is told of its outcome.
@@ -62,10 +62,13 @@ traced_to a b from to limit t streams heard out said end flag status long silent
     let begins = subst (λ (b : Bool). AppendsFront out said (unbegun_text b)) made.6 unbegun in
     let tells =
     told_of a.file.file b.assembly (record { held = said; now = heard.now }) end.ending outcome.ending end.steps outcome.steps t.current.regs.pc
-        outcome.play.session.current.regs.pc same.ending same.steps
-    (ap (λ (now : Session). now.current.regs.pc) same.session) told in
-    (Ok outcome, (made.0, refl, made.2, subst B same.left made.3, made.5, (out, said, subst W text_is put.2, begins, tells), apart), is
-        ∙ ap (λ (why : Ending). status_of_ending why 0) same.ending)
+    outcome.play.session.current.regs.pc same.ending same.steps
+    (ap (λ (now : Session). now.current.regs.pc) same.session) told in (
+      Ok outcome,
+      (made.0, refl, made.2, subst B same.left made.3, made.5, (out, said, subst W text_is put.2, begins, tells), apart),
+      is
+          ∙ ap (λ (why : Ending). status_of_ending why 0) same.ending,
+    )
 
 -- A trace that was cut short.
 pub cut_off : (a : TraceAsked) (b : Begin) (from to : Option ℕ) (limit : ℕ) (u : Session) (streams : Streams) (heard : Heard) (out : Option (List ℕ))
@@ -73,18 +76,18 @@ pub cut_off : (a : TraceAsked) (b : Begin) (from to : Option ℕ) (limit : ℕ) 
     → limit ≡ a.steps → b.session.current.bus.out ≡ []
     → IsOfStreams refusal
     → ((input : List ℕ) × AreBytesOf streams.given input × CutIn (traced from to limit (play_of a b input)) u
-        × WroteFront a b (λ g. trace_noted from to limit g (play_of a b input)) streams.held streams.now)
+    × WroteFront a b (λ g. trace_noted from to limit g (play_of a b input)) streams.held streams.now)
     → ((text : List ℕ) × (u.current.bus.out ≡ b.session.current.bus.out ++ text) × AppendsFront heard.held out text)
     → AppendsFront out heard.now (cut_line a.lcov refusal)
     → status ≡ status_of refusal → TracedTo a b from to streams heard status
 cut_off a b from to limit u streams heard out refusal status long silent why run put told is =
     let made = subst (λ n. (input : List ℕ) × AreBytesOf streams.given input × CutIn (traced from to n (play_of a b input)) u
-        × WroteFront a b (λ g. trace_noted from to n g (play_of a b input)) streams.held streams.now) long run in
+    × WroteFront a b (λ g. trace_noted from to n g (play_of a b input)) streams.held streams.now) long run in
     let outcome : Outcome = traced from to a.steps (play_of a b made.0) in
     let W : List ℕ → Type 0 = λ text. AppendsFront heard.held out text in
     let text_is : put.0 ≡ u.current.bus.out = sym (ap (λ (xs : List ℕ). xs ++ put.0) silent) ∙ sym put.1 in
     let front : W outcome.play.session.current.bus.out = subst W (sym made.2.1)
-        (front_more heard.held out u.current.bus.out made.2.0 (subst W text_is put.2)) in
+    (front_more heard.held out u.current.bus.out made.2.0 (subst W text_is put.2)) in
     (Err refusal, (why, (made.0, made.1, made.3, (out, front, told))), is)
 
 pub traced_between : (asked : TraceAsked) (begin : Begin) (from to : Option ℕ) (a b : Result (Option ℕ) ℕ) (streams : Streams) (heard : Heard)
@@ -119,7 +122,7 @@ told_second contents first middle last line quiet told = subst (λ e. AppendsFro
 pub traced_quiet : {E : Type 0} (contents : E → Option (List ℕ)) (a : TraceAsked) (b : Begin) (from to : Option ℕ) (streams : Streams)
     (first middle : E) (now : Option (List ℕ)) (status : ℕ) → middle ≡ first
     → TracedTo a b from to streams (record { held = contents middle; now = now }) status
-        → TracedTo a b from to streams (record { held = contents first; now = now }) status
+    → TracedTo a b from to streams (record { held = contents first; now = now }) status
 traced_quiet contents a b from to streams first middle now status same done =
     subst (λ e. TracedTo a b from to streams (record { held = contents e; now = now }) status) same done
 
@@ -129,10 +132,10 @@ pub traced_file : (a : TraceAsked) (b : Begin) (fill : Option ℕ) (image : List
     → IsMachine a.file a.others a.symbols fill image b.assembly → b.session ≡ new_session 0 (start (map_of a.file) image) → b.written ≡ bytes_in image
     → MayLose a.file.profile a.symbols lost → Tells (record { held = heard.held; now = between }) (left_text lost fill)
     → TracedIfFound a b (place_asked (names_of b.assembly) a.from) (place_asked (names_of b.assembly) a.to) streams
-        (record { held = between; now = heard.now }) status Alone → IsDone a streams heard status Alone
+    (record { held = between; now = heard.now }) status Alone → IsDone a streams heard status Alone
 traced_file a b fill image lost streams heard between status A loaded begins written may told done =
     let T : Begin → Type 0 = λ x. TracedIfFound a x (place_asked (names_of b.assembly) a.from) (place_asked (names_of b.assembly) a.to) streams
-        (record { held = between; now = heard.now }) status A in
+    (record { held = between; now = heard.now }) status A in
     let at : b ≡ begin_of a image b.assembly =
     ap (λ (s : Session). record { assembly = b.assembly; session = s; written = b.written }) begins
     ∙ ap (λ (w : List Bool). record { assembly = b.assembly; session = new_session 0 (start (map_of a.file) image); written = w }) written in

@@ -69,7 +69,7 @@ cut_of (Err e) held now text written = written
 -- Rows that were to be put on the sheet.
 pub row_cut : {X E A O : Type 0} (contents : O → Option (List ℕ)) (row : Result X E) (r : Result A Refusal) (old new : O) (before mid text : List ℕ)
     → OnOk row (mid ≡ before ++ text) → OnErr row (new ≡ old) → OnOk row (OnErr r (AppendsFront (contents old) (contents new) mid))
-        → OnErr r (AppendsFront (contents old) (contents new) (before ++ text))
+    → OnErr r (AppendsFront (contents old) (contents new) (before ++ text))
 row_cut contents row (Ok a) old new before mid text grown same cut = tt
 row_cut contents (Ok x) (Err e) old new before mid text grown same cut = subst (λ xs. AppendsFront (contents old) (contents new) xs) grown cut
 row_cut contents (Err x) (Err e) old new before mid text grown same cut =

@@ -41,14 +41,19 @@ none_made = record { steps = 0; ending = Until }
 -- A trace begins at once where it may.
 pub reached_here : (from : Option ℕ) (s : Session) (p : Player) (given : Option (List ℕ)) (g : Gathered) → is_begun from s.current ≡ true
     → WentOn (reached from) (gathered_at from g) s p given given none_made s p g
-reached_here from s p given g here = record { told = []; consumes = Consumes-nil given; once = once_none p.is_over; leads =
-    λ rest may. (rw here refl, rw here refl) }
+reached_here from s p given g here = record {
+  told = [];
+  consumes = Consumes-nil given;
+  once = once_none p.is_over;
+  leads =
+      λ rest may. (rw here refl, rw here refl);
+}
 
 -- Otherwise a run leads there.
 reached_later : (from : Option ℕ) (s t : Session) (before after : Player) (given left : Option (List ℕ)) (g h : Gathered) (end : Played)
     → is_begun from s.current ≡ false
     → WentOn (played from 18446744073709551615) (λ p. by_steps pass_step from 18446744073709551615 p g) s before given left end t after h
-        → WentOn (reached from) (gathered_at from g) s before given left end t after h
+    → WentOn (reached from) (gathered_at from g) s before given left end t after h
 reached_later from s t before after given left g h end away went = record {
   told = went.told;
   consumes = went.consumes;
@@ -117,7 +122,7 @@ pub traced_none : (from to : Option ℕ) (limit : ℕ) (s t : Session) (a b : Pl
     → (first.ending ≡ Until → ⊥)
     → end ≡ record { steps = 0; ending = first.ending }
     → WentOn (reached from) (gathered_at from g) s a given left first t b h
-        → WentOn (traced from to limit) (trace_noted from to limit g) s a given left end t b None
+    → WentOn (traced from to limit) (trace_noted from to limit g) s a given left end t b None
 traced_none from to limit s t a b given left g h first end other is went = record {
   told = went.told;
   consumes = went.consumes;
@@ -153,10 +158,10 @@ pub whole_trace : (part : Play → Outcome) (makes : Play → Option Noted) (s t
     (written : List Bool) (end : Played) (n : Option Noted) → known a ≡ first_known written → EndsAt b.is_over left
     → WentOn part makes s a given left end t b n → GotText n held now
     → (input : List ℕ) × (rest : List ℕ) × AreBytesOf given input × AreBytesOf left rest × RanAs (part (begun s written input)) end t rest
-        × GotText (makes (begun s written input)) held now × (makes (begun s written input) ≡ n)
+    × GotText (makes (begun s written input)) held now × (makes (begun s written input) ≡ n)
 whole_trace part makes s t a b given left held now written end n none over went got =
     let whole = whole_input given left went.told b.is_over (λ input rest. RanAs (part (begun s written input)) end t rest
-        × GotText (makes (begun s written input)) held now × (makes (begun s written input) ≡ n)) went.consumes over
+    × GotText (makes (begun s written input)) held now × (makes (begun s written input) ≡ n)) went.consumes over
     (λ rest may.
     let there = went.leads rest may in
     let noted : makes (begun s written (went.told ++ rest)) ≡ n = ap (λ (k : Known). makes (play_at s k (went.told ++ rest))) (sym none) ∙ there.1 in (
@@ -172,7 +177,7 @@ pub whole_told : (from to : Option ℕ) (limit : ℕ) (g : Gathered) (s t : Sess
     (written : List Bool) (end : Played) (n : Option Noted) (flag : Bool) → flag ≡ is_some n → known a ≡ first_known written → EndsAt b.is_over left
     → WentOn (traced from to limit) (trace_noted from to limit g) s a given left end t b n → GotText n held now
     → (input : List ℕ) × (rest : List ℕ) × AreBytesOf given input × AreBytesOf left rest
-        × RanAs (traced from to limit (begun s written input)) end t rest × GotText (trace_noted from to limit g (begun s written input)) held now
+    × RanAs (traced from to limit (begun s written input)) end t rest × GotText (trace_noted from to limit g (begun s written input)) held now
     × (flag ≡ has_begun (reached from (begun s written input)).ending)
 whole_told from to limit g s t a b given left held now written end n flag is none over went got =
     let whole = whole_trace (traced from to limit) (trace_noted from to limit g) s t a b given left held now written end n none over went got in
@@ -194,11 +199,11 @@ pub wrote_notes : (a : TraceAsked) (b : Begin) (from to : Option ℕ) (limit : �
     → ((sites : Sites) × AreSites b.assembly sites × (g ≡ none_gathered a sites (first_written a.finds_unwritten b.written)))
     → written ≡ or_everywhere a.is_free b.written
     → ((input : List ℕ) × (rest : List ℕ) × AreBytesOf given input × AreBytesOf left rest
-        × RanAs (traced from to limit (begun b.session written input)) end t rest
-        × GotText (trace_noted from to limit g (begun b.session written input)) held now
+    × RanAs (traced from to limit (begun b.session written input)) end t rest
+    × GotText (trace_noted from to limit g (begun b.session written input)) held now
     × (flag ≡ has_begun (reached from (begun b.session written input)).ending))
     → (input : List ℕ) × (rest : List ℕ) × AreBytesOf given input × AreBytesOf left rest × RanAs (traced from to limit (play_of a b input)) end t rest
-        × WroteNotes a b (λ h. trace_noted from to limit h (play_of a b input)) held now
+    × WroteNotes a b (λ h. trace_noted from to limit h (play_of a b input)) held now
     × (flag ≡ has_begun (reached from (play_of a b input)).ending)
 wrote_notes a b from to limit t written given left held now g end flag new is run =
     let made = subst (λ w. RanAs (traced from to limit (begun b.session w run.0)) end t run.1) is run.4 in

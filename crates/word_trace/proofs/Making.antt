@@ -41,7 +41,7 @@ made_none each until n p a e = ap (λ k. by_steps each until k p a) e
 pub makes_full : {A : Type 0} (each : State → State → A → A) (until : Option ℕ) (limit : ℕ) (s : Session) (first : Known) (told : List ℕ)
     (over : Bool) (steps : ℕ) (t : Session) (memo : Known) (a b : A)
     → MakesOn each until limit s first told over steps t memo a b → limit ≤ steps → (rest : List ℕ) → MayCome over rest
-        → by_steps each until limit (play_at s first (told ++ rest)) a ≡ b
+    → by_steps each until limit (play_at s first (told ++ rest)) a ≡ b
 makes_full each until limit s first told over steps t memo a b h full rest may =
     h.makes rest may ∙ made_none each until (limit - steps) (play_at t memo rest) b (omega arith)
 
@@ -50,7 +50,7 @@ module _ {A : Type 0} (each : State → State → A → A) (until : Option ℕ) 
     (steps : ℕ) (t : Session) (memo : Known) (a b : A)
     (h : MakesOn each until limit s first told over steps t memo a b) (room : steps < limit)
     (told2 : List ℕ) (over2 : Bool) (ending : Option Ending) (u : Session) (memo2 : Known) (once : EndsOnce over over2 told2)
-        (turn : TurnsTo t memo told2 over2 ending u memo2) where
+    (turn : TurnsTo t memo told2 over2 ending u memo2) where
   abbrev next : Turn → A
   next x = by_turn each until t.current x b (λ q c. by_steps each until (limit - (steps + 1)) q c)
 
@@ -64,7 +64,7 @@ module _ {A : Type 0} (each : State → State → A → A) (until : Option ℕ) 
 
   pub noted_turn_made : (rest : List ℕ) → MayCome over2 rest
       → by_steps each until limit (play_at s first ((told ++ told2) ++ rest)) a
-          ≡ by_turn each until t.current (turn_to ending u memo2 rest) b (λ q c. by_steps each until (limit - (steps + 1)) q c)
+      ≡ by_turn each until t.current (turn_to ending u memo2 rest) b (λ q c. by_steps each until (limit - (steps + 1)) q c)
   noted_turn_made rest may = one_turn rest may
 
   pub makes_on : (c : A) → c ≡ each t.current u.current b → ending ≡ None → is_at until u.current ≡ false

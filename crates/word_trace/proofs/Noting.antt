@@ -47,7 +47,7 @@ pub one_told : (state : State) (sites : Sites) (moment : Moment) (finding : Find
     → after ≡ before ++ findings state sites moment finding.step finding.part (told state.bus.map w (finding.address ∷ []))
 one_told state sites moment finding w before after on row =
     row ∙ ap (λ xs. before ++ xs) (sym (ap (λ ys. findings state sites moment finding.step finding.part ys)
-        (told_yes state.bus.map w finding.address on) ∙ append-nil (finding_row state sites moment finding)))
+    (told_yes state.bus.map w finding.address on) ∙ append-nil (finding_row state sites moment finding)))
 
 -- One text behind another.
 pub text_both : (before between after one two : List ℕ) → between ≡ before ++ one → after ≡ between ++ two → after ≡ before ++ (one ++ two)
@@ -71,7 +71,7 @@ pub reads_gathered : {A E : Type 0} (is_entry : Bool) (state : State) (sites sit
     → OnOk r (after ≡ before ++ reads_text is_entry state sites number ahead w)
 reads_gathered is_entry state sites sites2 number number2 ahead w v code r before between after plain sites_are number_is here is_code first second =
     let T : Sites → ℕ → Option (List Bool) → Type 0 = λ s n u. after ≡ between
-        ++ findings state s ahead.moment n Data (told state.bus.map u ahead.reads.items) in
+    ++ findings state s ahead.moment n Data (told state.bus.map u ahead.reads.items) in
     let ran = subst (λ ys. between ≡ before ++ findings state sites ahead.moment number Code (told state.bus.map w ys)) is_code first in
     let there : v ≡ with_told state.bus.map w (code_of ahead.moment) = here ∙ ap (with_told state.bus.map w) is_code in
     subst (λ b. OnOk r (after ≡ before ++ reads_text b state sites number ahead w)) (sym plain)
@@ -87,7 +87,7 @@ pub step_gathered : {A E : Type 0} (state : State) (ahead : Ahead) (t c d n : Tr
     → gathered d ≡ marked w (gathered c) → d.sheet.text.items ≡ c.sheet.text.items ++ reads_text is_entry state c.sites c.all.visits ahead c.written
     → gathered n ≡ marked v (gathered d) → n.sheet ≡ d.sheet → stores ≡ left_at state (trace_view d.words.now).file is_entry ahead
     → OnOk r (after ≡ n.sheet.text.items ++ row_text (trace_view n.words.now) state n.sites
-        (record { moment = ahead.moment; is_entry = is_entry; stores = record { items = stores } }))
+    (record { moment = ahead.moment; is_entry = is_entry; stores = record { items = stores } }))
     → OnOk r (after ≡ t.sheet.text.items ++ text_of_step state ahead (gathered t))
 step_gathered state ahead t c d n is_entry cycles w v stores r after is took counts sheet reads read left sheet2 stored row =
     let at : Bool = entered ahead.moment state in
@@ -98,13 +98,13 @@ step_gathered state ahead t c d n is_entry cycles w v stores r after is took cou
     let stores_are : stores ≡ left_at state (trace_view t.words.now).file at ahead =
     stored ∙ ap (λ (ws : TraceAsked). left_at state ws.file is_entry ahead) file ∙ ap (λ b. left_at state (trace_view t.words.now).file b ahead) is in
     let text : reads_text is_entry state c.sites c.all.visits ahead c.written
-        ≡ reads_text at state t.sites (counted_here state ahead (gathered t)).all.visits ahead t.written =
+    ≡ reads_text at state t.sites (counted_here state ahead (gathered t)).all.visits ahead t.written =
     ap (λ (g : Gathered). reads_text is_entry state g.sites g.all.visits ahead g.written) counts
     ∙ ap (λ n. reads_text is_entry state t.sites (counted t.all n).visits ahead t.written) took
     ∙ ap (λ b. reads_text b state t.sites (counted t.all took_so).visits ahead t.written) is in
     let made : row_text (trace_view n.words.now) state n.sites
-        (record { moment = ahead.moment; is_entry = is_entry; stores = record { items = stores } })
-        ≡ row_text (trace_view t.words.now) state t.sites (step_of state (trace_view t.words.now).file at ahead) =
+    (record { moment = ahead.moment; is_entry = is_entry; stores = record { items = stores } })
+    ≡ row_text (trace_view t.words.now) state t.sites (step_of state (trace_view t.words.now).file at ahead) =
     ap (λ ws. row_text ws state n.sites (record { moment = ahead.moment; is_entry = is_entry; stores = record { items = stores } })) words
     ∙ ap (λ s. row_text (trace_view t.words.now) state s (record { moment = ahead.moment; is_entry = is_entry; stores = record { items = stores } })) sites
     ∙ ap (λ b. row_text (trace_view t.words.now) state t.sites (record { moment = ahead.moment; is_entry = b; stores = record { items = stores } })) is
@@ -114,4 +114,4 @@ step_gathered state ahead t c d n is_entry cycles w v stores r after is took cou
     ok_then r _ _ (λ more. text_both t.sheet.text.items d.sheet.text.items after _ _ told_here
     (subst (λ xs. after ≡ d.sheet.text.items ++ xs) made
     (subst (λ (s : Sheet). after ≡ s.text.items ++ row_text (trace_view n.words.now) state n.sites
-        (record { moment = ahead.moment; is_entry = is_entry; stores = record { items = stores } })) sheet2 more))) row
+    (record { moment = ahead.moment; is_entry = is_entry; stores = record { items = stores } })) sheet2 more))) row

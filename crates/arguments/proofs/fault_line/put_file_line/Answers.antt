@@ -16,7 +16,7 @@ of_source file refusal fault is = rw is refl
 
 of_file : (file : List ℕ) (refusal : Refusal)
     → ((f : TapeFault) × (refusal ≡ Tape f)) ⊎ (((f : SessionFault) × (refusal ≡ Session f))
-        ⊎ (((f : ReadFault) × (refusal ≡ Read f)) ⊎ ((refusal ≡ Write) ⊎ ((f : WriteFault) × (refusal ≡ WriteFile f)))))
+    ⊎ (((f : ReadFault) × (refusal ≡ Read f)) ⊎ ((refusal ≡ Write) ⊎ ((f : WriteFault) × (refusal ≡ WriteFile f)))))
     → file_line file refusal ≡ named_line file refusal
 unfolding file_line
 of_file file refusal (inl (f, is)) = rw is refl
@@ -28,9 +28,9 @@ of_file file refusal (inr (inr (inr (inr (f, is))))) = rw is refl
 pub returns-in-Source : goal.returns-in-Source
 returns-in-Source g c =
     subst (AppendsFront (g.E.Write.contents c.args.errors.now) (g.E.Write.contents c.put_source_line.new.errors))
-        (sym (of_source c.args.file.now c.args.refusal c.in-Source.fault c.in-Source.is)) c.put_source_line.ensures
+    (sym (of_source c.args.file.now c.args.refusal c.in-Source.fault c.in-Source.is)) c.put_source_line.ensures
 
 pub returns-in-Tape : goal.returns-in-Tape
 returns-in-Tape g c =
     subst (AppendsFront (g.E.Write.contents c.args.errors.now) (g.E.Write.contents c.put_named_line.new.errors))
-        (sym (of_file c.args.file.now c.args.refusal c.in-Tape.is)) c.put_named_line.ensures
+    (sym (of_file c.args.file.now c.args.refusal c.in-Tape.is)) c.put_named_line.ensures

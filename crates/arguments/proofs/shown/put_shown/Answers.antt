@@ -9,7 +9,7 @@ pub returns-in-Err : goal.returns-in-Err
 returns-in-Err g c =
     let front = YieldsList-so_far (YieldsList-from_chars c.args.name.now c.utf8.name cc) c.loop-character.yielded _ c.loop-character.yielded_by in
     part_failed _ _ _ c.loop-character.yielded (chars c.args.name.now) _ front c.loop-character.invariant.written
-        (rw c.as_slice.ensures.value at c.in-Err.ensures)
+    (rw c.as_slice.ensures.value at c.in-Err.ensures)
 
 pub loop-character-preserved : goal.loop-character-preserved
 loop-character-preserved g c =
@@ -39,6 +39,6 @@ loop-character-preserved g c =
 pub returns : goal.returns
 returns g c =
     let end = YieldsList-end (YieldsList-from_chars c.args.name.now c.utf8.name cc) c.loop-character.yielded _ c.loop-character.yielded_by _ _
-        c.in-None.is c.next.ensures.steps in
+    c.in-None.is c.next.ensures.steps in
     all_parts _ _ _ c.loop-character.yielded (chars c.args.name.now) _ c.put-2.result (sym (map-id c.loop-character.yielded) ∙ end.0)
-        c.loop-character.invariant.written (rw c.as_slice-2.ensures.value at c.put-2.ensures)
+    c.loop-character.invariant.written (rw c.as_slice-2.ensures.value at c.put-2.ensures)

@@ -9,7 +9,7 @@ returns-clause-shape c =
     let symbols_is : rule_of c.option-2.result ≡ option_rule (codes "symbols") = search rules in
     let prompt_is : rule_of c.flag.result ≡ flag_rule (codes "prompt") = search rules in
     let filed : app_of c.in_ok-with_files_options.field-0 ≡ with_files (unnamed (codes "mon")) =
-        c.in_ok-with_files_options.ensures.shape ∙ ap with_files (c.in_ok-command.ensures.shape) in
+    c.in_ok-with_files_options.ensures.shape ∙ ap with_files (c.in_ok-command.ensures.shape) in
     let with_history = c.in_ok-arg.ensures.shape (search rules) ∙ ap₂ with_rule filed history_is in
     let with_symbols = c.in_ok-arg-2.ensures.shape (search rules) ∙ ap₂ with_rule with_history symbols_is in
     let debug_is : rule_of c.option-3.result ≡ option_rule (codes "debug-info") = search rules in

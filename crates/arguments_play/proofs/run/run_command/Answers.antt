@@ -12,7 +12,7 @@ returns-clause-shape c =
     let cycles_is : rule_of c.flag.result ≡ flag_rule (codes "cycles") = search rules in
     let free_is : rule_of c.flag-2.result ≡ flag_rule (codes "free") = search rules in
     let filed : app_of c.in_ok-with_files_options.field-0 ≡ with_files (unnamed (codes "run")) =
-        c.in_ok-with_files_options.ensures.shape ∙ ap with_files (c.in_ok-command.ensures.shape) in
+    c.in_ok-with_files_options.ensures.shape ∙ ap with_files (c.in_ok-command.ensures.shape) in
     let with_symbols = c.in_ok-arg.ensures.shape (search rules) ∙ ap₂ with_rule filed symbols_is in
     let with_until = c.in_ok-arg-2.ensures.shape (search rules) ∙ ap₂ with_rule with_symbols until_is in
     let with_steps = c.in_ok-arg-3.ensures.shape (search rules) ∙ ap₂ with_rule with_until steps_is in

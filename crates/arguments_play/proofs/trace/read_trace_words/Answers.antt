@@ -13,13 +13,13 @@ returns-in_err-matches-clause-served c a fits h =
 pub returns-in_err-matches-clause-refused : goal.returns-in_err-matches-clause-refused
 returns-in_err-matches-clause-refused c =
     refused_by (app_of c.in_ok-trace_command.field-0) trace (texts c.args.words.now) (asked (texts c.args.words.now) ≡ None)
-        c.in_err-matches.field-0.0 c.from_residual-in_err-matches.result
+    c.in_err-matches.field-0.0 c.from_residual-in_err-matches.result
     c.in_ok-trace_command.ensures.shape c.in_err-matches.ensures.refused c.from_residual-in_err-matches.ensures.1
 
 pub returns-in-Some-clause-asked : goal.returns-in-Some-clause-asked
 returns-in-Some-clause-asked c =
     sym (c.in-Some.ensures ∙ asked_by trace_asked (app_of c.in_ok-trace_command.field-0) trace (texts c.args.words.now)
-        (first_value (found_of c.in_ok-matches.matches))
+    (first_value (found_of c.in_ok-matches.matches))
     c.in_ok-trace_command.ensures.shape c.in_ok-matches.ensures.values)
 
 pub returns-in-Some-clause-fits : goal.returns-in-Some-clause-fits
@@ -29,7 +29,7 @@ returns-in-Some-clause-fits c = fits_by (app_of c.in_ok-trace_command.field-0) t
 pub returns-clause-served : goal.returns-clause-served
 returns-clause-served c a fits h =
     absurd (not_both _ a h (sym (c.in-None.ensures ∙ asked_by trace_asked (app_of c.in_ok-trace_command.field-0) trace (texts c.args.words.now)
-        (first_value (found_of c.in_ok-matches.matches))
+    (first_value (found_of c.in_ok-matches.matches))
     c.in_ok-trace_command.ensures.shape c.in_ok-matches.ensures.values)))
 
 pub returns-clause-refused : goal.returns-clause-refused
@@ -37,4 +37,4 @@ returns-clause-refused c =
     value_refused trace (texts c.args.words.now) (asked (texts c.args.words.now) ≡ None) _ _ c.value_fault.ensures
     (fits_by (app_of c.in_ok-trace_command.field-0) trace (texts c.args.words.now) c.in_ok-trace_command.ensures.shape c.in_ok-matches.ensures.fits)
     (sym (c.in-None.ensures ∙ asked_by trace_asked (app_of c.in_ok-trace_command.field-0) trace (texts c.args.words.now)
-        (first_value (found_of c.in_ok-matches.matches)) c.in_ok-trace_command.ensures.shape c.in_ok-matches.ensures.values))
+    (first_value (found_of c.in_ok-matches.matches)) c.in_ok-trace_command.ensures.shape c.in_ok-matches.ensures.values))

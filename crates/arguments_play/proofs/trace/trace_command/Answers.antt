@@ -15,7 +15,7 @@ returns-clause-shape c =
     let unwritten_is : rule_of c.flag-3.result ≡ flag_rule (codes "unwritten") = search rules in
     let free_is : rule_of c.flag-4.result ≡ flag_rule (codes "free") = search rules in
     let filed : app_of c.in_ok-with_files_options.field-0 ≡ with_files (unnamed (codes "trace")) =
-        c.in_ok-with_files_options.ensures.shape ∙ ap with_files (c.in_ok-command.ensures.shape) in
+    c.in_ok-with_files_options.ensures.shape ∙ ap with_files (c.in_ok-command.ensures.shape) in
     let with_symbols = c.in_ok-arg.ensures.shape (search rules) ∙ ap₂ with_rule filed symbols_is in
     let with_from = c.in_ok-arg-2.ensures.shape (search rules) ∙ ap₂ with_rule with_symbols from_is in
     let with_to = c.in_ok-arg-3.ensures.shape (search rules) ∙ ap₂ with_rule with_from to_is in

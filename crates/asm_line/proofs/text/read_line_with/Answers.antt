@@ -9,7 +9,7 @@ returns-in-Ok-clause-exact c = rw (read_is c.args.profile c.args.line.now) c.in-
 pub returns-in-Ok-clause-small : goal.returns-in-Ok-clause-small
 returns-in-Ok-clause-small c =
     small_read c.args.profile c.expressions_are_longest.ensures c.tokens_are_slices.ensures c.args.line.now (Ok c.in-Ok.found)
-        (rw (read_is c.args.profile c.args.line.now) c.in-Ok.ensures)
+    (rw (read_is c.args.profile c.args.line.now) c.in-Ok.ensures)
 
 pub returns-in-Err-clause-exact : goal.returns-in-Err-clause-exact
 returns-in-Err-clause-exact c = rw (read_is c.args.profile c.args.line.now) c.in-Err.ensures

@@ -18,7 +18,7 @@ returns-in-Err-make_image-clause-exact c =
     let small : length c.args.source.now ≤ most_bytes = omega (arith, c.if-source-gt-SOURCE_SIZE.false) in
     let all : Context = record { profile = c.args.map.now.profile; address = c.in-Ok.ensures.found.0; names = c.lay_out.new.symbols } in
     value_answer c.args.map.now c.args.source.now (found_of c.in-Ok.laid.lines) all c.in-Err-make_image.fault small
-        (rw c.profile.ensures at c.in-Ok.ensures.found.1) (rw c.lines.ensures at c.in-Err-make_image.ensures.exact)
+    (rw c.profile.ensures at c.in-Ok.ensures.found.1) (rw c.lines.ensures at c.in-Err-make_image.ensures.exact)
 
 pub returns-in-Ok-from_slice-clause-exact : goal.returns-in-Ok-from_slice-clause-exact
 returns-in-Ok-from_slice-clause-exact c =
@@ -26,4 +26,4 @@ returns-in-Ok-from_slice-clause-exact c =
     let all : Context = record { profile = c.args.map.now.profile; address = c.in-Ok.ensures.found.0; names = c.lay_out.new.symbols } in
     rw c.into_spans-spans.ensures
     (verdict_right c.args.map.now c.args.source.now (found_of c.in-Ok.laid.lines) all c.in-Ok-make_image.image small
-        (rw c.profile.ensures at c.in-Ok.ensures.found.1) (rw c.lines.ensures at c.in-Ok-make_image.ensures.exact))
+    (rw c.profile.ensures at c.in-Ok.ensures.found.1) (rw c.lines.ensures at c.in-Ok-make_image.ensures.exact))

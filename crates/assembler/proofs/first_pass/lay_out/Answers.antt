@@ -30,7 +30,7 @@ loop-start-preserved c =
     let l = c.loop-start in
     let source = c.args.source.now in
     let whole : take (length source - l.start) (drop l.start source) ≡ drop l.start source =
-        take_all _ (drop l.start source) (omega (arith, length-drop l.start source)) in
+    take_all _ (drop l.start source) (omega (arith, length-drop l.start source)) in
     let len = c.first_line-len.result.0 in
     let size = c.first_line-len.result.1 in
     let line = take len (drop l.start source) in
@@ -41,14 +41,14 @@ loop-start-preserved c =
     let new = c.note.new.self in
     let e = c.in-Ok.ensures.exact in
     let cut : lines_of (drop l.start source) ≡ line ∷ lines_of (drop (l.start + size) source) =
-        cut_step source line l.start size (rw whole at c.first_line-len.ensures.cut) in
+    cut_step source line l.start size (rw whole at c.first_line-len.ensures.cut) in
     let laid : with_line_found l.number found (layout_of before line) ≡ Ok (found_of new.lines, next) =
-        (rw whole at e.0) ∙ ap (λ (ls : Lines). Ok (found_of ls, next)) (sym c.note.ensures.found) in
+    (rw whole at e.0) ∙ ap (λ (ls : Lines). Ok (found_of ls, next)) (sym c.note.ensures.found) in
     let made = c.in_ok-map_err-in-Ok.was in
     let noted : new.texts.items ≡ l.laid.texts.items ++ text_noted l.start len taken.is_instruction ∷ [] =
-        on_ok_mapped c.note.result c.map_err.result _ _ c.map_err.ensures.variant made c.note.ensures.texts in
+    on_ok_mapped c.note.result c.map_err.result _ _ c.map_err.ensures.variant made c.note.ensures.texts in
     let told : new.labels.items ≡ l.laid.labels.items ++ option_to_list taken.is_label =
-        on_ok_mapped c.note.result c.map_err.result _ _ c.map_err.ensures.variant made c.note.ensures.labels in
+    on_ok_mapped c.note.result c.map_err.result _ _ c.map_err.ensures.variant made c.note.ensures.labels in
     record {
       same = goes_on c.args.profile l.number before next found (found_of new.lines) (drop l.start source) line (drop (l.start + size) source) _ cut
           laid (sym (rw whole at e.1) ∙ c.if-taken.false) l.invariant.same;
@@ -72,7 +72,7 @@ returns-then-taken-clause-found c =
     let l = c.loop-start in
     let source = c.args.source.now in
     let whole : take (length source - l.start) (drop l.start source) ≡ drop l.start source =
-        take_all _ (drop l.start source) (omega (arith, length-drop l.start source)) in
+    take_all _ (drop l.start source) (omega (arith, length-drop l.start source)) in
     let size = c.first_line-len.result.1 in
     let line = take c.first_line-len.result.0 (drop l.start source) in
     let before : Context = record { profile = c.args.profile; address = l.address; names = l.symbols } in
@@ -81,18 +81,20 @@ returns-then-taken-clause-found c =
     let new = c.note.new.self in
     let e = c.in-Ok.ensures.exact in
     let cut : lines_of (drop l.start source) ≡ line ∷ lines_of (drop (l.start + size) source) =
-        cut_step source line l.start size (rw whole at c.first_line-len.ensures.cut) in
+    cut_step source line l.start size (rw whole at c.first_line-len.ensures.cut) in
     let laid : with_line_found l.number found (layout_of before line) ≡ Ok (found_of new.lines, next) =
-        (rw whole at e.0) ∙ ap (λ (ls : Lines). Ok (found_of ls, next)) (sym c.note.ensures.found) in
-    (c.in-Ok.taken.next, ends c.args.profile l.number before next found (found_of new.lines) (drop l.start source) line (drop (l.start + size) source)
-        _ cut laid (sym (rw whole at e.1) ∙ c.if-taken.true) l.invariant.same)
+    (rw whole at e.0) ∙ ap (λ (ls : Lines). Ok (found_of ls, next)) (sym c.note.ensures.found) in (
+      c.in-Ok.taken.next,
+      ends c.args.profile l.number before next found (found_of new.lines) (drop l.start source) line (drop (l.start + size) source)
+          _ cut laid (sym (rw whole at e.1) ∙ c.if-taken.true) l.invariant.same,
+    )
 
 pub returns-then-taken-clause-texts : goal.returns-then-taken-clause-texts
 returns-then-taken-clause-texts c =
     let l = c.loop-start in
     let source = c.args.source.now in
     let whole : take (length source - l.start) (drop l.start source) ≡ drop l.start source =
-        take_all _ (drop l.start source) (omega (arith, length-drop l.start source)) in
+    take_all _ (drop l.start source) (omega (arith, length-drop l.start source)) in
     let len = c.first_line-len.result.0 in
     let size = c.first_line-len.result.1 in
     let line = take len (drop l.start source) in
@@ -100,21 +102,21 @@ returns-then-taken-clause-texts c =
     let new = c.note.new.self in
     let e = c.in-Ok.ensures.exact in
     let cut : lines_of (drop l.start source) ≡ line ∷ lines_of (drop (l.start + size) source) =
-        cut_step source line l.start size (rw whole at c.first_line-len.ensures.cut) in
+    cut_step source line l.start size (rw whole at c.first_line-len.ensures.cut) in
     let made = c.in_ok-map_err-in-Ok.was in
     let noted : new.texts.items ≡ l.laid.texts.items ++ text_noted l.start len taken.is_instruction ∷ [] =
-        on_ok_mapped c.note.result c.map_err.result _ _ c.map_err.ensures.variant made c.note.ensures.texts in
+    on_ok_mapped c.note.result c.map_err.result _ _ c.map_err.ensures.variant made c.note.ensures.texts in
     let told : new.labels.items ≡ l.laid.labels.items ++ option_to_list taken.is_label =
-        on_ok_mapped c.note.result c.map_err.result _ _ c.map_err.ensures.variant made c.note.ensures.labels in
+    on_ok_mapped c.note.result c.map_err.result _ _ c.map_err.ensures.variant made c.note.ensures.labels in
     texts_step c.args.profile source l.start len (lines_of (drop (l.start + size) source)) l.laid.texts.items new.texts.items l.laid.labels.items
-        new.labels.items taken.is_instruction taken.is_label l.invariant.texts l.invariant.here cut (rw whole at e.2) (rw whole at e.3) noted told
+    new.labels.items taken.is_instruction taken.is_label l.invariant.texts l.invariant.here cut (rw whole at e.2) (rw whole at e.3) noted told
 
 pub returns-then-taken-clause-named : goal.returns-then-taken-clause-named
 returns-then-taken-clause-named c =
     let l = c.loop-start in
     let source = c.args.source.now in
     let whole : take (length source - l.start) (drop l.start source) ≡ drop l.start source =
-        take_all _ (drop l.start source) (omega (arith, length-drop l.start source)) in
+    take_all _ (drop l.start source) (omega (arith, length-drop l.start source)) in
     let line = take c.first_line-len.result.0 (drop l.start source) in
     let taken = c.in-Ok.taken in
     let before : Context = record { profile = c.args.profile; address = l.address; names = l.symbols } in
@@ -122,12 +124,14 @@ returns-then-taken-clause-named c =
     let new = c.note.new.self in
     let e = c.in-Ok.ensures.exact in
     let told : new.labels.items ≡ l.laid.labels.items ++ option_to_list taken.is_label =
-        on_ok_mapped c.note.result c.map_err.result _ _ c.map_err.ensures.variant c.in_ok-map_err-in-Ok.was c.note.ensures.labels in
+    on_ok_mapped c.note.result c.map_err.result _ _ c.map_err.ensures.variant c.in_ok-map_err-in-Ok.was c.note.ensures.labels in
     named_step l.number (found_of l.laid.lines) (found_of c.take_line.new.lines) before next line l.laid.labels.items new.labels.items taken.is_label
-        (rw whole at e.0) (rw whole at e.3) told l.invariant.named
+    (rw whole at e.0) (rw whole at e.3) told l.invariant.named
 
 pub returns-clause-found : goal.returns-clause-found
 returns-clause-found c =
-    let l = c.loop-start in
-    (l.address, done c.args.profile l.number (record { profile = c.args.profile; address = l.address; names = l.symbols }) (found_of l.laid.lines)
-        (drop l.start c.args.source.now) _ (omega (arith, length-drop l.start c.args.source.now, c.loop-start-test.false)) l.invariant.same)
+    let l = c.loop-start in (
+      l.address,
+      done c.args.profile l.number (record { profile = c.args.profile; address = l.address; names = l.symbols }) (found_of l.laid.lines)
+          (drop l.start c.args.source.now) _ (omega (arith, length-drop l.start c.args.source.now, c.loop-start-test.false)) l.invariant.same,
+    )

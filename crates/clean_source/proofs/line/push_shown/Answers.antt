@@ -14,4 +14,4 @@ pub returns : goal.returns
 returns c =
     let line = c.args.line.now in
     none_left c.loop-byte.text.items (c.args.text.now.items ++ shown_from 0 line) line c.loop-byte.byte-index c.loop-byte.before
-        c.loop-byte-test.false c.loop-byte.invariant
+    c.loop-byte-test.false c.loop-byte.invariant

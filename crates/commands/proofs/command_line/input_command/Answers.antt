@@ -23,12 +23,12 @@ pub returns-then-is_empty-2 : goal.returns-then-is_empty-2
 returns-then-is_empty-2 c =
     let last : c.loop-count.count ≡ 16 = omega (arith, c.loop-count-test.false, c.loop-count.auto.count-end) in
     meets_all c.args.line.now c.loop-count.bytes 16 c.loop-count.rest.now c.next_word-2.result.0.now c.next_word-2.result.1.now
-        (subst (λ n. Meets c.args.line.now c.loop-count.bytes n c.loop-count.rest.now) last c.loop-count.invariant) (omega arith)
-        c.next_word-2.ensures.word (eqb-true _ _ (sym c.if-is_empty-2.ensures))
+    (subst (λ n. Meets c.args.line.now c.loop-count.bytes n c.loop-count.rest.now) last c.loop-count.invariant) (omega arith)
+    c.next_word-2.ensures.word (eqb-true _ _ (sym c.if-is_empty-2.ensures))
 
 pub returns-else-is_empty-2 : goal.returns-else-is_empty-2
 returns-else-is_empty-2 c =
     let last : c.loop-count.count ≡ 16 = omega (arith, c.loop-count-test.false, c.loop-count.auto.count-end) in
     meets_too_many c.args.line.now c.loop-count.bytes c.loop-count.rest.now c.next_word-2.result.0.now c.next_word-2.result.1.now
-        (subst (λ n. Meets c.args.line.now c.loop-count.bytes n c.loop-count.rest.now) last c.loop-count.invariant) c.next_word-2.ensures.word
-        (eqb-false _ _ (sym c.if-is_empty-2.ensures))
+    (subst (λ n. Meets c.args.line.now c.loop-count.bytes n c.loop-count.rest.now) last c.loop-count.invariant) c.next_word-2.ensures.word
+    (eqb-false _ _ (sym c.if-is_empty-2.ensures))

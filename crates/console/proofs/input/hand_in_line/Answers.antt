@@ -25,7 +25,7 @@ returns-in-Ok-Some-eq10-clause-line g c =
     let inv = c.loop-len.invariant in
     let read = rw (c.in-Ok-Some-eq10.field-0-is, c.in-Ok-Some-eq10.field-0-0-test) at c.in-Ok-Some-eq10.ensures in
     let one = hands_byte c.args.session.now c.loop-len.session c.hand_in_byte.new.session inv.0 10 inv.3 c.hand_in_byte.ensures.after
-        c.hand_in_byte.ensures.current in
+    c.hand_in_byte.ensures.current in
     let inside : length inv.0 < room_of c.args.session.now.current = omega (arith, inv.2, c.input_room-room.ensures, c.loop-len-test.true) in (
       inv.0 ++ 10 ∷ [],
       Consumes-trans _ _ _ inv.0 (10 ∷ []) inv.1 read.told,

@@ -29,9 +29,9 @@ returns-clause-turns c =
     let some : 0 < ran.result.steps = omega (arith, c.if-ran-eq0.false) in
     let made = ran.ensures.last some in
     glides_known c.args.until ran.result.steps c.args.session.now ran.new.session (known player) ran.new.written ran.result.from (may.rests refl)
-        (may.idle refl) ran.ensures.written
+    (may.idle refl) ran.ensures.written
     (glides_all made.0 player.written c.args.until player.memo.from ran.result.steps ran.result.from c.args.session.now ran.new.session made.1
-        c.is_state.ensures (may.off refl) (may.stands refl) some made.2 ran.ensures.session).0
+    c.is_state.ensures (may.off refl) (may.stands refl) some made.2 ran.ensures.session).0
 
 pub returns-clause-waits : goal.returns-clause-waits
 returns-clause-waits c =
@@ -42,7 +42,7 @@ returns-clause-waits c =
     let made = ran.ensures.last some in
     same_waits c.args.session.now.current ran.new.session.current player.waiting
     (glides_all made.0 player.written c.args.until player.memo.from ran.result.steps ran.result.from c.args.session.now ran.new.session made.1
-        c.is_state.ensures (may.off refl) (may.stands refl) some made.2 ran.ensures.session).1
+    c.is_state.ensures (may.off refl) (may.stands refl) some made.2 ran.ensures.session).1
     c.requires.waits
 
 pub returns-clause-output : goal.returns-clause-output
@@ -53,4 +53,4 @@ returns-clause-output c =
     let some : 0 < ran.result.steps = omega (arith, c.if-ran-eq0.false) in
     let made = ran.ensures.last some in
     (glides_all made.0 player.written c.args.until player.memo.from ran.result.steps ran.result.from c.args.session.now ran.new.session made.1
-        c.is_state.ensures (may.off refl) (may.stands refl) some made.2 ran.ensures.session).1.out
+    c.is_state.ensures (may.off refl) (may.stands refl) some made.2 ran.ensures.session).1.out

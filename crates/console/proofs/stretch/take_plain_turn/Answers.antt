@@ -26,7 +26,7 @@ returns-clause-made c = λ _.
     let some : 0 < ran.result.steps = omega (arith, c.if-ran-eq0.false) in
     let made = ran.ensures.last some in
     turns_plainly made.0 (known player) ran.result.from player.is_over c.args.session.now ran.new.session (may.rests refl) (may.idle refl) made.1
-        ran.ensures.size (may.stands refl)
+    ran.ensures.size (may.stands refl)
     (steps_plainly made.0 ran.result.steps ran.result.from c.args.session.now ran.new.session some ran.ensures.within made.2 ran.ensures.session)
 
 pub returns-clause-entry : goal.returns-clause-entry

@@ -18,14 +18,14 @@ returns-in-Ok-put_output-clause-ok g c = λ input.
     let s = c.args.session.now in
     let regs = c.regs-after.ensures ∙ ap (λ t. t.current.regs) e.2 in
     let memo = c.memo_after-player.ensures s.current (sym c.requires.access) (sym c.regs-before.ensures)
-        ∙ ap (λ r. memo_after c.args.player.now.memo c.args.is_asked c.args.came s.current r) regs in
+    ∙ ap (λ r. memo_after c.args.player.now.memo c.args.is_asked c.args.came s.current r) regs in
     let stores = stored_here s.current c.args.access c.regs-before.result c.stores_by-stores.result.items c.requires.access c.regs-before.ensures
-        c.stores_by-stores.ensures in
+    c.stores_by-stores.ensures in
     let written = bytes_made c.args.player.now.written c.note_all.new.self s c.event.new.self e.0 c.moment_of-moment.result
-        c.stores_by-stores.result.items c.stored.result.items
+    c.stores_by-stores.result.items c.stored.result.items
     c.note_all.ensures c.stored.ensures c.moment_of-moment.ensures stores e.2 in
     made s c.event.new.self e.0 (known c.args.player.now) (record { memo = c.memo_after-player.result; written = c.note_all.new.self }) input
-        c.args.is_asked c.args.came e.1 e.2 memo written
+    c.args.is_asked c.args.came e.1 e.2 memo written
 
 pub returns-in-Ok-put_output-clause-waits : goal.returns-in-Ok-put_output-clause-waits
 returns-in-Ok-put_output-clause-waits g c =
@@ -55,14 +55,14 @@ returns-in-Err-put_output-clause-err g c = λ input.
     let s = c.args.session.now in
     let regs = c.regs-after.ensures ∙ ap (λ t. t.current.regs) e.2 in
     let memo = c.memo_after-player.ensures s.current (sym c.requires.access) (sym c.regs-before.ensures)
-        ∙ ap (λ r. memo_after c.args.player.now.memo c.args.is_asked c.args.came s.current r) regs in
+    ∙ ap (λ r. memo_after c.args.player.now.memo c.args.is_asked c.args.came s.current r) regs in
     let stores = stored_here s.current c.args.access c.regs-before.result c.stores_by-stores.result.items c.requires.access c.regs-before.ensures
-        c.stores_by-stores.ensures in
+    c.stores_by-stores.ensures in
     let written = bytes_made c.args.player.now.written c.note_all.new.self s c.event.new.self e.0 c.moment_of-moment.result
-        c.stores_by-stores.result.items c.stored.result.items
+    c.stores_by-stores.result.items c.stored.result.items
     c.note_all.ensures c.stored.ensures c.moment_of-moment.ensures stores e.2 in
     made s c.event.new.self e.0 (known c.args.player.now) (record { memo = c.memo_after-player.result; written = c.note_all.new.self }) input
-        c.args.is_asked c.args.came e.1 e.2 memo written
+    c.args.is_asked c.args.came e.1 e.2 memo written
 
 pub returns-in-Err-put_output-clause-output : goal.returns-in-Err-put_output-clause-output
 returns-in-Err-put_output-clause-output g c =

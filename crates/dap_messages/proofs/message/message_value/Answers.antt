@@ -9,9 +9,9 @@ returns-in-Done c = rw c.in-Done.is (c.build.ensures _ (c.flag.ensures _
 pub returns-in-Refused : goal.returns-in-Refused
 returns-in-Refused c = rw (c.in-Refused.is, ← c.as_str.ensures.value)
     (c.build-in-Refused.ensures _ (c.flag-in-Refused.ensures _
-        (c.count-in-Refused.ensures _ (c.word.ensures _ (c.member-in-Refused.ensures _ _ c.response-in-Refused.ensures c.nothing.ensures)))))
+    (c.count-in-Refused.ensures _ (c.word.ensures _ (c.member-in-Refused.ensures _ _ c.response-in-Refused.ensures c.nothing.ensures)))))
 
 pub returns-in-Event : goal.returns-in-Event
 returns-in-Event c =
     rw c.in-Event.is (c.build-in-Event.ensures _ (c.word-in-Event-2.ensures _
-        (c.count-in-Event.ensures _ (c.word-in-Event.ensures _ (c.member-in-Event.ensures _ (view c.in-Event.body) c.new.ensures (search rules))))))
+    (c.count-in-Event.ensures _ (c.word-in-Event.ensures _ (c.member-in-Event.ensures _ (view c.in-Event.body) c.new.ensures (search rules))))))

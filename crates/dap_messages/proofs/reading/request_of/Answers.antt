@@ -9,4 +9,4 @@ pub returns-in-Launch : goal.returns-in-Launch
 returns-in-Launch c =
     let message = view c.args.message.now in
     subst (λ (name : RequestName). IfOk c.launch_asked.result (λ r. request_view r ≡ request_by message name))
-        (sym c.in-Launch.is ∙ c.name_of.ensures) c.launch_asked.ensures
+    (sym c.in-Launch.is ∙ c.name_of.ensures) c.launch_asked.ensures

@@ -13,4 +13,4 @@ returns-clause-done g c = IfOk-weaker c.answer_open.result _ _ (λ ms done. (c.i
 pub returns-clause-why : goal.returns-clause-why
 returns-clause-why g c = IfErr-weaker c.answer_open.result _ _
     (λ f why. refused_by_more f (MayRefuse c.args.asked c.args.client.now) (MayRefuseAt c.args.asked c.args.client.now) (λ may. inr may) why)
-        c.answer_open.ensures.why
+    c.answer_open.ensures.why

@@ -27,9 +27,9 @@ returns c =
         first.fault,
         subst (λ (l : Listed). map said_of ms.items ≡ done nothing ∷ told_at l c.with_halt_at.new.client.mon old.told.count halt) first.program.2
             (subst (λ (t : Told). map said_of ms.items ≡ done nothing
-                ∷ told_at c.first_halt-halt.new.client.listed c.with_halt_at.new.client.mon t.count halt) first.told
+            ∷ told_at c.first_halt-halt.new.client.listed c.with_halt_at.new.client.mon t.count halt) first.told
             (subst (λ (d : MonState). map said_of ms.items ≡ done nothing
-                ∷ told_at c.first_halt-halt.new.client.listed d c.first_halt-halt.new.client.told.count halt) (sym kept.0) told.0)),
+            ∷ told_at c.first_halt-halt.new.client.listed d c.first_halt-halt.new.client.told.count halt) (sym kept.0) told.0)),
       ),
       told.2 ∙ (λ i. reason_at (first.program.2 i) ((sym kept.0) i).session.current.regs.pc (first.reason i)),
     ))

@@ -12,7 +12,7 @@ returns c =
     record {
       set = rw c.in-Some.is (set_so c.let_go.result c.set_data.result (ListsBytes c.in-Some.listed old new)
           (with_both c.set_data.result _ _ (λ v told sets held. (sets, kept, told, (held, set.others.0, set.others.1, set.others.2, set.others.3)))
-              set.answer set.sets set.held) c.let_go.ensures);
+          set.answer set.sets set.held) c.let_go.ensures);
       kept = (kept.0, kept.2, kept.3);
       launch = refl;
     }

@@ -40,9 +40,9 @@ returns-in-StackTrace g c =
     let mon = c.args.client.now.mon in
     let page = c.in-StackTrace.page in
     rw c.in-StackTrace.is (subst (λ (path : List ℕ). IfOk c.frames_shown.result
-        (λ v. AreFrames mon.session.current mon.places path c.args.counting page (view v))) source.path
+    (λ v. AreFrames mon.session.current mon.places path c.args.counting page (view v))) source.path
     (subst (λ (n : Counting). IfOk c.frames_shown.result (λ v.
-        AreFrames mon.session.current mon.places c.source_of-source.result.path.now n page (view v))) source.counting c.frames_shown.ensures))
+    AreFrames mon.session.current mon.places c.source_of-source.result.path.now n page (view v))) source.counting c.frames_shown.ensures))
 
 pub returns-in-Disassemble : goal.returns-in-Disassemble
 returns-in-Disassemble g c =
@@ -53,7 +53,7 @@ returns-in-Disassemble g c =
     let same = to_z-of_z w64 asked.offset fits in
     rw (c.in-Disassemble.is, ← source.path, ← source.counting)
     (subst (λ (z : ℤ). IfOk c.disassembled.result (λ v. view v
-        ≡ disassembled c.args.client.now.mon from.path.now from.counting asked.address z asked.count)) same c.disassembled.ensures)
+    ≡ disassembled c.args.client.now.mon from.path.now from.counting asked.address z asked.count)) same c.disassembled.ensures)
 
 pub returns-in-GotoTargets : goal.returns-in-GotoTargets
 returns-in-GotoTargets g c =
@@ -71,4 +71,4 @@ returns-in-ExceptionInfo g c = rw (c.in-ExceptionInfo.is, ← c.as_str.ensures.v
 pub returns-in-SetExceptionBreakpoints : goal.returns-in-SetExceptionBreakpoints
 returns-in-SetExceptionBreakpoints g c = rw c.in-SetExceptionBreakpoints.is
     (subst (λ (list : List Value). IfOk c.breakpoints_body.result (λ v. view v ≡ breakpoints_body (map view list))) c.new.ensures.items
-        c.breakpoints_body.ensures)
+    c.breakpoints_body.ensures)

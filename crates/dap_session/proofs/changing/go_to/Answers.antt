@@ -40,4 +40,4 @@ pub returns-in-Err-clause-why : goal.returns-in-Err-clause-why
 returns-in-Err-clause-why c =
     let mon = c.args.client.now.mon in
     refused_by_more c.in-Err.fault (Rejects (Set (Pc c.in-Some.address)) mon) (IsNoTarget c.args.target mon)
-        (λ rejects. inr (c.in-Some.address, c.in-Some.is, rejects)) c.in-Err.ensures.why
+    (λ rejects. inr (c.in-Some.address, c.in-Some.is, rejects)) c.in-Err.ensures.why

@@ -18,7 +18,7 @@ returns-clause-done c =
     let bytes = c.in-Ok.bytes.items in
     let some = c.fitting-some.ensures ∙ ap (fitting c.in-Some.address) c.as_slice-all.ensures.value in
     let may = sym (ap (λ (all : List ℕ). may_write old.session.current.bus.map c.in-Some.address all c.args.is_partial) c.as_slice-all.ensures.value)
-        ∙ sym c.may_write.ensures ∙ c.if-not-may_write.false in
+    ∙ sym c.may_write.ensures ∙ c.if-not-may_write.false in
     IfOk-weaker c.or_memory.result _ _
     (λ ms said. (
       c.in-Some.address,
@@ -38,12 +38,12 @@ pub returns-in-Err-clause-why : goal.returns-in-Err-clause-why
 returns-in-Err-clause-why c =
     let text = c.args.text.now in
     refused_by_more c.in-Err.fault (is_ok (decode_of standard text) ≡ false) (IsNoWriting c.args.address text c.args.is_partial c.args.client.now.mon)
-        (λ why. inr (inl why)) c.in-Err.ensures.why
+    (λ why. inr (inl why)) c.in-Err.ensures.why
 
 pub returns-then-not-may_write-clause-why : goal.returns-then-not-may_write-clause-why
 returns-then-not-may_write-clause-why c =
     let mon = c.args.client.now.mon in
     let may = sym (ap (λ (all : List ℕ). may_write mon.session.current.bus.map c.in-Some.address all c.args.is_partial) c.as_slice-all.ensures.value)
-        ∙ sym c.may_write.ensures ∙ c.if-not-may_write.true in
+    ∙ sym c.may_write.ensures ∙ c.if-not-may_write.true in
     refused_so c.refused-then-not-may_write.result (IsNoWriting c.args.address c.args.text.now c.args.is_partial mon)
     (inr (inr (c.in-Some.address, c.in-Ok.bytes.items, c.in-Some.is, c.in-Ok.ensures.bytes, may)))

@@ -15,13 +15,16 @@ loop-name-preserved c =
     let begun = if_begun c.args.start c.args.typed.now in
     let so_far = c.loop-name.invariant in
     let has = subst (λ (t : List ℕ). HasValues (so_far.0 ++ begun t) c.with_begun-list.result)
-        (c.as_slice.ensures.value ∙ ap (λ (n : Name). n.text.items) c.name-item.is) (c.with_begun-list.ensures so_far.0 so_far.1) in
-    (_, has, coming_more (λ (n : Named). begun n.text) named c.args.names.now c.loop-name.name-index c.name-item.result so_far.0 _
-        (omega (arith, c.loop-name-test.true)) so_far.2)
+    (c.as_slice.ensures.value ∙ ap (λ (n : Name). n.text.items) c.name-item.is) (c.with_begun-list.ensures so_far.0 so_far.1) in (
+      _,
+      has,
+      coming_more (λ (n : Named). begun n.text) named c.args.names.now c.loop-name.name-index c.name-item.result so_far.0 _
+          (omega (arith, c.loop-name-test.true)) so_far.2,
+    )
 
 pub returns : goal.returns
 returns c =
     let so_far = c.loop-name.invariant in
     subst (λ (ds : List Data). HasValues ds c.loop-name.list)
-        (coming_done (λ (n : Named). if_begun c.args.start c.args.typed.now n.text) named c.args.names.now c.loop-name.name-index so_far.0 _
-        (omega (arith, c.loop-name-test.false)) so_far.2) so_far.1
+    (coming_done (λ (n : Named). if_begun c.args.start c.args.typed.now n.text) named c.args.names.now c.loop-name.name-index so_far.0 _
+    (omega (arith, c.loop-name-test.false)) so_far.2) so_far.1

@@ -11,13 +11,16 @@ loop-word-init c = ([], c.new-list.ensures, coming_all (word_begun c.args.start 
 
 pub loop-word-preserved : goal.loop-word-preserved
 loop-word-preserved c =
-    let so_far = c.loop-word.invariant in
-    (_, c.with_word-list.ensures so_far.0 so_far.1, coming_more (word_begun c.args.start c.args.typed.now) row_view c.args.rows.now
-        c.loop-word.word-index _ so_far.0 _ (omega (arith, c.loop-word-test.true)) so_far.2)
+    let so_far = c.loop-word.invariant in (
+      _,
+      c.with_word-list.ensures so_far.0 so_far.1,
+      coming_more (word_begun c.args.start c.args.typed.now) row_view c.args.rows.now
+          c.loop-word.word-index _ so_far.0 _ (omega (arith, c.loop-word-test.true)) so_far.2,
+    )
 
 pub returns : goal.returns
 returns c =
     let so_far = c.loop-word.invariant in
     subst (λ (ds : List Data). HasValues ds c.loop-word.list)
-        (coming_done (word_begun c.args.start c.args.typed.now) row_view c.args.rows.now c.loop-word.word-index so_far.0 _
-        (omega (arith, c.loop-word-test.false)) so_far.2) so_far.1
+    (coming_done (word_begun c.args.start c.args.typed.now) row_view c.args.rows.now c.loop-word.word-index so_far.0 _
+    (omega (arith, c.loop-word-test.false)) so_far.2) so_far.1

@@ -22,4 +22,4 @@ returns-clause-served c =
     ))
     (c.with_over.ensures (evaluated_body said)
     (c.with_moved-told.ensures.answer (evaluated_body said) []
-        (c.answered-answer.ensures (evaluated_body said) (rw (← c.as_str.ensures.value) c.evaluated.ensures))))
+    (c.answered-answer.ensures (evaluated_body said) (rw (← c.as_str.ensures.value) c.evaluated.ensures))))

@@ -30,5 +30,5 @@ returns-clause-why c =
     let old = c.args.client.now in
     IfErr-weaker c.look.result _ _
     (λ f why. refused_by_more f _ (IsNoLook c.args.text.now c.args.is_console old.mon)
-        (λ none. subst (λ (b : Bool). IsNoLook c.args.text.now b old.mon) (sym c.if-is_console.false) (refl, none)) why)
+    (λ none. subst (λ (b : Bool). IsNoLook c.args.text.now b old.mon) (sym c.if-is_console.false) (refl, none)) why)
     c.look.ensures.why

@@ -20,7 +20,7 @@ returns-in-Ok-clause-done c =
     let text = c.args.text.now in
     let read = c.new-read.ensures ∙ (λ i. seen_line old.mon.places ((ap (λ (r : Regs). r.pc) c.regs-pc.ensures) i) (c.as_bytes.ensures.value i)) in
     let line : is_line old.mon text ≡ true = sym (ap (λ (l : SeenLine). is_ok l.asked) read)
-        ∙ ap (λ (a : Result Command Slip). is_ok (asked_view a)) c.in-Ok.is in
+    ∙ ap (λ (a : Result Command Slip). is_ok (asked_view a)) c.in-Ok.is in
     IfOk-weaker c.or_memory.result _ _
     (λ ms done. subst (λ (b : Bool). EvaluatesAs b text old c.console.new.client (map said_of ms.items)) (sym line)
     (done.0, done.1, subst (λ (l : SeenLine). ServesRead l done.0 old.mon c.console.new.client.mon done.1) read done.2, done.3, done.4))
@@ -32,7 +32,7 @@ returns-in-Err-clause-done c =
     let text = c.args.text.now in
     let read = c.new-read.ensures ∙ (λ i. seen_line old.mon.places ((ap (λ (r : Regs). r.pc) c.regs-pc.ensures) i) (c.as_bytes.ensures.value i)) in
     let line : is_line old.mon text ≡ false = sym (ap (λ (l : SeenLine). is_ok l.asked) read)
-        ∙ ap (λ (a : Result Command Slip). is_ok (asked_view a)) c.in-Err.is in
+    ∙ ap (λ (a : Result Command Slip). is_ok (asked_view a)) c.in-Err.is in
     IfOk-weaker c.look.result _ _
     (λ ms looks. subst (λ (b : Bool). EvaluatesAs b text old old (map said_of ms.items)) (sym line) (refl, looks)) c.look.ensures.done
 
@@ -42,5 +42,5 @@ returns-in-Err-clause-why c =
     let text = c.args.text.now in
     let read = c.new-read.ensures ∙ (λ i. seen_line old.mon.places ((ap (λ (r : Regs). r.pc) c.regs-pc.ensures) i) (c.as_bytes.ensures.value i)) in
     let line : is_line old.mon text ≡ false = sym (ap (λ (l : SeenLine). is_ok l.asked) read)
-        ∙ ap (λ (a : Result Command Slip). is_ok (asked_view a)) c.in-Err.is in
+    ∙ ap (λ (a : Result Command Slip). is_ok (asked_view a)) c.in-Err.is in
     IfErr-weaker c.look.result _ _ (λ f why. refused_by_more f _ (IsNoLook text true old.mon) (λ none. (line, none)) why) c.look.ensures.why

@@ -12,12 +12,12 @@ returns-in-Some c =
     let listed = c.args.listed.now in
     c.text_in.ensures
     ∙ ap (λ (id : Option ℕ). text_by listed.last_lines id) (sym c.in-Some.is ∙ c.last_at.ensures
-        ∙ ap (λ (ps : List Placed). last_at c.args.pc ps) c.as_slice.ensures.value)
+    ∙ ap (λ (ps : List Placed). last_at c.args.pc ps) c.as_slice.ensures.value)
     ∙ stops _ (text_by listed.last_lines (last_at c.args.pc listed.lines.items)) (sym c.is_other.ensures ∙ c.if-is_other.false)
 
 pub returns-in-None : goal.returns-in-None
 returns-in-None c =
     let listed = c.args.listed.now in
     ap (λ (id : Option ℕ). text_by listed.last_lines id) (sym c.in-None.is ∙ c.last_at.ensures
-        ∙ ap (λ (ps : List Placed). last_at c.args.pc ps) c.as_slice.ensures.value)
+    ∙ ap (λ (ps : List Placed). last_at c.args.pc ps) c.as_slice.ensures.value)
     ∙ stops _ (text_by listed.last_lines (last_at c.args.pc listed.lines.items)) (sym c.is_other.ensures ∙ c.if-is_other.false)

@@ -9,7 +9,7 @@ loop-init c = passes_none c.args.further c.args.client.now (map said_of c.args.m
 pub loop-preserved : goal.loop-preserved
 loop-preserved c =
     rw add-one (passes_more c.loop.counter c.args.further c.args.client.now (map said_of c.args.messages.items) c.loop.client
-        (map said_of c.loop.said.items) c.go_past.new.client (map said_of c.in_ok-more.more.items) c.loop.invariant
+    (map said_of c.loop.said.items) c.go_past.new.client (map said_of c.in_ok-more.more.items) c.loop.invariant
     (sym c.has_ended.ensures ∙ c.if-has_ended.false) c.in_ok-more.ensures)
 
 pub returns-then-has_ended : goal.returns-then-has_ended

@@ -6,7 +6,7 @@ use Rattle.dap_session.proofs.passing.settle.Goals as goal
 pub returns-then-is_log : goal.returns-then-is_log
 returns-then-is_log c =
     subst (λ (b : Bool). IfOk c.rest.result (λ ms. SettlesAt b c.args.further c.args.client.now (map said_of c.args.messages.items) c.rest.new.client
-        (map said_of ms.items)))
+    (map said_of ms.items)))
     (sym c.if-is_log.true ∙ c.is_log.ensures) c.rest.ensures
 
 pub returns : goal.returns

@@ -31,8 +31,12 @@ returns-in-Some c =
     let log = sym (ap is_some c.log_here.ensures) ∙ ap (λ o. is_some (option_map (λ t. t.now) o)) c.in-Some.is in
     let loud = both (is_back c.args.further) (is_log c.args.client.now) (sym c.is_back.ensures ∙ c.if-is_back.false) log in
     IfOk-weaker c.with_line.result _ _
-    (λ ms line. (line.0, subst (λ (b : Bool). SaysIf b line.0) (sym loud) line.1, subst
-        (λ (front : List Said). map said_of ms.items ≡ front ++ line.0) c.but_last-before.ensures line.2))
+    (λ ms line. (
+      line.0,
+      subst (λ (b : Bool). SaysIf b line.0) (sym loud) line.1,
+      subst
+          (λ (front : List Said). map said_of ms.items ≡ front ++ line.0) c.but_last-before.ensures line.2,
+    ))
     c.with_line.ensures
 
 pub returns-in-None : goal.returns-in-None

@@ -9,7 +9,7 @@ loop-number-init c = c.new-list.ensures
 pub loop-number-preserved : goal.loop-number-preserved
 loop-number-preserved c =
     next_value count c.args.all.now c.loop-number.number-index _ _ (omega (arith, c.loop-number-test.true))
-        (c.with-list.ensures _ _ c.loop-number.invariant c.from.ensures)
+    (c.with-list.ensures _ _ c.loop-number.invariant c.from.ensures)
 
 pub returns : goal.returns
 returns c = c.build.ensures _ (all_values count c.args.all.now c.loop-number.number-index c.loop-number.list (omega (arith, c.loop-number-test.false))

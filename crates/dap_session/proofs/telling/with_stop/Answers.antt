@@ -19,7 +19,7 @@ returns c = λ before is.
     let behind = before ++ remark_said c.args.halt.reason c.args.halt.words.now in
     let hits = c.args.hits.now in
     let body = c.build-body.ensures _ (c.count.ensures _ (c.word-3.ensures _
-        (c.member.ensures _ _ (c.word.ensures _ (c.flag.ensures _ c.new.ensures)) c.numbers.ensures))) in
+    (c.member.ensures _ _ (c.word.ensures _ (c.flag.ensures _ c.new.ensures)) c.numbers.ensures))) in
     let P : Reason → Type 0 = λ reason. IfOk c.args.messages (λ ms. map said_of ms.items ≡ before ++ remark_said reason c.args.halt.words.now) in
     let same = IfOk-weaker c.args.messages _ _ (λ ms h. h ∙ sym (append-nil before)) is in
     let remarked : IfOk c.match-halt.remarked (λ ms. map said_of ms.items ≡ behind) = elim c.match-halt.branch [
@@ -29,4 +29,4 @@ returns c = λ before is.
       | in-Goto w ↦ rw w.remarked-is (three P _ _ _ _ same same same w.in-Goto.is)
     ] in
     subst (λ (r : List ℕ). IfOk c.with_event.result (λ ms. map said_of ms.items ≡ behind ++ event (codes "stopped") (stopped_body r words hits) ∷ []))
-        c.word-2.ensures (c.with_event.ensures _ _ remarked body)
+    c.word-2.ensures (c.with_event.ensures _ _ remarked body)

@@ -12,4 +12,4 @@ returns c =
     let shown = utf8_lossy (frame_words c.args.places.now.names frame) in
     let words = c.as_text-words.ensures _ (grown _ _ _ _ c.new-text.ensures.items c.push_words-grown.ensures) in
     shown_as _ _ _ (ap (λ (line : Option ℕ). frame_on file.path.now file.counting c.args.name.now frame shown line) c.line_at.ensures)
-        (c.frame_on.ensures shown words)
+    (c.frame_on.ensures shown words)

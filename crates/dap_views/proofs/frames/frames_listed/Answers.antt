@@ -16,4 +16,4 @@ pub returns : goal.returns
 returns c =
     let f = frame_shown c.args.places.now c.args.file.now.path.now c.args.file.now.counting c.args.name.now in
     c.build.ensures _ _ (all_paged f c.args.asked c.args.frames.now c.loop-frame.frame-index c.loop-frame.page
-        (omega (arith, c.loop-frame-test.false)) c.loop-frame.invariant)
+    (omega (arith, c.loop-frame-test.false)) c.loop-frame.invariant)

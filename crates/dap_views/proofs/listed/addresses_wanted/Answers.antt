@@ -12,9 +12,9 @@ pub loop-wanted-preserved : goal.loop-wanted-preserved
 loop-wanted-preserved c =
     let find = found_address c.args.mon.now.places c.args.mon.now.session.current.regs.pc in
     one_found find c.args.all.now c.loop-wanted.wanted-index c.wanted-item.result c.loop-wanted.list c.push_address.new.list
-        (omega (arith, c.loop-wanted-test.true))
+    (omega (arith, c.loop-wanted-test.true))
     (subst (λ (w : InstructionBreakpoint). HasFound (find w) c.loop-wanted.list c.push_address.new.list) c.wanted-item.is
-        c.in_ok-push_address.ensures) c.loop-wanted.invariant
+    c.in_ok-push_address.ensures) c.loop-wanted.invariant
 
 pub returns : goal.returns
 returns c = all_found (found_address c.args.mon.now.places c.args.mon.now.session.current.regs.pc) c.args.all.now c.loop-wanted.wanted-index

@@ -20,5 +20,5 @@ pub returns : goal.returns
 returns c =
     let so_far = c.loop-wanted.invariant in
     let all = answers_done c.args.session.now c.args.counting c.args.told.now c.loop-wanted.wanted-index c.loop-wanted.id so_far.0 _
-        (omega (arith, c.loop-wanted-test.false)) so_far.2 in
+    (omega (arith, c.loop-wanted-test.false)) so_far.2 in
     c.list_body.ensures _ (subst (λ (ds : List Data). HasValues ds c.loop-wanted.list) all so_far.1)

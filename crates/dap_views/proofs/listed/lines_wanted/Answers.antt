@@ -11,11 +11,11 @@ loop-wanted-init c = none_found (found_line c.args.mon.now.places c.args.mon.now
 pub loop-wanted-preserved : goal.loop-wanted-preserved
 loop-wanted-preserved c =
     let find = found_line c.args.mon.now.places c.args.mon.now.session.current.regs.pc c.args.source.now.counting
-        (option_map (λ a. a.now) c.args.source.now.assembly) in
+    (option_map (λ a. a.now) c.args.source.now.assembly) in
     one_found find c.args.all.now c.loop-wanted.wanted-index c.wanted-item.result c.loop-wanted.list c.push_line.new.list
-        (omega (arith, c.loop-wanted-test.true))
+    (omega (arith, c.loop-wanted-test.true))
     (subst (λ (w : SourceBreakpoint). HasFound (find w) c.loop-wanted.list c.push_line.new.list) c.wanted-item.is c.in_ok-push_line.ensures)
-        c.loop-wanted.invariant
+    c.loop-wanted.invariant
 
 pub returns : goal.returns
 returns c = all_found (found_line c.args.mon.now.places c.args.mon.now.session.current.regs.pc c.args.source.now.counting

@@ -11,7 +11,7 @@ pub returns-clause-place : goal.returns-clause-place
 returns-clause-place c =
     let stops = c.args.list.stops.items in
     let set = c.in_ok-replace.ensures.place ∙ ap (λ (old : List Placed). all_set stops (all_cleared old (place_of c.args.mon.now)))
-        c.as_slice-2.ensures.value in
+    c.as_slice-2.ensures.value in
     IfOk-weaker c.answers.result _ _ (λ v h. set) c.answers.ensures
 
 pub returns-clause-held : goal.returns-clause-held
@@ -22,4 +22,4 @@ pub returns-clause-answer : goal.returns-clause-answer
 returns-clause-answer c =
     IfOk-weaker c.answers.result _ _
     (λ v h. h ∙ ap (λ (told : List Wanted). breakpoints_body (answers_of c.replace.new.mon.session c.args.counting c.args.first told))
-        c.as_slice-3.ensures.value) c.answers.ensures
+    c.as_slice-3.ensures.value) c.answers.ensures

@@ -19,7 +19,7 @@ returns-then-is_one_file g c = record {
 pub returns-clause-sets : goal.returns-clause-sets
 returns-clause-sets g c =
     let told = subst (λ (all : List SourceBreakpoint). IfOk c.none_set.result (λ v. view v ≡ breakpoints_body (map answer_elsewhere all)))
-        c.as_slice.ensures.value c.none_set.ensures in
+    c.as_slice.ensures.value c.none_set.ensures in
     sets_none c.args.source.now.counting c.args.source.now.path.now (option_map (λ a. a.now) c.args.source.now.assembly) c.args.path.now c.args.wanted
-        c.args.listed.now c.args.mon.now c.none_set.result
+    c.args.listed.now c.args.mon.now c.none_set.result
     (c.is_one_file.ensures c.if-is_one_file.false) told

@@ -15,7 +15,7 @@ loop-index-preserved c =
     let so_far = c.loop-index.invariant in
     let rows = source_lines c.args.assembly.now in
     let has = subst (λ (row : Option LineView). HasValues (so_far.0 ++ location_at c.args.counting c.args.first c.args.last row)
-        c.with_row-list.result) c.line.ensures (c.with_row-list.ensures so_far.0 so_far.1) in
+    c.with_row-list.result) c.line.ensures (c.with_row-list.ensures so_far.0 so_far.1) in
     (_, has, located_more c.args.counting c.args.first c.args.last rows c.loop-index.index so_far.0 _ so_far.2)
 
 pub returns : goal.returns
@@ -24,4 +24,4 @@ returns c =
     let rows = source_lines c.args.assembly.now in
     let past : length rows ≤ c.loop-index.index = omega (arith, c.loop-index-test.false, c.line_count-index-end.ensures) in
     subst (λ (ds : List Data). HasValues ds c.loop-index.list)
-        (located_done c.args.counting c.args.first c.args.last rows c.loop-index.index so_far.0 _ past so_far.2) so_far.1
+    (located_done c.args.counting c.args.first c.args.last rows c.loop-index.index so_far.0 _ past so_far.2) so_far.1

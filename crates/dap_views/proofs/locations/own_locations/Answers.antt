@@ -9,4 +9,4 @@ returns c =
     let source = c.args.source.now in
     subst (λ (ds : List Data). HasValues ds c.locations_in.result)
     (λ i. locations_in source.counting (c.own_line-first.ensures i) (c.own_line-last.ensures i) (option_map (λ a. a.now) source.assembly))
-        c.locations_in.ensures
+    c.locations_in.ensures

@@ -6,4 +6,4 @@ use Rattle.dap_views.proofs.locations.with_row.Goals as goal
 pub returns : goal.returns
 returns c = λ ds has.
     subst (λ (found : Option (ℕ × ℕ)). HasValues (ds ++ location_of c.args.counting c.args.last found) c.with_found.result) c.row_with.ensures
-        (c.with_found.ensures ds has)
+    (c.with_found.ensures ds has)

@@ -7,4 +7,4 @@ pub returns : goal.returns
 returns c =
     let words = look_words c.args.mon.now.session.current c.args.look in
     subst (λ (place : Option ℕ). IfOk c.look_body.result (λ v. view v ≡ look_body place words)) c.look_address.ensures
-        (c.look_body.ensures words c.look_words.ensures)
+    (c.look_body.ensures words c.look_words.ensures)

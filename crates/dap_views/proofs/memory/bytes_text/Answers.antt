@@ -16,5 +16,5 @@ loop-offset-preserved c = bytes_more c.args.session.now.current.bus.memory c.arg
 pub returns : goal.returns
 returns c =
     let all = bytes_done c.args.session.now.current.bus.memory c.args.first c.loop-offset.offset c.args.count _ _
-        (omega (arith, c.loop-offset-test.false)) c.loop-offset.invariant in
+    (omega (arith, c.loop-offset-test.false)) c.loop-offset.invariant in
     subst (λ (bs : List ℕ). IfOk c.encode.result (λ text. string_bytes text ≡ encode_of standard bs)) (c.as_slice.ensures.value ∙ all) c.encode.ensures.text

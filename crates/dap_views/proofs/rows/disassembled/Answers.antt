@@ -14,7 +14,7 @@ returns c =
     let listed : IfOk c.match-address.rows (HasValues (rows offset count c.args.address)) = elim c.match-address.branch [
       | in-Some w ↦
           let moved = subst (λ (z : ℤ). IfOk w.rows_around-rows.result (HasValues (rows z count (Some w.in-Some.until)))) same_offset
-              w.rows_around-rows.ensures in
+          w.rows_around-rows.ensures in
           rw w.rows-is (subst (λ (u : Option ℕ). IfOk w.rows_around-rows.result (HasValues (rows offset count u))) (sym w.in-Some.is) moved)
       | in-None w ↦ rw w.rows-is (subst (λ (u : Option ℕ). IfOk w.with_rows-rows.result (HasValues (rows offset count u))) (sym w.in-None.is)
           (w.with_rows-rows.ensures [] w.new.ensures))

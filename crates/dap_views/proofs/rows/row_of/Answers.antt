@@ -27,5 +27,5 @@ returns-then-address-ge-BEHIND c =
     let path = c.args.source.now.path.now in
     let past = le-ltb c.args.address 65536 (omega (arith, c.if-address-ge-BEHIND.true)) in
     shown_as _ _ _ (sym (ap (λ b. if b then row_shown mon path c.args.source.now.counting c.args.address c.args.len else no_instruction
-        (decimal c.args.address)) past))
+    (decimal c.args.address)) past))
     (c.no_row.ensures _ c.format.ensures.ok)

@@ -10,7 +10,7 @@ returns-in-Some c = λ b t is_b is_t.
     let place = c.build-place.ensures _ (c.word.ensures _ c.new-in-Some.ensures) in
     shown_as _ _ _ (ap (λ n. instruction_at_line c.args.address b t n c.args.source.now.path.now) c.shown_line.ensures
     ∙ ap (row_on c.args.source.now.path.now c.args.source.now.counting c.args.address b t) (sym c.in-Some.is))
-        (c.build.ensures _ (c.member.ensures _ _ (c.count.ensures _ row) place))
+    (c.build.ensures _ (c.member.ensures _ _ (c.count.ensures _ row) place))
 
 pub returns-in-None : goal.returns-in-None
 returns-in-None c = λ b t is_b is_t.

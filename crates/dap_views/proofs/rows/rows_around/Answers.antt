@@ -19,10 +19,10 @@ returns c =
     let on = c.moved-back.ensures.ahead ∙ ap (λ (z : ℤ). ahead z) same_offset in
     let lacking = c.saturating_sub-lacking.ensures ∙ ap (λ n. c.moved-back.result.0 - n) found in
     let first = c.in_ok-first.ensures ∙ (λ i. rows_on mon end
-        ((c.saturating_sub.ensures ∙ ap (λ n. n - c.moved-back.result.0) found) i + c.moved-back.result.1) (begun i)) in
+    ((c.saturating_sub.ensures ∙ ap (λ n. n - c.moved-back.result.0) found) i + c.moved-back.result.1) (begun i)) in
     let front = subst (λ n. HasValues (lacking_rows n c.saturating_sub-lacking.result) c.lacking_rows-front.result) c.min.ensures
-        c.lacking_rows-front.ensures in
+    c.lacking_rows-front.ensures in
     let same = around mon path counting end (behind c.args.offset) (ahead c.args.offset) c.args.count _ _ _ _ _ _ back on lacking first refl
-        c.saturating_sub-left.ensures in
+    c.saturating_sub-left.ensures in
     let until = ap (λ (end : ℕ). rows_around mon path counting end (behind c.args.offset) (ahead c.args.offset) c.args.count) c.from-until.ensures in
     subst (λ (ds : List Data). IfOk c.with_rows.result (HasValues ds)) (same ∙ until) (c.with_rows.ensures _ front)

@@ -28,5 +28,5 @@ pub returns : goal.returns
 returns c = λ ds has.
     let so_far = c.loop.invariant ds has in
     let all = rows_done c.args.mon.now c.args.source.now.path.now c.args.source.now.counting c.args.until (c.args.count - c.loop.counter)
-        c.loop.address so_far.0 _ (omega (arith, c.loop-test.false)) so_far.2 in
+    c.loop.address so_far.0 _ (omega (arith, c.loop-test.false)) so_far.2 in
     subst (λ (found : List Data). HasValues found c.loop.list) all so_far.1

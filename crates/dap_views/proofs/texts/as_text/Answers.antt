@@ -7,4 +7,4 @@ pub returns : goal.returns
 returns c = λ shown is.
     let now : c.args.bytes.items ≡ shown = subst (λ r. OnOk r (c.args.bytes.items ≡ shown)) c.in_ok-grown.was is in
     subst (λ (bs : List ℕ). IfOk c.from_utf8_lossy.result (λ text. string_bytes text ≡ utf8_lossy bs)) (c.as_slice.ensures.value ∙ now)
-        c.from_utf8_lossy.ensures.lossy
+    c.from_utf8_lossy.ensures.lossy

@@ -21,8 +21,8 @@ loop-address-preserved c =
     record {
       cells = λ asked is. cells_more c.args.session.now.current.bus.memory c.args.from c.loop-address.address asked _ inv.behind
           (c.with-page.ensures _ _ _ (inv.cells asked is) (shown_as _ _ _
-              (ap (byte_variable (address_text c.loop-address.address) c.loop-address.address) c.peek.ensures.value)
-              (c.byte_named.ensures _ c.address_text-name.ensures)));
+          (ap (byte_variable (address_text c.loop-address.address) c.loop-address.address) c.peek.ensures.value)
+          (c.byte_named.ensures _ c.address_text-name.ensures)));
       behind = omega (arith, inv.behind);
       within = omega (arith, inv.behind, c.loop-address-test.true);
     }

@@ -16,4 +16,4 @@ pub returns : goal.returns
 returns c =
     let f = told_of c.args.stops.now.watches.items in
     c.list_body.ensures _ (all_values f c.args.listed.now c.loop-wanted.wanted-index c.loop-wanted.list (omega (arith, c.loop-wanted-test.false))
-        c.loop-wanted.invariant)
+    c.loop-wanted.invariant)

@@ -17,14 +17,14 @@ loop-init c =
 pub returns-in-Err : goal.returns-in-Err
 returns-in-Err c = passed_on c.in-Err.why _ _
     (λ fault k. c.loop.invariant.read ∙ field_refused (length c.args.text.now - c.loop.counter) (length c.args.text.now - (c.loop.counter + 1)) _ _
-        fault (omega arith) k)
+    fault (omega arith) k)
     c.in-Err.ensures
 
 pub returns-then-is_empty : goal.returns-then-is_empty
 returns-then-is_empty c =
     let none : (length c.in-Ok.behind.now == 0) ≡ true = cc in
     c.loop.invariant.read ∙ field_last (length c.args.text.now - c.loop.counter) (length c.args.text.now - (c.loop.counter + 1)) _ _ _ _ (omega arith)
-        c.in-Ok.ensures none
+    c.in-Ok.ensures none
 
 pub loop-preserved : goal.loop-preserved
 loop-preserved c =
@@ -32,7 +32,7 @@ loop-preserved c =
     record {
       read = rw (take_rest c.in-Ok.behind.now 1)
           (c.loop.invariant.read ∙ field_more (length c.args.text.now - c.loop.counter) (length c.args.text.now - (c.loop.counter + 1)) _ _ _ _
-              (omega arith) c.in-Ok.ensures some);
+          (omega arith) c.in-Ok.ensures some);
     }
 
 pub returns : goal.returns

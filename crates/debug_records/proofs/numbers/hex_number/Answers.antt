@@ -10,5 +10,5 @@ returns c = sym (c.loop-byte.invariant.rest ∙ number_done hex_value 16 c.loop-
 pub returns-in_err-number : goal.returns-in_err-number
 returns-in_err-number c =
     let large = large_digit hex_value 15 c.loop-byte.number c.in_ok-digit.digit c.loop-byte.byte-index c.args.digits.now
-        (omega (arith, c.loop-byte-test.true)) c.in_ok-digit.ensures.value (sym c.in_err-number.was ∙ c.with_hex_digit.ensures) c.loop-byte.invariant.rest in
+    (omega (arith, c.loop-byte-test.true)) c.in_ok-digit.ensures.value (sym c.in_err-number.was ∙ c.with_hex_digit.ensures) c.loop-byte.invariant.rest in
     cc

@@ -15,13 +15,13 @@ loop-init c =
 pub returns-in-Err : goal.returns-in-Err
 returns-in-Err c = passed_on c.in-Err.why _ _
     (λ fault k. c.loop.invariant.read ∙ number_refused (length c.args.text.now - c.loop.counter) (length c.args.text.now - (c.loop.counter + 1)) _ _ _
-        fault (omega arith) k)
+    fault (omega arith) k)
     c.in-Err.ensures
 
 pub returns-then-is_last : goal.returns-then-is_last
 returns-then-is_last c = c.loop.invariant.read
     ∙ number_last (length c.args.text.now - c.loop.counter) (length c.args.text.now - (c.loop.counter + 1)) _ _ _ _ (omega arith) c.in-Ok.ensures
-        (sym c.is_last.ensures ∙ c.if-is_last.true)
+    (sym c.is_last.ensures ∙ c.if-is_last.true)
 
 pub loop-preserved : goal.loop-preserved
 loop-preserved c =

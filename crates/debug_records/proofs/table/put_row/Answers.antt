@@ -19,4 +19,4 @@ loop-address-preserved c = record {
 pub returns : goal.returns
 returns c = all_taken c.args.wanted c.args.row c.min-first.result c.capped-past.result c.loop-address.address c.args.table.now.items c.loop-address.table.items
     (omega (arith, c.capped-past.ensures, c.behind.ensures)) (omega (arith, c.min-first.ensures, c.capped.ensures))
-        (omega (arith, c.loop-address-test.false, c.loop-address.invariant.high)) c.loop-address.invariant.taken
+    (omega (arith, c.loop-address-test.false, c.loop-address.invariant.high)) c.loop-address.invariant.taken

@@ -11,7 +11,7 @@ returns-clause-history c =
     let within : ran.result.steps ≤ inside.quiet = omega (arith, c.min-most.ensures, ran.ensures.within) in
     let all = plainly_made c.args.stops.now c.args.marks.now ran.result c.args.machine.now ran.new.self ran.ensures.ran in
     (longer inside.trail [] inside.steps inside.quiet ran.result.steps c.args.machine.now ran.new.self c.course.invariant.0 c.course.invariant.1
-        (rw (← c.course.view_is) at c.requires.history) within all).history
+    (rw (← c.course.view_is) at c.requires.history) within all).history
 
 pub returns-clause-steps : goal.returns-clause-steps
 returns-clause-steps c = λ breaks watched replayed.
@@ -20,7 +20,7 @@ returns-clause-steps c = λ breaks watched replayed.
     let within : ran.result.steps ≤ inside.quiet = omega (arith, c.min-most.ensures, ran.ensures.within) in
     let all = plainly_made c.args.stops.now c.args.marks.now ran.result c.args.machine.now ran.new.self ran.ensures.ran in
     let told = longer inside.trail [] inside.steps inside.quiet ran.result.steps c.args.machine.now ran.new.self c.course.invariant.0
-        c.course.invariant.1 (rw (← c.course.view_is) at c.requires.history) within all in
+    c.course.invariant.1 (rw (← c.course.view_is) at c.requires.history) within all in
     rw (← c.course.view_is) (told.states breaks watched replayed)
 
 pub returns-clause-pages : goal.returns-clause-pages

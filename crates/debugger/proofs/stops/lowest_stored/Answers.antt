@@ -11,7 +11,7 @@ loop-index-preserved-then-byte_before-peek c =
       within = omega arith;
       least = ap Some (c.lower.ensures ∙ ap (λ l. option_map_or (min a) l a) c.loop-index.invariant.least)
           ∙ sym (changed_here c.args.watches.now c.loop-index.index a (before_of c.args.change.now c.args.machine.now) c.args.machine.now
-              c.loop-index-test.true c.loop-index.invariant.within
+          c.loop-index-test.true c.loop-index.invariant.within
           (sym c.at.ensures ∙ c.in-Some.is) (rw (c.byte_before.ensures, c.peek.ensures.value) at c.if-byte_before-peek.true));
     }
 
@@ -22,7 +22,7 @@ loop-index-preserved-else-byte_before-peek c =
       within = omega arith;
       least = c.loop-index.invariant.least
           ∙ sym (changed_later c.args.watches.now c.loop-index.index a (before_of c.args.change.now c.args.machine.now) c.args.machine.now
-              c.loop-index-test.true c.loop-index.invariant.within
+          c.loop-index-test.true c.loop-index.invariant.within
           (sym c.at.ensures ∙ c.in-Some.is) (sym c.byte_before.ensures ∙ c.if-byte_before-peek.false ∙ c.peek.ensures.value));
     }
 

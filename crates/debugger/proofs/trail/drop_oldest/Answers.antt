@@ -34,6 +34,6 @@ returns-in-Some-clause-pages c = λ memory told.
     let old = c.args.trail.now in
     let p = c.args.pages.now in
     tells_let_go p.now p.spare c.saturating_sub-pages.result p.stamps old.kept.items old.spare.items _ _ c.in-Some.checkpoint memory
-        (sym c.pop_front.ensures.value ∙ c.in-Some.is) (ap (λ b. b.items) c.pop_front.ensures.items)
+    (sym c.pop_front.ensures.value ∙ c.in-Some.is) (ap (λ b. b.items) c.pop_front.ensures.items)
     (ap (λ b. b.items) c.push_back.ensures.items ∙ kept_all old.spare.capacity old.spare.items c.in-Some.checkpoint c.requires.room)
-        (omega (arith, c.saturating_sub-pages.ensures, c.len-count.ensures.len)) told
+    (omega (arith, c.saturating_sub-pages.ensures, c.len-count.ensures.len)) told

@@ -12,7 +12,7 @@ returns-then-quick_step-clause-same c = (c.quick_step.ensures.stores c.if-quick_
 pub returns-clause-ok : goal.returns-clause-ok
 returns-clause-ok c =
     noted_follows c.step_noting-made.result c.step_noting-made.new.change _ _ _ (c.quick_step.ensures.not c.if-quick_step.false).0
-        c.step_noting-made.ensures.ok c.step_noting-made.ensures.fits c.step_noting-made.ensures.undo
+    c.step_noting-made.ensures.ok c.step_noting-made.ensures.fits c.step_noting-made.ensures.undo
 
 pub returns-clause-err : goal.returns-clause-err
 returns-clause-err c = noted_refused c.step_noting-made.result _ _ _ (c.quick_step.ensures.not c.if-quick_step.false).0 c.step_noting-made.ensures.err

@@ -10,5 +10,5 @@ returns-clause-history c =
     let size = ap (λ b. b.capacity) c.in-Ok-with_capacity.ensures in
     let room : length c.in-Ok-with_capacity.kept.items < c.in-Ok-with_capacity.kept.capacity = omega (arith, few, size) in
     renamed 1024 _ _ _ _ _ _ (ap (λ b. b.items) c.push_back.ensures.items
-        ∙ kept_all c.in-Ok-with_capacity.kept.capacity c.in-Ok-with_capacity.kept.items c.save.new.into room
+    ∙ kept_all c.in-Ok-with_capacity.kept.capacity c.in-Ok-with_capacity.kept.items c.save.new.into room
     ∙ (λ i. empty i ++ c.save.ensures i ∷ [])) (ap (λ b. b.items) c.in-Ok.ensures) refl (begun 1024 c.args.machine.now)

@@ -27,7 +27,7 @@ loop-index-preserved c = λ base all start.
           let e = w.in-Some.event.now in
           let got : slice_get es i ≡ Some e = sym c.get.ensures ∙ ap option_copied w.in-Some.is in
           w.machine-is ∙ went c.loop-index.machine w.happen.new.machine _ e w.happen.result w.happen.ensures.ok w.happen.ensures.err
-              (ap (λ (s : State). event_of s e) here ∙ follow_at i base es e got all)
+          (ap (λ (s : State). event_of s e) here ∙ follow_at i base es e got all)
       | in_default w ↦
           let inside : i < length es = omega (arith, c.loop-index-test.true, c.requires.within) in
           let got = slice_get-some es i inside in

@@ -11,9 +11,9 @@ returns-in-Some-clause-pages c =
     let p = c.args.pages.now in
     let room : length old.kept.items < old.kept.capacity = c.requires.room (omega (arith, c.len.ensures.len, c.if-len-ne0.false)) in
     tells_mark p.now c.saturating_add-pages.result p.spare p.stamps old.kept.items old.spare.items _ _ c.args.machine.now
-        (omega (arith, c.saturating_add-pages.ensures))
+    (omega (arith, c.saturating_add-pages.ensures))
     (ap (λ b. b.items) c.push_back.ensures.items ∙ kept_all old.kept.capacity old.kept.items c.save_pages.new.into room
-        ∙ (λ i. old.kept.items ++ c.save_pages.ensures i ∷ [])) c.requires.pages
+    ∙ (λ i. old.kept.items ++ c.save_pages.ensures i ∷ [])) c.requires.pages
 
 pub returns-in_default-clause-one : goal.returns-in_default-clause-one
 returns-in_default-clause-one c = λ due.

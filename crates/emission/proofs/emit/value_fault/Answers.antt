@@ -9,4 +9,4 @@ pub returns : goal.returns
 returns c =
     c.kind.ensures
     ∙ ap (λ (g : Gathering). g.kind) (c.in_ok-gather.ensures
-        ∙ line_is c.args.map.now (number_in c.args.names.now) c.args.image.now (placed_line_of c.args.line.now))
+    ∙ line_is c.args.map.now (number_in c.args.names.now) c.args.image.now (placed_line_of c.args.line.now))

@@ -12,8 +12,14 @@ use Rattle.engine.proofs.Serving.{known, served_more, served_quit, served_bytes,
 use Rattle.engine.proofs.lines.serve.Goals as goal
 
 pub loop-init : goal.loop-init
-loop-init g c = ([], [], Consumes-nil _, Appends-nil _, subst (ServesSoFar c.args.session.now [] [] c.args.session.now) (sym c.new-begun.ensures)
-    (served_start c.args.session.now))
+loop-init g c = (
+  [],
+  [],
+  Consumes-nil _,
+  Appends-nil _,
+  subst (ServesSoFar c.args.session.now [] [] c.args.session.now) (sym c.new-begun.ensures)
+      (served_start c.args.session.now),
+)
 
 pub returns-then-is_empty-clause-serves : goal.returns-then-is_empty-clause-serves
 returns-then-is_empty-clause-serves g c =
@@ -23,7 +29,7 @@ returns-then-is_empty-clause-serves g c =
     let all = served_all _ _ inv.0 inv.1 _ inv.4 none in
     let told = Consumes-trans _ _ _ inv.0 [] inv.2 bytes.0 in
     Consumes-whole _ _ _ (λ input. Appends (g.W.Write.contents c.args.writer.now) (g.W.Write.contents c.loop.writer)
-        (transcript c.args.session.now input).written)
+    (transcript c.args.session.now input).written)
     told (bytes.1 refl (omega arith)) (rw (append-nil inv.0, all) inv.3)
 
 pub returns-in-Ok-serve_line-clause-serves : goal.returns-in-Ok-serve_line-clause-serves
@@ -35,7 +41,7 @@ returns-in-Ok-serve_line-clause-serves g c =
     let all = served_last _ _ inv.0 inv.1 _ inv.4 some in
     let told = Consumes-trans _ _ _ inv.0 [] inv.2 bytes.0 in
     Consumes-whole _ _ _ (λ input. Appends (g.W.Write.contents c.args.writer.now) (g.W.Write.contents c.serve_line.new.writer)
-        (transcript c.args.session.now input).written)
+    (transcript c.args.session.now input).written)
     told (bytes.1 refl (omega arith)) (rw (append-nil inv.0, all) (Appends-trans _ _ _ _ _ inv.3 line.writes))
 
 pub returns-in-Err-serve_line-clause-serves : goal.returns-in-Err-serve_line-clause-serves
@@ -47,7 +53,7 @@ returns-in-Err-serve_line-clause-serves g c =
     let all = served_last _ _ inv.0 inv.1 _ inv.4 some in
     let told = Consumes-trans _ _ _ inv.0 [] inv.2 bytes.0 in
     replying_serves (Unit {0}) c.args.session.now (g.R.Read.remaining c.args.reader.now) _ (g.W.Write.contents c.args.writer.now) _
-        c.in-Err-serve_line.fault c.in-Err-serve_line.ensures.fault
+    c.in-Err-serve_line.fault c.in-Err-serve_line.ensures.fault
     (inv.0, rw (append-nil inv.0) at told, inr (bytes.1 refl (omega arith), rw all (front_after _ _ _ _ _ inv.3 line.writes)))
 
 pub returns-in-Ok-true-clause-serves : goal.returns-in-Ok-true-clause-serves
@@ -58,7 +64,7 @@ returns-in-Ok-true-clause-serves g c =
     let off : (feed c.loop.session c.loop.begun.items bs).quit ≡ true = ap (λ r. r.quit) fed_is in
     let told = Consumes-trans _ _ _ inv.0 bs inv.2 c.in-Ok.ensures.bytes.0 in
     known _ _ (inv.0 ++ bs) (λ input. Appends (g.W.Write.contents c.args.writer.now) (g.W.Write.contents c.serve_bytes.new.writer)
-        (transcript c.args.session.now input).written)
+    (transcript c.args.session.now input).written)
     told (λ left. rw (served_quit _ _ inv.0 inv.1 _ inv.4 last_line bs left off) (Appends-trans _ _ _ _ _ inv.3 c.in-Ok-true.ensures.writes))
 
 pub returns-in-Err-serve_bytes-clause-serves : goal.returns-in-Err-serve_bytes-clause-serves
@@ -67,9 +73,12 @@ returns-in-Err-serve_bytes-clause-serves g c =
     let bs = take c.in-Ok.n c.read.new.buf in
     let told = Consumes-trans _ _ _ inv.0 bs inv.2 c.in-Ok.ensures.bytes.0 in
     replying_serves (Unit {0}) c.args.session.now (g.R.Read.remaining c.args.reader.now) _ (g.W.Write.contents c.args.writer.now) _
-        c.in-Err-serve_bytes.fault c.in-Err-serve_bytes.ensures.fault
-    (inv.0 ++ bs, told, inl (let more = served_bytes _ _ inv.0 inv.1 _ inv.4 bs in
-        rw more.1 (front_after _ _ _ inv.1 _ inv.3 (front_more _ _ _ more.0 c.in-Err-serve_bytes.ensures.writes))))
+    c.in-Err-serve_bytes.fault c.in-Err-serve_bytes.ensures.fault (
+      inv.0 ++ bs,
+      told,
+      inl (let more = served_bytes _ _ inv.0 inv.1 _ inv.4 bs in
+          rw more.1 (front_after _ _ _ inv.1 _ inv.3 (front_more _ _ _ more.0 c.in-Err-serve_bytes.ensures.writes))),
+    )
 
 pub returns-in-Err-clause-serves : goal.returns-in-Err-clause-serves
 returns-in-Err-clause-serves g c =
@@ -90,7 +99,7 @@ loop-preserved g c =
       subst (λ s. ServesSoFar c.args.session.now (inv.0 ++ bs) (inv.1 ++ (feed c.loop.session c.loop.begun.items bs).written) s
           c.serve_bytes.new.begun.items) (ap (λ r. r.session) fed_is)
           (subst (λ k. ServesSoFar c.args.session.now (inv.0 ++ bs) (inv.1 ++ (feed c.loop.session c.loop.begun.items bs).written)
-              (feed c.loop.session c.loop.begun.items bs).session k) (ap (λ r. r.kept) fed_is) now),
+          (feed c.loop.session c.loop.begun.items bs).session k) (ap (λ r. r.kept) fed_is) now),
     )
 
 pub returns-clause-serves : goal.returns-clause-serves

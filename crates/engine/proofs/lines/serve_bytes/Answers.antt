@@ -9,16 +9,16 @@ pub returns-in-Ok-true-clause-writes : goal.returns-in-Ok-true-clause-writes
 returns-in-Ok-true-clause-writes g c =
     let inv = c.loop-byte.invariant in
     let all = inv.2 ∙ ap (fed_after inv.0) (feed_at _ _ c.args.bytes.now c.loop-byte.byte-index c.loop-byte-test.true
-        ∙ ap (λ r. fed_then r (drop (c.loop-byte.byte-index + 1) c.args.bytes.now)) (rw c.in-Ok-true.field-0-test at c.in-Ok-true.ensures.ok))
-        ∙ then_quit inv.0 _ _ _ _ in
+    ∙ ap (λ r. fed_then r (drop (c.loop-byte.byte-index + 1) c.args.bytes.now)) (rw c.in-Ok-true.field-0-test at c.in-Ok-true.ensures.ok))
+    ∙ then_quit inv.0 _ _ _ _ in
     rw all (Appends-trans _ _ _ _ _ inv.1 c.in-Ok-true.ensures.writes)
 
 pub returns-in-Ok-true-clause-ok : goal.returns-in-Ok-true-clause-ok
 returns-in-Ok-true-clause-ok g c =
     let inv = c.loop-byte.invariant in
     let all = inv.2 ∙ ap (fed_after inv.0) (feed_at _ _ c.args.bytes.now c.loop-byte.byte-index c.loop-byte-test.true
-        ∙ ap (λ r. fed_then r (drop (c.loop-byte.byte-index + 1) c.args.bytes.now)) (rw c.in-Ok-true.field-0-test at c.in-Ok-true.ensures.ok))
-        ∙ then_quit inv.0 _ _ _ _ in
+    ∙ ap (λ r. fed_then r (drop (c.loop-byte.byte-index + 1) c.args.bytes.now)) (rw c.in-Ok-true.field-0-test at c.in-Ok-true.ensures.ok))
+    ∙ then_quit inv.0 _ _ _ _ in
     all ∙ sym (ap (λ r. fed r.written c.serve_byte.new.session c.serve_byte.new.begun.items true) all)
 
 pub returns-in-Err-clause-writes : goal.returns-in-Err-clause-writes

@@ -11,17 +11,17 @@ use Rattle.engine.proofs.source.debug_source.Goals as goal
 pub returns-in_err-assembly-clause-faulty : goal.returns-in_err-assembly-clause-faulty
 returns-in_err-assembly-clause-faulty g c fault h =
     source_answered c.from_residual.result c.in_err-assembly.field-0.0 fault c.from_residual.ensures.1
-        (same_fault _ _ _ _ _ (c.in_err-assembly.ensures.faulty fault h))
+    (same_fault _ _ _ _ _ (c.in_err-assembly.ensures.faulty fault h))
 
 pub returns-in_err-assembly-clause-right : goal.returns-in_err-assembly-clause-right
 returns-in_err-assembly-clause-right g c image h =
     memory_no_source c.from_residual.result (source_memory c.from_residual.result c.in_err-assembly.field-0.0 c.from_residual.ensures.1
-        (c.in_err-assembly.ensures.only image h))
+    (c.in_err-assembly.ensures.only image h))
 
 pub returns-in_err-assembly-clause-refused : goal.returns-in_err-assembly-clause-refused
 returns-in_err-assembly-clause-refused g c =
     source_refused c.from_residual.result c.in_err-assembly.field-0.0 (HasFault c.args.map c.args.source.now) c.from_residual.ensures.1
-        c.in_err-assembly.ensures.refused
+    c.in_err-assembly.ensures.refused
 
 pub returns-in_err-assembly-clause-serves : goal.returns-in_err-assembly-clause-serves
 returns-in_err-assembly-clause-serves g c image h =
@@ -34,12 +34,12 @@ returns-in_err-assembly-clause-reaches g c =
 pub returns-in_err-tape-clause-serves : goal.returns-in_err-tape-clause-serves
 returns-in_err-tape-clause-serves g c image h =
     early_serves c.from_residual-in_err-tape.result _ _ _ (early_tape c.from_residual-in_err-tape.result c.in_err-tape.field-0.0
-        c.from_residual-in_err-tape.ensures.1)
+    c.from_residual-in_err-tape.ensures.1)
 
 pub returns-in_err-tape-clause-reaches : goal.returns-in_err-tape-clause-reaches
 returns-in_err-tape-clause-reaches g c =
     early_reaches c.from_residual-in_err-tape.result _ _ (early_tape c.from_residual-in_err-tape.result c.in_err-tape.field-0.0
-        c.from_residual-in_err-tape.ensures.1) (refl, refl)
+    c.from_residual-in_err-tape.ensures.1) (refl, refl)
 
 pub returns-clause-serves : goal.returns-clause-serves
 returns-clause-serves g c image h =

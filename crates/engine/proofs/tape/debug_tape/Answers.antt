@@ -17,7 +17,7 @@ returns-in_err-image-clause-faulty g c kind offset h =
 pub returns-in_err-image-clause-right : goal.returns-in_err-image-clause-right
 returns-in_err-image-clause-right g c image h =
     memory_no_tape c.from_residual.result (tape_memory c.from_residual.result c.in_err-image.field-0.0 image c.from_residual.ensures.1
-        (c.in_err-image.ensures.only image h))
+    (c.in_err-image.ensures.only image h))
 
 pub returns-in_err-image-clause-port : goal.returns-in_err-image-clause-port
 returns-in_err-image-clause-port g c image h port =
@@ -34,7 +34,7 @@ returns-in_err-image-clause-reaches g c =
 pub returns-clause-serves : goal.returns-clause-serves
 returns-clause-serves g c =
     for_each (λ image. Serves (new_session c.args.history (start c.args.map image)) (g.R.Read.remaining c.args.reader.now)
-        (g.R.Read.remaining c.debug_image.new.reader)
+    (g.R.Read.remaining c.debug_image.new.reader)
     (g.W.Write.contents c.args.writer.now) (g.W.Write.contents c.debug_image.new.writer) c.debug_image.result)
     c.args.tape.now c.in_ok-image.image c.in_ok-image.ensures.only c.debug_image.ensures.serves
 

@@ -10,27 +10,27 @@ use Rattle.engine.proofs.tape_from.debug_tape_from.Goals as goal
 pub returns-in_err-image-clause-serves : goal.returns-in_err-image-clause-serves
 returns-in_err-image-clause-serves g c =
     rw (is_fault c.from_residual.result (of_tape_read c.in_err-image.field-0.0) c.from_residual.ensures.1)
-        (early_reaches_from c.in_err-image.field-0.0 _ _ (refl, refl))
+    (early_reaches_from c.in_err-image.field-0.0 _ _ (refl, refl))
 
 pub returns-in_err-image-clause-reads : goal.returns-in_err-image-clause-reads
 returns-in_err-image-clause-reads g c =
     rw (is_fault c.from_residual.result (of_tape_read c.in_err-image.field-0.0) c.from_residual.ensures.1)
-        (early_reads _ _ c.in_err-image.field-0.0 c.in_err-image.ensures.reads)
+    (early_reads _ _ c.in_err-image.field-0.0 c.in_err-image.ensures.reads)
 
 pub returns-in_err-image-clause-faulty : goal.returns-in_err-image-clause-faulty
 returns-in_err-image-clause-faulty g c =
     rw (is_fault c.from_residual.result (of_tape_read c.in_err-image.field-0.0) c.from_residual.ensures.1)
-        (early_faulty _ c.in_err-image.field-0.0 c.in_err-image.ensures.refused)
+    (early_faulty _ c.in_err-image.field-0.0 c.in_err-image.ensures.refused)
 
 pub returns-in_err-image-clause-right : goal.returns-in_err-image-clause-right
 returns-in_err-image-clause-right g c =
     rw (is_fault c.from_residual.result (of_tape_read c.in_err-image.field-0.0) c.from_residual.ensures.1)
-        (early_right _ c.in_err-image.field-0.0 c.in_err-image.ensures.only)
+    (early_right _ c.in_err-image.field-0.0 c.in_err-image.ensures.only)
 
 pub returns-in_err-image-clause-refused : goal.returns-in_err-image-clause-refused
 returns-in_err-image-clause-refused g c =
     rw (is_fault c.from_residual.result (of_tape_read c.in_err-image.field-0.0) c.from_residual.ensures.1)
-        (early_refused _ c.in_err-image.field-0.0 c.in_err-image.ensures.fault)
+    (early_refused _ c.in_err-image.field-0.0 c.in_err-image.ensures.fault)
 
 pub returns-in_err-image-clause-port : goal.returns-in_err-image-clause-port
 returns-in_err-image-clause-port g c =
@@ -57,12 +57,12 @@ returns-clause-reads g c = late_reads _ _ c.in_ok-image.image c.debug_image.resu
 pub returns-clause-faulty : goal.returns-clause-faulty
 returns-clause-faulty g c =
     read_excluded _ c.in_ok-image.image (λ fault. (c.debug_image.result ≡ Err (Tape fault))
-        ⊎ ((c.debug_image.result ≡ Err Read) ⊎ (c.debug_image.result ≡ Err OutOfMemory))) c.in_ok-image.ensures.refused
+    ⊎ ((c.debug_image.result ≡ Err Read) ⊎ (c.debug_image.result ≡ Err OutOfMemory))) c.in_ok-image.ensures.refused
 
 pub returns-clause-port : goal.returns-clause-port
 returns-clause-port g c =
     for_each_known _ c.in_ok-image.image (λ image. has_port_byte c.args.map image ≡ true → (c.debug_image.result ≡ Err (Session PortAddress))
-        ⊎ ((c.debug_image.result ≡ Err Read) ⊎ (c.debug_image.result ≡ Err OutOfMemory)))
+    ⊎ ((c.debug_image.result ≡ Err Read) ⊎ (c.debug_image.result ≡ Err OutOfMemory)))
     c.in_ok-image.ensures.only (λ port. third_answer _ _ _ (c.debug_image.ensures.port port))
 
 pub returns-clause-spared : goal.returns-clause-spared

@@ -17,4 +17,4 @@ returns c =
     let names = ap (map name_view) c.deref-2.ensures.value ∙ c.in_ok-names.ensures ∙ ap names_of read in
     let known = known_same p _ _ _ _ names c.requires.names in
     blocks_as (λ text. text.items) c.line_blocks.result c.args.file.now _ _ _ _ c.args.faults.now
-        (ap texts_of c.deref-3.ensures.value ∙ c.in_ok-lines.ensures) known c.line_blocks.ensures
+    (ap texts_of c.deref-3.ensures.value ∙ c.in_ok-lines.ensures) known c.line_blocks.ensures

@@ -17,7 +17,7 @@ loop-address-preserved c = record {
   each = one_more (λ (j : ℕ). joined_cell (cell_at c.args.one.now j) (cell_at c.args.other.now j)) c.loop-address.address c.joined_cell.result
       c.loop-address.both c.put_cell.new.both
       (omega (arith, c.loop-address-test.true)) c.loop-address.invariant.size
-          (c.joined_cell.ensures ∙ ap₂ joined_cell c.get.ensures c.get-in-loop-address.ensures) c.put_cell.ensures c.loop-address.invariant.each;
+      (c.joined_cell.ensures ∙ ap₂ joined_cell c.get.ensures c.get-in-loop-address.ensures) c.put_cell.ensures c.loop-address.invariant.each;
 }
 
 pub returns : goal.returns

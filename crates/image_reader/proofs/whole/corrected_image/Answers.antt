@@ -10,7 +10,7 @@ use Rattle.image_reader.proofs.whole.corrected_image.Goals as goal
 pub returns-in-Ok-clause-found : goal.returns-in-Ok-clause-found
 returns-in-Ok-clause-found c =
     subst (λ t. IfOk c.tape_text_image.result (TapeDenotes t)) (c.deref.ensures.value ∙ c.in-Ok.ensures ∙ corrected c.args.text.now c.requires)
-        c.tape_text_image.ensures.found
+    c.tape_text_image.ensures.found
 
 pub returns-in-Ok-clause-only : goal.returns-in-Ok-clause-only
 returns-in-Ok-clause-only c =
@@ -20,7 +20,7 @@ returns-in-Ok-clause-only c =
 pub returns-in-Ok-clause-fault : goal.returns-in-Ok-clause-fault
 returns-in-Ok-clause-fault c =
     subst (λ t. IfErr c.tape_text_image.result (λ f. (f ≡ OutOfMemory) ⊎ IsTapeFault t f))
-        (c.deref.ensures.value ∙ c.in-Ok.ensures ∙ corrected c.args.text.now c.requires) c.tape_text_image.ensures.fault
+    (c.deref.ensures.value ∙ c.in-Ok.ensures ∙ corrected c.args.text.now c.requires) c.tape_text_image.ensures.fault
 
 pub returns-in-Ok-clause-refused : goal.returns-in-Ok-clause-refused
 returns-in-Ok-clause-refused c =

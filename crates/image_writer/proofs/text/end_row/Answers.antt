@@ -9,4 +9,4 @@ returns-then-len-eq0-clause-text c =
 pub returns-clause-text : goal.returns-clause-text
 returns-clause-text c =
     ended_some c.args.form c.args.address _ c.args.row.now.items _ c.args.out.now.items c.push_row.new.out.items c.in_ok-push_row.ensures
-        c.as_slice.ensures.value (omega (arith, c.if-len-eq0.false, c.len.ensures.value)) (omega (arith, c.len-2.ensures.value))
+    c.as_slice.ensures.value (omega (arith, c.if-len-eq0.false, c.len.ensures.value)) (omega (arith, c.len-2.ensures.value))

@@ -9,7 +9,7 @@ loop-address-preserved c =
     let i = c.loop-address.address in record {
       text = cell_done c.args.form cells i _ None c.loop-address.row.items c.take_cell.new.row.items c.loop-address.out.items c.take_cell.new.out.items
           (c.args.out.now.items ++ texts c.args.form (rows 0 [] cells)) (omega (arith, c.requires, c.loop-address-test.true)) refl
-              c.in_ok-take_cell.ensures.text c.loop-address.invariant.text;
+          c.in_ok-take_cell.ensures.text c.loop-address.invariant.text;
       few = c.in_ok-take_cell.ensures.few;
       after = c.in_ok-take_cell.ensures.after;
     }
@@ -18,4 +18,4 @@ pub returns : goal.returns
 returns c =
     cells_done c.end_row.result c.args.form c.args.cells.now c.loop-address.row.items c.loop-address.out.items c.end_row.new.out.items
     (c.args.out.now.items ++ texts c.args.form (rows 0 [] c.args.cells.now)) c.loop-address.address 65536 (omega arith) (omega (arith, c.requires))
-        c.loop-address.invariant.text c.end_row.ensures.text
+    c.loop-address.invariant.text c.end_row.ensures.text

@@ -7,4 +7,4 @@ use Rattle.lexer.proofs.lexer.directive.Goals as goal
 pub returns : goal.returns
 returns c =
     directive_is c.args.bytes.now c.letter_run-letters.result c.requires
-        (c.letter_run-letters.ensures.counted ∙ ap (prefix_len is_letter) (from 1 c.args.bytes.now)) c.if-letters-eq0.false
+    (c.letter_run-letters.ensures.counted ∙ ap (prefix_len is_letter) (from 1 c.args.bytes.now)) c.if-letters-eq0.false

@@ -43,7 +43,7 @@ returns-in_default-clause-syntax c _ =
     whole line (sym c.all_may_stand.ensures ∙ c.if-not-all_may_stand.false)
     ∙ sym c.loop-start.invariant.same
     ∙ none_found (lexemes c.loop-start.found.items) line start c.loop-start-test.true (sym c.is_blank_byte.ensures ∙ c.if-is_blank_byte.false)
-        c.if-byte-eq59.false none
+    c.if-byte-eq59.false none
 
 pub loop-start-smaller : goal.loop-start-smaller
 loop-start-smaller c =
@@ -60,13 +60,13 @@ loop-start-preserved c =
     let some : token_at (drop start line) ≡ Some (c.in-Some.kind, c.in-Some.text.now) = sym (c.in-Some.ensures ∙ ap token_at (from start line)) in
     let inside = token_inside line start c.in-Some.kind c.in-Some.text.now some in
     let pushed : lexemes c.push.new.self.items ≡ lexemes c.loop-start.found.items
-        ++ record { kind = c.in-Some.kind; start = start; text = c.in-Some.text.now } ∷ [] =
+    ++ record { kind = c.in-Some.kind; start = start; text = c.in-Some.text.now } ∷ [] =
     ap lexemes c.in_ok-push.ensures.items ∙ map-append lexeme_of c.loop-start.found.items _ in
     record {
       inside = inside.0;
       same =
           ap (λ (x : List Lexeme). then_tokens x (tokens_from (start + length c.in-Some.text.now) 0 (drop (start + length c.in-Some.text.now) line))) pushed
           ∙ token_passed (lexemes c.loop-start.found.items) line start c.in-Some.kind c.in-Some.text.now c.loop-start-test.true
-              (sym c.is_blank_byte.ensures ∙ c.if-is_blank_byte.false) c.if-byte-eq59.false some
+          (sym c.is_blank_byte.ensures ∙ c.if-is_blank_byte.false) c.if-byte-eq59.false some
           ∙ c.loop-start.invariant.same;
     }

@@ -12,10 +12,10 @@ pub returns-in-36 : goal.returns-in-36
 returns-in-36 c =
     c.number-in-36.ensures
     ∙ token_hex c.args.bytes.now c.in_ok-first.rest.now c.hex_run.result
-        (c.in_ok-first.ensures.cases.0 ∙ ap (λ b. b ∷ c.in_ok-first.rest.now) c.in-36.is) c.hex_run.ensures.counted
+    (c.in_ok-first.ensures.cases.0 ∙ ap (λ b. b ∷ c.in_ok-first.rest.now) c.in-36.is) c.hex_run.ensures.counted
 
 pub returns-in-37 : goal.returns-in-37
 returns-in-37 c =
     c.number-in-37.ensures
     ∙ token_binary c.args.bytes.now c.in_ok-first.rest.now c.binary_run.result
-        (c.in_ok-first.ensures.cases.0 ∙ ap (λ b. b ∷ c.in_ok-first.rest.now) c.in-37.is) c.binary_run.ensures.counted
+    (c.in_ok-first.ensures.cases.0 ∙ ap (λ b. b ∷ c.in_ok-first.rest.now) c.in-37.is) c.binary_run.ensures.counted

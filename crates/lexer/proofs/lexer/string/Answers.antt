@@ -15,7 +15,7 @@ returns-then-inside-eq0 c =
       | then-inside-eq0-via-then-inside-eq0 w ↦ string_empty bytes n count w.if-inside-eq0.true
       | then-inside-eq0-via-else-inside-eq0+then-not-begins_with_quote w ↦
           string_open bytes n count w.if-inside-eq0.false (sym (ap (begins (λ b. b == 34)) (behind n bytes)) ∙ sym w.begins_with_quote.ensures.quote
-              ∙ w.if-not-begins_with_quote.true)
+          ∙ w.if-not-begins_with_quote.true)
     ]
 
 pub returns : goal.returns
@@ -24,4 +24,4 @@ returns c =
     let n = c.string_run-inside.result in
     let count = c.string_run-inside.ensures.counted ∙ ap (prefix_len is_string_byte) (from 1 bytes) in
     string_is bytes n c.requires count c.if-inside-eq0.false
-        (sym (ap (begins (λ b. b == 34)) (behind n bytes)) ∙ sym c.begins_with_quote.ensures.quote ∙ c.if-not-begins_with_quote.false)
+    (sym (ap (begins (λ b. b == 34)) (behind n bytes)) ∙ sym c.begins_with_quote.ensures.quote ∙ c.if-not-begins_with_quote.false)

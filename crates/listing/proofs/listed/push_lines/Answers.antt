@@ -13,7 +13,7 @@ push_line-requires c =
     let span = c.span-item.result in
     let few : length (bytes_at c.args.cells.now span.address span.count) ≤ length c.args.cells.now = bytes_few c.args.cells.now span.address span.count in
     let same : length c.deref.result.now ≡ length (bytes_at c.args.cells.now span.address span.count) =
-        ap (λ (x : List ℕ). length x) (c.deref.ensures.value ∙ c.in_ok-take_bytes.ensures) in
+    ap (λ (x : List ℕ). length x) (c.deref.ensures.value ∙ c.in_ok-take_bytes.ensures) in
     omega (arith, few, same, span.near, c.requires)
 
 pub returns : goal.returns

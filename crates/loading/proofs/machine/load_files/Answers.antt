@@ -10,7 +10,7 @@ use Rattle.loading.proofs.machine.load_files.Goals as goal
 pub returns-in-None-clause-started : goal.returns-in-None-clause-started
 returns-in-None-clause-started g c =
     alone_begun (file_view c.args.words.now) c.args.others (λ (image : List (Option ℕ)) (x : Loaded). x.session
-        ≡ new_session c.args.history (start (map_of (file_view c.args.words.now)) image))
+    ≡ new_session c.args.history (start (map_of (file_view c.args.words.now)) image))
     (λ (image : List (Option ℕ)) (x : Loaded). x.written ≡ bytes_in image) c.alone_with_history.result c.in-None.is c.alone_with_history.ensures.started
 
 pub returns-in-None-clause-refused : goal.returns-in-None-clause-refused
@@ -20,7 +20,7 @@ returns-in-None-clause-refused g c = alone_ends (file_view c.args.words.now) c.a
 pub returns-in-Some-clause-started : goal.returns-in-Some-clause-started
 returns-in-Some-clause-started g c =
     several_begun (file_view c.args.words.now) c.args.others c.in-Some.field-0
-        (λ (image : List (Option ℕ)) (x : Loaded). x.session ≡ new_session c.args.history (start (map_of (file_view c.args.words.now)) image))
+    (λ (image : List (Option ℕ)) (x : Loaded). x.session ≡ new_session c.args.history (start (map_of (file_view c.args.words.now)) image))
     (λ (image : List (Option ℕ)) (x : Loaded). x.written ≡ bytes_in image) c.several_alone.result c.in-Some.is c.several_alone.ensures.started
 
 pub returns-in-Some-clause-refused : goal.returns-in-Some-clause-refused

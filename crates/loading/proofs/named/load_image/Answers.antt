@@ -10,16 +10,16 @@ use Rattle.loading.proofs.named.load_image.Goals as goal
 pub returns-in_err-loaded-clause-refused : goal.returns-in_err-loaded-clause-refused
 returns-in_err-loaded-clause-refused g c =
     memory_residual (file_view c.args.words.now) c.in_err-loaded.field-0.0 c.from_residual-in_err-loaded.result c.in_err-loaded.ensures.refused
-        c.from_residual-in_err-loaded.ensures.1
+    c.from_residual-in_err-loaded.ensures.1
 
 pub returns-clause-loaded : goal.returns-clause-loaded
 returns-clause-loaded g c =
     let spared = c.in_ok-spared.spared in
     let image = spared.image in
     let on_map = subst (λ (m : Map). IsSparedFile c.said_of-said.result c.args.words.now.omits_fill m spared.fill image) c.in_ok-map.ensures.map
-        c.in_ok-spared.ensures.found in
+    c.in_ok-spared.ensures.found in
     let found = subst (λ said. IsSparedFile said c.args.words.now.omits_fill (map_of (file_view c.args.words.now)) spared.fill image)
-        c.said_of-said.ensures on_map in (
+    c.said_of-said.ensures on_map in (
       subst (λ fill. IsLoaded (file_view c.args.words.now) fill image None) (sym c.in_ok-loaded.ensures.fill)
           (image_loaded (file_view c.args.words.now) spared.fill image c.in_ok-map.ensures.is_map c.requires.form found),
       c.in_ok-loaded.ensures.assembly,

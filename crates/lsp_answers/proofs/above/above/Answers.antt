@@ -8,13 +8,13 @@ pub returns-then-not-is_comment : goal.returns-then-not-is_comment
 returns-then-not-is_comment c =
     above_here (texts_of c.args.lines.now) c.loop-first.first _ (omega (arith, c.loop-first-test.true))
     (sym (ap is_comment (c.line_or_none.ensures ∙ ap line_or_none c.line_of.ensures)) ∙ sym c.is_comment.ensures ∙ c.if-not-is_comment.true)
-        c.loop-first.invariant
+    c.loop-first.invariant
 
 pub loop-first-preserved : goal.loop-first-preserved
 loop-first-preserved c =
     above_more (texts_of c.args.lines.now) c.loop-first.first (c.loop-first.first - 1) _ (omega (arith, c.loop-first-test.true))
     (sym (ap is_comment (c.line_or_none.ensures ∙ ap line_or_none c.line_of.ensures)) ∙ sym c.is_comment.ensures ∙ c.if-not-is_comment.false)
-        c.loop-first.invariant
+    c.loop-first.invariant
 
 pub returns : goal.returns
 returns c = above_none (texts_of c.args.lines.now) c.loop-first.first _ (omega (arith, c.loop-first-test.false)) c.loop-first.invariant

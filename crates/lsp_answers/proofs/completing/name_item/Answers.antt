@@ -13,6 +13,6 @@ returns c =
     let group = c.args.group.now in
     let raw = c.item_of.ensures _ c.value_words-detail.ensures in
     let kinded = subst (λ (kind : ℕ). IfOk c.item_of.result (λ v. view v ≡ item_of u.text kind (value_words c.value_of.result) group))
-        c.item_kind.ensures raw in
+    c.item_kind.ensures raw in
     subst (λ (number : Option ℤ). IfOk c.item_of.result (λ v. view v
-        ≡ item_of u.text (item_kind (text_view c.args.text.now) u) (value_words number) group)) c.value_of.ensures kinded
+    ≡ item_of u.text (item_kind (text_view c.args.text.now) u) (value_words number) group)) c.value_of.ensures kinded

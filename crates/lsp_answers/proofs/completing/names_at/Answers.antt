@@ -16,4 +16,4 @@ returns-in-Ok c =
     let t = text_view c.args.text.now in
     let short : nat_lt 1048576 (length t.source) ≡ false = search (tests, rules) in
     rw short (subst (λ (ds : Definitions). HasValues (map (name_item c.args.group.now ds t) (defined t.uses)) c.name_items.result)
-        c.in-Ok.ensures.names c.name_items.ensures)
+    c.in-Ok.ensures.names c.name_items.ensures)

@@ -17,4 +17,4 @@ pub returns : goal.returns
 returns c ds has =
     subst (λ (ms : List Mnemonic). HasValues (ds ++ map mnemonic_item ms) c.loop-mnemonic.all) c.mnemonics_in-mnemonic-items.ensures
     (all_behind mnemonic_item ds c.mnemonics_in-mnemonic-items.result.now c.loop-mnemonic.mnemonic-index c.loop-mnemonic.all
-        (omega (arith, c.loop-mnemonic-test.false)) (c.loop-mnemonic.invariant ds has))
+    (omega (arith, c.loop-mnemonic-test.false)) (c.loop-mnemonic.invariant ds has))

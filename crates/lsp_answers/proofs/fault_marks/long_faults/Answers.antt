@@ -16,7 +16,7 @@ loop-fault-preserved c =
       | in-Err w ↦ rw w.note-is tt
     ] in
     put_more (fault_blocks means_first) fault_kind [] c.args.faults.now c.loop-fault.fault-index _ c.loop-fault.found c.with_note-found.result _ _ _
-        None [] (omega (arith, c.loop-fault-test.true)) c.loop-fault.invariant refl refl refl refl fits c.with_note-found.ensures
+    None [] (omega (arith, c.loop-fault-test.true)) c.loop-fault.invariant refl refl refl refl fits c.with_note-found.ensures
 
 pub returns : goal.returns
 returns c = all_put (fault_blocks means_first) fault_kind [] c.args.faults.now c.loop-fault.fault-index c.loop-fault.found

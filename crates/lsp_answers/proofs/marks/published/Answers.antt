@@ -19,7 +19,7 @@ loop-one-preserved c =
     let all = c.deref-one-items.result.now in
     next_value g all i c.one-item.result _ (omega (arith, c.loop-one-test.true))
     (subst (λ (d : Diagnostic). HasValues (map g (take i all) ++ g d ∷ []) c.with-values.result) c.one-item.is
-        (c.with-values.ensures _ _ c.loop-one.invariant c.mark_of.ensures))
+    (c.with-values.ensures _ _ c.loop-one.invariant c.mark_of.ensures))
 
 pub returns : goal.returns
 returns c =

@@ -22,5 +22,5 @@ returns-in-Some c =
     let short : nat_lt 1048576 (length t.source) ≡ false = search (tests, rules) in
     let told : IfOk c.name_said.result (λ v. view v ≡ of_name c.args.markdown c.args.written.now _ t u) =
     subst (λ (ds : Definitions). IfOk c.name_said.result (λ v. view v ≡ of_name c.args.markdown c.args.written.now ds t u)) c.in-Ok.ensures.names
-        c.name_said.ensures in
+    c.name_said.ensures in
     rw (short, ← c.in-Some.ensures) told

@@ -15,7 +15,7 @@ returns c =
     let raw : IfOk c.said.result (λ v. view v ≡ said c.args.markdown c.name_lines.result.now (words c.deref.result.now) (use_range t u)) =
     c.said.ensures _ _ c.name_words-words.ensures c.range_of-range.ensures in
     let by_uses : IfOk c.said.result (λ v. view v ≡ said c.args.markdown c.name_lines.result.now (name_words c.args.symbols.now t.uses u.text)
-        (use_range t u)) =
+    (use_range t u)) =
     subst (λ (us : List NameUse). IfOk c.said.result (λ v. view v ≡ said c.args.markdown c.name_lines.result.now (words us) (use_range t u)))
-        c.deref.ensures.value raw in
+    c.deref.ensures.value raw in
     rw (← c.name_lines.ensures) by_uses

@@ -25,7 +25,7 @@ returns c =
     let t = text_view c.args.text.now in
     let g = λ (u : Use). location_data c.args.uri.now (use_range t u) in
     let all = all_values (λ (u : NameUse). g (use_view u)) c.deref-one-items.result.now c.loop-one.one-index c.loop-one.found
-        (omega (arith, c.loop-one-test.false)) c.loop-one.invariant in
+    (omega (arith, c.loop-one-test.false)) c.loop-one.invariant in
     let uses = rw c.deref.ensures.value at c.in-Ok.ensures in
     let same = sym (map-map g use_view c.deref-one-items.result.now) ∙ ap (map g) (ap use_views c.deref-one-items.ensures.value ∙ uses) in
     let named = ap (λ (o : Option Use). locations_by c.args.uri.now t c.args.part o) c.in-Some.ensures in

@@ -22,9 +22,9 @@ pub returns : goal.returns
 returns c =
     let t = text_view c.args.text.now in
     let all = all_values (λ (u : NameUse). highlight_of t (use_view u)) c.deref-one-items.result.now c.loop-one.one-index c.loop-one.found
-        (omega (arith, c.loop-one-test.false)) c.loop-one.invariant in
+    (omega (arith, c.loop-one-test.false)) c.loop-one.invariant in
     let uses = rw c.deref.ensures.value at c.in-Ok.ensures in
     let same = sym (map-map (highlight_of t) use_view c.deref-one-items.result.now)
-        ∙ ap (map (highlight_of t)) (ap use_views c.deref-one-items.ensures.value ∙ uses) in
+    ∙ ap (map (highlight_of t)) (ap use_views c.deref-one-items.ensures.value ∙ uses) in
     let named = ap (λ (o : Option Use). highlights_by t o) c.in-Some.ensures in
     IfOk-weaker c.build.result _ _ (λ v is. is ∙ named) (c.build.ensures _ (subst (λ (ds : List Data). HasValues ds c.loop-one.found) same all))

@@ -22,5 +22,5 @@ pub returns : goal.returns
 returns c =
     let g = λ (u : Use). edit_data c.args.word.now (use_range (text_view c.args.text.now) u) in
     let all = all_values (λ (u : NameUse). g (use_view u)) c.args.uses.now c.loop-one.one-index c.loop-one.found
-        (omega (arith, c.loop-one-test.false)) c.loop-one.invariant in
+    (omega (arith, c.loop-one-test.false)) c.loop-one.invariant in
     c.changes.ensures _ (c.build.ensures _ (subst (λ (ds : List Data). HasValues ds c.loop-one.found) (sym (map-map g use_view c.args.uses.now)) all))

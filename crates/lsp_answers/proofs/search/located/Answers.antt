@@ -11,5 +11,5 @@ returns c =
     let t = text_view c.args.text.now in
     let u = use_view c.args.one.now in
     subst (λ (kind : ℕ). IfOk c.found_symbol.result (λ v. view v
-        ≡ found_symbol_data kind (utf8_lossy u.text) (location_data c.args.uri.now (use_range t u)))) c.symbol_kind.ensures
+    ≡ found_symbol_data kind (utf8_lossy u.text) (location_data c.args.uri.now (use_range t u)))) c.symbol_kind.ensures
     (c.found_symbol.ensures _ _ c.from_utf8_lossy-name.ensures.lossy (c.location-place.ensures _ c.range_of.ensures))

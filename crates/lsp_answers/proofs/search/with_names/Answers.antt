@@ -16,7 +16,7 @@ pub loop-one-preserved : goal.loop-one-preserved
 loop-one-preserved c ds has =
     let f = found_of c.args.uri.now (text_view c.args.text.now) c.args.query.now in
     subst (λ (es : List Data). HasValues es c.with_name-all.result)
-        (taken_more f use_view ds c.deref-one-items.result.now c.loop-one.one-index _ (omega (arith, c.loop-one-test.true)))
+    (taken_more f use_view ds c.deref-one-items.result.now c.loop-one.one-index _ (omega (arith, c.loop-one-test.true)))
     (c.with_name-all.ensures _ (c.loop-one.invariant ds has))
 
 pub returns : goal.returns
@@ -24,5 +24,5 @@ returns c ds has =
     let f = found_of c.args.uri.now (text_view c.args.text.now) c.args.query.now in
     subst (λ (es : List Data). HasValues es c.loop-one.all)
     (taken_all f use_view ds c.deref-one-items.result.now c.loop-one.one-index (omega (arith, c.loop-one-test.false))
-        ∙ ap (λ (us : List NameUse). ds ++ flat_map f (use_views us)) c.deref-one-items.ensures.value)
+    ∙ ap (λ (us : List NameUse). ds ++ flat_map f (use_views us)) c.deref-one-items.ensures.value)
     (c.loop-one.invariant ds has)

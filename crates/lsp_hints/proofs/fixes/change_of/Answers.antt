@@ -13,4 +13,4 @@ returns c written called words title =
     IfOk-weaker c.edit.result _ _ (λ v is. is ∙ search (rules, same)) (c.edit.ensures _ c.range-range.ensures) in
     let edits = c.build-edits.ensures _ (c.with.ensures _ _ c.new.ensures edit) in
     c.build.ensures _ (c.text.ensures _ _ (c.word.ensures _ (c.member.ensures _ _ c.new-2.ensures (c.changes.ensures _ edits)))
-        (c.text_of-title.ensures called title))
+    (c.text_of-title.ensures called title))

@@ -9,4 +9,4 @@ use Rattle.lsp_hints.proofs.fixes.fixes_in.Given as goal
 abbrev pub invariant-loop-one : goal.invariant-loop-one
 invariant-loop-one l = (done : List Data) × HasValues done l.fixes
     × (done ++ flat_map (fixes_between l.uri (text_view l.text) l.between) (drop l.one-index l.one-items)
-        ≡ flat_map (fixes_between l.uri (text_view l.text) l.between) l.one-items)
+    ≡ flat_map (fixes_between l.uri (text_view l.text) l.between) l.one-items)

@@ -12,14 +12,14 @@ loop-index-preserved c =
       | then-begins_with w ↦
           rw (w.folds-is, w.from-is, w.unwrap_or.ensures) (passed c.loop-index.folds.items _ _ _
           (comment_here c.loop-index.from c.loop-index.index c.args.lines.now _ (omega (arith, c.loop-index-test.true))
-              (comment ∙ w.if-begins_with.true)) c.loop-index.invariant)
+          (comment ∙ w.if-begins_with.true)) c.loop-index.invariant)
       | else-begins_with+in_ok-push_fold w ↦
           rw (w.folds-is, w.from-is) (gathered c.loop-index.folds.items _ _ _ _ _ w.in_ok-push_fold.ensures
           (no_comment c.loop-index.from c.loop-index.index c.args.lines.now _ (omega (arith, c.loop-index-test.true))
-              (comment ∙ w.if-begins_with.false)) c.loop-index.invariant)
+          (comment ∙ w.if-begins_with.false)) c.loop-index.invariant)
     ]
 
 pub returns : goal.returns
 returns c = IfOk-weaker c.push_fold-2.result _ _ (λ v put. gathered_last c.loop-index.folds.items _ _ _ _ put
     (comments_end c.loop-index.from c.loop-index.index c.args.lines.now (omega (arith, c.loop-index-test.false, c.loop-index.auto.index-end)))
-        c.loop-index.invariant) c.push_fold-2.ensures
+    c.loop-index.invariant) c.push_fold-2.ensures

@@ -29,7 +29,7 @@ returns-then-is_refused c =
     let short : nat_lt 1048576 (length c.args.source.now) ≡ false = search (tests, rules) in
     let so_far = c.loop-index.invariant in
     let same = ap (λ (fs : List all.Found). hints_from c.args.profile (texts_of c.args.lines.now) c.args.between 0 fs)
-        (ap found_all c.deref-one-items.ensures.value ∙ c.in-Ok.ensures.found) in
+    (ap found_all c.deref-one-items.ensures.value ∙ c.in-Ok.ensures.found) in
     rw short (c.build-then-is_refused.ensures _ (subst (λ (ds : List Data). HasValues ds c.loop-index.hints)
     (stopped c.args.profile (texts_of c.args.lines.now) c.args.between c.deref-one-items.result.now c.loop-index.index c.one-item.result so_far.0 _
     (omega (arith, c.loop-index-test.true)) c.one-item.is (sym c.is_refused.ensures ∙ c.if-is_refused.true) so_far.2 ∙ same) so_far.1))
@@ -40,7 +40,7 @@ returns c =
     let short : nat_lt 1048576 (length c.args.source.now) ≡ false = search (tests, rules) in
     let so_far = c.loop-index.invariant in
     let same = ap (λ (fs : List all.Found). hints_from c.args.profile (texts_of c.args.lines.now) c.args.between 0 fs)
-        (ap found_all c.deref-one-items.ensures.value ∙ c.in-Ok.ensures.found) in
+    (ap found_all c.deref-one-items.ensures.value ∙ c.in-Ok.ensures.found) in
     rw short (c.build-2.ensures _ (subst (λ (ds : List Data). HasValues ds c.loop-index.hints)
     (at_end c.args.profile (texts_of c.args.lines.now) c.args.between c.deref-one-items.result.now c.loop-index.index so_far.0 _
-        (omega (arith, c.loop-index-test.false)) so_far.2 ∙ same) so_far.1))
+    (omega (arith, c.loop-index-test.false)) so_far.2 ∙ same) so_far.1))

@@ -10,4 +10,4 @@ use Rattle.lsp_hints.proofs.hints.hints_in.Given as goal
 abbrev pub invariant-loop-index : goal.invariant-loop-index
 invariant-loop-index l = (done : List Data) × HasValues done l.hints
     × (done ++ hints_left l.profile (texts_of l.lines) l.between l.one-items l.index
-        ≡ hints_from l.profile (texts_of l.lines) l.between 0 (found_all l.one-items))
+    ≡ hints_from l.profile (texts_of l.lines) l.between 0 (found_all l.one-items))

@@ -13,8 +13,8 @@ returns-in-Some c ds has =
     let place = (found_view c.args.found.now).place in
     let told = ap (option_map (λ (place : ℕ × Option Row). place_words place.0 place.1)) (sym c.in-Some.is) ∙ c.place_of.ensures in
     let put = c.with.ensures ds _ has (c.build-hint.ensures _
-        (c.member.ensures _ _ (c.flag.ensures _ (c.text.ensures _ _ c.new.ensures c.from_utf8_lossy-label.ensures.lossy)) c.position.ensures)) in
+    (c.member.ensures _ _ (c.flag.ensures _ (c.text.ensures _ _ c.new.ensures c.from_utf8_lossy-label.ensures.lossy)) c.position.ensures)) in
     subst (λ (is : Bool). HasValues (ds ++ (if is then line_hints c.args.profile lines c.args.index place else [])) c.with.result)
-        (sym c.if-is_between.true ∙ c.is_between.ensures)
+    (sym c.if-is_between.true ∙ c.is_between.ensures)
     (subst (λ (words : Option (List ℕ)). HasValues (ds ++ hints_by lines c.args.index words) c.with.result) told
     (rw (← c.width_of-width.ensures, ← c.place_words.ensures, ← c.deref.ensures.0) put))

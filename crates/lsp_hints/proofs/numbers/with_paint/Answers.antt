@@ -18,4 +18,4 @@ returns c ds has =
       | else-paint-line w ↦ rw w.further-is (search (tests, rules))
     ] in
     five ds _ _ _ _ _ _ (c.with-5.ensures _ _ (c.with-4.ensures _ _
-        (c.with-3.ensures _ _ (c.with-2.ensures _ _ (c.with.ensures _ _ has (search rules)) (search rules)) (search rules)) (search rules)) (search rules))
+    (c.with-3.ensures _ _ (c.with-2.ensures _ _ (c.with.ensures _ _ has (search rules)) (search rules)) (search rules)) (search rules)) (search rules))

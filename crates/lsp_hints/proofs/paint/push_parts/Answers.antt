@@ -21,13 +21,13 @@ pub overflow_add-end : goal.overflow_add-end
 overflow_add-end c =
     let fits : Fits w64 (length c.args.text.now) = omega arith in
     Fits-le (next_within c.args.text.now c.loop-token.end c.loop-token.token-index c.args.tokens.now _ (omega (arith, c.loop-token-test.true))
-        c.loop-token.invariant.slices) fits
+    c.loop-token.invariant.slices) fits
 
 pub loop-token-preserved : goal.loop-token-preserved
 loop-token-preserved c = record {
   painted = gathered c.loop-token.paints.items _ _ _ _ _ c.in_ok-push_token.ensures
       (token_next c.args.profile c.args.line c.loop-token.token-index c.loop-token.defines c.args.tokens.now _
-          (omega (arith, c.loop-token-test.true))) c.loop-token.invariant.painted;
+      (omega (arith, c.loop-token-test.true))) c.loop-token.invariant.painted;
   end = next_end c.loop-token.end c.loop-token.token-index c.args.tokens.now _ _ (omega (arith, c.loop-token-test.true)) c.loop-token.invariant.end;
   slices = (next_slices c.args.text.now c.loop-token.end c.loop-token.token-index c.args.tokens.now _ (omega (arith, c.loop-token-test.true))
       c.loop-token.invariant.slices).3;
@@ -44,8 +44,8 @@ returns c =
     let comment = λ (end : ℕ). comment_paints c.args.line c.args.text.now end in
     let ends = last_end c.loop-token.end c.loop-token.token-index c.args.tokens.now _ (omega (arith, c.loop-token-test.false)) c.loop-token.invariant.end in
     let painted = gathered_all c.loop-token.paints.items _ _
-        (tokens_end c.args.profile c.args.line c.loop-token.token-index c.loop-token.defines c.args.tokens.now
-        (omega (arith, c.loop-token-test.false))) c.loop-token.invariant.painted in
+    (tokens_end c.args.profile c.args.line c.loop-token.token-index c.loop-token.defines c.args.tokens.now
+    (omega (arith, c.loop-token-test.false))) c.loop-token.invariant.painted in
     IfOk-weaker c.push_comment.result _ _ (λ v put. put
     ∙ ap (λ (ps : List Paint). ps ++ comment c.loop-token.end) painted
     ∙ append_assoc c.args.paints.now.items tokens (comment c.loop-token.end)

@@ -23,4 +23,4 @@ returns c =
     let so_far = c.loop-mode.invariant in
     c.build.ensures _ (subst (λ (ds : List Data). HasValues ds c.loop-mode.forms)
     (gathered_all so_far.0 _ _ (flat_end (form_of c.args.profile c.args.mnemonic) c.args.modes.now c.loop-mode.mode-index
-        (omega (arith, c.loop-mode-test.false))) so_far.2) so_far.1)
+    (omega (arith, c.loop-mode-test.false))) so_far.2) so_far.1)

@@ -7,5 +7,5 @@ use Rattle.lsp_hints.proofs.signatures.with_form.Goals as goal
 pub returns-in-Some : goal.returns-in-Some
 returns-in-Some c ds has =
     subst (λ (code : Option ℕ). HasValues (ds ++ form_by c.args.mnemonic (operand_form c.args.mode) code) c.with.result)
-        (sym c.in-Some.is ∙ c.encode_in.ensures.code)
+    (sym c.in-Some.is ∙ c.encode_in.ensures.code)
     (rw (← c.letters_of.ensures, ← c.operand_form.ensures) (c.with.ensures ds _ has (c.signature.ensures _ (c.text_of.ensures _ c.describe-label.ensures))))

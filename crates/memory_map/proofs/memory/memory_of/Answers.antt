@@ -9,4 +9,4 @@ loop-cell-preserved c =
     ∙ ap (λ (b : ℕ). c.loop-cell.memory.items ++ (b ∷ [])) c.unwrap_or.ensures
     ∙ ap (λ (front : List ℕ). front ++ (unwrap_or (get_or c.cells-cell-items.result.now c.loop-cell.cell-index None) 0 ∷ [])) c.loop-cell.invariant
     ∙ sym (next_byte c.cells-cell-items.result.now c.loop-cell.cell-index (get_or c.cells-cell-items.result.now c.loop-cell.cell-index None)
-        c.loop-cell-test.true refl)
+    c.loop-cell-test.true refl)

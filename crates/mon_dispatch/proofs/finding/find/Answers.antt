@@ -27,8 +27,8 @@ loop-address-preserved c =
     let shown = c.show_if_found.ensures.shows in
     let grown = c.in_ok-count.ensures.count ∙ (λ k. c.loop-address.count + cond (stands_at (shows.0 k).current.bus.memory bytes i) 1 0) in
     let said = c.in_ok-count.ensures.text ∙ (λ k. c.loop-address.mon.text.items
-        ++ cond (stands_at (shows.0 k).current.bus.memory bytes i)
-        (cond (nat_lt c.loop-address.count 16) (found_line c.loop-address.mon.places.names i) []) []) in
+    ++ cond (stands_at (shows.0 k).current.bus.memory bytes i)
+    (cond (nat_lt c.loop-address.count 16) (found_line c.loop-address.mon.places.names i) []) []) in
     record {
       shows = (shown.0 ∙ shows.0, shown.1 ∙ shows.1, shown.2 ∙ shows.2, shown.3 ∙ shows.3, shown.4 ∙ shows.4);
       count = count_more m bytes i c.loop-address.count c.in_ok-count.count c.loop-address.invariant.count grown;
@@ -46,8 +46,8 @@ returns-then-count-gt-MOST_FOUND-clause-text c =
     let shows = c.loop-address.invariant.shows in
     let grown = c.in_ok-count.ensures.count ∙ (λ k. c.loop-address.count + cond (stands_at (shows.0 k).current.bus.memory bytes i) 1 0) in
     let said = c.in_ok-count.ensures.text ∙ (λ k. c.loop-address.mon.text.items
-        ++ cond (stands_at (shows.0 k).current.bus.memory bytes i)
-        (cond (nat_lt c.loop-address.count 16) (found_line c.loop-address.mon.places.names i) []) []) in
+    ++ cond (stands_at (shows.0 k).current.bus.memory bytes i)
+    (cond (nat_lt c.loop-address.count 16) (found_line c.loop-address.mon.places.names i) []) []) in
     IfOk-weaker c.say.result _ _ (λ _. many_found m bytes c.args.mon.now.places.names c.loop-address.mon.places.names (ap (λ (p : PlacesView). p.names) shows.3)
     i c.loop-address.count c.in_ok-count.count _ _ _ _
     (omega (arith, c.loop-address-test.true, c.memory_size-address-end.ensures.size))

@@ -28,4 +28,4 @@ returns-clause-told c =
     let room : c.held-held.result ≤ c.undo_all.new.mon.session.history = omega (arith, c.held-held.ensures.within, c.undo_all.ensures.history) in
     if_ok_map c.record_from.result _ _ c.record_from.ensures.told
     (λ bytes told. subst (λ (x : State). HoldsSession x bytes.items c.record_from.new.mon.session) c.undo_all.ensures.oldest
-        (told c.undo_all.ensures.none room))
+    (told c.undo_all.ensures.none room))

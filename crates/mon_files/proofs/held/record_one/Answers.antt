@@ -5,7 +5,7 @@ use Rattle.mon_files.proofs.held.record_one.Goals as goal
 pub returns-in-Some-clause-course : goal.returns-in-Some-clause-course
 returns-in-Some-clause-course c =
     one_again (course_of c.args.mon.now) c.in-Some.event c.next.result c.record_event.new.session c.next.new.self c.next.ensures.event c.in-Some.is
-        c.record_event.ensures.led c.next.ensures.kept
+    c.record_event.ensures.led c.next.ensures.kept
 
 pub returns-in-Some-clause-few : goal.returns-in-Some-clause-few
 returns-in-Some-clause-few c = one_longer c.in-Some.event c.args.mon.now.session c.record_event.new.session c.record_event.ensures.led

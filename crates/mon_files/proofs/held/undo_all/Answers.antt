@@ -12,16 +12,16 @@ pub returns-clause-oldest : goal.returns-clause-oldest
 returns-clause-oldest c =
     let s = c.args.mon.now.session in
     gone_oldest c.args.held s c.back.new.self c.requires (gone c.args.held c.back.result s c.back.new.self (omega (arith, c.requires))
-        c.back.ensures.ok c.back.ensures.err)
+    c.back.ensures.ok c.back.ensures.err)
 
 pub returns-clause-none : goal.returns-clause-none
 returns-clause-none c =
     let s = c.args.mon.now.session in
     gone_length c.args.held s c.back.new.self c.requires (gone c.args.held c.back.result s c.back.new.self (omega (arith, c.requires))
-        c.back.ensures.ok c.back.ensures.err)
+    c.back.ensures.ok c.back.ensures.err)
 
 pub returns-clause-history : goal.returns-clause-history
 returns-clause-history c =
     let s = c.args.mon.now.session in
     gone_history c.args.held s c.back.new.self c.requires (gone c.args.held c.back.result s c.back.new.self (omega (arith, c.requires))
-        c.back.ensures.ok c.back.ensures.err)
+    c.back.ensures.ok c.back.ensures.err)

@@ -7,7 +7,7 @@ loop-byte-preserved c = record {
   small = omega arith;
   rest = c.loop-byte.invariant.rest
       ∙ number_more c.args.base c.loop-byte.number c.saturating_mul.result c.in_ok-value.value c.saturating_add-number.result c.loop-byte.byte-index
-          c.args.digits.now (omega arith) c.in_ok-value.ensures c.saturating_mul.ensures c.saturating_add-number.ensures;
+      c.args.digits.now (omega arith) c.in_ok-value.ensures c.saturating_mul.ensures c.saturating_add-number.ensures;
 }
 
 pub returns : goal.returns

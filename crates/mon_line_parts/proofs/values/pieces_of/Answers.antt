@@ -11,14 +11,14 @@ pub returns-then-is_empty-clause-ok : goal.returns-then-is_empty-clause-ok
 returns-then-is_empty-clause-ok c =
     rw c.past-rest.ensures (c.loop.invariant.read
     ∙ pieces_end (length c.args.text.now + 1 - c.loop.counter) (length c.args.text.now + 1 - (c.loop.counter + 1)) c.args.places.now
-        c.loop.found.items c.loop.rest.now c.piece_of.new.found.items c.in-Ok.behind.now (omega arith) c.in-Ok.ensures.ok
+    c.loop.found.items c.loop.rest.now c.piece_of.new.found.items c.in-Ok.behind.now (omega arith) c.in-Ok.ensures.ok
     (ap is_empty (sym c.past-rest.ensures) ∙ (sym c.is_empty.ensures ∙ c.if-is_empty.true)))
 
 pub loop-preserved : goal.loop-preserved
 loop-preserved c = record {
   read = rw c.past-rest.ensures (c.loop.invariant.read
       ∙ pieces_more (length c.args.text.now + 1 - c.loop.counter) (length c.args.text.now + 1 - (c.loop.counter + 1)) c.args.places.now
-          c.loop.found.items c.loop.rest.now c.piece_of.new.found.items c.in-Ok.behind.now (omega arith) c.in-Ok.ensures.ok
+      c.loop.found.items c.loop.rest.now c.piece_of.new.found.items c.in-Ok.behind.now (omega arith) c.in-Ok.ensures.ok
       (ap is_empty (sym c.past-rest.ensures) ∙ (sym c.is_empty.ensures ∙ c.if-is_empty.false)));
 }
 

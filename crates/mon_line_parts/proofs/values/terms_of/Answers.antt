@@ -17,7 +17,7 @@ returns-in-Err-clause-err c =
     let fits : SFits w64 c.args.first = c.ranges.first in
     let h = simp to_z-of_z at c.loop.invariant.read in
     h ∙ term_refused (length c.args.text.now - c.loop.counter) (length c.args.text.now - (c.loop.counter + 1)) _ _ _ _ _ (omega arith)
-        (sym c.is_sign.ensures ∙ c.if-not-is_sign.false) c.in-Err.ensures.err
+    (sym c.is_sign.ensures ∙ c.if-not-is_sign.false) c.in-Err.ensures.err
 
 pub loop-preserved : goal.loop-preserved
 loop-preserved c =
@@ -25,9 +25,9 @@ loop-preserved c =
     record {
       read = c.loop.invariant.read
           ∙ (term_read (length c.args.text.now - c.loop.counter) (length c.args.text.now - (c.loop.counter + 1)) c.args.places.now c.args.kind _
-              c.in-Ok.sum c.loop.rest.now c.in-Ok.behind.now (omega arith) (sym c.is_sign.ensures ∙ c.if-not-is_sign.false) c.in-Ok.ensures.ok
+          c.in-Ok.sum c.loop.rest.now c.in-Ok.behind.now (omega arith) (sym c.is_sign.ensures ∙ c.if-not-is_sign.false) c.in-Ok.ensures.ok
           ∙ sym (ap (λ (z : ℤ). terms_of (length c.args.text.now - (c.loop.counter + 1)) c.args.places.now c.args.kind z c.in-Ok.behind.now)
-              (to_z-of_z w64 c.in-Ok.sum fits)));
+          (to_z-of_z w64 c.in-Ok.sum fits)));
     }
 
 pub returns-clause-ok : goal.returns-clause-ok

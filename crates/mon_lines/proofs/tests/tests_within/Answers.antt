@@ -9,13 +9,13 @@ pub returns-then-not-is_word-clause-ok : goal.returns-then-not-is_word-clause-ok
 returns-then-not-is_word-clause-ok c =
     c.loop.invariant.read
     ∙ tests_end (5 - c.loop.counter) (5 - (c.loop.counter + 1)) c.args.places.now c.args.pc c.loop.found.items c.loop.rest.now
-        c.push_test.new.found.items c.in-Ok.behind.now (omega arith) c.in-Ok.ensures.ok (sym c.is_word.ensures ∙ c.if-not-is_word.true)
+    c.push_test.new.found.items c.in-Ok.behind.now (omega arith) c.in-Ok.ensures.ok (sym c.is_word.ensures ∙ c.if-not-is_word.true)
 
 pub loop-preserved : goal.loop-preserved
 loop-preserved c = record {
   read = rw c.after_word-rest.ensures (c.loop.invariant.read
       ∙ tests_more (5 - c.loop.counter) (5 - (c.loop.counter + 1)) c.args.places.now c.args.pc c.loop.found.items c.loop.rest.now
-          c.push_test.new.found.items c.in-Ok.behind.now (omega arith) c.in-Ok.ensures.ok (sym c.is_word.ensures ∙ c.if-not-is_word.false));
+      c.push_test.new.found.items c.in-Ok.behind.now (omega arith) c.in-Ok.ensures.ok (sym c.is_word.ensures ∙ c.if-not-is_word.false));
 }
 
 pub returns-clause-ok : goal.returns-clause-ok

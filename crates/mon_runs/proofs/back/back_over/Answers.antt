@@ -26,7 +26,7 @@ returns-then-not-was_return-clause-over c =
 pub back_to_call-requires : goal.back_to_call-requires
 back_to_call-requires c =
     let fewer : length c.back_by_one.new.session.earlier ≡ length c.args.session.now.earlier - 1 =
-        length-back_one c.args.session.now c.back_by_one.new.session c.back_by_one.ensures in
+    length-back_one c.args.session.now c.back_by_one.new.session c.back_by_one.ensures in
     omega (arith, fewer, c.held-held.ensures.held)
 
 pub returns-clause-undone : goal.returns-clause-undone
@@ -40,6 +40,6 @@ pub returns-clause-over : goal.returns-clause-over
 returns-clause-over c =
     let some : c.held-held.result ≡ suc (c.held-held.result - 1) = omega (arith, c.if-held-eq0.false) in
     way-on c.regs-stack.result.s c.held-held.result (c.held-held.result - 1) c.back_to_call.result c.args.session.now c.back_by_one.new.session
-        c.back_to_call.new.session c.was_return.result
+    c.back_to_call.new.session c.was_return.result
     (ap (λ r. r.s) c.regs-stack.ensures) c.held-held.ensures.held some c.back_by_one.ensures
     (c.was_return.ensures c.args.session.now.current c.cycles-cycles.ensures) c.if-not-was_return.false c.back_to_call.ensures.over

@@ -27,7 +27,7 @@ pub loop-undone-preserved : goal.loop-undone-preserved
 loop-undone-preserved c =
     let more : suc c.loop-undone.undone ≡ c.loop-undone.undone + 1 = omega arith in
     let fewer : length c.back_by_one.new.session.earlier ≡ length c.loop-undone.session.earlier - 1 =
-        length-back_one c.loop-undone.session c.back_by_one.new.session c.back_by_one.ensures in
+    length-back_one c.loop-undone.session c.back_by_one.new.session c.back_by_one.ensures in
     record {
       held = omega (arith, fewer, c.loop-undone.invariant.held, c.loop-undone-test.true, c.requires);
       gone = gone-more c.loop-undone.undone c.args.session.now c.loop-undone.session c.back_by_one.new.session c.loop-undone.invariant.gone

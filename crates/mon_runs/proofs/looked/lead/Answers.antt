@@ -26,7 +26,7 @@ returns-in-Some-clause-run c =
     let p : Place = (c.loop.session, c.loop.stops.breaks.items) in
     let why = c.make_step-made.ensures.why ∙ ap (λ w. why_of_step w.items c.args.goal c.args.until p) c.loop.invariant.watches in
     looked-ends c.args.stops.now.watches.items c.args.goal c.args.until (c.args.limit - c.loop.counter) n c.loop.did c.make_step-made.result.did
-        c.make_step-made.result.from
+    c.make_step-made.result.from
     p (c.make_step-made.new.session, c.make_step-made.new.stops.breaks.items) _ c.make_step-made.result.why _
     c.loop.invariant.left some c.make_step-made.ensures.did c.make_step-made.ensures.from why c.make_step-made.ensures.after c.in-Some.is
 

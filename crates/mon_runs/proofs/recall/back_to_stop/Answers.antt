@@ -16,7 +16,7 @@ returns-then-is_stopped c =
     = subst (λ xs. AreBytesAt xs before.current c.note_bytes.new.bytes) c.as_slice.ensures.value c.note_bytes.ensures in
     let some : c.held-held.result - undone ≡ suc n = omega (arith, c.loop-undone-test.true) in
     let met : is_stop new.breaks stops new.current before.current ≡ true =
-        sym (c.is_stopped.ensures before.current noted c.regs-after.ensures) ∙ c.if-is_stopped.true in
+    sym (c.is_stopped.ensures before.current noted c.regs-after.ensures) ∙ c.if-is_stopped.true in
     c.loop-undone.invariant.left
     ∙ ap (λ (p : ℕ × Session). (undone + p.0, p.1)) (ap (λ j. recalled stops j before) some ∙ recalled-stop stops n before new c.back_by_one.ensures met)
 
@@ -31,7 +31,7 @@ loop-undone-preserved c =
     = subst (λ xs. AreBytesAt xs before.current c.note_bytes.new.bytes) c.as_slice.ensures.value c.note_bytes.ensures in
     let some : c.held-held.result - undone ≡ suc n = omega (arith, c.loop-undone-test.true) in
     let not_met : is_stop new.breaks stops new.current before.current ≡ false =
-        sym (c.is_stopped.ensures before.current noted c.regs-after.ensures) ∙ c.if-is_stopped.false in
+    sym (c.is_stopped.ensures before.current noted c.regs-after.ensures) ∙ c.if-is_stopped.false in
     let rest = recalled stops n new in
     let sum : undone + suc rest.0 ≡ (undone + 1) + rest.0 = omega arith in
     let fewer : length new.earlier ≡ length before.earlier - 1 = length-back_one before new c.back_by_one.ensures in
@@ -39,7 +39,7 @@ loop-undone-preserved c =
       held = omega (arith, fewer, c.loop-undone.invariant.held);
       left = c.loop-undone.invariant.left
           ∙ ap (λ (p : ℕ × Session). (undone + p.0, p.1)) (ap (λ j. recalled stops j before) some
-              ∙ recalled-on stops n before new c.back_by_one.ensures not_met)
+          ∙ recalled-on stops n before new c.back_by_one.ensures not_met)
           ∙ (λ i. (sum i, rest.1));
     }
 

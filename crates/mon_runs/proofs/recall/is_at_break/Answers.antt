@@ -11,7 +11,7 @@ returns-then-pc-break_of c =
     let within : c.loop-index.index < length breaks = omega (arith, c.loop-index-test.true) in
     let here : nat_eq pc (get_or breaks c.loop-index.index 0) ≡ nat_eq pc pc = ap (nat_eq pc) (sym c.break_of.ensures ∙ sym c.if-pc-break_of.true) in
     sym (ap (λ a. list_any (nat_eq a) breaks) (sym (ap (λ r. r.pc) c.regs-pc.ensures))
-        ∙ list_any_at (nat_eq pc) breaks c.loop-index.index 0 within (here ∙ same_address pc pc (λ _. pc)))
+    ∙ list_any_at (nat_eq pc) breaks c.loop-index.index 0 within (here ∙ same_address pc pc (λ _. pc)))
 
 pub loop-index-preserved : goal.loop-index-preserved
 loop-index-preserved c =
@@ -27,4 +27,4 @@ returns c =
     let breaks = c.args.session.now.breaks in
     let all : length breaks ≤ c.loop-index.index = omega (arith, c.loop-index-test.false) in
     sym (ap (λ a. list_any (nat_eq a) breaks) (sym (ap (λ r. r.pc) c.regs-pc.ensures))
-        ∙ none_all (nat_eq pc) breaks c.loop-index.index all c.loop-index.invariant)
+    ∙ none_all (nat_eq pc) breaks c.loop-index.index all c.loop-index.invariant)

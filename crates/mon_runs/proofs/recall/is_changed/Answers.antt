@@ -10,9 +10,9 @@ loop-index-preserved c = λ after h.
     let p : ℕ → Bool = λ a. not (nat_eq (get_or memory a 0) (get_or after.bus.memory a 0)) in
     let within : index < length watched = omega (arith, c.loop-index-test.true) in
     let same : get_or memory (get_or watched index 0) 0 ≡ get_or after.bus.memory (get_or watched index 0) 0 =
-        sym c.peek.ensures.value ∙ c.if-peek-bytes.false ∙ h index within in
+    sym c.peek.ensures.value ∙ c.if-peek-bytes.false ∙ h index within in
     none_more p watched index within (c.loop-index.invariant after h)
-        (same_byte (get_or memory (get_or watched index 0) 0) (get_or after.bus.memory (get_or watched index 0) 0) same)
+    (same_byte (get_or memory (get_or watched index 0) 0) (get_or after.bus.memory (get_or watched index 0) 0) same)
 
 pub returns : goal.returns
 returns c = λ after h.

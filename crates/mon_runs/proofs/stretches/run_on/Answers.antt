@@ -38,14 +38,14 @@ loop-preserved c =
     let some : c.args.count - c.loop.counter ≡ suc n = omega (arith, c.loop-test.true) in
     let made = c.make_stretch-made.result in
     let part : (0 < made.did) × (made.did < c.loop.left) = subst (λ o. IfNone o ((0 < made.did) × (made.did < c.loop.left))) c.in_default.is
-        c.make_stretch-made.ensures.part in
+    c.make_stretch-made.ensures.part in
     record {
       sum = omega (arith, c.loop.invariant.sum, part.0, part.1);
       made = steps_more c.loop.did c.make_stretch-made.result.did c.args.session.now c.loop.session c.make_stretch-made.new.session
           c.loop.invariant.made c.make_stretch-made.ensures.steps;
       rest = stretch-goes (c.args.count - c.loop.counter) n c.loop.left c.loop.did c.make_stretch-made.result.did
           (c.loop.session, c.loop.stops.breaks.items) (c.make_stretch-made.new.session, c.make_stretch-made.new.stops.breaks.items)
-              c.make_stretch-made.result.why _
+          c.make_stretch-made.result.why _
           c.loop.invariant.rest some c.make_stretch-made.ensures.did c.make_stretch-made.ensures.why c.make_stretch-made.ensures.after c.in_default.is;
       watches = c.make_stretch-made.ensures.watches ∙ c.loop.invariant.watches;
       changes = c.make_stretch-made.ensures.changes ∙ c.loop.invariant.changes;

@@ -12,8 +12,8 @@ pub returns-in_ok-show_row-clause-text : goal.returns-in_ok-show_row-clause-text
 returns-in_ok-show_row-clause-text c =
     let before = course_of c.args.mon.now in
     let holds : is_ok (event_of before.0.current (Patch c.args.address c.args.line.bytes c.args.line.count)) ≡ true =
-        grind (arith, common_steps, c.in_ok-happen.ensures.accepted, c.if-branch.true) in
+    grind (arith, common_steps, c.in_ok-happen.ensures.accepted, c.if-branch.true) in
     then_said (Ok tt) c.args.mon.now.places.names (Patch c.args.address c.args.line.bytes c.args.line.count) before c.args.mon.now.text.items
-        c.happen.new.self.text.items c.show_row.new.self.text.items _ _ holds
+    c.happen.new.self.text.items c.show_row.new.self.text.items _ _ holds
     c.in_ok-happen.ensures.text (λ i. instruction_line (c.happen.ensures.course i).0.current (c.happen.ensures.stops.1 i) c.args.address)
-        c.in_ok-show_row.ensures.text
+    c.in_ok-show_row.ensures.text

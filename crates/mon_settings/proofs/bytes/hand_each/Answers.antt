@@ -26,7 +26,7 @@ returns-then-not-branch-clause-course c =
     let before = course_of c.loop-byte.mon in
     let rest = inputs (drop (i + 1) bytes) in
     let fails : is_ok (event_of before.0.current (Input (get_or bytes i 0))) ≡ false =
-        grind (arith, common_steps, c.in_ok-happen.ensures.accepted, c.if-not-branch.true) in
+    grind (arith, common_steps, c.in_ok-happen.ensures.accepted, c.if-not-branch.true) in
     c.happen.ensures.course
     ∙ sym (c.loop-byte.invariant.course
     ∙ ap (λ es. all_happened es before) (inputs-from bytes i (omega (arith, c.loop-byte-test.true)))
@@ -39,7 +39,7 @@ loop-byte-preserved c =
     let before = course_of c.loop-byte.mon in
     let rest = inputs (drop (i + 1) bytes) in
     let holds : is_ok (event_of before.0.current (Input (get_or bytes i 0))) ≡ true =
-        grind (arith, common_steps, c.in_ok-happen.ensures.accepted, c.if-not-branch.false) in
+    grind (arith, common_steps, c.in_ok-happen.ensures.accepted, c.if-not-branch.false) in
     record {
       course = c.loop-byte.invariant.course
           ∙ ap (λ es. all_happened es before) (inputs-from bytes i (omega (arith, c.loop-byte-test.true)))
@@ -52,8 +52,12 @@ loop-byte-preserved c =
       text = c.in_ok-happen.ensures.text
           ∙ ap (λ l. c.loop-byte.mon.text.items ++ l) (accepted_said c.loop-byte.mon.places.names (Input (get_or bytes i 0)) before [] holds)
           ∙ append-nil c.loop-byte.mon.text.items ∙ c.loop-byte.invariant.text;
-      stops = (c.happen.ensures.stops.0 ∙ c.loop-byte.invariant.stops.0, c.happen.ensures.stops.1
-          ∙ c.loop-byte.invariant.stops.1, c.happen.ensures.stops.2 ∙ c.loop-byte.invariant.stops.2);
+      stops = (
+        c.happen.ensures.stops.0 ∙ c.loop-byte.invariant.stops.0,
+        c.happen.ensures.stops.1
+            ∙ c.loop-byte.invariant.stops.1,
+        c.happen.ensures.stops.2 ∙ c.loop-byte.invariant.stops.2,
+      );
     }
 
 pub returns-clause-course : goal.returns-clause-course
@@ -72,9 +76,9 @@ returns-then-not-branch-clause-done c =
     let before = course_of c.loop-byte.mon in
     let rest = inputs (drop (i + 1) bytes) in
     let fails : is_ok (event_of before.0.current (Input (get_or bytes i 0))) ≡ false =
-        grind (arith, common_steps, c.in_ok-happen.ensures.accepted, c.if-not-branch.true) in
+    grind (arith, common_steps, c.in_ok-happen.ensures.accepted, c.if-not-branch.true) in
     let so_far : first_fault (inputs bytes) (course_of c.args.mon.now) ≡ first_fault ((Input (get_or bytes i 0)) ∷ rest) before =
-        c.loop-byte.invariant.fault ∙ ap (λ es. first_fault es before) (inputs-from bytes i (omega (arith, c.loop-byte-test.true))) in
+    c.loop-byte.invariant.fault ∙ ap (λ es. first_fault es before) (inputs-from bytes i (omega (arith, c.loop-byte-test.true))) in
     is_some_fault (inputs bytes) (course_of c.args.mon.now) (Input (get_or bytes i 0)) rest before so_far fails
 
 pub returns-then-not-branch-clause-text : goal.returns-then-not-branch-clause-text
@@ -84,9 +88,9 @@ returns-then-not-branch-clause-text c =
     let before = course_of c.loop-byte.mon in
     let rest = inputs (drop (i + 1) bytes) in
     let fails : is_ok (event_of before.0.current (Input (get_or bytes i 0))) ≡ false =
-        grind (arith, common_steps, c.in_ok-happen.ensures.accepted, c.if-not-branch.true) in
+    grind (arith, common_steps, c.in_ok-happen.ensures.accepted, c.if-not-branch.true) in
     let so_far : first_fault (inputs bytes) (course_of c.args.mon.now) ≡ first_fault ((Input (get_or bytes i 0)) ∷ rest) before =
-        c.loop-byte.invariant.fault ∙ ap (λ es. first_fault es before) (inputs-from bytes i (omega (arith, c.loop-byte-test.true))) in
+    c.loop-byte.invariant.fault ∙ ap (λ es. first_fault es before) (inputs-from bytes i (omega (arith, c.loop-byte-test.true))) in
     fault_said (inputs bytes) (course_of c.args.mon.now) (Input (get_or bytes i 0)) rest before so_far fails
     c.args.mon.now.places.names c.loop-byte.mon.places.names c.args.mon.now.text.items
     c.loop-byte.mon.text.items c.happen.new.self.text.items

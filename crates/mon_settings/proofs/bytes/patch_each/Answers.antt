@@ -28,7 +28,7 @@ returns-then-not-branch-clause-course c =
     let before = course_of c.loop-index.mon in
     let rest = patches (a + (i + 1)) (drop (i + 1) bytes) in
     let fails : is_ok (event_of before.0.current (Patch (a + i) (get_or bytes i 0 ∷ 0 ∷ 0 ∷ []) 1)) ≡ false =
-        grind (arith, common_steps, c.in_ok-happen.ensures.accepted, c.if-not-branch.true) in
+    grind (arith, common_steps, c.in_ok-happen.ensures.accepted, c.if-not-branch.true) in
     c.happen.ensures.course
     ∙ sym (c.loop-index.invariant.course
     ∙ ap (λ es. all_happened es before) (patches-from a bytes i (omega (arith, c.loop-index-test.true)))
@@ -42,7 +42,7 @@ loop-index-preserved c =
     let before = course_of c.loop-index.mon in
     let rest = patches (a + (i + 1)) (drop (i + 1) bytes) in
     let holds : is_ok (event_of before.0.current (Patch (a + i) (get_or bytes i 0 ∷ 0 ∷ 0 ∷ []) 1)) ≡ true =
-        grind (arith, common_steps, c.in_ok-happen.ensures.accepted, c.if-not-branch.false) in
+    grind (arith, common_steps, c.in_ok-happen.ensures.accepted, c.if-not-branch.false) in
     record {
       course = c.loop-index.invariant.course
           ∙ ap (λ es. all_happened es before) (patches-from a bytes i (omega (arith, c.loop-index-test.true)))
@@ -54,10 +54,14 @@ loop-index-preserved c =
           ∙ ap (first_fault rest) (sym c.happen.ensures.course);
       text = c.in_ok-happen.ensures.text
           ∙ ap (λ l. c.loop-index.mon.text.items ++ l) (accepted_said c.loop-index.mon.places.names (Patch (a + i) (get_or bytes i 0 ∷ 0 ∷ 0 ∷ []) 1)
-              before [] holds)
+          before [] holds)
           ∙ append-nil c.loop-index.mon.text.items ∙ c.loop-index.invariant.text;
-      stops = (c.happen.ensures.stops.0 ∙ c.loop-index.invariant.stops.0, c.happen.ensures.stops.1
-          ∙ c.loop-index.invariant.stops.1, c.happen.ensures.stops.2 ∙ c.loop-index.invariant.stops.2);
+      stops = (
+        c.happen.ensures.stops.0 ∙ c.loop-index.invariant.stops.0,
+        c.happen.ensures.stops.1
+            ∙ c.loop-index.invariant.stops.1,
+        c.happen.ensures.stops.2 ∙ c.loop-index.invariant.stops.2,
+      );
     }
 
 pub returns-clause-course : goal.returns-clause-course
@@ -78,10 +82,10 @@ returns-then-not-branch-clause-done c =
     let before = course_of c.loop-index.mon in
     let rest = patches (a + (i + 1)) (drop (i + 1) bytes) in
     let fails : is_ok (event_of before.0.current (Patch (a + i) (get_or bytes i 0 ∷ 0 ∷ 0 ∷ []) 1)) ≡ false =
-        grind (arith, common_steps, c.in_ok-happen.ensures.accepted, c.if-not-branch.true) in
+    grind (arith, common_steps, c.in_ok-happen.ensures.accepted, c.if-not-branch.true) in
     let so_far : first_fault (patches a bytes) (course_of c.args.mon.now)
-        ≡ first_fault ((Patch (a + i) (get_or bytes i 0 ∷ 0 ∷ 0 ∷ []) 1) ∷ rest) before =
-        c.loop-index.invariant.fault ∙ ap (λ es. first_fault es before) (patches-from a bytes i (omega (arith, c.loop-index-test.true))) in
+    ≡ first_fault ((Patch (a + i) (get_or bytes i 0 ∷ 0 ∷ 0 ∷ []) 1) ∷ rest) before =
+    c.loop-index.invariant.fault ∙ ap (λ es. first_fault es before) (patches-from a bytes i (omega (arith, c.loop-index-test.true))) in
     is_some_fault (patches a bytes) (course_of c.args.mon.now) (Patch (a + i) (get_or bytes i 0 ∷ 0 ∷ 0 ∷ []) 1) rest before so_far fails
 
 pub returns-then-not-branch-clause-text : goal.returns-then-not-branch-clause-text
@@ -92,10 +96,10 @@ returns-then-not-branch-clause-text c =
     let before = course_of c.loop-index.mon in
     let rest = patches (a + (i + 1)) (drop (i + 1) bytes) in
     let fails : is_ok (event_of before.0.current (Patch (a + i) (get_or bytes i 0 ∷ 0 ∷ 0 ∷ []) 1)) ≡ false =
-        grind (arith, common_steps, c.in_ok-happen.ensures.accepted, c.if-not-branch.true) in
+    grind (arith, common_steps, c.in_ok-happen.ensures.accepted, c.if-not-branch.true) in
     let so_far : first_fault (patches a bytes) (course_of c.args.mon.now)
-        ≡ first_fault ((Patch (a + i) (get_or bytes i 0 ∷ 0 ∷ 0 ∷ []) 1) ∷ rest) before =
-        c.loop-index.invariant.fault ∙ ap (λ es. first_fault es before) (patches-from a bytes i (omega (arith, c.loop-index-test.true))) in
+    ≡ first_fault ((Patch (a + i) (get_or bytes i 0 ∷ 0 ∷ 0 ∷ []) 1) ∷ rest) before =
+    c.loop-index.invariant.fault ∙ ap (λ es. first_fault es before) (patches-from a bytes i (omega (arith, c.loop-index-test.true))) in
     fault_said (patches a bytes) (course_of c.args.mon.now) (Patch (a + i) (get_or bytes i 0 ∷ 0 ∷ 0 ∷ []) 1) rest before so_far fails
     c.args.mon.now.places.names c.loop-index.mon.places.names c.args.mon.now.text.items
     c.loop-index.mon.text.items c.happen.new.self.text.items

@@ -12,5 +12,5 @@ returns-clause-text c =
     let f = first_fault (patches c.args.address c.args.bytes.now) (course_of c.args.mon.now) in
     let holds : is_none f ≡ true = grind (arith, common_steps, c.in_ok-patch_each.ensures.done, c.if-not-branch.false) in
     then_all c.say_stored.result c.args.mon.now.places.names f c.args.mon.now.text.items c.patch_each.new.mon.text.items
-        c.say_stored.new.mon.text.items _ _ holds
+    c.say_stored.new.mon.text.items _ _ holds
     c.in_ok-patch_each.ensures.text (λ i. stored_text (c.patch_each.ensures.stops.1 i).names c.args.address (length c.args.bytes.now)) c.say_stored.ensures.text

@@ -12,5 +12,5 @@ returns-then-branch-clause-text c =
     let before = course_of c.args.mon.now in
     let holds : is_ok (event_of before.0.current (c.args.event)) ≡ true = grind (arith, common_steps, c.in_ok-happen.ensures.accepted, c.if-branch.true) in
     then_said c.show.result c.args.mon.now.places.names (c.args.event) before c.args.mon.now.text.items c.happen.new.self.text.items
-        c.show.new.self.text.items _ _ holds
+    c.show.new.self.text.items _ _ holds
     c.in_ok-happen.ensures.text (λ i. shown_text (c.happen.ensures.course i).0.current (c.happen.ensures.stops.1 i).names None) c.show.ensures.text

@@ -14,18 +14,18 @@ loop-byte-preserved c =
     elim c.if-is_word_byte.branch [
       | then-is_word_byte+in_ok-push w ↦
           rw (w.text-is, w.word-is, w.preceding-is) (more_of_word names text before word w.push.new.self.items line _ i 0 c.loop-byte.invariant
-              c.loop-byte-test.true
+          c.loop-byte-test.true
           (sym c.is_word_byte.ensures ∙ w.if-is_word_byte.true) w.in_ok-push.ensures.items)
       | else-is_word_byte+in_ok-push_word+in_ok-push-2 w ↦
           rw (w.text-is, w.word-is, w.preceding-is) (word_ends names text before w.next_before-preceding.result word
-              w.push-else-is_word_byte.new.self.items w.clear.new.self.items line _ i 0 c.loop-byte.invariant c.loop-byte-test.true
+          w.push-else-is_word_byte.new.self.items w.clear.new.self.items line _ i 0 c.loop-byte.invariant c.loop-byte-test.true
           (sym c.is_word_byte.ensures ∙ w.if-is_word_byte.false)
           (w.in_ok-push-2.ensures.items ∙ ap (λ (x : List ℕ). x ++ get_or line i 0 ∷ []) (rw w.as_slice.ensures.value at w.in_ok-push_word.ensures))
-              w.next_before-preceding.ensures w.clear.ensures.items)
+          w.next_before-preceding.ensures w.clear.ensures.items)
     ]
 
 pub returns : goal.returns
 returns c =
     line_ends c.args.places.now.names c.loop-byte.text.items c.loop-byte.preceding c.loop-byte.word.items c.push_word-2.new.text.items c.args.line.now
-        _ c.loop-byte.byte-index
+    _ c.loop-byte.byte-index
     c.loop-byte.invariant c.loop-byte-test.false (rw c.as_slice-2.ensures.value at c.in_ok-push_word-2.ensures)

@@ -19,6 +19,10 @@ loop-preserved c =
       course = rw add-one (c.in_ok-redo_shown.ensures.course ∙ ap remade_one c.loop.invariant.course);
       text = one_more_shown c.loop.counter c.args.mon.now.places c.loop.mon.places first (course_of c.loop.mon) _ _ _
           c.loop.invariant.text c.loop.invariant.course c.loop.invariant.stops.1 c.in_ok-redo_shown.ensures.text;
-      stops = (c.redo_shown.ensures.stops.0 ∙ c.loop.invariant.stops.0, c.redo_shown.ensures.stops.1
-          ∙ c.loop.invariant.stops.1, c.redo_shown.ensures.stops.2 ∙ c.loop.invariant.stops.2);
+      stops = (
+        c.redo_shown.ensures.stops.0 ∙ c.loop.invariant.stops.0,
+        c.redo_shown.ensures.stops.1
+            ∙ c.loop.invariant.stops.1,
+        c.redo_shown.ensures.stops.2 ∙ c.loop.invariant.stops.2,
+      );
     }

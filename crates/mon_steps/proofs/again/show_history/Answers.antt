@@ -19,6 +19,6 @@ returns-clause-text c =
     let shown = all_shown c.show.result n places before old c.redo_each_shown.new.mon.text.items new _ some
     (c.in_ok-redo_each_shown.ensures.text ∙ (λ i. (c.go_back.ensures.text i).items ++ remade_text n (c.go_back.ensures.stops.1 i) (c.go_back.ensures.course i)))
     (λ i. shown_text ((c.in_ok-redo_each_shown.ensures.course ∙ ap (remade n) c.go_back.ensures.course) i).0.current
-        ((c.redo_each_shown.ensures.stops.1 ∙ c.go_back.ensures.stops.1) i).names None)
+    ((c.redo_each_shown.ensures.stops.1 ∙ c.go_back.ensures.stops.1) i).names None)
     c.show.ensures.text in
     subst (λ m. OnOk c.show.result (new ≡ old ++ events_text m places before)) most shown

@@ -10,6 +10,6 @@ returns-clause-text c =
     c.args.mon.now.text.items c.step_with_row.new.mon.text.items c.tell_step.new.mon.text.items _ _ c.len-length.result
     (search rules) c.in_ok-end.ensures.text
     (λ i. step_text (c.entry_is_due-is_entry.ensures i) (c.in_ok-end.ensures.session i).current (c.step_with_row.ensures.watches.2 i)
-        (c.in_ok-end.ensures.end i)
+    (c.in_ok-end.ensures.end i)
     (step_row c.args.mon.now.session.current (c.in_ok-end.ensures.session i).current c.args.mon.now.places))
     c.tell_step.ensures.text

@@ -24,9 +24,12 @@ returns-in_err-end-clause-err c =
     let u = c.loop-did.session in
     let n = c.args.limit - (c.loop-did.did + 1) in
     let some : c.args.limit - c.loop-did.did ≡ suc n = omega (arith, c.loop-did-test.true) in
-    on_err c.from_residual.result _
-    (c.loop-did.did + (run_end 1 u).did, no_more _ n c.loop-did.did u _ c.loop-did.invariant.0 some, c.record_one.ensures.after
-        ∙ after-more c.loop-did.did s u c.loop-did.invariant.1)
+    on_err c.from_residual.result _ (
+      c.loop-did.did + (run_end 1 u).did,
+      no_more _ n c.loop-did.did u _ c.loop-did.invariant.0 some,
+      c.record_one.ensures.after
+          ∙ after-more c.loop-did.did s u c.loop-did.invariant.1,
+    )
 
 pub returns-then-not-goes_on-clause-end : goal.returns-then-not-goes_on-clause-end
 returns-then-not-goes_on-clause-end c =

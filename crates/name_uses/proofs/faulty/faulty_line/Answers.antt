@@ -17,13 +17,13 @@ pub returns-then-ended : goal.returns-then-ended
 returns-then-ended c =
     line_last c.args.profile c.args.word.now c.args.other.now c.loop-rest.number c.loop-rest.rest.now c.next_line.result.0.now c.next_line.result.1.now _
     c.next_line.ensures.cut (sym c.in_ok-faulty.ensures.faulty ∙ c.if-faulty.false) (sym c.in_ok-faulty.ensures.end ∙ c.if-ended.true)
-        c.loop-rest.invariant.found
+    c.loop-rest.invariant.found
 
 pub loop-rest-preserved : goal.loop-rest-preserved
 loop-rest-preserved c = record {
   found = line_more c.args.profile c.args.word.now c.args.other.now c.loop-rest.number c.loop-rest.rest.now c.next_line.result.0.now c.next_line.result.1.now _
       c.next_line.ensures.cut (sym c.in_ok-faulty.ensures.faulty ∙ c.if-faulty.false) (sym c.in_ok-faulty.ensures.end ∙ c.if-ended.false)
-          c.loop-rest.invariant.found;
+      c.loop-rest.invariant.found;
   room = omega (arith, c.next_line.ensures.shorter, c.loop-rest.invariant.room);
 }
 

@@ -20,7 +20,7 @@ loop-rest-preserved c = record {
 pub returns-then-ended : goal.returns-then-ended
 returns-then-ended c =
     line_last c.args.profile c.loop-rest.number c.loop-rest.rest.now c.next_line.result.0.now c.next_line.result.1.now
-        (use_views c.loop-rest.uses.items) (use_views c.push_line.new.uses.items) _
+    (use_views c.loop-rest.uses.items) (use_views c.push_line.new.uses.items) _
     c.next_line.ensures.cut (sym c.in_ok-ended.ensures.end ∙ c.if-ended.true) c.in_ok-ended.ensures.uses c.loop-rest.invariant.found
 
 pub returns : goal.returns

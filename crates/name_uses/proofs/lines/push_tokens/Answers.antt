@@ -8,11 +8,11 @@ loop-token-preserved c =
     elim c.if-is_name_token.branch [
       | then-is_name_token+in_ok-push w ↦
           rw (w.uses-is, w.defined-is) (one_name c.args.profile c.args.number c.loop-token.token-index c.loop-token.defined c.args.tokens.now _
-              c.loop-token.uses.items _ _ _ (omega (arith, c.loop-token-test.true)) (sym c.is_name_token.ensures ∙ w.if-is_name_token.true)
-              w.in_ok-push.ensures.items refl c.loop-token.invariant)
+          c.loop-token.uses.items _ _ _ (omega (arith, c.loop-token-test.true)) (sym c.is_name_token.ensures ∙ w.if-is_name_token.true)
+          w.in_ok-push.ensures.items refl c.loop-token.invariant)
       | else-is_name_token w ↦
           rw (w.uses-is, w.defined-is) (no_name c.args.profile c.args.number c.loop-token.token-index c.loop-token.defined c.args.tokens.now _ _ _
-              (omega (arith, c.loop-token-test.true)) (sym c.is_name_token.ensures ∙ w.if-is_name_token.false) c.loop-token.invariant)
+          (omega (arith, c.loop-token-test.true)) (sym c.is_name_token.ensures ∙ w.if-is_name_token.false) c.loop-token.invariant)
     ]
 
 pub returns : goal.returns

@@ -23,7 +23,7 @@ loop-byte-preserved c =
       written = step_done c.args.word.now c.args.source.now c.loop-byte.byte-index uses given next c.in_ok-more.met c.loop-byte.place.line
           c.loop-byte.place.column c.loop-byte.left _ _ _ c.loop-byte.text.items _ _
           (omega (arith, c.loop-byte-test.true)) (slice_is uses next) line column c.in_ok-more.ensures.text c.in_ok-more.ensures.rest
-              c.in_ok-more.ensures.left c.loop-byte.invariant.written;
+          c.in_ok-more.ensures.left c.loop-byte.invariant.written;
       lines = omega (arith, line, line_near b c.loop-byte.place.line, c.loop-byte.invariant.lines);
       columns = omega (arith, column, column_near b c.loop-byte.place.column, c.loop-byte.invariant.columns);
       within = met_within uses given next c.in_ok-more.met c.loop-byte.invariant.within (slice_is uses next) c.in_ok-more.ensures.within;

@@ -13,7 +13,7 @@ pub returns-in-Ok-clause-denotes : goal.returns-in-Ok-clause-denotes
 returns-in-Ok-clause-denotes c right bus_map same spared =
     let one : c.in-Ok.assembly.image ≡ c.args.image.now = sym c.image.ensures ∙ c.is_same.ensures.same right in
     let here : Denotes c.in-Some.map c.args.source.now c.args.image.now =
-        subst (λ (i : List (Option ℕ)). Denotes c.in-Some.map c.args.source.now i) one c.in-Ok.ensures.denoted in
+    subst (λ (i : List (Option ℕ)). Denotes c.in-Some.map c.args.source.now i) one c.in-Ok.ensures.denoted in
     denotes_under c.bytes_fill_their_size.ensures c.in-Some.map bus_map c.args.source.now c.args.image.now (same ∙ sym c.in-Some.ensures.profile) spared here
 
 pub returns-in-Ok-clause-right : goal.returns-in-Ok-clause-right
@@ -31,7 +31,7 @@ pub returns-in-Ok-clause-wrong : goal.returns-in-Ok-clause-wrong
 returns-in-Ok-clause-wrong c wrong s =
     let here : Denotes c.in-Some.map c.args.source.now c.args.image.now =
     denotes_under c.bytes_fill_their_size.ensures s.bus_map c.in-Some.map c.args.source.now c.args.image.now (c.in-Some.ensures.profile ∙ sym s.same)
-        (spared_without c.in-Some.map c.args.image.now c.in-Some.ensures.port c.cells.ensures.image) s.denotes in
+    (spared_without c.in-Some.map c.args.image.now c.in-Some.ensures.port c.cells.ensures.image) s.denotes in
     let one : c.in-Ok.assembly.image ≡ c.args.image.now = c.in-Ok.ensures.only c.args.image.now here in
     c.is_same.ensures.apart wrong (c.image.ensures ∙ one)
 
@@ -45,5 +45,5 @@ pub returns-in_default-kind-clause-wrong : goal.returns-in_default-kind-clause-w
 returns-in_default-kind-clause-wrong c wrong s =
     let here : Denotes c.in-Some.map c.args.source.now c.args.image.now =
     denotes_under c.bytes_fill_their_size.ensures s.bus_map c.in-Some.map c.args.source.now c.args.image.now (c.in-Some.ensures.profile ∙ sym s.same)
-        (spared_without c.in-Some.map c.args.image.now c.in-Some.ensures.port c.cells.ensures.image) s.denotes in
+    (spared_without c.in-Some.map c.args.image.now c.in-Some.ensures.port c.cells.ensures.image) s.denotes in
     c.in_default-kind.not-OutOfMemory (ap (λ (f : AsmFault). f.kind) (c.in-Err.ensures.only c.args.image.now here))

@@ -9,7 +9,7 @@ returns-in_err-name c =
     let index = c.in_ok-index.field-0.now in
     let at : slice_index c.args.table.now c.args.address ≡ index = grind (arith, common_steps) in
     let names : option_map (λ d. d.0) (slice_get c.args.names.now.names (index - 1)) ≡ name_of c.args.names.now.names c.args.address =
-        a_name c.args.names.now.names c.args.table.now c.args.address index c.requires (omega arith) at (omega arith) (omega arith) in
+    a_name c.args.names.now.names c.args.table.now c.args.address index c.requires (omega arith) at (omega arith) (omega arith) in
     rw c.from_residual-in_err-name.ensures (ap (λ (r : Option (List ℕ × ℤ)). option_map (λ d. d.0) r) c.in_err-name.ensures ∙ names)
 
 pub returns : goal.returns
@@ -17,5 +17,5 @@ returns c =
     let index = c.in_ok-index.field-0.now in
     let at : slice_index c.args.table.now c.args.address ≡ index = search rules in
     let names : option_map (λ d. d.0) (slice_get c.args.names.now.names (index - 1)) ≡ name_of c.args.names.now.names c.args.address =
-        a_name c.args.names.now.names c.args.table.now c.args.address index c.requires (omega arith) at (omega arith) (omega arith) in
+    a_name c.args.names.now.names c.args.table.now c.args.address index c.requires (omega arith) at (omega arith) (omega arith) in
     ap (λ (r : Option (List ℕ × ℤ)). option_map (λ d. d.0) r) c.in_ok-name.ensures ∙ names

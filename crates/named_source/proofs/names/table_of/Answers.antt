@@ -20,8 +20,8 @@ loop-index-preserved c = elim c.match-symbol.branch [
   | in-Some w ↦ let fits : SFits w32 w.in-Some.number = search rules in
       rw w.table-is (fills_more c.args.names.now.names c.loop-index.table.items w.note.new.table.items c.loop-index.index (w.in-Some.name.now, w.in-Some.number)
       (sym c.symbol.ensures ∙ ap entry_of w.in-Some.is) c.loop-index.invariant w.note.ensures.size
-          (λ a h. w.note.ensures.each a h ∙ ap (λ (z : ℤ). noted c.loop-index.index (w.in-Some.name.now, z) a
-          (slice_index c.loop-index.table.items a)) (to_z-of_z w32 w.in-Some.number fits)))
+      (λ a h. w.note.ensures.each a h ∙ ap (λ (z : ℤ). noted c.loop-index.index (w.in-Some.name.now, z) a
+      (slice_index c.loop-index.table.items a)) (to_z-of_z w32 w.in-Some.number fits)))
   | in_default w ↦ absurd (is_there c.args.names.now.names c.loop-index.index (omega arith) (sym c.symbol.ensures ∙ ap entry_of w.in_default.is))
 ]
 

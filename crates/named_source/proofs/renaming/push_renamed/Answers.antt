@@ -21,10 +21,10 @@ loop-at-preserved c =
           let found : Found = Some (w.in-Some.more, w.in-Some.name.now) in
           rw w.left-is (byte_written names image line out _ i c.loop-at.before c.loop-at.left b found whole inside refl (omega arith)
           (sym (ap (place_at names image c.loop-at.before) (rest_is line i)) ∙ (sym w.place_at.ensures ∙ ap found_view w.in-Some.is)) (search rules)
-              c.loop-at.invariant)
+          c.loop-at.invariant)
       | else-left-gt0+in-None+in_ok-push-in-None w ↦
           let none : c.loop-at.left ≡ 0 = omega arith in
           rw (w.left-is, none) (byte_written names image line out _ i c.loop-at.before c.loop-at.left b None whole inside refl (omega arith)
           (sym (ap (place_at names image c.loop-at.before) (rest_is line i)) ∙ (sym w.place_at.ensures ∙ ap found_view w.in-None.is)) (search rules)
-              c.loop-at.invariant)
+          c.loop-at.invariant)
     ]

@@ -18,16 +18,16 @@ returns-then-branch-clause-text c =
     let plain = c.in_ok-plain.plain.items in
     let named = c.in_ok-named.named.items in
     let own : before ≡ flags_of profile image marks = c.in_ok-flags.ensures.exact
-        ∙ ap (λ (cells : List (Option ℕ)). flags_of profile cells marks) c.cells.ensures.same in
+    ∙ ap (λ (cells : List (Option ℕ)). flags_of profile cells marks) c.cells.ensures.same in
     let set : flags ≡ flagged_by table before = c.flag_named.ensures ∙ ap (λ (t : List ℕ). flagged_by t before) c.as_slice.ensures.value in
     let written : plain ≡ flagged_source profile image marks flags =
-        c.in_ok-plain.ensures.text ∙ ap (flagged_source profile image marks) c.as_slice-2.ensures.value in
+    c.in_ok-plain.ensures.text ∙ ap (flagged_source profile image marks) c.as_slice-2.ensures.value in
     let plain_same : plain ≡ plain_source profile image marks names =
-        plain_is profile image marks names table before flags plain c.in_ok-table.ensures c.in_ok-flags.ensures.len own set written in
+    plain_is profile image marks names table before flags plain c.in_ok-table.ensures c.in_ok-flags.ensures.len own set written in
     let named_same : named ≡ named_source profile image marks names =
     named_is profile image marks names plain named plain_same (c.in_ok-named.ensures ∙ ap (renamed names image) c.as_slice-4.ensures.value) in
     let right : IsSourceOf profile image named = subst (IsSourceOf profile image) c.as_slice-5.ensures.value
-        (c.in_ok-is_right.ensures.right c.if-branch.true) in
+    (c.in_ok-is_right.ensures.right c.if-branch.true) in
     first_is profile image (named_source profile image marks names) (plain_source profile image marks names) named named_same right
 
 pub returns-clause-text : goal.returns-clause-text
@@ -42,12 +42,12 @@ returns-clause-text c =
     let plain = c.in_ok-plain.plain.items in
     let named = c.in_ok-named.named.items in
     let own : before ≡ flags_of profile image marks = c.in_ok-flags.ensures.exact
-        ∙ ap (λ (cells : List (Option ℕ)). flags_of profile cells marks) c.cells.ensures.same in
+    ∙ ap (λ (cells : List (Option ℕ)). flags_of profile cells marks) c.cells.ensures.same in
     let set : flags ≡ flagged_by table before = c.flag_named.ensures ∙ ap (λ (t : List ℕ). flagged_by t before) c.as_slice.ensures.value in
     let written : plain ≡ flagged_source profile image marks flags =
-        c.in_ok-plain.ensures.text ∙ ap (flagged_source profile image marks) c.as_slice-2.ensures.value in
+    c.in_ok-plain.ensures.text ∙ ap (flagged_source profile image marks) c.as_slice-2.ensures.value in
     let plain_same : plain ≡ plain_source profile image marks names =
-        plain_is profile image marks names table before flags plain c.in_ok-table.ensures c.in_ok-flags.ensures.len own set written in
+    plain_is profile image marks names table before flags plain c.in_ok-table.ensures c.in_ok-flags.ensures.len own set written in
     let named_same : named ≡ named_source profile image marks names =
     named_is profile image marks names plain named plain_same (c.in_ok-named.ensures ∙ ap (renamed names image) c.as_slice-4.ensures.value) in
     second_is profile image (named_source profile image marks names) (plain_source profile image marks names) named plain named_same

@@ -10,9 +10,9 @@ loop-index-preserved c =
       size = omega (arith, length-set c.loop-index.cells c.loop-index.index c.peek.result, size);
       same = below_more _ _
           (λ k h. let ne : k ≢ c.loop-index.index = omega arith in
-              get_or-set_other c.loop-index.cells c.loop-index.index k c.peek.result 0 ne ∙ c.loop-index.invariant.same k h)
+          get_or-set_other c.loop-index.cells c.loop-index.index k c.peek.result 0 ne ∙ c.loop-index.invariant.same k h)
           (let lt : c.loop-index.index < length c.loop-index.cells = omega (arith, size, c.loop-index-test.true) in
-              get_or-set_same c.loop-index.cells c.loop-index.index c.peek.result 0 lt ∙ c.peek.ensures.value);
+          get_or-set_same c.loop-index.cells c.loop-index.index c.peek.result 0 lt ∙ c.peek.ensures.value);
     }
 
 pub returns : goal.returns

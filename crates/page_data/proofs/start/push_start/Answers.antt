@@ -9,8 +9,8 @@ pub returns-clause-ok : goal.returns-clause-ok
 returns-clause-ok c =
     on_ok c.push_input.result _ _ c.push_input.ensures (λ last.
     start_pushed c.args.session.now.current c.args.written.now.items c.push_pages.new.written.items c.push_registers.new.written.items
-        c.push_number.new.written.items c.push_lines.new.written.items c.push_number-2.new.written.items c.push_output.new.written.items
-        c.push_input.new.written.items
+    c.push_number.new.written.items c.push_lines.new.written.items c.push_number-2.new.written.items c.push_output.new.written.items
+    c.push_input.new.written.items
     c.taken.result (c.taken.ensures ∙ ap (λ b. b.taken) c.bus.ensures)
     c.in_ok-push_pages.ensures c.in_ok-push_registers.ensures
     (c.in_ok-push_number.ensures ∙ ap (λ (n : ℕ). c.push_registers.new.written.items ++ number n) c.cycles.ensures)

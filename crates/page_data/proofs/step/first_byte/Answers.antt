@@ -10,5 +10,11 @@ returns c = λ given.
     let memory = c.args.session.now.current.bus.memory in
     let cells = stored_cells c.args.is_entry c.args.ahead.now.pushes.items c.args.ahead.now.stores.items in
     let changed : ℕ × ℕ → ℕ × ℕ = λ x. (x.0, bit_xor x.1 (slice_index memory x.0)) in
-    omega (arith, c.read_count.ensures.value, ap length c.stored.ensures.value, length-map cells changed, ap
-        (λ n. (n - c.args.ahead.now.moment.cycles) % 16) c.cycles.ensures)
+    omega (
+      arith,
+      c.read_count.ensures.value,
+      ap length c.stored.ensures.value,
+      length-map cells changed,
+      ap
+          (λ n. (n - c.args.ahead.now.moment.cycles) % 16) c.cycles.ensures,
+    )

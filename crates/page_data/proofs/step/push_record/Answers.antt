@@ -14,7 +14,7 @@ returns c =
     let entry = c.was_entered-is_entry.ensures.value in
     on_ok c.push_counted.result _ _ c.push_counted.ensures
     (record_pushed given ahead t c.args.written.now.items c.push.new.self.items c.push_eight.new.written.items c.push_reads.new.written.items
-        c.push_cells.new.written.items c.push_out.new.written.items c.push_counted.new.written.items
+    c.push_cells.new.written.items c.push_out.new.written.items c.push_counted.new.written.items
     c.changed.result c.first_byte.result c.in_ok-push.ensures.items
     (c.first_byte.ensures given ∙ ap (λ (b : Bool). head (change_by b given ahead t)) entry)
     (c.changed.ensures ∙ ap (λ (b : Bool). eight (change_by b given ahead t)) entry)
@@ -23,5 +23,5 @@ returns c =
     (c.in_ok-push_cells.ensures
     ∙ ap (λ (cells : List (ℕ × ℕ)). c.push_reads.new.written.items ++ flat_map cell (cells_after t.bus.memory cells)) c.stored.ensures.value
     ∙ ap (λ (b : Bool). c.push_reads.new.written.items ++ flat_map cell
-        (cells_after t.bus.memory (stored_cells b ahead.pushes.items ahead.stores.items))) entry)
+    (cells_after t.bus.memory (stored_cells b ahead.pushes.items ahead.stores.items))) entry)
     (c.in_ok-push_out.ensures ∙ ap (λ o. c.push_cells.new.written.items ++ option_to_list o) c.out.ensures))

@@ -15,7 +15,7 @@ returns-clause-ok c =
     let given = c.args.given.now in
     let t = c.args.session.now.current in
     let whole = c.as_slice.ensures.value ∙ c.in_ok-push_record.ensures
-        ∙ ap (λ (l : List ℕ). l ++ bytes_of (change_from given c.args.ahead.now t)) c.in_ok-record.ensures.items in
+    ∙ ap (λ (l : List ℕ). l ++ bytes_of (change_from given c.args.ahead.now t)) c.in_ok-record.ensures.items in
     appended c.extend_from_slice.result c.args.written.now.items c.extend_from_slice.new.self.items c.as_slice.result.now _ c.extend_from_slice.ensures.items
     (λ e s h. e ∙ ap (λ (l : List ℕ). c.args.written.now.items ++ l) (whole ∙ ap bytes_of (change_is given c.args.ahead.now s t h)))
 
@@ -25,7 +25,7 @@ returns-clause-tells c =
     let t = c.args.session.now.current in
     let few : length given < 2 ^ 64 = c.len_of.ensures.within in
     let whole = c.as_slice.ensures.value ∙ c.in_ok-push_record.ensures
-        ∙ ap (λ (l : List ℕ). l ++ bytes_of (change_from given c.args.ahead.now t)) c.in_ok-record.ensures.items in
+    ∙ ap (λ (l : List ℕ). l ++ bytes_of (change_from given c.args.ahead.now t)) c.in_ok-record.ensures.items in
     appended c.extend_from_slice.result c.args.written.now.items c.extend_from_slice.new.self.items c.as_slice.result.now _ c.extend_from_slice.ensures.items
     (λ e start s front earlier h sound made told.
     step_told given c.args.ahead.now s t start front c.args.written.now.items c.extend_from_slice.new.self.items earlier few

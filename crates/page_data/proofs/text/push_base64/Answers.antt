@@ -12,7 +12,7 @@ either (Err e) P h = tt
 pub returns-clause-safe : goal.returns-clause-safe
 returns-clause-safe c =
     either c.extend_from_slice.result (is_safe_text (encode_of standard c.args.bytes.now) ≡ true)
-        (encoded_safe c.args.bytes.now (λ k. omega (arith, c.type_inv.bytes k)))
+    (encoded_safe c.args.bytes.now (λ k. omega (arith, c.type_inv.bytes k)))
 
 pub returns-clause-joined : goal.returns-clause-joined
 returns-clause-joined c = either c.extend_from_slice.result _ (λ whole rest. encoded_joined c.args.bytes.now rest whole)

@@ -13,5 +13,5 @@ loop-index-preserved c =
     record {
       texts = c.in_ok-push_text_at.ensures
           ∙ (ap (λ (text : List ℕ). text ++ flat_map text_of (option_to_list (slice_get lines i))) c.loop-index.invariant.texts
-              ∙ one_more text_of lines i c.args.text.now.items);
+          ∙ one_more text_of lines i c.args.text.now.items);
     }

@@ -20,10 +20,10 @@ pub returns-in_default : goal.returns-in_default
 returns-in_default c =
     let a = c.args.assembly.now in
     none_taken (number_fact c.args.is_other c.args.written.now) (slice_get (named_numbers a) c.args.index) c.args.text.now.items
-        (zip_no_other a.names a.labels c.args.index (sym c.in_default.ensures'.told))
+    (zip_no_other a.names a.labels c.args.index (sym c.in_default.ensures'.told))
 
 pub returns-in_default-2 : goal.returns-in_default-2
 returns-in_default-2 c =
     let a = c.args.assembly.now in
     none_taken (number_fact c.args.is_other c.args.written.now) (slice_get (named_numbers a) c.args.index) c.args.text.now.items
-        (zip_none a.names a.labels c.args.index (sym c.in_default.ensures))
+    (zip_none a.names a.labels c.args.index (sym c.in_default.ensures))

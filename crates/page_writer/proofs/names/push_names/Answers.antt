@@ -25,4 +25,4 @@ returns c =
     let a = c.args.assembly.now in
     c.loop-index.invariant.added
     ∙ ap (λ ds. c.args.text.now.items ++ flat_map (number_fact c.args.is_other c.args.written.now) ds)
-        (take_all c.loop-index.index (named_numbers a) (omega (arith, length-zip a.names a.labels, min-le_left (length a.names) (length a.labels))))
+    (take_all c.loop-index.index (named_numbers a) (omega (arith, length-zip a.names a.labels, min-le_left (length a.names) (length a.labels))))

@@ -54,10 +54,10 @@ returns-in-Ok-Some g c =
       inv.1,
       ran_whole c.args.until c.args.limit s u first (known p) c.args.input.now told left l.steps why all
           (ends_with c.args.until c.args.limit s first inv.0 l.player.is_over l.steps l.session (known l.player) inv.3.runs c.loop-steps-test.true
-              turn.told p.is_over (Some why) u (known p) turn.once turn.turn why refl left may),
+          turn.told p.is_over (Some why) u (known p) turn.once turn.turn why refl left may),
       same_steps s.current inv.2 _ inv.1 (ap (λ (x : List ℕ). steps_of c.args.until c.args.limit (play_at s first x)) all
           ∙ made_before c.args.until c.args.limit s first inv.0 l.player.is_over l.steps l.session (known l.player) inv.2 inv.3.steps
-              c.loop-steps-test.true turn.told p.is_over u (known p) turn.once why turn.turn left may) inv.3.are,
+          c.loop-steps-test.true turn.told p.is_over u (known p) turn.once why turn.turn left may) inv.3.are,
       subst (λ (x : List ℕ). IsSentSafely (g.W.Write.contents c.args.writer.now) (g.W.Write.contents l.writer) (c.args.pending.now.items ++ inv.1) x)
           (sym turn.records) inv.3.sent,
     )
@@ -82,12 +82,12 @@ returns-then-is_at g c =
       inv.1 ++ more,
       ran_whole c.args.until c.args.limit s u first (known p) c.args.input.now told left (l.steps + 1) Until all
           (ends_at c.args.until c.args.limit s first inv.0 l.player.is_over l.steps l.session (known l.player) inv.3.runs c.loop-steps-test.true
-              turn.told p.is_over None u (known p) turn.once turn.turn refl there left may),
+          turn.told p.is_over None u (known p) turn.once turn.turn refl there left may),
       same_steps s.current _ _ (inv.1 ++ more) (ap (λ (x : List ℕ). steps_of c.args.until c.args.limit (play_at s first x)) all
           ∙ made_at c.args.until c.args.limit s first inv.0 l.player.is_over l.steps l.session (known l.player) inv.2 inv.3.steps
-              c.loop-steps-test.true turn.told p.is_over u (known p) turn.once turn.turn there left may)
+          c.loop-steps-test.true turn.told p.is_over u (known p) turn.once turn.turn there left may)
           (one_record s.current l.session.current u.current turn.told inv.2 inv.1 l.pending.items c.record_turn.new.pending.items inv.3.are inv.3.last
-              turn.records),
+          turn.records),
       more_sent _ _ _ _ _ _ (more_recorded _ _ c.args.pending.now.items inv.1 more l.pending.items c.record_turn.new.pending.items inv.3.sent
           turn.records.pushed) c.in_ok-send_many.ensures,
     )
@@ -136,10 +136,10 @@ returns g c =
       inv.1,
       ran_whole c.args.until c.args.limit s l.session first (known l.player) c.args.input.now inv.0 left c.args.limit c.ending_after.result inv.3.consumes
           (ends_full c.args.until c.args.limit s first inv.0 l.player.is_over l.steps l.session (known l.player) inv.3.runs
-              (omega (arith, c.loop-steps-test.false)) (omega (arith, c.loop-steps.auto.steps-end)) left inv.3.over
+          (omega (arith, c.loop-steps-test.false)) (omega (arith, c.loop-steps.auto.steps-end)) left inv.3.over
           ∙ ap (λ (e : Ending). record { steps = c.args.limit; ending = e; play = play_at l.session (known l.player) left }) (sym c.ending_after.ensures)),
       same_steps s.current inv.2 _ inv.1 (ap (λ (x : List ℕ). steps_of c.args.until c.args.limit (play_at s first x)) inv.3.consumes
           ∙ all_made c.args.until c.args.limit s first inv.0 l.player.is_over l.steps l.session (known l.player) inv.2 inv.3.steps
-              (omega (arith, c.loop-steps-test.false)) left inv.3.over) inv.3.are,
+          (omega (arith, c.loop-steps-test.false)) left inv.3.over) inv.3.are,
       inv.3.sent,
     )

@@ -11,10 +11,10 @@ returns-in_err-feed c =
     let i = c.loop-piece.piece-index in
     let now = λ (piece : Bor (List ℕ)). piece.now in
     let next = each_next now pieces i (record { ref_ptr = (0, 0); now = [] }) c.loop-piece.reader (concat (map now pieces)) c.loop-piece-test.true
-        c.loop-piece.invariant in
+    c.loop-piece.invariant in
     let fault = said_fault c.feed.new.self c.in_err-feed.field-0.0 c.in_err-feed.ensures.answer in
     answers_fault (end_of_feeding (fed nothing_fed (concat (map now pieces)))) c.from_residual-in_err-feed.result c.in_err-feed.field-0.0
-        c.from_residual-in_err-feed.ensures.1
+    c.from_residual-in_err-feed.ensures.1
     (failed_on c.feed.new.self c.in_err-feed.field-0.0 (concat (map now (drop (i + 1) pieces))) (fed nothing_fed (concat (map now pieces))) fault
     (ap (λ (s : Fed). fed s (concat (map now (drop (i + 1) pieces)))) c.in_err-feed.ensures.after ∙ next))
 
@@ -24,5 +24,5 @@ loop-piece-preserved c =
     let i = c.loop-piece.piece-index in
     let now = λ (piece : Bor (List ℕ)). piece.now in
     let next = each_next now pieces i (record { ref_ptr = (0, 0); now = [] }) c.loop-piece.reader (concat (map now pieces)) c.loop-piece-test.true
-        c.loop-piece.invariant in
+    c.loop-piece.invariant in
     ap (λ (s : Fed). fed s (concat (map now (drop (i + 1) pieces)))) c.feed.ensures.after ∙ next

@@ -10,4 +10,4 @@ returns c =
     let text : List ℕ = c.args.text.now in
     answers_of (read_of text) c.finish.result
     (sym (whole_fed (length text) text (omega arith)) ∙ ap (λ (r : Fed). end_of_feeding (fed_up_to (length text) r text))
-        (sym c.in_ok-reader.ensures.new) ∙ ap end_of_feeding (sym c.take_up_to.ensures) ∙ c.finish.ensures)
+    (sym c.in_ok-reader.ensures.new) ∙ ap end_of_feeding (sym c.take_up_to.ensures) ∙ c.finish.ensures)

@@ -10,7 +10,7 @@ loop-byte-preserved c =
     let below : i < length bytes = c.loop-byte-test.true in
     let e : drop i bytes ≡ slice_index bytes i ∷ drop (i + 1) bytes = rw (add-one, drop-cons bytes i 0) refl in
     pushed_byte bytes (c.args.out.now.items ++ encode_upper bytes) c.loop-byte.out.items c.push_byte.new.out.items (slice_index bytes i) i
-        (drop (i + 1) bytes) e c.loop-byte.invariant c.in_ok-push_byte.ensures
+    (drop (i + 1) bytes) e c.loop-byte.invariant c.in_ok-push_byte.ensures
 
 pub returns : goal.returns
 returns c =

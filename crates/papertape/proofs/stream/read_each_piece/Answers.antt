@@ -14,7 +14,7 @@ returns-in_err-finish-in-Ok-eq0 g c =
     let inv = c.loop.invariant in
     let bytes = rw c.in-Ok-eq0.field-0-test at c.in-Ok-eq0.ensures.bytes in
     reads_fault_at_end _ _ _ c.from_residual-in_err-finish-in-Ok-eq0.result c.in_err-finish-in-Ok-eq0.field-0.0 inv.0 c.loop.reader
-        c.from_residual-in_err-finish-in-Ok-eq0.ensures.1
+    c.from_residual-in_err-finish-in-Ok-eq0.ensures.1
     inv.1 bytes.0 (bytes.1 refl (omega arith)) inv.2 c.in_err-finish-in-Ok-eq0.ensures
 
 pub returns-in-Ok-eq0 : goal.returns-in-Ok-eq0
@@ -30,7 +30,7 @@ returns-in_err-feed-in-Ok g c =
     let fault = c.in_err-feed-in-Ok.field-0.0 in
     reads_refused _ _ _ c.from_residual-in_err-feed-in-Ok.result fault inv.0 bs c.loop.reader c.from_residual-in_err-feed-in-Ok.ensures.1
     inv.1 c.in-Ok.ensures.bytes.0 (omega (arith, length-take c.in-Ok.n c.read.new.buf)) inv.2 inv.3
-        (sym c.in_err-feed-in-Ok.ensures.after ∙ said_fault c.feed.new.self fault c.in_err-feed-in-Ok.ensures.answer)
+    (sym c.in_err-feed-in-Ok.ensures.after ∙ said_fault c.feed.new.self fault c.in_err-feed-in-Ok.ensures.answer)
 
 pub returns-in-Err : goal.returns-in-Err
 returns-in-Err g c =

@@ -19,13 +19,13 @@ overflow_cast-count c =
 pub returns-clause-text : goal.returns-clause-text
 returns-clause-text c =
     text_done c.cells-cells.result.now c.loop-piece.out.items c.write_record.new.out.items c.loop-piece.from c.loop-piece.count c.in_default.ensures
-        c.loop-piece.invariant.text c.loop-piece.invariant.count c.in_ok-write_record.ensures
+    c.loop-piece.invariant.text c.loop-piece.invariant.count c.in_ok-write_record.ensures
     ∙ ap tape_text c.cells-cells.ensures.same
 
 pub returns-clause-denotes : goal.returns-clause-denotes
 returns-clause-denotes c =
     let text =
     text_done c.cells-cells.result.now c.loop-piece.out.items c.write_record.new.out.items c.loop-piece.from c.loop-piece.count c.in_default.ensures
-        c.loop-piece.invariant.text c.loop-piece.invariant.count c.in_ok-write_record.ensures
+    c.loop-piece.invariant.text c.loop-piece.invariant.count c.in_ok-write_record.ensures
     ∙ ap tape_text c.cells-cells.ensures.same in
     subst (λ t. TapeDenotes t c.args.image.now) (sym text) (written_denotes c.args.image.now c.cells-cells.ensures.image)

@@ -12,7 +12,7 @@ returns-clause-shape c =
     let port_is : rule_of c.port.result ≡ option_rule (codes "port") = search rules in
     let profile_is : rule_of c.profile.result ≡ option_rule (codes "profile") = search rules in
     let begun : app_of c.after_help.result ≡ new_app (codes "asm") =
-        ap app_of_fields c.after_help.ensures ∙ ap app_of_fields c.about.ensures ∙ c.new.ensures.app in
+    ap app_of_fields c.after_help.ensures ∙ ap app_of_fields c.about.ensures ∙ c.new.ensures.app in
     let with_source : app_of c.in_ok-arg.field-0 ≡ with_rule (new_app (codes "asm")) (file_rule (codes "SOURCE"))
     = c.in_ok-arg.ensures.shape (search rules) ∙ ap₂ with_rule begun source_is in
     let with_tape = c.in_ok-arg-2.ensures.shape (search rules) ∙ ap₂ with_rule with_source tape_is in

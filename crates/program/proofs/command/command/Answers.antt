@@ -16,9 +16,9 @@ top a = a.top
 pub returns-clause-shape : goal.returns-clause-shape
 returns-clause-shape c =
     let new_is : app_of c.after_help.result ≡ new_app (codes "mos65") =
-        ap app_of_fields c.after_help.ensures ∙ ap app_of_fields c.about.ensures ∙ c.new.ensures.app in
+    ap app_of_fields c.after_help.ensures ∙ ap app_of_fields c.about.ensures ∙ c.new.ensures.app in
     let unnamed : app_of c.no_binary_name.result ≡ without_name (new_app (codes "mos65")) =
-        ap app_of_fields c.no_binary_name.ensures ∙ ap without_name new_is in
+    ap app_of_fields c.no_binary_name.ensures ∙ ap without_name new_is in
     let required : app_of c.subcommand_required.result ≡ above = ap app_of_fields c.subcommand_required.ensures ∙ ap with_subcommand_required unnamed in
     let above_is : app_of c.in_ok-bin_name.field-0 ≡ above = ap app_of_fields c.in_ok-bin_name.ensures.0 ∙ required in
     let with_asm : app_of c.in_ok-subcommand.field-0 ≡ with_subcommand above asm.top

@@ -13,7 +13,7 @@ returns-clause-shape c =
     let rom_is : rule_of c.rom.result ≡ option_rule (codes "rom") = search rules in
     let profile_is : rule_of c.profile.result ≡ option_rule (codes "profile") = search rules in
     let begun : app_of c.after_help.result ≡ new_app (codes "debug") =
-        ap app_of_fields c.after_help.ensures ∙ ap app_of_fields c.about.ensures ∙ c.new.ensures.app in
+    ap app_of_fields c.after_help.ensures ∙ ap app_of_fields c.about.ensures ∙ c.new.ensures.app in
     let with_file : app_of c.in_ok-arg.field-0 ≡ with_rule (new_app (codes "debug")) (file_rule (codes "FILE"))
     = c.in_ok-arg.ensures.shape (search rules) ∙ ap₂ with_rule begun file_is in
     let with_tape = c.in_ok-arg-2.ensures.shape (search rules) ∙ ap₂ with_rule with_file tape_is in

@@ -11,7 +11,7 @@ returns-clause-shape c =
     let high_is : rule_of c.file-3.result ≡ file_rule (codes "HI") = search rules in
     let profile_is : rule_of c.profile.result ≡ option_rule (codes "profile") = search rules in
     let begun : app_of c.after_help.result ≡ new_app (codes "dis") =
-        ap app_of_fields c.after_help.ensures ∙ ap app_of_fields c.about.ensures ∙ c.new.ensures.app in
+    ap app_of_fields c.after_help.ensures ∙ ap app_of_fields c.about.ensures ∙ c.new.ensures.app in
     let with_tape : app_of c.in_ok-arg.field-0 ≡ with_rule (new_app (codes "dis")) (file_rule (codes "TAPE"))
     = c.in_ok-arg.ensures.shape (search rules) ∙ ap₂ with_rule begun tape_is in
     let with_low = c.in_ok-arg-2.ensures.shape (search rules) ∙ ap₂ with_rule with_tape low_is in

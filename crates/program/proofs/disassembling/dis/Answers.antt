@@ -13,7 +13,7 @@ returns-in_err-text-clause-listed g c =
 pub returns-clause-listed : goal.returns-clause-listed
 returns-clause-listed g c =
     listed_of c.write_text.result c.args.words.now.profile c.args.words.now.first c.args.words.now.last _ _ _ c.in_ok-text.ensures.denoted.0
-        c.as_slice-rows.result.now (c.as_slice-rows.ensures.value ∙ c.in_ok-text.ensures.denoted.2) c.write_text.ensures.writes c.write_text.ensures.only
+    c.as_slice-rows.result.now (c.as_slice-rows.ensures.value ∙ c.in_ok-text.ensures.denoted.2) c.write_text.ensures.writes c.write_text.ensures.only
 
 pub returns-clause-refused : goal.returns-clause-refused
 returns-clause-refused g c = ends_write c.write_text.result c.write_text.ensures.only

@@ -13,7 +13,7 @@ returns-in_err-image-clause-faulty g c = each_refused _ c.from_residual.result c
 pub returns-in-Ok-clause-only : goal.returns-in-Ok-clause-only
 returns-in-Ok-clause-only g c =
     each_image _ c.in_ok-image.image (λ i. c.in-Ok.text.items ≡ rows_in c.args.profile (memory_of i) c.args.last c.args.first 65536)
-        c.in_ok-image.ensures.only c.in-Ok.ensures
+    c.in_ok-image.ensures.only c.in-Ok.ensures
 
 pub returns-in-Ok-clause-faulty : goal.returns-in-Ok-clause-faulty
 returns-in-Ok-clause-faulty g c = each_fault _ c.in_ok-image.image _ c.in_ok-image.ensures.refused

@@ -8,13 +8,13 @@ pub returns-in_err-dis_words-in-dis-default : goal.returns-in_err-dis_words-in-d
 returns-in_err-dis_words-in-dis-default c =
     let none : c.from_residual-in_err-dis_words-in-dis-default.result ≡ None = search rules in
     rw none (ap (option_map dis) c.in_err-dis_words-in-dis-default.ensures
-        ∙ dis_found c.args.matches.now (found_of c.in_ok-found.field-0.1.now) c.in_ok-found.field-0.0.now
+    ∙ dis_found c.args.matches.now (found_of c.in_ok-found.field-0.1.now) c.in_ok-found.field-0.0.now
     c.in_ok-found.ensures.name c.in_ok-found.ensures.rows c.in-dis-default.is-dis-0)
 
 pub returns-in_ok-dis_words-in-dis-default : goal.returns-in_ok-dis_words-in-dis-default
 returns-in_ok-dis_words-in-dis-default c =
     ap (option_map dis) c.in_ok-dis_words-in-dis-default.ensures
-        ∙ dis_found c.args.matches.now (found_of c.in_ok-found.field-0.1.now) c.in_ok-found.field-0.0.now
+    ∙ dis_found c.args.matches.now (found_of c.in_ok-found.field-0.1.now) c.in_ok-found.field-0.0.now
     c.in_ok-found.ensures.name c.in_ok-found.ensures.rows c.in-dis-default.is-dis-0
 
 pub returns-in-Some : goal.returns-in-Some

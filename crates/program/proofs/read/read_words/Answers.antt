@@ -25,7 +25,7 @@ returns-in_err-matches-clause-refused c =
 pub returns-in-Some-clause-asked : goal.returns-in-Some-clause-asked
 returns-in-Some-clause-asked c =
     sym (c.in-Some.ensures ∙ found_asked (app_of c.in_ok-command.field-0) (texts c.args.words.now) (subcommand_rows_of c.in_ok-matches.matches)
-        c.in_ok-command.ensures.shape c.in_ok-matches.ensures.subcommand)
+    c.in_ok-command.ensures.shape c.in_ok-matches.ensures.subcommand)
 
 pub returns-in-Some-clause-taken : goal.returns-in-Some-clause-taken
 returns-in-Some-clause-taken c = subst (λ (a : App). Fits a (texts c.args.words.now)) c.in_ok-command.ensures.shape c.in_ok-matches.ensures.fits
@@ -33,13 +33,13 @@ returns-in-Some-clause-taken c = subst (λ (a : App). Fits a (texts c.args.words
 pub returns-in-Some-clause-wrong : goal.returns-in-Some-clause-wrong
 returns-in-Some-clause-wrong c fits none =
     absurd (not_both _ (view c.in-Some.words) (sym (c.in-Some.ensures
-        ∙ found_asked (app_of c.in_ok-command.field-0) (texts c.args.words.now) (subcommand_rows_of c.in_ok-matches.matches)
-        c.in_ok-command.ensures.shape c.in_ok-matches.ensures.subcommand)) none)
+    ∙ found_asked (app_of c.in_ok-command.field-0) (texts c.args.words.now) (subcommand_rows_of c.in_ok-matches.matches)
+    c.in_ok-command.ensures.shape c.in_ok-matches.ensures.subcommand)) none)
 
 pub returns-clause-served : goal.returns-clause-served
 returns-clause-served c a fits h =
     absurd (not_both _ a h (sym (c.in-None.ensures ∙ found_asked (app_of c.in_ok-command.field-0) (texts c.args.words.now)
-        (subcommand_rows_of c.in_ok-matches.matches) c.in_ok-command.ensures.shape c.in_ok-matches.ensures.subcommand)))
+    (subcommand_rows_of c.in_ok-matches.matches) c.in_ok-command.ensures.shape c.in_ok-matches.ensures.subcommand)))
 
 pub returns-clause-refused : goal.returns-clause-refused
 returns-clause-refused c = (

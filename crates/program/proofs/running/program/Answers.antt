@@ -27,7 +27,7 @@ pub returns-in-Ok-Debug-clause-debug : goal.returns-in-Ok-Debug-clause-debug
 returns-in-Ok-Debug-clause-debug g c d h taken =
     let same = one_debug _ (debug_view c.in-Ok-Debug.words) d (rw c.in-Ok-Debug.field-0-is at c.in-Ok-Debug.ensures.asked) h in
     runs_debug (debug_view c.in-Ok-Debug.words) d _ _ c.debug.result c.finish-in-Ok-Debug.result same c.debug.ensures.bad_map c.debug.ensures.refused
-        c.debug.ensures.served c.finish-in-Ok-Debug.ensures.status
+    c.debug.ensures.served c.finish-in-Ok-Debug.ensures.status
 
 -- words that were rejected
 pub returns-in-Err-clause-told : goal.returns-in-Err-clause-told

@@ -9,7 +9,7 @@ returns-in_default c =
 pub returns-then-has_high_bit : goal.returns-then-has_high_bit
 returns-then-has_high_bit c =
     sym (c.loop-left.invariant.found ∙ high_ends c.args.cells.now c.loop-left.left c.loop-left.at c.in-Some.byte c.loop-left-test.true
-        (sym c.cell_at.ensures.same ∙ c.in-Some.is) (sym c.has_high_bit.ensures ∙ c.if-has_high_bit.true))
+    (sym c.cell_at.ensures.same ∙ c.in-Some.is) (sym c.has_high_bit.ensures ∙ c.if-has_high_bit.true))
 
 pub loop-left-preserved : goal.loop-left-preserved
 loop-left-preserved c = record {

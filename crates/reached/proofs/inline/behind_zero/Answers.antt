@@ -9,7 +9,7 @@ returns-in_default c =
 pub returns-then-is_end : goal.returns-then-is_end
 returns-then-is_end c =
     sym (c.loop-left.invariant.found ∙ ends c.args.cells.now c.loop-left.left c.loop-left.at c.in-Some.byte c.loop-left-test.true
-        (sym c.cell_at.ensures.same ∙ c.in-Some.is) (sym c.is_end.ensures ∙ c.if-is_end.true))
+    (sym c.cell_at.ensures.same ∙ c.in-Some.is) (sym c.is_end.ensures ∙ c.if-is_end.true))
 
 pub loop-left-preserved : goal.loop-left-preserved
 loop-left-preserved c = record {

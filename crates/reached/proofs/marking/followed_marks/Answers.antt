@@ -8,12 +8,17 @@ pub loop-address-preserved : goal.loop-address-preserved
 loop-address-preserved c =
     let size : length c.loop-address.followed.items ≡ c.loop-address.address = c.loop-address.invariant.len in
     let grown : length c.push.new.self.items ≡ c.loop-address.address + 1 =
-        omega (arith, c.in_ok-push.ensures.len, c.loop-address.invariant.len, c.loop-address.followed.ok.0, c.push.new.self.ok.0) in
+    omega (arith, c.in_ok-push.ensures.len, c.loop-address.invariant.len, c.loop-address.followed.ok.0, c.push.new.self.ok.0) in
     let last : c.followed_mark.result ≡ followed_mark (mark_at c.args.marks.now c.loop-address.address)
-        (is_followed c.args.profile c.cells-cells.result.now c.args.marks.now c.in_ok-flags.flags.items c.loop-address.address)
-        (is_reached c.in_ok-letters.letters.items c.loop-address.address)
-    = c.followed_mark.ensures ∙ rw (c.mark_at.ensures, c.is_followed-is_code.ensures, c.is_reached-is_letter.ensures,
-        c.as_slice-in-loop-address.ensures.value, c.as_slice-in-loop-address-2.ensures.value) refl in
+    (is_followed c.args.profile c.cells-cells.result.now c.args.marks.now c.in_ok-flags.flags.items c.loop-address.address)
+    (is_reached c.in_ok-letters.letters.items c.loop-address.address)
+    = c.followed_mark.ensures ∙ rw (
+      c.mark_at.ensures,
+      c.is_followed-is_code.ensures,
+      c.is_reached-is_letter.ensures,
+      c.as_slice-in-loop-address.ensures.value,
+      c.as_slice-in-loop-address-2.ensures.value,
+    ) refl in
     record {
       len = grown;
       each = more c.loop-address.followed.items c.push.new.self.items c.loop-address.address

@@ -16,7 +16,7 @@ loop-index-preserved c =
     elim c.match-line.branch [
       | in-Some+in_ok-push_rows_of w ↦
           rw (w.from-is, w.behind-from.ensures) (line_more b cells c.loop-index.from i lines (line_view w.in-Some.line) c.loop-index.out.items _
-              (rows_from b cells 0 lines)
+          (rows_from b cells 0 lines)
           (sym c.line.ensures ∙ ap (option_map line_view) w.in-Some.is) (search rules) c.loop-index.invariant)
       | in_default w ↦ absurd (there lines i (omega arith) (sym c.line.ensures ∙ ap (option_map line_view) w.in_default.is))
     ]

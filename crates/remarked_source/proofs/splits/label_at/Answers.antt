@@ -13,9 +13,9 @@ returns-in_default c =
 pub returns-then-is_label_at : goal.returns-then-is_label_at
 returns-then-is_label_at c =
     found_here (is_label_at c.args.address) (source_lines c.args.assembly.now) c.loop-index.index (line_view c.in-Some.line) _
-        (sym c.line.ensures ∙ ap (option_map line_view) c.in-Some.is) (sym c.is_label_at.ensures ∙ c.if-is_label_at.true) c.loop-index.invariant
+    (sym c.line.ensures ∙ ap (option_map line_view) c.in-Some.is) (sym c.is_label_at.ensures ∙ c.if-is_label_at.true) c.loop-index.invariant
 
 pub loop-index-preserved : goal.loop-index-preserved
 loop-index-preserved c =
     found_more (is_label_at c.args.address) (source_lines c.args.assembly.now) c.loop-index.index (line_view c.in-Some.line) _
-        (sym c.line.ensures ∙ ap (option_map line_view) c.in-Some.is) (sym c.is_label_at.ensures ∙ c.if-is_label_at.false) c.loop-index.invariant
+    (sym c.line.ensures ∙ ap (option_map line_view) c.in-Some.is) (sym c.is_label_at.ensures ∙ c.if-is_label_at.false) c.loop-index.invariant

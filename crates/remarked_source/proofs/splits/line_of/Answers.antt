@@ -13,9 +13,9 @@ returns-in_default-clause-found c =
 pub returns-then-covers-clause-found : goal.returns-then-covers-clause-found
 returns-then-covers-clause-found c =
     found_here (covers c.args.address) (source_lines c.args.assembly.now) c.loop-index.index (line_view c.in-Some.line) _
-        (sym c.line.ensures ∙ ap (option_map line_view) c.in-Some.is) (sym c.covers.ensures ∙ c.if-covers.true) c.loop-index.invariant
+    (sym c.line.ensures ∙ ap (option_map line_view) c.in-Some.is) (sym c.covers.ensures ∙ c.if-covers.true) c.loop-index.invariant
 
 pub loop-index-preserved : goal.loop-index-preserved
 loop-index-preserved c =
     found_more (covers c.args.address) (source_lines c.args.assembly.now) c.loop-index.index (line_view c.in-Some.line) _
-        (sym c.line.ensures ∙ ap (option_map line_view) c.in-Some.is) (sym c.covers.ensures ∙ c.if-covers.false) c.loop-index.invariant
+    (sym c.line.ensures ∙ ap (option_map line_view) c.in-Some.is) (sym c.covers.ensures ∙ c.if-covers.false) c.loop-index.invariant

@@ -15,7 +15,7 @@ loop-index-preserved c =
     elim c.match-line.branch [
       | in-Some+in_ok-push_split_row w ↦
           rw w.before-is (line_more t.cells.now t.splits.now lines (option_map line_view c.loop-index.before) i lines (line_view w.in-Some.line)
-              c.loop-index.out.items _ (split_from t.cells.now t.splits.now lines None lines)
+          c.loop-index.out.items _ (split_from t.cells.now t.splits.now lines None lines)
           (sym c.line.ensures ∙ ap (option_map line_view) w.in-Some.is) (search rules) c.loop-index.invariant)
       | in_default w ↦ absurd (there lines i (omega arith) (sym c.line.ensures ∙ ap (option_map line_view) w.in_default.is))
     ]

@@ -15,7 +15,7 @@ loop-index-preserved c =
     elim c.match-line.branch [
       | in-Some+in_ok-push_joined w ↦
           rw w.before-is (line_more marks (option_map line_view c.loop-index.before) i lines (line_view w.in-Some.line) c.loop-index.out.items _
-              (joined_from marks None lines)
+          (joined_from marks None lines)
           (sym c.line.ensures ∙ ap (option_map line_view) w.in-Some.is) (search rules) c.loop-index.invariant)
       | in_default w ↦ absurd (there lines i (omega arith) (sym c.line.ensures ∙ ap (option_map line_view) w.in_default.is))
     ]
@@ -24,5 +24,5 @@ pub returns : goal.returns
 returns c =
     let lines = source_lines c.args.assembly.now in
     lines_end c.args.marks.now (option_map line_view c.loop-index.before) c.loop-index.index lines c.loop-index.out.items
-        c.push_last_end.new.out.items (joined_from c.args.marks.now None lines)
+    c.push_last_end.new.out.items (joined_from c.args.marks.now None lines)
     (omega arith) (search rules) c.loop-index.invariant

@@ -9,4 +9,4 @@ returns-then-not-is_text-clause-exact c =
 pub returns-clause-exact : goal.returns-clause-exact
 returns-clause-exact c =
     sym (counted c.args.marks.now c.args.most c.args.address c.loop-count.count c.loop-count.invariant.few c.loop-count.invariant.each
-        (λ below. absurd (omega (arith, below, c.loop-count-test.false))))
+    (λ below. absurd (omega (arith, below, c.loop-count-test.false))))

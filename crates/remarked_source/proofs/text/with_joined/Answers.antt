@@ -41,7 +41,7 @@ returns-else-branch-clause-text c =
 pub returns-then-branch-clause-denotes : goal.returns-then-branch-clause-denotes
 returns-then-branch-clause-denotes c = λ plain. λ bus_map same spared.
     subst (λ (t : List ℕ). Denotes bus_map t c.args.image.now) c.as_slice-2.ensures.value
-        (c.in_ok-is_right.ensures.denotes c.if-branch.true bus_map same spared)
+    (c.in_ok-is_right.ensures.denotes c.if-branch.true bus_map same spared)
 
 pub returns-else-branch-clause-denotes : goal.returns-else-branch-clause-denotes
 returns-else-branch-clause-denotes c = λ plain. plain

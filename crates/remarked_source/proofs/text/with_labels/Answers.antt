@@ -12,8 +12,8 @@ returns-then-branch-clause-text c =
     let image = c.args.image.now in
     let first = split_from image c.args.splits.now (source_lines c.in-Ok.assembly) None (source_lines c.in-Ok.assembly) in
     let same : c.in_ok-text.text.items ≡ first = c.in_ok-text.ensures
-        ∙ ap (λ (cells : List (Option ℕ)). split_from cells c.args.splits.now (source_lines c.in-Ok.assembly) None (source_lines c.in-Ok.assembly))
-        c.cells.ensures.same in
+    ∙ ap (λ (cells : List (Option ℕ)). split_from cells c.args.splits.now (source_lines c.in-Ok.assembly) None (source_lines c.in-Ok.assembly))
+    c.cells.ensures.same in
     record {
       bus_map = c.in-Some.map;
       same = c.in-Some.ensures.profile;
@@ -30,8 +30,8 @@ returns-else-branch-clause-text c =
     let image = c.args.image.now in
     let first = split_from image c.args.splits.now (source_lines c.in-Ok.assembly) None (source_lines c.in-Ok.assembly) in
     let same : c.in_ok-text.text.items ≡ first = c.in_ok-text.ensures
-        ∙ ap (λ (cells : List (Option ℕ)). split_from cells c.args.splits.now (source_lines c.in-Ok.assembly) None (source_lines c.in-Ok.assembly))
-        c.cells.ensures.same in
+    ∙ ap (λ (cells : List (Option ℕ)). split_from cells c.args.splits.now (source_lines c.in-Ok.assembly) None (source_lines c.in-Ok.assembly))
+    c.cells.ensures.same in
     record {
       bus_map = c.in-Some.map;
       same = c.in-Some.ensures.profile;
@@ -45,7 +45,7 @@ returns-else-branch-clause-text c =
 pub returns-then-branch-clause-denotes : goal.returns-then-branch-clause-denotes
 returns-then-branch-clause-denotes c = λ plain. λ bus_map same spared.
     subst (λ (t : List ℕ). Denotes bus_map t c.args.image.now) c.as_slice-2.ensures.value
-        (c.in_ok-is_right.ensures.denotes c.if-branch.true bus_map same spared)
+    (c.in_ok-is_right.ensures.denotes c.if-branch.true bus_map same spared)
 
 pub returns-else-branch-clause-denotes : goal.returns-else-branch-clause-denotes
 returns-else-branch-clause-denotes c = λ plain. plain

@@ -10,7 +10,7 @@ returns-clause-accepted c =
 pub returns-clause-after : goal.returns-clause-after
 returns-clause-after c =
     handed c.args.session.now _ c.args.byte c.event.result c.requires c.event.ensures.ok c.event.ensures.err
-        ∙ sym (after_one c.args.session.now c.args.byte c.requires)
+    ∙ sym (after_one c.args.session.now c.args.byte c.requires)
 
 pub returns-clause-given : goal.returns-clause-given
 returns-clause-given c = ap (λ s. s.current.bus.given) (handed c.args.session.now _ c.args.byte c.event.result c.requires c.event.ensures.ok

@@ -30,5 +30,5 @@ returns c =
     let out = c.args.session.now.current.bus.out in let from = c.args.from in let index = c.loop-index.index in
     let count : index - from ≡ c.min-count.result = omega (arith, c.loop-index.auto.index, c.loop-index.auto.index-end, c.loop-index-test.false) in
     let left : c.min-count.result ≡ min (length out - from) 32 =
-        c.min-count.ensures ∙ ap (λ n. min n 32) (c.saturating_sub.ensures ∙ ap (λ n. n - from) c.output_len.ensures) in
+    c.min-count.ensures ∙ ap (λ n. min n 32) (c.saturating_sub.ensures ∙ ap (λ n. n - from) c.output_len.ensures) in
     c.push_bytes.ensures ∙ ap (λ l. l ++ 10 ∷ []) c.loop-index.invariant.text ∙ sym (digits_row out from (index - from) (count ∙ left))

@@ -19,9 +19,9 @@ loop-address-init c =
 pub loop-address-preserved : goal.loop-address-preserved
 loop-address-preserved c =
     let spaced : length c.push_bytes-in-loop-address.new.text.items ≡ length c.loop-address.text.items + 1 =
-        ap length c.push_bytes-in-loop-address.ensures ∙ length-append _ _ in
+    ap length c.push_bytes-in-loop-address.ensures ∙ length-append _ _ in
     let pushed : length c.push_hex_byte.new.text.items ≡ length c.push_bytes-in-loop-address.new.text.items + 2 =
-        ap length c.push_hex_byte.ensures ∙ length-append _ _ in
+    ap length c.push_hex_byte.ensures ∙ length-append _ _ in
     record {
       text = row_step _ c.args.first c.loop-address.address _ _ _ _ c.loop-address.auto.address c.peek.ensures.within c.peek.ensures.value
           c.loop-address.invariant.text c.push_bytes-in-loop-address.ensures c.push_hex_byte.ensures;
@@ -45,6 +45,6 @@ returns c =
       | then-loop-address-test+else-address-last w ↦
           let n : address + 1 - first ≡ last + 1 - first = omega arith in
           let row = row_step memory first address _ _ _ _ c.loop-address.auto.address w.peek.ensures.within w.peek.ensures.value
-              c.loop-address.invariant.text w.push_bytes-in-loop-address.ensures w.push_hex_byte.ensures in
+          c.loop-address.invariant.text w.push_bytes-in-loop-address.ensures w.push_hex_byte.ensures in
           ap (λ t. t.items ++ 10 ∷ []) w.text-is ∙ ap (λ l. l ++ 10 ∷ []) row ∙ sym (row_is memory first last (address + 1 - first) n)
     ]

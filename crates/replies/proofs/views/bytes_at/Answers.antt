@@ -15,7 +15,7 @@ loop-place-preserved c =
     record {
       bytes = c.push-in-loop-place.ensures.items ∙ ap (λ l. l ++ c.peek-in-loop-place.result ∷ []) c.loop-place.invariant.bytes
           ∙ ap (λ b. take (place + 1) (drop address memory) ++ b ∷ []) c.peek-in-loop-place.ensures.value
-              ∙ bytes_more memory address place c.peek-in-loop-place.ensures.within;
+          ∙ bytes_more memory address place c.peek-in-loop-place.ensures.within;
       few = omega (arith, c.push-in-loop-place.ensures.len, c.loop-place.invariant.few);
     }
 
@@ -23,4 +23,4 @@ pub returns-clause-bytes : goal.returns-clause-bytes
 returns-clause-bytes c =
     let last : c.loop-place.place ≡ c.min-more.result = omega arith in
     c.loop-place.invariant.bytes ∙ bytes_all c.args.session.now.current.bus.memory c.args.address c.loop-place.place c.peek.ensures.size (omega arith)
-        (last ∙ c.min-more.ensures)
+    (last ∙ c.min-more.ensures)

@@ -15,36 +15,36 @@ pub returns-then-next-gt65535-clause-writes : goal.returns-then-next-gt65535-cla
 returns-then-next-gt65535-clause-writes g c =
     let profile = c.args.session.now.current.bus.map.profile in let memory = c.args.session.now.current.bus.memory in let inv = c.loop-done.invariant in
     rw (inv.2 ∙ ap (λ l. inv.0 ++ l) (rows_past profile memory c.loop-done.next (c.args.count - c.loop-done.done) c.if-next-gt65535.true)
-        ∙ append-nil inv.0) inv.1
+    ∙ append-nil inv.0) inv.1
 
 pub returns-in-Err-clause-writes : goal.returns-in-Err-clause-writes
 returns-in-Err-clause-writes g c =
     let profile = c.args.session.now.current.bus.map.profile in let memory = c.args.session.now.current.bus.memory in let next = c.loop-done.next in
-        let inv = c.loop-done.invariant in
+    let inv = c.loop-done.invariant in
     let n = c.args.count - c.loop-done.done in
     let some : 0 < n = omega (arith, c.loop-done-test.true) in
     let is_bytes = c.as_slice.ensures.value ∙ c.bytes_at-bytes.ensures.bytes in
     let is_row = c.as_slice-in-loop-done.ensures.value ∙ c.row_text_in-row.ensures.text
-        ∙ ap (λ p. row_line next c.as_slice.result.now (row_of p c.as_slice.result.now next)) c.profile.ensures
-        ∙ ap (λ b. row_line next b (row_of profile b next)) is_bytes in
+    ∙ ap (λ p. row_line next c.as_slice.result.now (row_of p c.as_slice.result.now next)) c.profile.ensures
+    ∙ ap (λ b. row_line next b (row_of profile b next)) is_bytes in
     let part = rw is_row at c.in-Err.ensures.writes in
     let row = row_line next (bytes_from memory next) (row_in profile memory next) in
     let rest = rows_in profile memory 65535 (next + (row_in profile memory next).len) (n - 1) in
     rw (inv.2 ∙ ap (λ l. inv.0 ++ l) (rows_more profile memory next n c.if-next-gt65535.false some))
-        (front_after _ _ _ inv.0 (row ++ rest) inv.1 (front_more _ _ row rest part))
+    (front_after _ _ _ inv.0 (row ++ rest) inv.1 (front_more _ _ row rest part))
 
 pub loop-done-preserved : goal.loop-done-preserved
 loop-done-preserved g c =
     let profile = c.args.session.now.current.bus.map.profile in let memory = c.args.session.now.current.bus.memory in let next = c.loop-done.next in
-        let inv = c.loop-done.invariant in
+    let inv = c.loop-done.invariant in
     let n = c.args.count - c.loop-done.done in
     let some : 0 < n = omega (arith, c.loop-done-test.true) in
     let is_bytes = c.as_slice.ensures.value ∙ c.bytes_at-bytes.ensures.bytes in
     let is_row = c.as_slice-in-loop-done.ensures.value ∙ c.row_text_in-row.ensures.text
-        ∙ ap (λ p. row_line next c.as_slice.result.now (row_of p c.as_slice.result.now next)) c.profile.ensures
-        ∙ ap (λ b. row_line next b (row_of profile b next)) is_bytes in
+    ∙ ap (λ p. row_line next c.as_slice.result.now (row_of p c.as_slice.result.now next)) c.profile.ensures
+    ∙ ap (λ b. row_line next b (row_of profile b next)) is_bytes in
     let is_len = c.row_text_in-row.ensures.len ∙ ap (λ p. (row_of p c.as_slice.result.now next).len) c.profile.ensures
-        ∙ ap (λ b. (row_of profile b next).len) is_bytes in
+    ∙ ap (λ b. (row_of profile b next).len) is_bytes in
     let row = row_line next (bytes_from memory next) (row_in profile memory next) in
     let fewer : n - 1 ≡ c.args.count - (c.loop-done.done + 1) = omega arith in (
       inv.0 ++ row,
@@ -52,7 +52,7 @@ loop-done-preserved g c =
       inv.2 ∙ ap (λ l. inv.0 ++ l) (rows_more profile memory next n c.if-next-gt65535.false some)
           ∙ sym (append_assoc inv.0 row (rows_in profile memory 65535 (next + (row_in profile memory next).len) (n - 1)))
           ∙ ap (λ k. (inv.0 ++ row) ++ rows_in profile memory 65535 (next + k) (n - 1)) (sym is_len)
-              ∙ ap (λ k. (inv.0 ++ row) ++ rows_in profile memory 65535 (next + c.row_text_in-row.result.len) k) fewer,
+          ∙ ap (λ k. (inv.0 ++ row) ++ rows_in profile memory 65535 (next + c.row_text_in-row.result.len) k) fewer,
     )
 
 pub returns-clause-writes : goal.returns-clause-writes

@@ -8,4 +8,4 @@ abbrev pub invariant-loop-done : goal.invariant-loop-done
 invariant-loop-done g l =
     (text : List ℕ) × Appends (g.W.Write.contents l.fn.writer) (g.W.Write.contents l.writer) text
     × (rows_in l.session.current.bus.map.profile l.session.current.bus.memory 65535 l.fn.address l.count ≡ text
-        ++ rows_in l.session.current.bus.map.profile l.session.current.bus.memory 65535 l.next (l.count - l.done))
+    ++ rows_in l.session.current.bus.map.profile l.session.current.bus.memory 65535 l.next (l.count - l.done))

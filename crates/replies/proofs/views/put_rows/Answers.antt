@@ -14,7 +14,7 @@ returns-in-Err-clause-writes g c =
     let part = rw row at c.in-Err.ensures.writes in
     let all = parts_front (row_of memory first last) (k + 1) (c.saturating_sub.result / 16 + 1) (omega (arith, c.loop-row-test.true)) in
     rw (rows_all memory first last (c.saturating_sub.result / 16 + 1) (ap (λ n. n / 16 + 1) c.saturating_sub.ensures), all.1, parts_more)
-        (front_more _ _ (parts_to (row_of memory first last) k ++ row_of memory first last k) all.0 (front_after _ _ _ _ _ c.loop-row.invariant part))
+    (front_more _ _ (parts_to (row_of memory first last) k ++ row_of memory first last k) all.0 (front_after _ _ _ _ _ c.loop-row.invariant part))
 
 pub loop-row-preserved : goal.loop-row-preserved
 loop-row-preserved g c =

@@ -8,7 +8,7 @@ use Rattle.source_faults.proofs.judging.judge_kept.Goals as goal
 pub returns-then-moved-clause-kind : goal.returns-then-moved-clause-kind
 returns-then-moved-clause-kind c =
     moved_kind c.args.map.now (number_in c.args.names.now) c.args.image.now c.args.moved (placed_line_of c.args.line.now) c.in_ok-kind.kind
-        c.but_of_place.result c.if-moved.true c.in_ok-kind.ensures
+    c.but_of_place.result c.if-moved.true c.in_ok-kind.ensures
     c.but_of_place.ensures
 
 pub returns-then-moved-clause-image : goal.returns-then-moved-clause-image
@@ -18,12 +18,12 @@ returns-then-moved-clause-image c = moved_image (number_in c.args.names.now) c.a
 pub returns-in-Ok-clause-kind : goal.returns-in-Ok-clause-kind
 returns-in-Ok-clause-kind c =
     rw c.if-moved.false (sym (put_kind c.args.map.now (number_in c.args.names.now) c.args.image.now c.put_line.new.image
-        (placed_line_of c.args.line.now) c.in-Ok.ensures.exact))
+    (placed_line_of c.args.line.now) c.in-Ok.ensures.exact))
 
 pub returns-in-Ok-clause-image : goal.returns-in-Ok-clause-image
 returns-in-Ok-clause-image c =
     rw c.if-moved.false (put_image c.args.map.now (number_in c.args.names.now) c.args.image.now c.put_line.new.image (placed_line_of c.args.line.now)
-        c.in-Ok.ensures.exact)
+    c.in-Ok.ensures.exact)
 
 pub returns-in-Err-Kind-clause-kind : goal.returns-in-Err-Kind-clause-kind
 returns-in-Err-Kind-clause-kind c =
@@ -33,4 +33,4 @@ returns-in-Err-Kind-clause-kind c =
 pub returns-in-Err-Kind-clause-image : goal.returns-in-Err-Kind-clause-image
 returns-in-Err-Kind-clause-image c =
     c.in-Err-Kind.ensures.same ∙ sym (fault_image (number_in c.args.names.now) (made_of c.args.image.now c.args.moved)
-        (placed_line_of c.args.line.now) c.in-Err-Kind.kind)
+    (placed_line_of c.args.line.now) c.in-Err-Kind.kind)

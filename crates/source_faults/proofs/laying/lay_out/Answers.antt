@@ -20,20 +20,26 @@ loop-rest-preserved c =
     record {
       found = rw c.in_ok-push.ensures.items
           (goes_on (mending_of c.args.mending) c.args.profile (before_line c.args.profile c.loop-rest.address c.loop-rest.symbols)
-              (before_line c.args.profile c.in_ok-laid.laid.next c.lay_line.new.symbols)
+          (before_line c.args.profile c.in_ok-laid.laid.next c.lay_line.new.symbols)
           c.loop-rest.found.items c.in_ok-laid.laid.found c.loop-rest.rest.now c.next_line.result.0.now c.next_line.result.1.now _
           c.next_line.ensures.cut (sym e.end ∙ c.if-ended.false) e.found e.fixed c.loop-rest.invariant.found);
       fixed = fixed_on (mending_of c.args.mending) c.args.profile (before_line c.args.profile c.loop-rest.address c.loop-rest.symbols)
           (before_line c.args.profile c.in_ok-laid.laid.next c.lay_line.new.symbols)
           c.loop-rest.rest.now c.next_line.result.0.now c.next_line.result.1.now _ c.next_line.ensures.cut (sym e.end ∙ c.if-ended.false) e.fixed
-              c.loop-rest.invariant.fixed;
+          c.loop-rest.invariant.fixed;
       numbered = one_numbered c.loop-rest.found.items c.push.new.self.items c.in_ok-laid.laid.found c.loop-rest.number c.in_ok-push.ensures.items
           c.loop-rest.invariant.count c.loop-rest.invariant.numbered c.in_ok-laid.ensures.numbered;
       count = counted c.loop-rest.found.items c.push.new.self.items c.in_ok-laid.laid.found c.loop-rest.number c.in_ok-push.ensures.items
           c.loop-rest.invariant.count;
       room = omega (arith, c.next_line.ensures.shorter, c.loop-rest.invariant.room);
-      near = omega (arith, c.next_line.ensures.shorter, c.in_ok-laid.ensures.near, c.loop-rest.invariant.room, c.loop-rest.invariant.count,
-          c.loop-rest.invariant.near);
+      near = omega (
+        arith,
+        c.next_line.ensures.shorter,
+        c.in_ok-laid.ensures.near,
+        c.loop-rest.invariant.room,
+        c.loop-rest.invariant.count,
+        c.loop-rest.invariant.near,
+      );
     }
 
 pub returns-then-ended-clause-found : goal.returns-then-ended-clause-found
@@ -41,7 +47,7 @@ returns-then-ended-clause-found c =
     let e = c.in_ok-laid.ensures.exact in
     rw c.in_ok-push.ensures.items
     (ends (mending_of c.args.mending) c.args.profile (before_line c.args.profile c.loop-rest.address c.loop-rest.symbols) c.loop-rest.found.items
-        c.in_ok-laid.laid.found c.loop-rest.rest.now
+    c.in_ok-laid.laid.found c.loop-rest.rest.now
     c.next_line.result.0.now c.next_line.result.1.now _ c.next_line.ensures.cut (sym e.end ∙ c.if-ended.true) e.found c.loop-rest.invariant.found)
 
 pub returns-then-ended-clause-names : goal.returns-then-ended-clause-names
@@ -49,14 +55,14 @@ returns-then-ended-clause-names c =
     let e = c.in_ok-laid.ensures.exact in
     ap (λ (x : Context). x.names)
     (fixed_end (mending_of c.args.mending) c.args.profile (before_line c.args.profile c.loop-rest.address c.loop-rest.symbols)
-        (before_line c.args.profile c.in_ok-laid.laid.next c.lay_line.new.symbols)
+    (before_line c.args.profile c.in_ok-laid.laid.next c.lay_line.new.symbols)
     c.loop-rest.rest.now c.next_line.result.0.now c.next_line.result.1.now _ c.next_line.ensures.cut (sym e.end ∙ c.if-ended.true) e.fixed
-        c.loop-rest.invariant.fixed)
+    c.loop-rest.invariant.fixed)
 
 pub returns-clause-found : goal.returns-clause-found
 returns-clause-found c =
     done (mending_of c.args.mending) c.args.profile (before_line c.args.profile c.loop-rest.address c.loop-rest.symbols) c.loop-rest.found.items
-        c.loop-rest.rest.now _
+    c.loop-rest.rest.now _
     (true-eqb _ 0 c.loop-rest-test.ensures) c.loop-rest.invariant.found
 
 pub returns-clause-names : goal.returns-clause-names
@@ -68,4 +74,4 @@ returns-clause-names c =
 pub returns-then-ended-clause-numbered : goal.returns-then-ended-clause-numbered
 returns-then-ended-clause-numbered c =
     one_numbered c.loop-rest.found.items c.push.new.self.items c.in_ok-laid.laid.found c.loop-rest.number c.in_ok-push.ensures.items
-        c.loop-rest.invariant.count c.loop-rest.invariant.numbered c.in_ok-laid.ensures.numbered
+    c.loop-rest.invariant.count c.loop-rest.invariant.numbered c.in_ok-laid.ensures.numbered

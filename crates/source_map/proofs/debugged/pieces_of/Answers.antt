@@ -18,9 +18,9 @@ loop-place-preserved c =
     let place = c.loop-place.place in
     let made = c.loop-place.pieces.items in
     let at_begun : c.record_at-begun.result ≡ record_at begun place =
-        c.record_at-begun.ensures ∙ ap (λ (t : List (Option DebugRow)). record_at t place) c.deref.ensures.value in
+    c.record_at-begun.ensures ∙ ap (λ (t : List (Option DebugRow)). record_at t place) c.deref.ensures.value in
     let at_shown : c.record_at-shown.result ≡ record_at shown place =
-        c.record_at-shown.ensures ∙ ap (λ (t : List (Option DebugRow)). record_at t place) c.deref-in-loop-place.ensures.value in
+    c.record_at-shown.ensures ∙ ap (λ (t : List (Option DebugRow)). record_at t place) c.deref-in-loop-place.ensures.value in
     record {
       few = omega (arith, c.loop-place-test.true);
       left = piece_made program c.args.rows.now begun shown made c.push_some.new.rows.items place c.loop-place-test.true

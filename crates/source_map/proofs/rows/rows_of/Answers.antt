@@ -15,5 +15,5 @@ loop-index-preserved c =
     record {
       rows = c.in_ok-push_row_at.ensures
           ∙ (ap (λ (rows : List Row). rows ++ rows_of image (option_to_list (slice_get lines i))) c.loop-index.invariant.rows
-              ∙ one_more (row_of image) lines i []);
+          ∙ one_more (row_of image) lines i []);
     }

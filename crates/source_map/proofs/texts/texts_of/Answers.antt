@@ -13,5 +13,5 @@ loop-index-preserved c =
     record {
       texts = c.in_ok-push_text_at.ensures
           ∙ (ap (λ (texts : List (List ℕ)). texts ++ texts_of (option_to_list (slice_get lines i))) c.loop-index.invariant.texts
-              ∙ one_more_mapped (λ line. line.text) lines i);
+          ∙ one_more_mapped (λ line. line.text) lines i);
     }

@@ -16,5 +16,5 @@ returns c =
     let none : c.loop-left.left ≡ 0 = omega arith in
     sym (append-nil c.loop-left.out.items)
     ∙ ap (λ (x : List ℕ). c.loop-left.out.items ++ x) (sym (lines_end c.args.profile c.args.cells.now c.args.marks.now c.args.flags.now
-        c.args.table.now c.loop-left.place.names c.loop-left.place.address c.loop-left.place.ends))
+    c.args.table.now c.loop-left.place.names c.loop-left.place.address c.loop-left.place.ends))
     ∙ rw none at c.loop-left.invariant.written

@@ -6,13 +6,13 @@ use Rattle.source_writer.proofs.note.run_length.Goals as goal
 pub returns-then-not-is_number-clause-exact : goal.returns-then-not-is_number-clause-exact
 returns-then-not-is_number-clause-exact c =
     let last = ends c.args.cells.now c.args.marks.now c.args.byte c.loop-left.left (c.args.address + c.loop-left.count)
-        (sym c.is_number.ensures ∙ c.if-not-is_number.true) in
+    (sym c.is_number.ensures ∙ c.if-not-is_number.true) in
     omega (arith, c.loop-left.invariant.found, last)
 
 pub loop-left-preserved : goal.loop-left-preserved
 loop-left-preserved c =
     let more = goes_on c.args.cells.now c.args.marks.now c.args.byte c.loop-left.left (c.args.address + c.loop-left.count) c.loop-left-test.true
-        (sym c.is_number.ensures ∙ c.if-not-is_number.false) in
+    (sym c.is_number.ensures ∙ c.if-not-is_number.false) in
     let step : (c.args.address + c.loop-left.count) + 1 ≡ c.args.address + (c.loop-left.count + 1) = omega arith in
     let there = rw step at more in
     record {

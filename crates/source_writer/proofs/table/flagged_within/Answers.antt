@@ -6,7 +6,7 @@ use Rattle.source_writer.proofs.table.flagged_within.Goals as goal
 pub returns-then-is_flagged : goal.returns-then-is_flagged
 returns-then-is_flagged c =
     sym (c.loop-left.invariant.found ∙ found c.args.flags.now c.loop-left.left c.loop-left.at c.loop-left-test.true
-        (sym c.is_flagged.ensures ∙ c.if-is_flagged.true))
+    (sym c.is_flagged.ensures ∙ c.if-is_flagged.true))
 
 pub loop-left-preserved : goal.loop-left-preserved
 loop-left-preserved c = record {

@@ -18,4 +18,4 @@ unfolding table_of
 returns c =
     let none : c.loop-left.left ≡ 0 = omega arith in
     sym (table_end c.args.profile c.args.cells.now c.args.marks.now c.args.flags.now c.loop-left.names c.loop-left.address c.loop-left.table.items)
-        ∙ rw none at c.loop-left.invariant.found
+    ∙ rw none at c.loop-left.invariant.found

@@ -19,12 +19,12 @@ returns-then-not-branch c =
     appended _ _ _ _ _ (ap (λ t. string_bytes t) c.loop-row.invariant.text) (c.in_ok-push_call.ensures.told c.if-not-branch.true)
     (ap (λ (a : List ℕ). told_text c.args.places.now a c.args.values (row_seen c.row-item.result).1.call c.loop-row.session) about
     ∙ one_failed c.args.places.now c.args.ranges c.args.values c.args.rows.now c.loop-row.row-index c.loop-row.session c.row-item.result _
-        c.loop-row-test.true c.row-item.is (c.in_ok-push_call.ensures.fails c.if-not-branch.true) c.loop-row.invariant.told)
+    c.loop-row-test.true c.row-item.is (c.in_ok-push_call.ensures.fails c.if-not-branch.true) c.loop-row.invariant.told)
 
 pub returns : goal.returns
 returns c =
     ap (λ t. string_bytes t) c.loop-row.invariant.text
     ∙ (sym (append-nil (string_bytes c.args.text.now))
     ∙ ap (λ (t : List ℕ). string_bytes c.args.text.now ++ t)
-        (no_row_left c.args.places.now c.args.ranges c.args.values c.args.rows.now c.loop-row.row-index c.loop-row.session _ c.loop-row-test.false
-        c.loop-row.invariant.told))
+    (no_row_left c.args.places.now c.args.ranges c.args.values c.args.rows.now c.loop-row.row-index c.loop-row.session _ c.loop-row-test.false
+    c.loop-row.invariant.told))

@@ -16,13 +16,13 @@ loop-item-preserved c = record {
 pub returns-then-not-given_one-clause-refused : goal.returns-then-not-given_one-clause-refused
 returns-then-not-given_one-clause-refused c = λ _.
     given_off c.args.values c.args.items.now c.loop-item.item-index c.loop-item.session _ _ c.loop-item-test.true
-        (c.given_one.ensures.refused c.if-not-given_one.true) c.loop-item.invariant.given
+    (c.given_one.ensures.refused c.if-not-given_one.true) c.loop-item.invariant.given
 
 pub returns-then-not-given_one-clause-told : goal.returns-then-not-given_one-clause-told
 returns-then-not-given_one-clause-told c = λ _.
     appended _ _ _ _ _ (ap (λ t. string_bytes t) c.loop-item.invariant.text) c.in_ok-push_refusal.ensures
     (one_refused c.args.about.now c.args.values c.args.items.now c.loop-item.item-index c.loop-item.session _ _ _ c.loop-item-test.true
-        c.number_of-number.ensures (c.given_one.ensures.refused c.if-not-given_one.true) c.loop-item.invariant.told)
+    c.number_of-number.ensures (c.given_one.ensures.refused c.if-not-given_one.true) c.loop-item.invariant.told)
 
 pub returns-clause-taken : goal.returns-clause-taken
 returns-clause-taken c = λ _. all_given c.args.values c.args.items.now c.loop-item.item-index c.loop-item.session _ c.loop-item-test.false

@@ -11,7 +11,7 @@ unfolding around_text
 returns c =
     let arrived = c.in_ok-push_entry.ensures.session ∙ ap (after_arrival c.args.signal) c.in_ok-push_each_step.ensures.session in
     let entry = c.in_ok-push_entry.ensures.text ∙ ap (λ (s : Session). string_bytes c.push_each_step.new.text ++ arrival_text c.args.signal s.current)
-        arrived in
+    arrived in
     let steps = c.in_ok-push_each_step-2.ensures.text ∙ ap (λ (s : Session). string_bytes c.push_entry.new.text
-        ++ steps_text c.args.places.now c.args.did s) arrived in
+    ++ steps_text c.args.places.now c.args.did s) arrived in
     four _ _ _ _ _ _ _ _ _ c.in_ok-push_str.ensures.bytes c.in_ok-push_each_step.ensures.text entry steps

@@ -9,8 +9,8 @@ pub returns-clause-text : goal.returns-clause-text
 unfolding step_text
 returns-clause-text c =
     let row = c.in_ok-push_padded_row.ensures ∙ ap (λ (r : Regs). string_bytes c.push_str.new.self
-        ++ padded 30 (instruction_text c.args.session.now.current r.pc)) c.regs-address.ensures in
+    ++ padded 30 (instruction_text c.args.session.now.current r.pc)) c.regs-address.ensures in
     let regs = c.in_ok-push_regs.ensures ∙ ap (λ (r : Regs). string_bytes c.push_padded_row.new.text ++ regs_text r) c.regs.ensures in
     let source = c.in_ok-push_source_line.ensures ∙ ap (λ (r : Regs). string_bytes c.push_regs.new.text ++ source_text c.args.places.now r.pc)
-        c.regs-address.ensures in
+    c.regs-address.ensures in
     five _ _ _ _ _ _ _ _ _ _ _ c.in_ok-push_str.ensures.bytes row regs source c.in_ok-push_str-2.ensures.bytes

@@ -20,8 +20,10 @@ pub returns-then-is_over-2-clause-ok : goal.returns-then-is_over-2-clause-ok
 returns-then-is_over-2-clause-ok c = sym c.loop.invariant.read ∙ over _ _ _ _ _ _ (sym c.is_over-2.ensures ∙ c.if-is_over-2.true)
 
 pub loop-preserved : goal.loop-preserved
-loop-preserved c = record { read = item_read (length c.args.text.now - c.loop.counter) (length c.args.text.now - (c.loop.counter + 1)) _ _ _ _ _ _ _
-    (omega arith) (sym c.is_over.ensures ∙ c.if-is_over.false) c.in_ok-rest.ensures.ok ∙ c.loop.invariant.read }
+loop-preserved c = record {
+  read = item_read (length c.args.text.now - c.loop.counter) (length c.args.text.now - (c.loop.counter + 1)) _ _ _ _ _ _ _
+      (omega arith) (sym c.is_over.ensures ∙ c.if-is_over.false) c.in_ok-rest.ensures.ok ∙ c.loop.invariant.read;
+}
 
 pub returns-in_err-rest-clause-err : goal.returns-in_err-rest-clause-err
 returns-in_err-rest-clause-err c = passed _ c.from_residual.result c.in_err-rest.field-0.0 c.from_residual.ensures.1

@@ -11,13 +11,13 @@ loop-init c =
 pub returns-then-is_call_next : goal.returns-then-is_call_next
 returns-then-is_call_next c = sym (c.loop.invariant.found
     ∙ named_here (length c.args.line.now - c.loop.counter) (length c.args.line.now - (c.loop.counter + 1)) _ _ (omega arith)
-        (sym c.is_call_next.ensures ∙ c.if-is_call_next.true) c.second_word.ensures)
+    (sym c.is_call_next.ensures ∙ c.if-is_call_next.true) c.second_word.ensures)
 
 pub loop-preserved : goal.loop-preserved
 loop-preserved c = record {
   found = c.loop.invariant.found
       ∙ named_later (length c.args.line.now - c.loop.counter) (length c.args.line.now - (c.loop.counter + 1)) _ _ (omega arith)
-          (sym c.is_call_next.ensures ∙ c.if-is_call_next.false) c.behind_word-rest.ensures;
+      (sym c.is_call_next.ensures ∙ c.if-is_call_next.false) c.behind_word-rest.ensures;
 }
 
 pub returns : goal.returns

@@ -7,8 +7,10 @@ pub returns-then-is_last-clause-ok : goal.returns-then-is_last-clause-ok
 returns-then-is_last-clause-ok c = sym c.loop.invariant.read ∙ last_piece _ _ _ _ _ _ (sym c.is_last.ensures ∙ c.if-is_last.true)
 
 pub loop-preserved : goal.loop-preserved
-loop-preserved c = record { read = piece_read (length c.args.text.now - c.loop.counter) (length c.args.text.now - (c.loop.counter + 1)) _ _ _ _ _ _ _
-    (omega arith) (sym c.is_last.ensures ∙ c.if-is_last.false) c.in_ok-rest.ensures.ok ∙ c.loop.invariant.read }
+loop-preserved c = record {
+  read = piece_read (length c.args.text.now - c.loop.counter) (length c.args.text.now - (c.loop.counter + 1)) _ _ _ _ _ _ _
+      (omega arith) (sym c.is_last.ensures ∙ c.if-is_last.false) c.in_ok-rest.ensures.ok ∙ c.loop.invariant.read;
+}
 
 pub returns-in_err-rest-clause-err : goal.returns-in_err-rest-clause-err
 returns-in_err-rest-clause-err c = passed _ c.from_residual.result c.in_err-rest.field-0.0 c.from_residual.ensures.1

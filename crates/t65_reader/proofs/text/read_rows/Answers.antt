@@ -21,7 +21,7 @@ loop-rest-preserved c =
       room = omega (arith, c.next_line.ensures.shorter, c.loop-rest.invariant.room);
       rows = sym (c.in_ok-push_line.ensures.ok (rows_from (asking_view c.args.asking) names (n + 1) (lines_of c.next_line.result.1.now)))
           ∙ (ap (rows_after front) (sym (ap (rows_from (asking_view c.args.asking) names n) c.next_line.ensures.cut
-              ∙ line_more (asking_view c.args.asking) names n _ _)) ∙ c.loop-rest.invariant.rows);
+          ∙ line_more (asking_view c.args.asking) names n _ _)) ∙ c.loop-rest.invariant.rows);
     }
 
 pub returns-in_err-push_line-clause-err : goal.returns-in_err-push_line-clause-err
@@ -31,8 +31,8 @@ returns-in_err-push_line-clause-err c =
     let front = map line_view c.loop-rest.lines.items in
     passed _ c.from_residual.result c.in_err-push_line.field-0.0 c.from_residual.ensures.1 (λ other. sym c.loop-rest.invariant.rows
     ∙ after_fault front _ _ (ap (rows_from (asking_view c.args.asking) names n) c.next_line.ensures.cut
-        ∙ (line_more (asking_view c.args.asking) names n _ _
-        ∙ c.in_err-push_line.ensures.err other (rows_from (asking_view c.args.asking) names (n + 1) (lines_of c.next_line.result.1.now)))))
+    ∙ (line_more (asking_view c.args.asking) names n _ _
+    ∙ c.in_err-push_line.ensures.err other (rows_from (asking_view c.args.asking) names (n + 1) (lines_of c.next_line.result.1.now)))))
 
 pub returns-clause-ok : goal.returns-clause-ok
 returns-clause-ok c = sym c.loop-rest.invariant.rows ∙ at_end _ _ _ _ _ (omega arith)

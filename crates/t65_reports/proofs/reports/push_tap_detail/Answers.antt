@@ -26,7 +26,7 @@ none_left f all n before whole h so_far =
 pub loop-line-preserved : goal.loop-line-preserved
 loop-line-preserved c =
     let t = YieldsList-turn (YieldsList-from_lines c.args.detail.now cc) c.loop-line.yielded _ c.loop-line.yielded_by _ _ c.in-Some.line c.in-Some.is
-        c.next.ensures.steps in
+    c.next.ensures.steps in
     one_line_more tap_comment (lines c.args.detail.now) c.in-Some.line.now (length c.loop-line.yielded) _ _ _ _ t
     (length_push c.loop-line.yielded c.in-Some.line) c.in_ok-push_tap_comment.ensures c.loop-line.invariant
 

@@ -6,7 +6,7 @@ pub returns-then-begins_comment : goal.returns-then-begins_comment
 returns-then-begins_comment c =
     sym (append-nil (take c.loop-at.at c.args.line.now))
     ∙ (ap (λ t. take c.loop-at.at c.args.line.now ++ t) (sym
-        (comment_found c.loop-at.at c.loop-at.quoted c.args.line.now c.loop-at-test.true (sym c.begins_comment.ensures ∙ c.if-begins_comment.true)))
+    (comment_found c.loop-at.at c.loop-at.quoted c.args.line.now c.loop-at-test.true (sym c.begins_comment.ensures ∙ c.if-begins_comment.true)))
     ∙ c.loop-at.invariant)
 
 pub loop-at-preserved : goal.loop-at-preserved

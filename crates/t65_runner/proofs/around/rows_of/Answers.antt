@@ -12,11 +12,11 @@ pub loop-line-preserved : goal.loop-line-preserved
 loop-line-preserved c = elim c.match-row_in.branch [
   | in-Some+in_ok-push-in-Some w ↦ rw w.found-is (
       row_pushed c.args.lines.now c.loop-line.line-index c.args.part _ w.in-Some.row c.loop-line.found.items w.push.new.self.items _
-          c.loop-line-test.true c.line-item.is
+      c.loop-line-test.true c.line-item.is
       (sym c.row_in.ensures ∙ ap (λ (r : Option (Bor (ℕ × Row))). option_map row_seen r) w.in-Some.is) w.in_ok-push-in-Some.ensures.items c.loop-line.invariant)
   | in-None w ↦ rw w.found-is (
       row_left_out c.args.lines.now c.loop-line.line-index c.args.part c.line-item.result (rows_seen c.loop-line.found.items) _ c.loop-line-test.true
-          c.line-item.is
+      c.line-item.is
       (sym c.row_in.ensures ∙ ap (λ (r : Option (Bor (ℕ × Row))). option_map row_seen r) w.in-None.is) c.loop-line.invariant)
 ]
 

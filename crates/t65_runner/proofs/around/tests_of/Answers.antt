@@ -6,7 +6,7 @@ use Rattle.t65_runner.proofs.around.tests_of.Goals as goal
 pub loop-line-preserved-then-not-is_test : goal.loop-line-preserved-then-not-is_test
 loop-line-preserved-then-not-is_test c =
     test_left_out c.args.lines.now c.loop-line.line-index c.line-item.result (lines_seen c.loop-line.found.items) _ c.loop-line-test.true
-        c.line-item.is (sym c.is_test.ensures ∙ c.if-not-is_test.true) c.loop-line.invariant
+    c.line-item.is (sym c.is_test.ensures ∙ c.if-not-is_test.true) c.loop-line.invariant
 
 pub loop-line-preserved : goal.loop-line-preserved
 loop-line-preserved c =

@@ -18,18 +18,18 @@ pub returns-in-Some-clause-failed : goal.returns-in-Some-clause-failed
 unfolding first_failed
 returns-in-Some-clause-failed c =
     let here = values_here c.args.row.now.ranges c.args.row.now.choice c.loop-n.n c.loop-n.number c.values_by-values.result c.values_by-values.ensures
-        c.loop-n.invariant.number in
+    c.loop-n.invariant.number in
     sym (first_some (c.count_of-n-end.result - c.loop-n.n) (c.count_of-n-end.result - (c.loop-n.n + 1)) c.loop-n.n
-        (λ n. failed_values (rows_seen c.args.rows.now) (fresh c.args.map c.args.image.now) (values_at c.args.row.now.ranges c.args.row.now.choice n))
-        c.in-Some.found (omega arith)
+    (λ n. failed_values (rows_seen c.args.rows.now) (fresh c.args.map c.args.image.now) (values_at c.args.row.now.ranges c.args.row.now.choice n))
+    c.in-Some.found (omega arith)
     (sym (ap (λ (v : Values). failed_values (rows_seen c.args.rows.now) (fresh c.args.map c.args.image.now) v) here)
-        ∙ (sym c.in_ok-failed.ensures.failed ∙ c.in-Some.is)))
+    ∙ (sym c.in_ok-failed.ensures.failed ∙ c.in-Some.is)))
     ∙ c.loop-n.invariant.left
 
 pub loop-n-preserved : goal.loop-n-preserved
 loop-n-preserved c =
     let here = values_here c.args.row.now.ranges c.args.row.now.choice c.loop-n.n c.loop-n.number c.values_by-values.result c.values_by-values.ensures
-        c.loop-n.invariant.number in
+    c.loop-n.invariant.number in
     record {
       back = c.in_ok-failed.ensures.back;
       number = later (seed_of c.args.row.now.choice) c.loop-n.n c.loop-n.number _ c.loop-n.invariant.number c.four_later-number.ensures;
@@ -37,7 +37,7 @@ loop-n-preserved c =
           (λ n. failed_values (rows_seen c.args.rows.now) (fresh c.args.map c.args.image.now)
           (values_at c.args.row.now.ranges c.args.row.now.choice n)) (omega arith)
           (sym (ap (λ (v : Values). failed_values (rows_seen c.args.rows.now) (fresh c.args.map c.args.image.now) v) here)
-              ∙ (sym c.in_ok-failed.ensures.failed ∙ c.in_default.is))
+          ∙ (sym c.in_ok-failed.ensures.failed ∙ c.in_default.is))
           ∙ c.loop-n.invariant.left;
     }
 

@@ -7,7 +7,7 @@ returns-in_err-run_call-clause-since c = λ s since. c.run_call.ensures.since s 
 pub returns-then-not-branch-clause-passes : goal.returns-then-not-branch-clause-passes
 returns-then-not-branch-clause-passes c =
     one_fails c.args.values c.args.rows.now c.loop-row.row-index c.loop-row.session c.row-item.result _ c.loop-row-test.true c.row-item.is
-        (c.in_ok-run_call.ensures.fails c.if-not-branch.true) c.loop-row.invariant.left
+    (c.in_ok-run_call.ensures.fails c.if-not-branch.true) c.loop-row.invariant.left
 
 pub returns-then-not-branch-clause-since : goal.returns-then-not-branch-clause-since
 returns-then-not-branch-clause-since c = λ s since. c.run_call.ensures.since s (c.loop-row.invariant.since s since)

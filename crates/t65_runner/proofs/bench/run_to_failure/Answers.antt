@@ -14,7 +14,7 @@ pub returns-then-not-branch-clause-run : goal.returns-then-not-branch-clause-run
 returns-then-not-branch-clause-run c =
     run_ends c.args.values c.args.rows.now c.loop-index.index c.loop-index.session c.index-rows-index.result _ c.loop-index-test.true c.index-rows-index.is
     (ap (λ (r : Bor (ℕ × Row)). passed c.args.values (row_seen r).1.call c.loop-index.session) c.index-rows-index.is
-        ∙ c.in_ok-run_call.ensures.fails c.if-not-branch.true) c.loop-index.invariant.run
+    ∙ c.in_ok-run_call.ensures.fails c.if-not-branch.true) c.loop-index.invariant.run
 
 pub returns-then-not-branch-clause-since : goal.returns-then-not-branch-clause-since
 returns-then-not-branch-clause-since c = λ s since. c.run_call.ensures.since s (c.loop-index.invariant.since s since)
@@ -24,7 +24,7 @@ loop-index-preserved c = record {
   run = run_goes_on c.args.values c.args.rows.now c.loop-index.index c.loop-index.session c.index-rows-index.result _ _ c.loop-index-test.true
       c.index-rows-index.is
       (ap (λ (r : Bor (ℕ × Row)). passed c.args.values (row_seen r).1.call c.loop-index.session) c.index-rows-index.is
-          ∙ c.in_ok-run_call.ensures.passes c.if-not-branch.false) c.loop-index.invariant.run;
+      ∙ c.in_ok-run_call.ensures.passes c.if-not-branch.false) c.loop-index.invariant.run;
   since = λ s since. c.run_call.ensures.since s (c.loop-index.invariant.since s since);
   stops = c.run_call.ensures.stops;
 }

@@ -16,14 +16,14 @@ pub returns-then-is_due_in-clause-counted : goal.returns-then-is_due_in-clause-c
 returns-then-is_due_in-clause-counted c =
     sym c.loop-did.invariant.left
     ∙ comes c.args.awaited (counted_at c.loop-did.session c.loop-did.tally) (c.args.limit - c.loop-did.did) (c.args.limit - c.loop-did.did - 1)
-        (omega arith) (sym c.is_due_in.ensures ∙ c.if-is_due_in.true)
+    (omega arith) (sym c.is_due_in.ensures ∙ c.if-is_due_in.true)
 
 pub returns-then-not-count_step-clause-counted : goal.returns-then-not-count_step-clause-counted
 returns-then-not-count_step-clause-counted c =
     let left = c.args.limit - (c.loop-did.did + 1) in
     sym c.loop-did.invariant.left
     ∙ (waits c.args.awaited (counted_at c.loop-did.session c.loop-did.tally) (c.args.limit - c.loop-did.did) left (omega arith)
-        (sym c.is_due_in.ensures ∙ c.if-is_due_in.false)
+    (sym c.is_due_in.ensures ∙ c.if-is_due_in.false)
     ∙ c.count_step.ensures.end c.if-not-count_step.true (steps_counted c.args.awaited left))
 
 pub returns-then-not-count_step-clause-since : goal.returns-then-not-count_step-clause-since
@@ -38,7 +38,7 @@ loop-did-preserved c = record {
       let left = c.args.limit - (c.loop-did.did + 1) in
       sym (c.count_step.ensures.on c.if-not-count_step.false (steps_counted c.args.awaited left))
       ∙ (sym (waits c.args.awaited (counted_at c.loop-did.session c.loop-did.tally) (c.args.limit - c.loop-did.did) left (omega arith)
-          (sym c.is_due_in.ensures ∙ c.if-is_due_in.false))
+      (sym c.is_due_in.ensures ∙ c.if-is_due_in.false))
       ∙ c.loop-did.invariant.left);
   since = λ s since. c.count_step.ensures.since s (c.loop-did.invariant.since s since);
   stops = c.count_step.ensures.stops ∙ c.loop-did.invariant.stops;

@@ -22,12 +22,12 @@ pub returns-then-is_last-clause-counted : goal.returns-then-is_last-clause-count
 unfolding test_counted
 returns-then-is_last-clause-counted c =
     let here = values_here c.args.row.now.ranges c.args.row.now.choice c.loop-n.n c.loop-n.number c.values_by-values.result c.values_by-values.ensures
-        c.loop-n.invariant.number in
+    c.loop-n.invariant.number in
     c.in_ok-count_to_failure.ensures.counted
     ∙ (ap (λ (v : Values). counted_to_failure (rows_seen c.args.rows.now) (fresh c.args.map c.args.image.now) v c.loop-n.tally) here
     ∙ (sym (last_values (values_at c.args.row.now.ranges c.args.row.now.choice)
-        (counted_by (rows_seen c.args.rows.now) (fresh c.args.map c.args.image.now))
-        (counted_to_failure (rows_seen c.args.rows.now) (fresh c.args.map c.args.image.now)) c.args.failed
+    (counted_by (rows_seen c.args.rows.now) (fresh c.args.map c.args.image.now))
+    (counted_to_failure (rows_seen c.args.rows.now) (fresh c.args.map c.args.image.now)) c.args.failed
     (c.count_of-n-end.result - c.loop-n.n) (c.count_of-n-end.result - (c.loop-n.n + 1)) c.loop-n.n c.loop-n.tally (omega arith)
     (sym (ap (λ (v : Values). is_last c.args.failed v) here) ∙ (sym c.is_last.ensures ∙ c.if-is_last.true)))
     ∙ c.loop-n.invariant.left))
@@ -35,9 +35,9 @@ returns-then-is_last-clause-counted c =
 pub loop-n-preserved : goal.loop-n-preserved
 loop-n-preserved c =
     let here = values_here c.args.row.now.ranges c.args.row.now.choice c.loop-n.n c.loop-n.number c.values_by-values.result c.values_by-values.ensures
-        c.loop-n.invariant.number in
+    c.loop-n.invariant.number in
     let counted = c.in_ok-count_values.ensures.counted ∙ ap (λ (v : Values).
-        counted_by (rows_seen c.args.rows.now) (fresh c.args.map c.args.image.now) v c.loop-n.tally) here in
+    counted_by (rows_seen c.args.rows.now) (fresh c.args.map c.args.image.now) v c.loop-n.tally) here in
     record {
       back = c.in_ok-count_values.ensures.back;
       number = later (seed_of c.args.row.now.choice) c.loop-n.n c.loop-n.number _ c.loop-n.invariant.number c.four_later-number.ensures;
@@ -46,8 +46,8 @@ loop-n-preserved c =
           (counted_to_failure (rows_seen c.args.rows.now) (fresh c.args.map c.args.image.now)) c.args.failed
           (c.count_of-n-end.result - (c.loop-n.n + 1)) (c.loop-n.n + 1)) counted
           ∙ (next_values (values_at c.args.row.now.ranges c.args.row.now.choice)
-              (counted_by (rows_seen c.args.rows.now) (fresh c.args.map c.args.image.now))
-              (counted_to_failure (rows_seen c.args.rows.now) (fresh c.args.map c.args.image.now)) c.args.failed
+          (counted_by (rows_seen c.args.rows.now) (fresh c.args.map c.args.image.now))
+          (counted_to_failure (rows_seen c.args.rows.now) (fresh c.args.map c.args.image.now)) c.args.failed
           (c.count_of-n-end.result - c.loop-n.n) (c.count_of-n-end.result - (c.loop-n.n + 1)) c.loop-n.n c.loop-n.tally (omega arith)
           (sym (ap (λ (v : Values). is_last c.args.failed v) here) ∙ (sym c.is_last.ensures ∙ c.if-is_last.false))
           ∙ c.loop-n.invariant.left);

@@ -12,5 +12,5 @@ invariant-loop-n l = record {
   left : counted_in (values_at l.row.ranges l.row.choice) (counted_by (rows_seen l.rows) (fresh l.map l.image))
       (counted_to_failure (rows_seen l.rows) (fresh l.map l.image)) l.failed (l.n-end - l.n) l.n l.tally
       ≡ counted_in (values_at l.row.ranges l.row.choice) (counted_by (rows_seen l.rows) (fresh l.map l.image))
-          (counted_to_failure (rows_seen l.rows) (fresh l.map l.image)) l.failed (count_of l.row.ranges l.row.choice) 0 l.fn.tally;
+      (counted_to_failure (rows_seen l.rows) (fresh l.map l.image)) l.failed (count_of l.row.ranges l.row.choice) 0 l.fn.tally;
 }

@@ -8,7 +8,7 @@ returns-then-not-given_one-clause-refused c = λ _.
     sym c.loop-item.invariant.left
     ∙ (given_more c.args.values c.args.items.now c.loop-item.item-index c.loop-item.session _ c.loop-item-test.true
     ∙ ap (λ found. if_given found (given_all c.args.values (drop (c.loop-item.item-index + 1) c.args.items.now)))
-        (c.given_one.ensures.refused c.if-not-given_one.true))
+    (c.given_one.ensures.refused c.if-not-given_one.true))
 
 pub returns-then-not-given_one-clause-since : goal.returns-then-not-given_one-clause-since
 returns-then-not-given_one-clause-since c = λ s since. c.given_one.ensures.since s (c.loop-item.invariant.since s since)
@@ -17,7 +17,7 @@ pub loop-item-preserved : goal.loop-item-preserved
 loop-item-preserved c = record {
   left = sym (given_more c.args.values c.args.items.now c.loop-item.item-index c.loop-item.session _ c.loop-item-test.true
       ∙ ap (λ found. if_given found (given_all c.args.values (drop (c.loop-item.item-index + 1) c.args.items.now)))
-          (c.given_one.ensures.taken c.if-not-given_one.false))
+      (c.given_one.ensures.taken c.if-not-given_one.false))
       ∙ c.loop-item.invariant.left;
   since = λ s since. c.given_one.ensures.since s (c.loop-item.invariant.since s since);
   stops = c.given_one.ensures.stops ∙ c.loop-item.invariant.stops;

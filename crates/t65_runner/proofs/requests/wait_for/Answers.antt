@@ -18,7 +18,7 @@ pub returns-then-is_due-clause-waited : goal.returns-then-is_due-clause-waited
 returns-then-is_due-clause-waited c =
     sym c.loop-did.invariant.left
     ∙ comes c.args.awaited c.loop-did.did c.loop-did.session (c.args.limit - c.loop-did.did) (c.args.limit - (c.loop-did.did + 1)) (omega arith)
-        (sym c.is_due.ensures ∙ c.if-is_due.true)
+    (sym c.is_due.ensures ∙ c.if-is_due.true)
 
 pub returns-in-Some-clause-waited : goal.returns-in-Some-clause-waited
 returns-in-Some-clause-waited c =
@@ -36,7 +36,7 @@ loop-did-preserved c = record {
       let left = c.args.limit - (c.loop-did.did + 1) in
       sym (c.wait_step.ensures.on c.in_default.is (waited c.args.awaited (c.loop-did.did + 1) left))
       ∙ (sym (waits c.args.awaited c.loop-did.did c.loop-did.session (c.args.limit - c.loop-did.did) left (omega arith)
-          (sym c.is_due.ensures ∙ c.if-is_due.false))
+      (sym c.is_due.ensures ∙ c.if-is_due.false))
       ∙ c.loop-did.invariant.left);
   since = λ s since. c.wait_step.ensures.since s (c.loop-did.invariant.since s since);
   stops = c.wait_step.ensures.stops ∙ c.loop-did.invariant.stops;

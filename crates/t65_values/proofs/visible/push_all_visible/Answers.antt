@@ -8,5 +8,5 @@ use Rattle.t65_values.proofs.visible.push_all_visible.Goals as goal
 pub returns : goal.returns
 returns c =
     let end = YieldsList-end (YieldsList-from_chars c.args.characters.now c.utf8.characters cc) c.loop-character.yielded _ c.loop-character.yielded_by
-        _ _ c.in-None.is c.next.ensures.steps in
+    _ _ c.in-None.is c.next.ensures.steps in
     c.loop-character.invariant ∙ ap (λ cs. string_bytes c.args.text.now ++ flat_map visible_character cs) (sym (map-id c.loop-character.yielded) ∙ end.0)

@@ -6,7 +6,7 @@ use Rattle.tape_words.proofs.tape_faults.line_of.Goals as goal
 pub returns-then-is_empty : goal.returns-then-is_empty
 returns-then-is_empty c =
     let none = none_ends (c.args.offset - c.loop-seen.seen) c.loop-seen.rest.now
-        (none_left c.loop-seen.rest.now c.is_empty.result c.is_empty.ensures c.if-is_empty.true) in
+    (none_left c.loop-seen.rest.now c.is_empty.result c.is_empty.ensures c.if-is_empty.true) in
     omega (arith, none, c.loop-seen.invariant.counted)
 
 pub loop-seen-preserved : goal.loop-seen-preserved

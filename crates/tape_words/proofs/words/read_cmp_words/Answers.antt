@@ -9,19 +9,19 @@ use Rattle.tape_words.proofs.words.read_cmp_words.Goals as goal
 pub returns-in-Some-clause-asked : goal.returns-in-Some-clause-asked
 returns-in-Some-clause-asked c =
     sym (c.in-Some.ensures ∙ asked_by cmp_by (app_of c.in_ok-cmp_command.field-0) cmp (texts c.args.words.now)
-        (first_value (found_of c.in_ok-matches.matches)) c.in_ok-cmp_command.ensures.shape c.in_ok-matches.ensures.values)
+    (first_value (found_of c.in_ok-matches.matches)) c.in_ok-cmp_command.ensures.shape c.in_ok-matches.ensures.values)
 
 pub returns-clause-refused : goal.returns-clause-refused
 returns-clause-refused c =
     value_refused cmp (texts c.args.words.now) (cmp_asked (texts c.args.words.now) ≡ None) _ _ c.value_fault.ensures
     (fits_by (app_of c.in_ok-cmp_command.field-0) cmp (texts c.args.words.now) c.in_ok-cmp_command.ensures.shape c.in_ok-matches.ensures.fits)
     (sym (c.in-None.ensures ∙ asked_by cmp_by (app_of c.in_ok-cmp_command.field-0) cmp (texts c.args.words.now)
-        (first_value (found_of c.in_ok-matches.matches)) c.in_ok-cmp_command.ensures.shape c.in_ok-matches.ensures.values))
+    (first_value (found_of c.in_ok-matches.matches)) c.in_ok-cmp_command.ensures.shape c.in_ok-matches.ensures.values))
 
 pub returns-in_err-matches-clause-refused : goal.returns-in_err-matches-clause-refused
 returns-in_err-matches-clause-refused c =
     refused_by (app_of c.in_ok-cmp_command.field-0) cmp (texts c.args.words.now) (cmp_asked (texts c.args.words.now) ≡ None)
-        c.in_err-matches.field-0.0 c.from_residual-in_err-matches.result
+    c.in_err-matches.field-0.0 c.from_residual-in_err-matches.result
     c.in_ok-cmp_command.ensures.shape c.in_err-matches.ensures.refused c.from_residual-in_err-matches.ensures.1
 
 pub returns-in-Some-clause-taken : goal.returns-in-Some-clause-taken

@@ -8,7 +8,7 @@ pub loop-label-preserved : goal.loop-label-preserved
 loop-label-preserved c =
     let sites = c.args.sites.now in
     let rest = rest_at sites.labels.items c.labels-label-items.result.now c.loop-label.label-index c.label-item.result c.labels-label-items.ensures
-        c.loop-label-test.true c.label-item.is in
+    c.loop-label-test.true c.label-item.is in
     record {
       index = omega (arith, c.loop-label.invariant.index);
       rows = label_step sites c.args.counts.now c.loop-label.index c.loop-label.label-index sites.labels.items c.label-item.result

@@ -13,7 +13,7 @@ loop-line-preserved-then-not-is_unreached c =
     let line = c.line-item.result in
     let rest = rest_at lines c.lines-line-items.result.now i line c.lines-line-items.ensures c.loop-line-test.true c.line-item.is in
     let rows : unreached_rows tally (drop i lines) ≡ unreached_rows tally (drop (i + 1) lines) =
-        ap (unreached_rows tally) rest ∙ reached tally line (drop (i + 1) lines) (sym c.is_unreached.ensures ∙ c.if-not-is_unreached.true) in
+    ap (unreached_rows tally) rest ∙ reached tally line (drop (i + 1) lines) (sym c.is_unreached.ensures ∙ c.if-not-is_unreached.true) in
     sym (ap (with_rest c.loop-line.is_first text (text ++ codes "\nnever reached\n")) rows) ∙ c.loop-line.invariant
 
 pub loop-line-preserved : goal.loop-line-preserved
@@ -26,7 +26,7 @@ loop-line-preserved c =
     let rest = rest_at lines c.lines-line-items.result.now i line c.lines-line-items.ensures c.loop-line-test.true c.line-item.is in
     let rows = ap (unreached_rows tally) rest ∙ not_reached tally line (drop (i + 1) lines) (sym c.is_unreached.ensures ∙ c.if-not-is_unreached.false) in
     next_row c.loop-line.is_first text (text ++ codes "\nnever reached\n") c.push_line.new.text.items [] (line_text line)
-        (unreached_rows tally (drop (i + 1) lines))
+    (unreached_rows tally (drop (i + 1) lines))
     (c.in_ok-push_line.ensures ∙ ap (λ t. t ++ line_text line) c.in_ok-push_unreached_title.ensures)
     ∙ sym (ap (with_rest c.loop-line.is_first text (text ++ codes "\nnever reached\n")) rows) ∙ c.loop-line.invariant
 

@@ -11,10 +11,10 @@ returns-then-is_wanted c =
     let o = c.in-Some-Some in
     let place = index_at c.args.table.now.items in
     let pushed : OnOk c.push_name.result (map labelled c.push_name.new.names.items ≡ map labelled c.args.names.now.items
-        ++ name_if_free a.image place o.text.now o.number) = search rules in
+    ++ name_if_free a.image place o.text.now o.number) = search rules in
     IfOk-equal c.push_name.result _ _ _ pushed (ap (λ ls. map labelled c.args.names.now.items ++ ls)
     (sym (name_taken a.image place c.args.labels a.names a.labels c.args.index o.text.now o.number o.is_label (sym o.ensures) (sym o.ensures'.told)
-        (sym c.is_wanted.ensures ∙ c.if-is_wanted.true))))
+    (sym c.is_wanted.ensures ∙ c.if-is_wanted.true))))
 
 pub returns-else-is_wanted : goal.returns-else-is_wanted
 returns-else-is_wanted c =
@@ -22,18 +22,18 @@ returns-else-is_wanted c =
     let o = c.in-Some-Some in
     none_more (map labelled c.args.names.now.items) _
     (name_left a.image (index_at c.args.table.now.items) c.args.labels a.names a.labels c.args.index o.text.now o.number o.is_label (sym o.ensures)
-        (sym o.ensures'.told) (sym c.is_wanted.ensures ∙ c.if-is_wanted.false))
+    (sym o.ensures'.told) (sym c.is_wanted.ensures ∙ c.if-is_wanted.false))
 
 pub returns-in_default : goal.returns-in_default
 returns-in_default c =
     let a = c.args.assembly.now in
     none_more (map labelled c.args.names.now.items) _
     (name_none a.image (index_at c.args.table.now.items) c.args.labels (slice_get (numbered a) c.args.index)
-        (zip_no_other a.names a.labels c.args.index (sym c.in_default.ensures'.told)))
+    (zip_no_other a.names a.labels c.args.index (sym c.in_default.ensures'.told)))
 
 pub returns-in_default-2 : goal.returns-in_default-2
 returns-in_default-2 c =
     let a = c.args.assembly.now in
     none_more (map labelled c.args.names.now.items) _
     (name_none a.image (index_at c.args.table.now.items) c.args.labels (slice_get (numbered a) c.args.index)
-        (zip_none a.names a.labels c.args.index (sym c.in_default.ensures)))
+    (zip_none a.names a.labels c.args.index (sym c.in_default.ensures)))

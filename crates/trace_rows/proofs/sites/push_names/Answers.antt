@@ -18,5 +18,5 @@ pub returns : goal.returns
 returns c =
     let a = c.args.assembly.now in
     names_all a.image (index_at c.args.table.now.items) c.args.labels (numbered a) c.loop-index.index (map labelled c.args.names.now.items)
-        (map labelled c.loop-index.names.items)
+    (map labelled c.loop-index.names.items)
     (omega (arith, length-zip a.names a.labels, min-le_left (length a.names) (length a.labels))) c.loop-index.invariant

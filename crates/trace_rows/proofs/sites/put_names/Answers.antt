@@ -13,7 +13,7 @@ loop-index-preserved c =
     let name = c.index-names-index.result in
     row_more (index_at c.args.table.now.items) c.loop-index.table.items c.put_first.new.table.items (addresses_of (map labelled names)) i name.address
     (label_size names i c.loop-index-test.true) (label_row names i name c.loop-index-test.true c.index-names-index.is) c.put_first.ensures
-        c.loop-index.invariant
+    c.loop-index.invariant
 
 pub returns : goal.returns
 returns c = all_rows (index_at c.args.table.now.items) c.loop-index.table.items (addresses_of (map labelled c.args.names.now)) c.loop-index.index

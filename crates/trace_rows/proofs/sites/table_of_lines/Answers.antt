@@ -18,4 +18,4 @@ loop-index-preserved c =
 pub returns : goal.returns
 returns c = over_none c.in_ok-table.table.items c.loop-index.table.items _ c.in_ok-table.ensures
     (all_rows (index_at c.in_ok-table.table.items) c.loop-index.table.items (line_addresses (map listed c.args.lines.now)) c.loop-index.index
-        (line_rows c.args.lines.now c.loop-index.index c.loop-index-test.false) c.loop-index.invariant)
+    (line_rows c.args.lines.now c.loop-index.index c.loop-index-test.false) c.loop-index.invariant)

@@ -33,8 +33,8 @@ in_four (Err e) k n alike falls silenced p ps first one two three four quiet lou
 pub returns : goal.returns
 returns c =
     in_four c.push_vectors.result (known c.args.profile c.args.names.now c.args.used.now c.args.reaches.now (placed_views c.args.lines.now))
-        c.args.number c.args.alike c.falls_off.result c.is_silenced.result
+    c.args.number c.args.alike c.falls_off.result c.is_silenced.result
     (placed_view c.args.line.now) (placed_views c.args.behind.now) c.args.warnings.now.items c.push_alone.new.warnings.items
-        c.push_if.new.warnings.items c.push_more.new.warnings.items c.push_vectors.new.warnings.items
+    c.push_if.new.warnings.items c.push_more.new.warnings.items c.push_vectors.new.warnings.items
     c.is_silenced.ensures c.if-is_silenced.false c.falls_off.ensures c.in_ok-push_alone.ensures c.in_ok-push_if.ensures c.in_ok-push_more.ensures
-        c.push_vectors.ensures
+    c.push_vectors.ensures

@@ -5,7 +5,7 @@ use Rattle.warnings.proofs.brackets.behind_bracket.Goals as goal
 pub returns-then-depth-eq0 : goal.returns-then-depth-eq0
 returns-then-depth-eq0 c =
     closes c.args.tokens.now c.loop-at.at c.loop-at.depth c.depth_behind-depth.result _ _ c.loop-at-test.true c.depth_behind-depth.ensures
-        c.if-depth-eq0.true c.loop-at.invariant.exact
+    c.if-depth-eq0.true c.loop-at.invariant.exact
 
 pub loop-at-preserved : goal.loop-at-preserved
 loop-at-preserved c = record {

@@ -5,12 +5,12 @@ use Rattle.warnings.proofs.placement.place_lines.Goals as goal
 pub returns-then-is_empty-clause-lines : goal.returns-then-is_empty-clause-lines
 returns-then-is_empty-clause-lines c =
     ends c.args.profile c.loop-one.lines.items c.loop-one.rest.now c.loop-one.one-index c.args.found.now _ (true-eqb _ 0 c.if-is_empty.ensures)
-        c.loop-one.invariant.exact
+    c.loop-one.invariant.exact
 
 pub returns-then-is_empty-clause-behind : goal.returns-then-is_empty-clause-behind
 returns-then-is_empty-clause-behind c =
     left_none c.loop-one.rest.now c.loop-one.one-index (length c.args.found.now) _ (true-eqb _ 0 c.if-is_empty.ensures)
-        (omega (arith, c.loop-one-test.true)) c.loop-one.invariant.left
+    (omega (arith, c.loop-one-test.true)) c.loop-one.invariant.left
 
 pub loop-one-preserved : goal.loop-one-preserved
 loop-one-preserved c = record {
@@ -25,4 +25,4 @@ loop-one-preserved c = record {
 pub returns-clause-lines : goal.returns-clause-lines
 returns-clause-lines c =
     done c.args.profile c.loop-one.lines.items c.loop-one.rest.now c.loop-one.one-index c.args.found.now _ (omega (arith, c.loop-one-test.false))
-        c.loop-one.invariant.exact
+    c.loop-one.invariant.exact

@@ -7,18 +7,32 @@ use Rattle.word_check.proofs.running.check.Goals as goal
 
 pub returns-in-Ok-clause-right : goal.returns-in-Ok-clause-right
 returns-in-Ok-clause-right g c = λ zero.
-    inr (check_view c.in-Ok.words, c.in-Ok.ensures.fits, c.in-Ok.ensures.asked, done_at _ _ _ _ c.done.result 0
-        (c.done.ensures.done (omega (arith, zero))) zero (λ e. omega (arith, e)))
+    inr (
+      check_view c.in-Ok.words,
+      c.in-Ok.ensures.fits,
+      c.in-Ok.ensures.asked,
+      done_at _ _ _ _ c.done.result 0
+          (c.done.ensures.done (omega (arith, zero))) zero (λ e. omega (arith, e)),
+    )
 
 pub returns-in-Ok-clause-told : goal.returns-in-Ok-clause-told
-returns-in-Ok-clause-told g c = λ one.
-    (check_view c.in-Ok.words, c.in-Ok.ensures.fits, c.in-Ok.ensures.asked, done_at _ _ _ _ c.done.result 1 (c.done.ensures.done (omega (arith, one)))
-        one (λ e. omega (arith, e)))
+returns-in-Ok-clause-told g c = λ one. (
+  check_view c.in-Ok.words,
+  c.in-Ok.ensures.fits,
+  c.in-Ok.ensures.asked,
+  done_at _ _ _ _ c.done.result 1 (c.done.ensures.done (omega (arith, one)))
+      one (λ e. omega (arith, e)),
+)
 
 pub returns-in-Ok-clause-refused : goal.returns-in-Ok-clause-refused
 returns-in-Ok-clause-refused g c = λ two.
-    inr (inr (check_view c.in-Ok.words, c.in-Ok.ensures.fits, c.in-Ok.ensures.asked, refused_at _ _ _ _ c.done.result 2
-        (c.done.ensures.done (omega (arith, two))) two))
+    inr (inr (
+      check_view c.in-Ok.words,
+      c.in-Ok.ensures.fits,
+      c.in-Ok.ensures.asked,
+      refused_at _ _ _ _ c.done.result 2
+          (c.done.ensures.done (omega (arith, two))) two,
+    ))
 
 pub returns-in-Ok-clause-begun : goal.returns-in-Ok-clause-begun
 returns-in-Ok-clause-begun g c = λ four. inr (check_view c.in-Ok.words, c.in-Ok.ensures.fits, c.in-Ok.ensures.asked, c.done.ensures.begun four)

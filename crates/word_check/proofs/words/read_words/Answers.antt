@@ -10,7 +10,7 @@ pub returns-in-Ok-Some-clause-asked : goal.returns-in-Ok-Some-clause-asked
 returns-in-Ok-Some-clause-asked c =
     let told = rw c.in-Ok-Some.field-0-is at c.in-Ok-Some.ensures in
     sym (told ∙ asked_found (app_of c.in_ok-check_command.field-0) (texts c.args.words.now) c.in_ok-matches.matches
-        c.in_ok-check_command.ensures.shape c.in_ok-matches.ensures.values c.in_ok-matches.ensures.rows)
+    c.in_ok-check_command.ensures.shape c.in_ok-matches.ensures.values c.in_ok-matches.ensures.rows)
 
 pub returns-in-Ok-None-clause-refused : goal.returns-in-Ok-None-clause-refused
 returns-in-Ok-None-clause-refused c =
@@ -18,4 +18,4 @@ returns-in-Ok-None-clause-refused c =
     value_refused check (texts c.args.words.now) (check_asked (texts c.args.words.now) ≡ None) _ _ c.value_fault.ensures
     (fits_by (app_of c.in_ok-check_command.field-0) check (texts c.args.words.now) c.in_ok-check_command.ensures.shape c.in_ok-matches.ensures.fits)
     (sym (told ∙ asked_found (app_of c.in_ok-check_command.field-0) (texts c.args.words.now) c.in_ok-matches.matches
-        c.in_ok-check_command.ensures.shape c.in_ok-matches.ensures.values c.in_ok-matches.ensures.rows))
+    c.in_ok-check_command.ensures.shape c.in_ok-matches.ensures.values c.in_ok-matches.ensures.rows))

@@ -14,7 +14,7 @@ loop-address-preserved c =
     let other = c.args.other.now in
     let n = c.loop-address.address in
     let told : c.is_different.result ≡ not (same_cell (cell_at one n) (cell_at other n)) =
-        rw (← c.get.ensures, ← c.get-in-loop-address.ensures) c.is_different.ensures in
+    rw (← c.get.ensures, ← c.get-in-loop-address.ensures) c.is_different.ensures in
     elim c.if-is_different.branch [
       | then-is_different+in_ok-push w ↦ rw w.found-is (one_more one other n c.loop-address.found.items w.push.new.self.items
           (sym told ∙ w.if-is_different.true) c.loop-address.invariant w.in_ok-push.ensures.items)

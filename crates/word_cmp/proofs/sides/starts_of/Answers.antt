@@ -16,7 +16,7 @@ loop-address-preserved c =
     let profile = c.args.profile in
     let image = c.args.image.now in
     let read : read_below profile image (c.loop-address.address + 1) ≡ record { start = c.if-left-eq0.start; left = c.if-left-eq0.left - 1 } =
-        elim c.if-left-eq0.branch [
+    elim c.if-left-eq0.branch [
       | then-left-eq0 w ↦ begun profile image c.loop-address.address c.loop-address.left _ _ c.loop-address.invariant.left w.if-left-eq0.true
           w.start-is (w.left-is ∙ w.instruction_len-left.ensures)
       | else-left-eq0 w ↦ continued profile image c.loop-address.address c.loop-address.start c.loop-address.left _ _ c.loop-address.invariant.start

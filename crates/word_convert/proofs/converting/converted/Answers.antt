@@ -6,7 +6,7 @@ use Rattle.word_convert.proofs.converting.converted.Goals as goal
 pub returns-in-Ok-clause-found : goal.returns-in-Ok-clause-found
 returns-in-Ok-clause-found c =
     converted_as c.image_written.result (λ (v : Vec ℕ Global). v.items) (convert_view c.args.words.now) c.args.bytes.now c.in-Ok.image
-        c.in-Ok.ensures.found c.image_written.ensures.found
+    c.in-Ok.ensures.found c.image_written.ensures.found
 
 pub returns-in-Ok-clause-fault : goal.returns-in-Ok-clause-fault
 returns-in-Ok-clause-fault c =

@@ -17,4 +17,4 @@ returns c =
     let right = c.right_byte-right.result in
     let none = ap (λ (n : ℕ). (n - c.args.byte + right) % 256) (sym total) ∙ c.right_byte-right.ensures.zero in
     subst (λ (xs : List (Option ℕ)). IsSummed (Some c.args.address) c.args.part.now xs) (sym c.put.ensures)
-        (summed c.args.part.now c.args.address c.args.byte inside c.requires right c.right_byte-right.ensures.small none)
+    (summed c.args.part.now c.args.address c.args.byte inside c.requires right c.right_byte-right.ensures.small none)

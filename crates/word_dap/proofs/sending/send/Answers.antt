@@ -20,7 +20,7 @@ loop-message-preserved g c =
       Appends-trans _ _ _ inv.0 one.0 inv.1 one.2,
       λ total behind h. subst (AreSent c.args.sent request (map said_of messages) total) (sym (append_assoc inv.0 one.0 behind))
           (inv.2 total (one.0 ++ behind) (sent_step c.loop-message.sent request messages i c.message-item.result c.loop-message-test.true
-              c.message-item.is one.0 one.1 total behind
+          c.message-item.is one.0 one.1 total behind
           (subst (λ n. AreSent n request (map said_of (drop (i + 1) messages)) total behind) c.in-Ok.ensures.number h))),
     )
 
@@ -32,7 +32,7 @@ returns-in-Err-clause-begun g c =
     let messages = c.args.messages.now in
     let i = c.loop-message.message-index in
     let begun = sent_begun c.loop-message.sent request messages i c.message-item.result c.loop-message-test.true c.message-item.is one.0 one.2.0
-        one.2.1 one.1 one.2.2 in (
+    one.2.1 one.1 one.2.2 in (
       inv.0 ++ one.2.0,
       begun_behind c.loop-message.sent c.args.sent request (map said_of messages) (map said_of (drop i messages)) inv.0 one.2.0 inv.2 begun,
       Appends-trans _ _ _ inv.0 one.2.0 inv.1 one.2.3,

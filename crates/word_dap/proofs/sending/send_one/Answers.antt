@@ -13,14 +13,14 @@ pub returns-in-Ok-write_value-clause-sent : goal.returns-in-Ok-write_value-claus
 returns-in-Ok-write_value-clause-sent g c =
     let one = c.in-Ok-write_value.ensures.written in
     let made = made_of c.next_number-number.result c.args.sent (view c.args.request.now) (said_of c.args.message.now) c.next_number-number.ensures
-        c.in-Ok.ensures in
+    c.in-Ok.ensures in
     (framed one.0, (one.0, subst (λ (d : Data). IsTextOf d one.0) made one.1, refl), one.2)
 
 pub returns-in-Ok-clause-begun : goal.returns-in-Ok-clause-begun
 returns-in-Ok-clause-begun g c =
     let one = c.in-Err-write_value.ensures.begun in
     let made = made_of c.next_number-number.result c.args.sent (view c.args.request.now) (said_of c.args.message.now) c.next_number-number.ensures
-        c.in-Ok.ensures in
+    c.in-Ok.ensures in
     (framed one.0, (one.0, subst (λ (d : Data). IsTextOf d one.0) made one.1, refl), one.2)
 
 pub returns-clause-begun : goal.returns-clause-begun

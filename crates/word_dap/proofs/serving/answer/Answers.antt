@@ -16,7 +16,7 @@ returns-in-Ok-clause-answered g c =
       sent.1,
       subst (λ (end : Bool). Answers seen c.args.body.now c.args.adapter.now c.args.sent c.send_served.new.adapter p.0 end sent.1) (sym sent.0)
           (answers seen c.args.body.now c.args.adapter.now c.args.sent (view served.request) (map said_of served.messages.items) served.is_run
-              c.serve_body.new.adapter served.is_end c.send_served.new.adapter p.0 sent.1 c.in-Ok.ensures sent.2),
+          c.serve_body.new.adapter served.is_end c.send_served.new.adapter p.0 sent.1 c.in-Ok.ensures sent.2),
       sent.3,
     ))
     c.send_served.ensures.sent

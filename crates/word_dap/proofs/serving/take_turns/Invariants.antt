@@ -8,5 +8,5 @@ use Rattle.word_dap.proofs.serving.take_turns.Given as goal
 abbrev pub invariant-loop : goal.invariant-loop
 invariant-loop g l = (written : List ℕ)
     × IsServedSoFar (Turns (option_map (λ s. s.now) l.seen)) (g.R.Read.remaining l.fn.input) (g.R.Read.remaining l.input) l.incoming.bytes
-        (l.fn.adapter, 0) (l.adapter, l.sent) written
+    (l.fn.adapter, 0) (l.adapter, l.sent) written
     × Appends (g.O.Write.contents l.fn.output) (g.O.Write.contents l.output) written

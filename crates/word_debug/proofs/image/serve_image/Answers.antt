@@ -8,7 +8,7 @@ use Rattle.word_debug.proofs.image.serve_image.Goals as goal
 pub returns-clause-untouched : goal.returns-clause-untouched
 returns-clause-untouched g c one two =
     let plain = failed_of c.debug_image-status.result c.status_of_replies.result c.finish-has_fault.result.0 c.status_of_replies.ensures.done
-        c.status_of_replies.ensures.failed one (omega (arith, two)) in
+    c.status_of_replies.ensures.failed one (omega (arith, two)) in
     let kept = c.debug_image-status.ensures.untouched plain.0 (omega (arith, two, plain.1)) in
     (kept.0, c.finish-has_fault.ensures.inner ∙ ap (λ w. w.inner) kept.1 ∙ c.over-watch.ensures.inner)
 
@@ -22,10 +22,10 @@ pub returns-clause-refused : goal.returns-clause-refused
 returns-clause-refused g c = (
   λ one.
       let plain = failed_of c.debug_image-status.result c.status_of_replies.result c.finish-has_fault.result.0 c.status_of_replies.ensures.done
-          c.status_of_replies.ensures.failed (omega (arith, one)) (omega (arith, one)) in
+      c.status_of_replies.ensures.failed (omega (arith, one)) (omega (arith, one)) in
       c.debug_image-status.ensures.wrong (omega (arith, plain.1, one)),
   λ two.
       let plain = failed_of c.debug_image-status.result c.status_of_replies.result c.finish-has_fault.result.0 c.status_of_replies.ensures.done
-          c.status_of_replies.ensures.failed (omega (arith, two)) (omega (arith, two)) in
+      c.status_of_replies.ensures.failed (omega (arith, two)) (omega (arith, two)) in
       c.debug_image-status.ensures.refused (omega (arith, plain.1, two)),
 )

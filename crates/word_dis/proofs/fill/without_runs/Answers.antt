@@ -9,7 +9,7 @@ loop-address-init c = begun_each (IsKept c.args.image.now (Some c.args.fill)) c.
 pub loop-address-preserved : goal.loop-address-preserved
 loop-address-preserved c =
     turn_each (IsKept c.args.image.now (Some c.args.fill)) c.loop-address.part c.put_cell.new.part c.loop-address.address c.kept_cell-cell.result
-        c.loop-address.invariant (omega arith) c.kept_cell-cell.ensures c.put_cell.ensures
+    c.loop-address.invariant (omega arith) c.kept_cell-cell.ensures c.put_cell.ensures
 
 pub returns : goal.returns
 returns c = λ a h. c.loop-address.invariant.done a (omega (arith, h))

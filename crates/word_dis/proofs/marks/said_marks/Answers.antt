@@ -7,7 +7,7 @@ pub loop-address-preserved : goal.loop-address-preserved
 loop-address-preserved c =
     let size : length c.loop-address.said.items ≡ c.loop-address.address = c.loop-address.invariant.len in
     let grown : length c.push.new.self.items ≡ c.loop-address.address + 1 =
-        omega (arith, c.in_ok-push.ensures.len, c.loop-address.invariant.len, c.loop-address.said.ok.0, c.push.new.self.ok.0) in
+    omega (arith, c.in_ok-push.ensures.len, c.loop-address.invariant.len, c.loop-address.said.ok.0, c.push.new.self.ok.0) in
     record {
       len = grown;
       each = more c.loop-address.said.items c.push.new.self.items c.loop-address.address (λ a. said_mark c.args.instructions.now c.args.marks.now a)

@@ -9,13 +9,13 @@ loop-word-init c = begun (λ w. w.now) range_of c.args.words.now c.new-ranges.re
 pub loop-word-preserved : goal.loop-word-preserved
 loop-word-preserved c =
     one_more (λ w. w.now) range_of c.args.words.now c.loop-word.word-index c.loop-word.ranges.items c.push.new.self.items _ c.in-Some.range
-        c.loop-word.invariant (omega arith)
+    c.loop-word.invariant (omega arith)
     (sym (rw c.as_bytes.ensures.value at c.range.ensures) ∙ c.in-Some.is) c.in_ok-push-in-Some.ensures.items
 
 pub returns-in-None : goal.returns-in-None
 returns-in-None c =
     one_wrong (λ w. w.now) range_of c.args.words.now c.loop-word.word-index c.loop-word.ranges.items _ c.loop-word.invariant (omega arith)
-        (sym (rw c.as_bytes.ensures.value at c.range.ensures) ∙ c.in-None.is)
+    (sym (rw c.as_bytes.ensures.value at c.range.ensures) ∙ c.in-None.is)
 
 pub returns : goal.returns
 returns c =

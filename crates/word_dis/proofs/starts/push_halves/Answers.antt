@@ -10,9 +10,9 @@ loop-index-init c = no_halves c.args.part.now c.args.split c.args.starts.now.ite
 pub loop-index-preserved : goal.loop-index-preserved
 loop-index-preserved c =
     halves_more c.args.part.now c.args.split c.loop-index.index c.args.starts.now.items c.loop-index.starts.items c.push_target.new.starts.items
-        c.loop-index.invariant
+    c.loop-index.invariant
     (c.in_ok-push_target.ensures ∙ ap (λ (t : Option ℕ). c.loop-index.starts.items ++ target_list t)
-        (c.target_at.ensures ∙ ap (λ (cells : List (Option ℕ)). target_at cells c.args.split c.loop-index.index) c.cells.ensures.same))
+    (c.target_at.ensures ∙ ap (λ (cells : List (Option ℕ)). target_at cells c.args.split c.loop-index.index) c.cells.ensures.same))
 
 pub returns : goal.returns
 returns c =

@@ -8,7 +8,7 @@ pub returns-in_err-names-clause-refused : goal.returns-in_err-names-clause-refus
 returns-in_err-names-clause-refused c =
     let same : c.in_ok-map.map ≡ names_map c.args.profile = rw c.based.ensures at c.in_ok-map.ensures.map in
     names_refused c.args.profile c.args.source.now c.in_ok-map.map c.in_err-names.field-0.0 c.from_residual-in_err-names.result same
-        c.in_err-names.ensures.refused c.from_residual-in_err-names.ensures.1
+    c.in_err-names.ensures.refused c.from_residual-in_err-names.ensures.1
 
 pub returns-clause-named : goal.returns-clause-named
 returns-clause-named c =

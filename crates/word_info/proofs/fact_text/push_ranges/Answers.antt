@@ -13,7 +13,7 @@ loop-range-preserved c =
     let first : iter_rest (zip_first c.into_iter-range-iterator.result) ≡ ranges = cc in
     let second : iter_rest (zip_second c.into_iter-range-iterator.result) ≡ sums = cc in
     let turn = zip_turn ranges sums c.loop-range.yielded c.into_iter-range-iterator.result c.loop-range.range-iterator c.next.new.self _ first second
-        c.loop-range.yielded_by (c.in-Some.range, c.in-Some.sums) c.in-Some.is c.next.ensures.steps in
+    c.loop-range.yielded_by (c.in-Some.range, c.in-Some.sums) c.in-Some.is c.next.ensures.steps in
     one_more range_row ranges sums (length c.loop-range.yielded) _ c.in-Some.range.now c.in-Some.sums.now _ _ _
     turn.0 turn.1 (turn.2 c.in-Some.range.now) (turn.3 c.in-Some.sums.now)
     (length-append c.loop-range.yielded ((c.in-Some.range, c.in-Some.sums) ∷ [])) c.in_ok-push_range.ensures c.loop-range.invariant
@@ -26,4 +26,4 @@ returns c =
     let second : iter_rest (zip_second c.into_iter-range-iterator.result) ≡ sums = cc in
     all_done range_row ranges sums (length c.loop-range.yielded) _ _
     (zip_end ranges sums c.loop-range.yielded c.into_iter-range-iterator.result c.loop-range.range-iterator c.next.new.self _ first second
-        c.loop-range.yielded_by c.in-None.is c.next.ensures.steps) c.loop-range.invariant
+    c.loop-range.yielded_by c.in-None.is c.next.ensures.steps) c.loop-range.invariant

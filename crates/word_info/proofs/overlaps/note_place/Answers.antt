@@ -7,4 +7,4 @@ returns-then-text-place-ne59 c = λ n noted. unwritten c.args.once.now c.args.ag
 pub returns : goal.returns
 returns c = λ n noted.
     written_there c.note_digits.new.once c.note_digits.new.again n c.args.text.now c.behind.result.now c.args.place c.if-text-place-ne59.false
-        c.behind.ensures (c.note_digits.ensures n noted)
+    c.behind.ensures (c.note_digits.ensures n noted)

@@ -10,7 +10,7 @@ loop-place-init c = nothing_noted c.in-Ok.once c.in-Ok-new.again c.in-Ok.ensures
 pub loop-place-preserved : goal.loop-place-preserved
 loop-place-preserved c =
     next_place c.args.text.now c.note_place.new.once c.note_place.new.again c.loop-place.place
-        (c.note_place.ensures (writes_before c.args.text.now c.loop-place.place) c.loop-place.invariant)
+    (c.note_place.ensures (writes_before c.args.text.now c.loop-place.place) c.loop-place.invariant)
 
 pub returns : goal.returns
 returns c = noted_all c.args.text.now c.loop-place.once c.loop-place.again c.loop-place.place (omega arith) c.loop-place.invariant

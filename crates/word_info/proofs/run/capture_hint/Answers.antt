@@ -10,11 +10,25 @@ returns c =
     elim c.match-mend_capture.branch [
       | in-Ok w ↦
           let captured = w.in-Ok.field-0 in
-          rw w.result-is (inl (refl, inr (captured.image, w.in-Ok.ensures.capture, subst (λ (t : List ℕ). TapeDenotes t captured.image)
-              w.in-Ok.ensures.text w.in-Ok.ensures.denotes)))
+          rw w.result-is (inl (
+            refl,
+            inr (
+              captured.image,
+              w.in-Ok.ensures.capture,
+              subst (λ (t : List ℕ). TapeDenotes t captured.image)
+                  w.in-Ok.ensures.text w.in-Ok.ensures.denotes,
+            ),
+          ))
       | in-Err+in-OutOfMemory w ↦ rw w.result-is tt
       | in-Err+in_default w ↦
           let fault = w.in-Err.fault in
-          rw w.result-is (inr (refl, c.requires, (fault, own_fault (captured_tape c.args.text.now) fault w.in_default.not-OutOfMemory
-              w.in-Err.ensures.refused)))
+          rw w.result-is (inr (
+            refl,
+            c.requires,
+            (
+              fault,
+              own_fault (captured_tape c.args.text.now) fault w.in_default.not-OutOfMemory
+                  w.in-Err.ensures.refused,
+            ),
+          ))
     ]

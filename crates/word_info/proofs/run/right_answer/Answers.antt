@@ -11,7 +11,7 @@ use Rattle.word_info.proofs.run.right_answer.Goals as goal
 pub returns : goal.returns
 returns c =
     right_image (info_view c.args.words.now) c.args.bytes.now c.args.image.now c.args.map.now.port c.args.tape.now.records
-        c.args.tape.now.overlaps.items (string_bytes c.in_ok-text.text) (string_bytes c.in_ok-end.end) _ c.requires.port c.requires.denotes
-        c.requires.records c.requires.overlaps c.in_ok-text.ensures
+    c.args.tape.now.overlaps.items (string_bytes c.in_ok-text.text) (string_bytes c.in_ok-end.end) _ c.requires.port c.requires.denotes
+    c.requires.records c.requires.overlaps c.in_ok-text.ensures
     (subst (λ (told : Result Form OtherText). IsEndText told c.args.bytes.now (string_bytes c.in_ok-end.end)) c.form_by.ensures c.in_ok-end.ensures)
     (c.in_ok-push_str.ensures.bytes ∙ ap (λ t. string_bytes c.in_ok-text.text ++ t) c.as_str.ensures.value)

@@ -10,7 +10,7 @@ use Rattle.word_lsp.proofs.answers.question_reply.Goals as goal
 pub returns-in-Ok-answer_to : goal.returns-in-Ok-answer_to
 returns-in-Ok-answer_to c =
     let read = c.in-Ok-read.ensures ∙ ap₂ (λ (profile : Profile) (source : List ℕ). text_of profile source) c.profile.ensures
-        (c.deref.ensures.value ∙ c.in-Ok.ensures) in
+    (c.deref.ensures.value ∙ c.in-Ok.ensures) in
     let given = view c.in-Ok-answer_to.given in
     let asked : List ℕ → Asked = λ written. record { client = c.args.client; uri = c.args.uri.now; written = written } in
     let of_text = subst (λ (t : TextView). IsAnswerTo c.args.map.now (asked c.written.result.now) t c.args.question given) read c.in-Ok-answer_to.ensures in

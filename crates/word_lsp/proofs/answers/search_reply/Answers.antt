@@ -9,5 +9,5 @@ use Rattle.word_lsp.proofs.answers.search_reply.Goals as goal
 pub returns-in-Ok : goal.returns-in-Ok
 returns-in-Ok c =
     let given = subst (λ (p : Profile). view c.in-Ok.given ≡ found_in_all p c.args.query.now (documents_view c.args.documents.now)) c.profile.ensures
-        c.in-Ok.ensures in
+    c.in-Ok.ensures in
     IfOk-weaker c.result_reply.result _ _ (λ v h. (view c.in-Ok.given, given, h)) c.result_reply.ensures

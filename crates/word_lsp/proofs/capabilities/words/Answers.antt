@@ -17,5 +17,5 @@ loop-text-preserved c = next_value (λ (s : Bor (List ℕ)). word s.now) c.args.
 pub returns : goal.returns
 returns c =
     let all = all_values (λ (s : Bor (List ℕ)). word s.now) c.args.texts.now c.loop-text.text-index c.loop-text.list
-        (omega (arith, c.loop-text-test.false)) c.loop-text.invariant in
+    (omega (arith, c.loop-text-test.false)) c.loop-text.invariant in
     c.build.ensures _ (subst (λ (ds : List Data). HasValues ds c.loop-text.list) (sym (map-map word (λ (s : Bor (List ℕ)). s.now) c.args.texts.now)) all)

@@ -9,7 +9,7 @@ use Rattle.word_lsp.proofs.marking.marked.Goals as goal
 pub returns-in-Ok-published : goal.returns-in-Ok-published
 returns-in-Ok-published c =
     let read = c.in-Ok-read.ensures ∙ ap₂ (λ (profile : Profile) (source : List ℕ). text_of profile source) c.profile.ensures
-        (c.deref.ensures.value ∙ c.in-Ok.ensures.cleaned) in
+    (c.deref.ensures.value ∙ c.in-Ok.ensures.cleaned) in
     let given = view c.in-Ok-published.marks in
     let marks = subst (λ (t : TextView). AreMarks c.args.map.now c.args.uri.now t given) read c.in-Ok-published.ensures in
     IfOk-weaker c.notice.result _ _ (λ v is. (given, marks, is)) c.notice.ensures

@@ -8,4 +8,4 @@ use Rattle.word_lsp.proofs.marking.showing.Goals as goal
 pub returns-in-Ok : goal.returns-in-Ok
 returns-in-Ok c =
     IfOk-weaker c.notice.result _ _ (λ v is. (c.args.words.now, is ∙ ap (λ (d : Data). notice_data (codes "window/showMessage") d) c.in-Ok.ensures))
-        c.notice.ensures
+    c.notice.ensures

@@ -23,7 +23,7 @@ loop-document-preserved c behind rest =
     told_more c.args.map.now docs c.loop-document.told.items c.push.new.self.items one behind c.in_ok-push.ensures.items
     (c.loop-document.invariant (view one ∷ behind)
     (told_step c.args.map.now docs c.loop-document.document-index c.document-item.result (omega (arith, c.loop-document-test.true)) c.document-item.is
-        (view one) behind by_text rest))
+    (view one) behind by_text rest))
 
 pub returns : goal.returns
 returns c =

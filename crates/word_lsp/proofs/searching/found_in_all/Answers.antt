@@ -18,7 +18,7 @@ loop-document-preserved c =
     let item = ap (λ (d : Document). before ++ f (document_view d)) c.document-item.is in
     subst (λ (es : List Data). HasValues es c.in_ok-found.found)
     (item ∙ taken_more f document_view [] c.deref-document-items.result.now c.loop-document.document-index c.document-item.result
-        (omega (arith, c.loop-document-test.true)))
+    (omega (arith, c.loop-document-test.true)))
     (c.in_ok-found.ensures _ c.loop-document.invariant)
 
 pub returns : goal.returns

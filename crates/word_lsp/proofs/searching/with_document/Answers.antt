@@ -10,7 +10,7 @@ use Rattle.word_lsp.proofs.searching.with_document.Goals as goal
 pub returns : goal.returns
 returns c ds has =
     let read = c.in-Ok-read.ensures ∙ ap (λ (source : List ℕ). text_of c.args.profile source)
-        (c.deref-2.ensures.value ∙ c.in-Ok.ensures.cleaned ∙ ap cleaned c.deref.ensures.value) in
+    (c.deref-2.ensures.value ∙ c.in-Ok.ensures.cleaned ∙ ap cleaned c.deref.ensures.value) in
     let by_uri = ap (λ (uri : List ℕ). found_by uri c.as_bytes.result.now (text_view c.in-Ok-read.text)) c.as_str.ensures.value in
     let by_query = ap (λ (query : List ℕ). found_by (string_bytes c.args.document.now.uri) query (text_view c.in-Ok-read.text)) c.as_bytes.ensures.value in
     let by_text = ap (λ (t : TextView). found_by (string_bytes c.args.document.now.uri) c.args.query.now t) read in

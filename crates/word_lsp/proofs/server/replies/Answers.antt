@@ -18,8 +18,14 @@ returns-in_ok-given c =
     = ap (λ (o : Option SettingsView). is_wrong c.args.words.now o) (sym c.settings_asked-settings.ensures) ∙ sym c.is_wrong.ensures ∙ c.if-is_wrong.true in
     subst (λ (b : Bool). IfOk c.two.result (λ vs. AreReplies b c.args.words.now s (view c.args.id.now) request (map view vs.items))) (sym other)
     (IfOk-weaker c.two.result _ _
-    (λ vs h. (view c.in_ok-given.given, view h.0 ∷ [], c.in_ok-given.ensures, subst (λ (b : Bool). AreShownIf b (view h.0 ∷ [])) (sym wrong)
-        (view h.0, h.1, refl), h.2))
+    (λ vs h. (
+      view c.in_ok-given.given,
+      view h.0 ∷ [],
+      c.in_ok-given.ensures,
+      subst (λ (b : Bool). AreShownIf b (view h.0 ∷ [])) (sym wrong)
+          (view h.0, h.1, refl),
+      h.2,
+    ))
     (chained c.showing.result c.two.result _ _ c.showing.ensures c.two.ensures))
 
 pub returns-else-is_wrong : goal.returns-else-is_wrong

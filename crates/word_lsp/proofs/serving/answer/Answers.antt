@@ -20,7 +20,7 @@ returns-in-Some g c =
     let found = subst (λ (found : Option Value). IsMessage c.deref.result.now (option_map view found)) c.in-Ok-Some.field-0-is c.in-Ok-Some.ensures in
     let is = subst (λ (body : List ℕ). IsMessage body (Some message)) c.deref.ensures.value found in
     let ends = subst (λ (end : Option ℕ). DoesUnless end c.args.map.now old message old [] (Some c.in-Some.status))
-        (sym c.in-Some.is ∙ c.asks_for_end.ensures) (refl, refl, refl) in
+    (sym c.in-Some.is ∙ c.asks_for_end.ensures) (refl, refl, refl) in
     ([], (Some message, is, [], ends, written_none), Appends-nil _)
 
 pub returns-in-Ok-Some : goal.returns-in-Ok-Some
@@ -53,9 +53,12 @@ returns-in-Ok-None g c =
     let found = subst (λ (found : Option Value). IsMessage c.deref.result.now (option_map view found)) c.in-Ok-None.field-0-is c.in-Ok-None.ensures in
     let is = subst (λ (body : List ℕ). IsMessage body None) c.deref.ensures.value found in
     through c.refused.result c.told-in-Ok-None.result _ _ _ _ _ _ _ c.refused.ensures c.told-in-Ok-None.ensures
-    (λ values done end h.
-    (h.1, subst (λ (end : Option ℕ). Answers c.args.map.now body state state end h.1) (sym h.0)
-        (None, is, map view values.items, (refl, done, refl), h.2), h.3))
+    (λ values done end h. (
+      h.1,
+      subst (λ (end : Option ℕ). Answers c.args.map.now body state state end h.1) (sym h.0)
+          (None, is, map view values.items, (refl, done, refl), h.2),
+      h.3,
+    ))
     (λ values done fault h.
     let all : Answers c.args.map.now body state state None h.1 = (None, is, map view values.items, (refl, done, refl), h.2) in
     (h.0, h.3.0, inr (state, None, h.1, h.3.1, all, h.3.2), h.3.3))

@@ -12,7 +12,7 @@ pub loop-init : goal.loop-init
 loop-init g c =
     let given = g.R.Read.remaining c.args.input.now in
     let begun = subst (λ (s : State). IsServedSoFar (Answers c.args.map.now) given given [] start s []) (sym c.requires.fresh)
-        (unserved (Answers c.args.map.now) given start) in (
+    (unserved (Answers c.args.map.now) given start) in (
       [],
       subst (λ (held : List ℕ). IsServedSoFar (Answers c.args.map.now) given given held start (server_view c.args.server.now) []) (sym c.requires.empty) begun,
       Appends-nil _,
@@ -79,9 +79,12 @@ returns-in-Fresh-clause-session g c =
 pub returns-in-Err-clause-session : goal.returns-in-Err-clause-session
 returns-in-Err-clause-session g c =
     let inv = c.loop.invariant in
-    let came = c.in-Err.ensures.taken in
-    (inv.0, cut_between (Answers c.args.map.now) _ _ _ c.loop.incoming.bytes came.0 start (server_view c.loop.server) c.in-Err.fault inv.0 inv.1
-        came.1 came.3, inv.2)
+    let came = c.in-Err.ensures.taken in (
+      inv.0,
+      cut_between (Answers c.args.map.now) _ _ _ c.loop.incoming.bytes came.0 start (server_view c.loop.server) c.in-Err.fault inv.0 inv.1
+          came.1 came.3,
+      inv.2,
+    )
 
 pub returns-clause-session : goal.returns-clause-session
 returns-clause-session g c =

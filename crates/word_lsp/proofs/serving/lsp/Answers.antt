@@ -11,7 +11,7 @@ use Rattle.word_lsp.proofs.serving.lsp.Goals as goal
 pub returns-in-Ok-clause-session : goal.returns-in-Ok-clause-session
 returns-in-Ok-clause-session g c a h fits other =
     subst (λ (b : LspAsked). IsServed (map_for b) (g.R.Read.remaining c.args.input.now) (g.R.Read.remaining c.done.new.input) c.done.result
-        (g.O.Write.contents c.args.output.now) (g.O.Write.contents c.done.new.output))
+    (g.O.Write.contents c.args.output.now) (g.O.Write.contents c.done.new.output))
     (one_asked _ (lsp_view c.in-Ok.words) a c.in-Ok.ensures.asked h) (c.done.ensures.session other)
 
 pub returns-in-Err-clause-session : goal.returns-in-Err-clause-session
@@ -21,20 +21,34 @@ returns-in-Err-clause-session g c a h fits other =
 
 pub returns-in-Ok-clause-right : goal.returns-in-Ok-clause-right
 returns-in-Ok-clause-right g c = λ zero.
-    inr (lsp_view c.in-Ok.words, c.in-Ok.ensures.fits, c.in-Ok.ensures.asked, at_end _ _ _ _ _ c.done.result 0
-        (c.done.ensures.session (λ e. omega (arith, zero, e))) zero (omega arith))
+    inr (
+      lsp_view c.in-Ok.words,
+      c.in-Ok.ensures.fits,
+      c.in-Ok.ensures.asked,
+      at_end _ _ _ _ _ c.done.result 0
+          (c.done.ensures.session (λ e. omega (arith, zero, e))) zero (omega arith),
+    )
 
 pub returns-in-Ok-clause-early : goal.returns-in-Ok-clause-early
-returns-in-Ok-clause-early g c = λ one.
-    (lsp_view c.in-Ok.words, c.in-Ok.ensures.fits, c.in-Ok.ensures.asked, at_end _ _ _ _ _ c.done.result 1
-        (c.done.ensures.session (λ e. omega (arith, one, e))) one (omega arith))
+returns-in-Ok-clause-early g c = λ one. (
+  lsp_view c.in-Ok.words,
+  c.in-Ok.ensures.fits,
+  c.in-Ok.ensures.asked,
+  at_end _ _ _ _ _ c.done.result 1
+      (c.done.ensures.session (λ e. omega (arith, one, e))) one (omega arith),
+)
 
 pub returns-in-Ok-clause-wrong : goal.returns-in-Ok-clause-wrong
 returns-in-Ok-clause-wrong g c = λ two. inr (inr (lsp_view c.in-Ok.words, c.in-Ok.ensures.fits, c.in-Ok.ensures.asked, c.done.ensures.wrong two))
 
 pub returns-in-Ok-clause-cut : goal.returns-in-Ok-clause-cut
-returns-in-Ok-clause-cut g c = λ four. inr (lsp_view c.in-Ok.words, c.in-Ok.ensures.fits, c.in-Ok.ensures.asked, served_with _ _ _ _ _ c.done.result 4
-    (c.done.ensures.session (λ e. omega (arith, four, e))) four)
+returns-in-Ok-clause-cut g c = λ four. inr (
+  lsp_view c.in-Ok.words,
+  c.in-Ok.ensures.fits,
+  c.in-Ok.ensures.asked,
+  served_with _ _ _ _ _ c.done.result 4
+      (c.done.ensures.session (λ e. omega (arith, four, e))) four,
+)
 
 pub returns-in-Err-clause-right : goal.returns-in-Err-clause-right
 returns-in-Err-clause-right g c = λ zero. inl ((says_of_words lsp_app (texts c.args.words.now) _ _ _ c.in-Err.ensures.refused

@@ -19,7 +19,7 @@ loop-value-preserved g c =
       Appends-trans _ _ _ inv.0 (framed one.0) inv.1 one.2,
       λ behind h. subst (AreWritten (map view values)) (sym (append_assoc inv.0 (framed one.0) behind))
           (inv.2 (framed one.0 ++ behind) (written_step values c.loop-value.value-index c.value-item.result c.loop-value-test.true c.value-item.is
-              one.0 behind one.1 h)),
+          one.0 behind one.1 h)),
     )
 
 pub returns : goal.returns

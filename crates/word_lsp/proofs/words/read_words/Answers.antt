@@ -11,7 +11,7 @@ returns-in-Some-Some-clause-asked c =
     let found = first_value (found_of c.in_ok-matches.matches) in
     let by : Some (record { port = c.in-Some-Some.port; profile = c.in-Some-Some.profile }) ≡ lsp_by found = search rules in
     sym (by ∙ asked_by lsp_by (app_of c.in_ok-lsp_command.field-0) lsp_app (texts c.args.words.now) found c.in_ok-lsp_command.ensures.shape
-        c.in_ok-matches.ensures.values)
+    c.in_ok-matches.ensures.values)
 
 pub returns-in-Some-Some-clause-fits : goal.returns-in-Some-Some-clause-fits
 returns-in-Some-Some-clause-fits c =
@@ -20,9 +20,12 @@ returns-in-Some-Some-clause-fits c =
 pub returns-in_default-clause-refused : goal.returns-in_default-clause-refused
 returns-in_default-clause-refused c =
     let found = first_value (found_of c.in_ok-matches.matches) in
-    let by : lsp_by found ≡ None = elim c.in_default.branch [ in_default-via-in-Some+in_default w ↦ search rules | in_default-via-in_default w ↦
-        search rules ] in
+    let by : lsp_by found ≡ None = elim c.in_default.branch [
+      | in_default-via-in-Some+in_default w ↦ search rules
+      | in_default-via-in_default w ↦
+          search rules
+    ] in
     value_refused lsp_app (texts c.args.words.now) (lsp_asked (texts c.args.words.now) ≡ None) _ _ c.value_fault-fault.ensures
     (fits_by (app_of c.in_ok-lsp_command.field-0) lsp_app (texts c.args.words.now) c.in_ok-lsp_command.ensures.shape c.in_ok-matches.ensures.fits)
     (sym (sym by ∙ asked_by lsp_by (app_of c.in_ok-lsp_command.field-0) lsp_app (texts c.args.words.now) found c.in_ok-lsp_command.ensures.shape
-        c.in_ok-matches.ensures.values))
+    c.in_ok-matches.ensures.values))

@@ -12,4 +12,4 @@ returns-in-len1 c = s_one c.args.line.now c.in-len1.len_at_least c.in-len1.len_b
 pub returns-else-not-is_type : goal.returns-else-not-is_type
 returns-else-not-is_type c =
     IfOk-weaker c.wrong_in.result _ _ (λ found is. is ∙ s_there c.args.line.now c.in-len2-up.len_at_least c.if-mark-ne83.false
-        (sym c.is_type.ensures ∙ c.if-not-is_type.false)) c.wrong_in.ensures
+    (sym c.is_type.ensures ∙ c.if-not-is_type.false)) c.wrong_in.ensures

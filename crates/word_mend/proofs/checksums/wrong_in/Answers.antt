@@ -16,7 +16,7 @@ returns-then-not-is_whole c =
     let pairs = sym c.are_pairs.ensures ∙ c.if-not-are_pairs.false in
     let are = c.deref.ensures.value ∙ decoded c.args.digits.now c.in-Ok.bytes.items pairs c.in-Ok.ensures.ok in
     let part : is_whole (extra_of form) bytes ≡ false = sym (ap (λ (n : ℕ). is_whole n bytes) c.extra_of.ensures.value)
-        ∙ (sym c.is_whole.ensures.value ∙ c.if-not-is_whole.true) in
+    ∙ (sym c.is_whole.ensures.value ∙ c.if-not-is_whole.true) in
     no_record (mark_len form) (extra_of form) (total_of form) c.args.digits.now bytes pairs are part
 
 pub returns : goal.returns
@@ -28,6 +28,6 @@ returns c =
     let same = c.deref-2.ensures.value ∙ sym c.deref.ensures.value in
     let whole : is_whole (extra_of form) bytes ≡ true =
     ap (is_whole (extra_of form)) same ∙ (sym (ap (λ (n : ℕ). is_whole n c.deref.result.now) c.extra_of.ensures.value)
-        ∙ (sym c.is_whole.ensures.value ∙ c.if-not-is_whole.false)) in
+    ∙ (sym c.is_whole.ensures.value ∙ c.if-not-is_whole.false)) in
     c.wrong_of.ensures ∙ (ap (λ (total : ℕ). checksums_if (not (sum bytes % 256 == total)) total bytes) c.total_of.ensures.value
     ∙ whole_record (mark_len form) (extra_of form) (total_of form) c.args.digits.now bytes pairs are whole)

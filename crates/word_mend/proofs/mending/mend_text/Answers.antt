@@ -7,7 +7,7 @@ returns-in-Ok-clause-records c = right_records (λ m. m.image) c.as_it_is.result
 pub returns-in-Ok-clause-right : goal.returns-in-Ok-clause-right
 returns-in-Ok-clause-right c = λ cells d.
     right_image (λ m. m.image) c.as_it_is.result c.in-Ok.image cells
-        (c.each_text_has_one_reading.ensures.image c.args.text.now c.in-Ok.image cells c.in-Ok.ensures.found d) c.as_it_is.ensures.image c.as_it_is.ensures.only
+    (c.each_text_has_one_reading.ensures.image c.args.text.now c.in-Ok.image cells c.in-Ok.ensures.found d) c.as_it_is.ensures.image c.as_it_is.ensures.only
 
 pub returns-in-Ok-clause-only : goal.returns-in-Ok-clause-only
 returns-in-Ok-clause-only c = λ kind offset cells first d.

@@ -6,6 +6,6 @@ pub returns : goal.returns
 returns c =
     let n = c.args.count in
     end_text c.extend_from_slice.result n (n / 256 + n % 256) c.args.out.now.items c.push.new.self.items c.push_byte.new.out.items
-        c.push_byte-2.new.out.items c.push_byte-3.new.out.items c.push_byte-4.new.out.items c.push_byte-5.new.out.items c.extend_from_slice.new.self.items
+    c.push_byte-2.new.out.items c.push_byte-3.new.out.items c.push_byte-4.new.out.items c.push_byte-5.new.out.items c.extend_from_slice.new.self.items
     refl c.ranges.count.fits c.in_ok-push.ensures.items c.in_ok-push_byte.ensures c.in_ok-push_byte-2.ensures c.in_ok-push_byte-3.ensures
-        c.in_ok-push_byte-4.ensures c.in_ok-push_byte-5.ensures c.extend_from_slice.ensures.items
+    c.in_ok-push_byte-4.ensures c.in_ok-push_byte-5.ensures c.extend_from_slice.ensures.items

@@ -10,4 +10,4 @@ returns-in-Hex c = end_put c.extend_from_slice.result c.args.out.now.items c.ext
 pub returns-in-SRecord : goal.returns-in-SRecord
 returns-in-SRecord c =
     end_put c.extend_from_slice-in-SRecord.result c.args.out.now.items c.extend_from_slice-in-SRecord.new.self.items _ (end_text c.args.form)
-        c.extend_from_slice-in-SRecord.ensures.items (s_end ∙ ap end_text (sym c.in-SRecord.is))
+    c.extend_from_slice-in-SRecord.ensures.items (s_end ∙ ap end_text (sym c.in-SRecord.is))

@@ -7,9 +7,9 @@ use Rattle.word_mend.proofs.run.place_in.Goals.{then-is_kept+else-left-ends, els
 pub returns-then-left-ends-clause-value : goal.returns-then-left-ends-clause-value
 returns-then-left-ends-clause-value c =
     let few : c.loop-place.left ≤ ends_before c.loop-place.is_first (slice_index c.args.text.now c.loop-place.place) =
-        omega (arith, c.ends_before-ends.ensures, c.if-left-ends.true) in
+    omega (arith, c.ends_before-ends.ensures, c.if-left-ends.true) in
     place_reached c.args.text.now c.loop-place.left c.loop-place.is_first c.loop-place.place _ (omega (arith, c.loop-place-test.true))
-        c.loop-place.invariant (sym c.is_kept.ensures ∙ c.if-is_kept.true) few
+    c.loop-place.invariant (sym c.is_kept.ensures ∙ c.if-is_kept.true) few
 
 pub loop-place-preserved : goal.loop-place-preserved
 loop-place-preserved c =

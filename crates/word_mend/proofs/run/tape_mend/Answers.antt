@@ -27,7 +27,7 @@ returns-in-Ok-clause-wrong g c = λ one. (
 pub returns-in-Ok-clause-refused : goal.returns-in-Ok-clause-refused
 returns-in-Ok-clause-refused g c = λ two. absurd
     (no_two (said_two (IsSaid (mend_view c.in-Ok.words)) c.done.result c.answered.result _ _ EndsMend c.done.ensures.about c.answered.ensures.said
-        c.done.ensures.refused two))
+    c.done.ensures.refused two))
 
 pub returns-in-Ok-clause-begun : goal.returns-in-Ok-clause-begun
 returns-in-Ok-clause-begun g c = λ four. inr (

@@ -20,7 +20,7 @@ loop-init g c =
       [],
       subst (λ k. GoesOn prompt [] k first c.put_text.new.terminal []) (sym c.new-begun.ensures)
           (shown_on prompt [] [] first first [] (begins prompt first) c.put_text.new.terminal
-              (rests_then first c.say_if.new.terminal c.put_text.new.terminal c.say_if.ensures.rests c.put_text.ensures.rests)),
+          (rests_then first c.say_if.new.terminal c.put_text.new.terminal c.say_if.ensures.rests c.put_text.ensures.rests)),
       subst (Appends (g.W.Write.contents c.args.writer.now) (g.W.Write.contents c.put_text.new.writer))
           (c.in_ok-say_if.ensures.said ∙ ap (λ t. first.mon.text.items ++ t) (sym (append-nil prompt))) c.in_ok-put_text.ensures.written,
       c.in_ok-put_text.ensures.cleared,
@@ -34,14 +34,14 @@ returns-in-Ok-eq0-clause-attended g c =
     let old = c.args.terminal.now.mon.text.items in
     let bytes = rw c.in-Ok-eq0.field-0-test at c.in-Ok-eq0.ensures.bytes in
     let told = subst (Consumes (g.R.Read.remaining c.args.reader.now) (g.R.Read.remaining c.read.new.self)) (append-nil inv.0)
-        (Consumes-trans _ _ _ inv.0 [] inv.1 bytes.0) in
+    (Consumes-trans _ _ _ inv.0 [] inv.1 bytes.0) in
     IfOk-weaker c.serve_last.result _ _
     (λ _ h. let s = h.2 inv.0 c.args.terminal.now inv.2 inv.3 in (
       prompt ++ (inv.2 ++ (line_end ++ h.0)),
       (inv.0, told, inv.2 ++ (line_end ++ h.0), refl, inr (s.0, bytes.1 refl (omega arith), s.1)),
       subst (Appends (g.W.Write.contents c.args.writer.now) (g.W.Write.contents c.serve_last.new.writer))
           (ap (λ t. (old ++ (prompt ++ inv.2)) ++ (t ++ (line_end ++ h.0))) inv.5 ∙ append_assoc old (prompt ++ inv.2) (line_end ++ h.0)
-              ∙ ap (λ t. old ++ t) (append_assoc prompt inv.2 (line_end ++ h.0)))
+          ∙ ap (λ t. old ++ t) (append_assoc prompt inv.2 (line_end ++ h.0)))
           (Appends-trans _ _ _ (old ++ (prompt ++ inv.2)) (c.loop.terminal.mon.text.items ++ (line_end ++ h.0)) inv.4 h.1),
     )) c.serve_last.ensures.served
 
@@ -72,8 +72,14 @@ returns-in-Err-clause-unread g c _ =
     let inv = c.loop.invariant in
     let prompt = prompt_of c.args.prompts in (
       prompt ++ inv.2,
-      (inv.0, Consumes-kept _ _ _ _ inv.1 c.in-Err.ensures.bytes, inv.2, refl, so_far prompt inv.0 c.loop.begun.items c.args.terminal.now
-          c.loop.terminal inv.2 inv.3),
+      (
+        inv.0,
+        Consumes-kept _ _ _ _ inv.1 c.in-Err.ensures.bytes,
+        inv.2,
+        refl,
+        so_far prompt inv.0 c.loop.begun.items c.args.terminal.now
+            c.loop.terminal inv.2 inv.3,
+      ),
       inv.4,
     )
 
@@ -110,7 +116,7 @@ returns-in_err-say_if-clause-broken g c =
     let first = c.args.terminal.now in
     let prompt = prompt_of c.args.prompts in
     let none : AttendsInPart c.args.prompts first.mon.text.items first (g.R.Read.remaining c.args.reader.now) (g.R.Read.remaining c.args.reader.now)
-        (g.W.Write.contents c.args.writer.now) (g.W.Write.contents c.args.writer.now)
+    (g.W.Write.contents c.args.writer.now) (g.W.Write.contents c.args.writer.now)
     = (first, prompt ++ [], ([], Consumes-nil _, [], refl, inl (some_none prompt first)), front_none _ _) in
     if_err_anyway _ _ none
 
@@ -119,7 +125,7 @@ returns-in_err-put_text-clause-broken g c =
     let first = c.args.terminal.now in
     let prompt = prompt_of c.args.prompts in
     let begun : AttendsInPart c.args.prompts first.mon.text.items first (g.R.Read.remaining c.args.reader.now) (g.R.Read.remaining c.args.reader.now)
-        (g.W.Write.contents c.args.writer.now) (g.W.Write.contents c.put_text.new.writer) = (
+    (g.W.Write.contents c.args.writer.now) (g.W.Write.contents c.put_text.new.writer) = (
       first,
       prompt ++ [],
       ([], Consumes-nil _, [], refl, inl (some_none prompt first)),
@@ -137,7 +143,7 @@ returns-in-Ok-eq0-clause-broken g c =
     let old = first.mon.text.items in
     let bytes = rw c.in-Ok-eq0.field-0-test at c.in-Ok-eq0.ensures.bytes in
     let told = subst (Consumes (g.R.Read.remaining c.args.reader.now) (g.R.Read.remaining c.read.new.self)) (append-nil inv.0)
-        (Consumes-trans _ _ _ inv.0 [] inv.1 bytes.0) in
+    (Consumes-trans _ _ _ inv.0 [] inv.1 bytes.0) in
     IfErr-weaker c.serve_last.result _ _ (λ _ b. elim b [
       | inl same ↦ (
         c.loop.terminal,
@@ -153,7 +159,7 @@ returns-in-Ok-eq0-clause-broken g c =
             (inv.0, told, inv.2 ++ (line_end ++ h.0), refl, inr (s.0, bytes.1 refl (omega arith), s.2)),
             subst (AppendsFront (g.W.Write.contents c.args.writer.now) (g.W.Write.contents c.serve_last.new.writer))
                 (ap (λ t. (old ++ (prompt ++ inv.2)) ++ (t ++ (line_end ++ h.0))) inv.5 ∙ append_assoc old (prompt ++ inv.2) (line_end ++ h.0)
-                    ∙ ap (λ t. old ++ t) (append_assoc prompt inv.2 (line_end ++ h.0)))
+                ∙ ap (λ t. old ++ t) (append_assoc prompt inv.2 (line_end ++ h.0)))
                 (front_after _ _ _ (old ++ (prompt ++ inv.2)) (c.loop.terminal.mon.text.items ++ (line_end ++ h.0)) inv.4 h.1),
           )
     ]) c.serve_last.ensures.broken
@@ -169,7 +175,7 @@ returns-in_err-serve_bytes-in-Ok-clause-broken g c =
     let s = broken.1 inv.0 first inv.2 inv.3 in
     let written = inv.2 ++ broken.0 in
     let all : AttendsInPart c.args.prompts first.mon.text.items first (g.R.Read.remaining c.args.reader.now) (g.R.Read.remaining c.read.new.self)
-        (g.W.Write.contents c.args.writer.now) (g.W.Write.contents c.serve_bytes.new.writer) = (
+    (g.W.Write.contents c.args.writer.now) (g.W.Write.contents c.serve_bytes.new.writer) = (
       s.0,
       prompt ++ written,
       (inv.0 ++ bs, Consumes-trans _ _ _ inv.0 bs inv.1 c.in-Ok.ensures.bytes.0, written, refl, inl s.1),

@@ -18,7 +18,7 @@ returns-clause-served g c =
     let kept = c.args.begun.now.items in
     let prompt = prompt_of c.args.prompts in
     let line = subst (λ l. (said : List ℕ) × ServesLine l is_over first after said × Says said first.mon after.mon) c.line_of.ensures
-        c.in_ok-is_over.ensures.served in
+    c.in_ok-is_over.ensures.served in
     let rests = rests_then after c.answer.new.terminal last c.answer.ensures.rests c.put_text.ensures.rests in (
       line.0,
       line_then (strip_last 13 kept) is_over first after last line.0 line.1 rests,
@@ -41,7 +41,7 @@ returns-in_err-put_text-clause-broken g c =
     let is_over = c.in_ok-is_over.is_over in
     let prompt = prompt_of c.args.prompts in
     let line = subst (λ l. (said : List ℕ) × ServesLine l is_over first after said × Says said first.mon after.mon) c.line_of.ensures
-        c.in_ok-is_over.ensures.served in
+    c.in_ok-is_over.ensures.served in
     if_err_anyway _ _ (inr (
       is_over,
       after,

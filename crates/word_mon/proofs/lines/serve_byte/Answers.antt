@@ -8,7 +8,7 @@ use Rattle.word_mon.proofs.lines.serve_byte.Goals as goal
 pub returns-then-byte-eq10-clause-fed : goal.returns-then-byte-eq10-clause-fed
 returns-then-byte-eq10-clause-fed g c =
     fed_of (prompt_of c.args.prompts) c.serve_begun.result c.args.byte c.args.begun.now.items c.serve_begun.new.begun.items c.args.terminal.now
-        c.serve_begun.new.terminal
+    c.serve_begun.new.terminal
     (Appends (g.W.Write.contents c.args.writer.now) (g.W.Write.contents c.serve_begun.new.writer)) c.if-byte-eq10.true
     c.serve_begun.ensures.served c.serve_begun.ensures.cleared
 

@@ -53,7 +53,7 @@ returns-then-branch-clause-fed g c =
       λ told first before s ending rest. subst (λ l. ServesLines prompt (lines_from ending [] l) true first last (before ++ (inv.0 ++ over.0)))
           (around told bytes rest i c.loop-byte-test.true)
           (subst (λ w. ServesLines prompt (lines_from ending [] (((told ++ take i bytes) ++ get_or bytes i 0 ∷ []) ++ (drop (i + 1) bytes ++ rest)))
-              true first last w) (append_assoc before inv.0 over.0)
+          true first last w) (append_assoc before inv.0 over.0)
           (over.1 (told ++ take i bytes) first (before ++ inv.0) (inv.1 told first before s) ending (drop (i + 1) bytes ++ rest))),
       λ empty. Appends-trans _ _ _ inv.0 over.0 (inv.2 empty) (over.2 (c.loop-byte.invariant.written empty)),
     )
@@ -77,7 +77,7 @@ returns-in_err-serve_byte-clause-broken g c =
     let inv = c.loop-byte.invariant.fed in
     let broken = c.in_err-serve_byte.ensures.broken in
     let all : BreaksBytes prompt bytes c.args.begun.now.items c.args.terminal.now (g.W.Write.contents c.args.writer.now)
-        (g.W.Write.contents c.serve_byte.new.writer) = (
+    (g.W.Write.contents c.serve_byte.new.writer) = (
       inv.0 ++ broken.0,
       λ told first before s.
           let front = (told ++ take i bytes) ++ get_or bytes i 0 ∷ [] in

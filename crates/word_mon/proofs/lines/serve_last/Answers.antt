@@ -24,8 +24,11 @@ returns-then-is_empty-clause-served g c =
       [],
       subst (Appends (g.W.Write.contents c.args.writer.now) (g.W.Write.contents c.put_text.new.writer))
           (c.in_ok-say_if.ensures.said ∙ ap (λ t. first.mon.text.items ++ t) (sym (append-nil line_end))) wrote,
-      λ told begun before s. (false, ends_none prompt told kept begun between before
-          (shown_on prompt told kept begun first before s between c.say_if.ensures.rests) line_end last none c.put_text.ensures.rests),
+      λ told begun before s. (
+        false,
+        ends_none prompt told kept begun between before
+            (shown_on prompt told kept begun first before s between c.say_if.ensures.rests) line_end last none c.put_text.ensures.rests,
+      ),
     )) c.put_text.ensures.written
 
 pub returns-clause-served : goal.returns-clause-served

@@ -7,7 +7,7 @@ use Rattle.word_mon.proofs.reloading.begin_anew.Goals as goal
 pub take_over-requires : goal.take_over-requires
 take_over-requires g c =
     named_starts (mon_view c.args.terminal.now.words.now) c.args.loaded.session c.args.loaded.assembly c.args.loaded.fill c.args.loaded.written
-        c.in-Ok.started.loaded c.in-Ok.started.mon
+    c.in-Ok.started.loaded c.in-Ok.started.mon
     c.in-Ok.started.warning_line.items c.requires c.in-Ok.ensures.made c.in-Ok.ensures.loaded c.in-Ok.ensures.warned
 
 pub keep_session-requires : goal.keep_session-requires

@@ -12,7 +12,7 @@ returns-clause-text c none =
     let first = c.in_ok-say_loaded.ensures.text none in
     let all : OnOk c.extend_from_slice.result (c.extend_from_slice.new.self.items ≡ c.say_loaded.new.mon.text.items ++ c.args.warning_line.now)
     = appended c.extend_from_slice.result c.extend_from_slice.new.self.items (c.say_loaded.new.mon.text.items ++ c.args.warning_line.now)
-        c.say_loaded.new.mon.text.items c.extend_from_slice.ensures.items in
+    c.say_loaded.new.mon.text.items c.extend_from_slice.ensures.items in
     on_ok_map c.extend_from_slice.result _ _
     (λ said. (first.0, said ∙ ap (λ t. t ++ c.args.warning_line.now) first.1 ∙ append_assoc c.args.text.now first.0 c.args.warning_line.now))
     all

@@ -10,7 +10,7 @@ use Rattle.word_mon.proofs.serving.mon.Goals as goal
 pub returns-in-Ok-clause-done : goal.returns-in-Ok-clause-done
 returns-in-Ok-clause-done g c a h fits =
     subst (λ (b : MonAsked). IsDone b (g.R.Read.remaining c.args.input.now) (g.R.Read.remaining c.mon_words.new.input)
-        (g.O.Write.contents c.args.output.now) (g.O.Write.contents c.mon_words.new.output) (record {
+    (g.O.Write.contents c.args.output.now) (g.O.Write.contents c.mon_words.new.output) (record {
       held = g.E.Write.contents c.args.errors.now;
       now = g.E.Write.contents c.mon_words.new.errors;
     }) c.mon_words.result ((c.mon_words.new.input ≡ c.args.input.now) × (c.mon_words.new.output ≡ c.args.output.now)))
@@ -35,7 +35,7 @@ returns-in-Err-clause-done g c a h fits =
       held = g.E.Write.contents c.args.errors.now;
       now = g.E.Write.contents c.refused_words.new.errors;
     }) c.in-Err.fault c.refused_words.result (c.args.input.now ≡ c.args.input.now) (c.refused_words.new.output ≡ c.args.output.now)
-        (c.in-Err.ensures.served a fits h)
+    (c.in-Err.ensures.served a fits h)
     c.refused_words.ensures.status c.refused_words.ensures.told refl c.refused_words.ensures.untouched)
 
 pub returns-in-Err-clause-bad_map : goal.returns-in-Err-clause-bad_map

@@ -42,7 +42,7 @@ returns-in_err-say_opening-clause-broken g c =
     let first = c.args.terminal.now in
     let prompt = prompt_of c.args.prompts in
     let none : AttendsInPart c.args.prompts (opening c.args.prompts c.args.warning_line.now first) first (g.R.Read.remaining c.args.input.now)
-        (g.R.Read.remaining c.args.input.now) (g.O.Write.contents c.args.output.now) (g.O.Write.contents c.args.output.now)
+    (g.R.Read.remaining c.args.input.now) (g.O.Write.contents c.args.output.now) (g.O.Write.contents c.args.output.now)
     = (first, prompt ++ [], ([], Consumes-nil _, [], refl, inl (some_none prompt first)), front_none _ _) in
     if_err_anyway _ _ none
 

@@ -29,11 +29,11 @@ returns-clause-made g c =
 pub returns-clause-warned : goal.returns-clause-warned
 returns-clause-warned g c =
     subst (λ (o : Option AssemblyView). IsWarningLine (map_of (file_view c.args.words.now.file)) o c.args.loaded.fill
-        c.warning_line_of-warning_line.result.items)
+    c.warning_line_of-warning_line.result.items)
     c.as_ref.ensures.value c.warning_line_of-warning_line.ensures
 
 pub returns-in_err-names-clause-refused : goal.returns-in_err-names-clause-refused
 returns-in_err-names-clause-refused g c =
     names_end (mon_view c.args.words.now).symbols (mon_view c.args.words.now).debug_info (file_view c.args.words.now.file) c.in_err-names.field-0.0
-        c.from_residual-in_err-names.result
+    c.from_residual-in_err-names.result
     c.in_err-names.ensures.refused c.from_residual-in_err-names.ensures.1

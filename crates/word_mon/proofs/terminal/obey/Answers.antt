@@ -15,12 +15,12 @@ returns-in-Save-clause-obeyed g c =
 pub returns-in-Page-clause-obeyed : goal.returns-in-Page-clause-obeyed
 returns-in-Page-clause-obeyed g c =
     subst (λ (command : Command). OnOk c.show.result (Obeys (command_view command) c.args.terminal.now c.show.new.terminal)) (sym c.in-Page.is)
-        c.show.ensures.shown
+    c.show.ensures.shown
 
 pub returns-in-Reload-clause-obeyed : goal.returns-in-Reload-clause-obeyed
 returns-in-Reload-clause-obeyed g c =
     subst (λ (command : Command). OnOk c.reload.result (Obeys (command_view command) c.args.terminal.now c.reload.new.terminal)) (sym c.in-Reload.is)
-        c.reload.ensures.reloaded
+    c.reload.ensures.reloaded
 
 pub returns-in-Draw-clause-obeyed : goal.returns-in-Draw-clause-obeyed
 returns-in-Draw-clause-obeyed g c =

@@ -9,7 +9,7 @@ use Rattle.word_mon.proofs.terminal.obey_read.Goals as goal
 pub returns-in-Ok-clause-obeyed : goal.returns-in-Ok-clause-obeyed
 returns-in-Ok-clause-obeyed g c =
     subst (λ (asked : Result Command Slip). OnOk c.obey.result (ObeysRead (asked_view asked) c.args.terminal.now c.obey.new.terminal))
-        (sym c.in-Ok.is) c.obey.ensures.obeyed
+    (sym c.in-Ok.is) c.obey.ensures.obeyed
 
 pub returns-in-Err-clause-obeyed : goal.returns-in-Err-clause-obeyed
 returns-in-Err-clause-obeyed g c =

@@ -16,7 +16,7 @@ returns-clause-shape c =
     let notes_is : rule_of c.option-8.result ≡ option_rule (codes "notes") = search rules in
     let free_is : rule_of c.flag.result ≡ flag_rule (codes "free") = search rules in
     let filed : app_of c.in_ok-with_file_options.field-0 ≡ with_file (unnamed (codes "page")) =
-        c.in_ok-with_file_options.ensures.shape ∙ ap with_file (c.in_ok-command.ensures.shape) in
+    c.in_ok-with_file_options.ensures.shape ∙ ap with_file (c.in_ok-command.ensures.shape) in
     let with_out = c.in_ok-arg.ensures.shape (search rules) ∙ ap₂ with_rule filed out_is in
     let with_symbols = c.in_ok-arg-2.ensures.shape (search rules) ∙ ap₂ with_rule with_out symbols_is in
     let with_input = c.in_ok-arg-3.ensures.shape (search rules) ∙ ap₂ with_rule with_symbols input_is in

@@ -26,9 +26,9 @@ returns-in-Ok-false-clause-err c =
     let n = c.loop-rest.number in
     let notes = map note_view c.loop-rest.notes.items in
     sym c.loop-rest.invariant.left ∙ (ap (notes_from n notes) c.next_line.ensures.cut
-        ∙ no_note n notes c.next_line.result.0.now (lines_of c.next_line.result.1.now) (search rules))
+    ∙ no_note n notes c.next_line.result.0.now (lines_of c.next_line.result.1.now) (search rules))
 
 pub returns-clause-ok : goal.returns-clause-ok
 returns-clause-ok c =
     sym c.loop-rest.invariant.left ∙ all_lines c.loop-rest.number (map note_view c.loop-rest.notes.items) c.loop-rest.rest.now
-        (true-eqb _ 0 c.loop-rest-test.ensures)
+    (true-eqb _ 0 c.loop-rest-test.ensures)

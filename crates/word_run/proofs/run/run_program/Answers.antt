@@ -41,7 +41,7 @@ returns-in-Err-clause-done g c a h fits =
       held = g.E.Write.contents c.args.errors.now;
       now = g.E.Write.contents c.refused_words.new.errors;
     }) c.in-Err.fault c.refused_words.result (c.args.input.now ≡ c.args.input.now) (c.refused_words.new.output ≡ c.args.output.now)
-        (c.in-Err.ensures.served a fits h)
+    (c.in-Err.ensures.served a fits h)
     c.refused_words.ensures.status c.refused_words.ensures.told refl c.refused_words.ensures.untouched)
 
 pub returns-in-Err-clause-bad_map : goal.returns-in-Err-clause-bad_map
@@ -52,7 +52,7 @@ pub returns-in-Ok-clause-quiet : goal.returns-in-Ok-clause-quiet
 returns-in-Ok-clause-quiet g c omits none zero =
     let given = none (run_view c.in-Ok.words) c.in-Ok.ensures.asked in
     subst (λ (o : Bool). OnlyWarned o (g.E.Write.contents c.args.errors.now) (g.E.Write.contents c.run_words.new.errors)) given.1
-        (c.run_words.ensures.quiet given.0 zero)
+    (c.run_words.ensures.quiet given.0 zero)
 
 -- Help was written, and nothing was told.
 pub returns-in-Err-clause-quiet : goal.returns-in-Err-clause-quiet

@@ -8,7 +8,7 @@ use Rattle.word_run.proofs.run.run_to.Goals as goal
 pub returns-in-Ok-clause-ran : goal.returns-in-Ok-clause-ran
 returns-in-Ok-clause-ran g c =
     ran_to (run_view c.args.words.now) (option_map (λ a. a.now) c.args.assembly) c.args.until
-        (record { session = c.args.session.now; written = c.args.written }) c.play.new.session (record {
+    (record { session = c.args.session.now; written = c.args.written }) c.play.new.session (record {
       given = g.R.Read.remaining c.args.input.now;
       left = g.R.Read.remaining c.play.new.reader;
       held = g.W.Write.contents c.args.output.now.inner;
@@ -21,7 +21,7 @@ returns-in-Ok-clause-ran g c =
 pub returns-else-was_interrupted-clause-ran : goal.returns-else-was_interrupted-clause-ran
 returns-else-was_interrupted-clause-ran g c =
     failed_to (run_view c.args.words.now) (option_map (λ a. a.now) c.args.assembly) c.args.until
-        (record { session = c.args.session.now; written = c.args.written }) c.play.new.session (record {
+    (record { session = c.args.session.now; written = c.args.written }) c.play.new.session (record {
       given = g.R.Read.remaining c.args.input.now;
       left = g.R.Read.remaining c.play.new.reader;
       held = g.W.Write.contents c.args.output.now.inner;
@@ -35,7 +35,7 @@ returns-else-was_interrupted-clause-ran g c =
 pub returns-then-was_interrupted-clause-ran : goal.returns-then-was_interrupted-clause-ran
 returns-then-was_interrupted-clause-ran g c =
     interrupted_to (run_view c.args.words.now) (option_map (λ a. a.now) c.args.assembly) c.args.until
-        (record { session = c.args.session.now; written = c.args.written }) c.play.new.session (record {
+    (record { session = c.args.session.now; written = c.args.written }) c.play.new.session (record {
       given = g.R.Read.remaining c.args.input.now;
       left = g.R.Read.remaining c.play.new.reader;
       held = g.W.Write.contents c.args.output.now.inner;
@@ -44,4 +44,4 @@ returns-then-was_interrupted-clause-ran g c =
       held = g.E.Write.contents c.args.errors.now;
       now = g.E.Write.contents c.interrupted.new.errors;
     }) c.interrupted.result (sym c.was_interrupted.ensures ∙ c.if-was_interrupted.true) c.requires.silent c.in-Err.ensures.err c.in-Err.ensures.output
-        c.interrupted.ensures.status c.interrupted.ensures.told
+    c.interrupted.ensures.status c.interrupted.ensures.told

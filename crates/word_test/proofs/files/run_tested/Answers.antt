@@ -29,7 +29,7 @@ returns-in_err-tally-clause-begun g c =
     let new = g.O.Write.contents c.run_rows.new.output in
     let tests = ap lines_seen c.deref-2.ensures.value ∙ (c.in_ok-tests.ensures ∙ ap (λ (r : List Line). tests_of (map line_view r)) c.deref.ensures.value) in
     let text = ap₂ (λ (t : Tally) (r : List SeenLine). rows_text c.args.telling (ground_in p) (suite_view c.args.suite) t.count 1
-        (lines_of p.text.items) r) c.fresh_tally-first.ensures tests in
+    (lines_of p.text.items) r) c.fresh_tally-first.ensures tests in
     stopped _ _ _ c.from_residual-in_err-tally.ensures.0 (front_more old new _ _ (subst (AppendsFront old new) text c.in_err-tally.ensures.written))
 
 pub returns-in_err-end_suite-clause-begun : goal.returns-in_err-end_suite-clause-begun
@@ -39,7 +39,7 @@ returns-in_err-end_suite-clause-begun g c =
     let new = g.O.Write.contents c.run_rows.new.output in
     let tests = ap lines_seen c.deref-2.ensures.value ∙ (c.in_ok-tests.ensures ∙ ap (λ (r : List Line). tests_of (map line_view r)) c.deref.ensures.value) in
     let text = ap₂ (λ (t : Tally) (r : List SeenLine). rows_text c.args.telling (ground_in p) (suite_view c.args.suite) t.count 1
-        (lines_of p.text.items) r) c.fresh_tally-first.ensures tests in
+    (lines_of p.text.items) r) c.fresh_tally-first.ensures tests in
     stopped _ _ _ c.from_residual-in_err-end_suite.ensures.0 (front_whole old new _ _ (subst (Appends old new) text c.in_ok-tally.ensures.written))
 
 pub returns-in_err-end_suite-2-clause-begun : goal.returns-in_err-end_suite-2-clause-begun
@@ -49,7 +49,7 @@ returns-in_err-end_suite-2-clause-begun g c =
     let new = g.O.Write.contents c.run_rows.new.output in
     let tests = ap lines_seen c.deref-2.ensures.value ∙ (c.in_ok-tests.ensures ∙ ap (λ (r : List Line). tests_of (map line_view r)) c.deref.ensures.value) in
     let text = ap₂ (λ (t : Tally) (r : List SeenLine). rows_text c.args.telling (ground_in p) (suite_view c.args.suite) t.count 1
-        (lines_of p.text.items) r) c.fresh_tally-first.ensures tests in
+    (lines_of p.text.items) r) c.fresh_tally-first.ensures tests in
     stopped _ _ _ c.from_residual-in_err-end_suite-2.ensures.0 (front_whole old new _ _ (subst (Appends old new) text c.in_ok-tally.ensures.written))
 
 pub returns-in_err-write_sum-clause-begun : goal.returns-in_err-write_sum-clause-begun
@@ -60,7 +60,7 @@ returns-in_err-write_sum-clause-begun g c =
     let new = g.O.Write.contents c.write_sum.new.output in
     let tests = ap lines_seen c.deref-2.ensures.value ∙ (c.in_ok-tests.ensures ∙ ap (λ (r : List Line). tests_of (map line_view r)) c.deref.ensures.value) in
     let text = ap₂ (λ (t : Tally) (r : List SeenLine). rows_text c.args.telling (ground_in p) (suite_view c.args.suite) t.count 1
-        (lines_of p.text.items) r) c.fresh_tally-first.ensures tests in
+    (lines_of p.text.items) r) c.fresh_tally-first.ensures tests in
     let all = c.in_ok-tally.ensures.tally ∙ ap₂ (λ (t : Tally) (r : List SeenLine). tally_rows (ground_in p) t r) c.fresh_tally-first.ensures tests in
     stopped _ _ _ c.from_residual-in_err-write_sum.ensures.0 (front_after old ran new _ _ (subst (Appends old ran) text c.in_ok-tally.ensures.written)
     (subst (λ (t : Tally). AppendsFront ran new (sum_text c.args.telling (suite_view c.args.suite) t.score)) all c.in_err-write_sum.ensures))

@@ -11,4 +11,4 @@ pub returns-in_err-write_text : goal.returns-in_err-write_text
 returns-in_err-write_text g c =
     stopped _ _ _ c.from_residual-in_err-write_text.ensures.0
     (subst (AppendsFront (g.O.Write.contents c.args.output.now) (g.O.Write.contents c.write_text.new.output))
-        (c.as_bytes.ensures.value ∙ c.in_ok-line.ensures) c.in_err-write_text.ensures)
+    (c.as_bytes.ensures.value ∙ c.in_ok-line.ensures) c.in_err-write_text.ensures)

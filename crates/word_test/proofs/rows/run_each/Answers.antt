@@ -17,10 +17,10 @@ use Rattle.word_test.proofs.rows.run_each.Goals as goal
 pub loop-index-init : goal.loop-index-init
 loop-index-init g c =
     let text : ℕ → List (List ℕ) → List ℕ = λ next lines. rows_text c.args.telling (ground_in c.args.prepared.now) (suite_view c.args.suite)
-        c.args.tally.count next lines (lines_seen c.args.tests.now) in
+    c.args.tally.count next lines (lines_seen c.args.tests.now) in
     let reported : ℕ → List (List ℕ) → Option ReportTold = λ next lines.
-        option_map (rows_reported (ground_in c.args.prepared.now) (suite_view c.args.suite) next lines (lines_seen c.args.tests.now))
-        (told_in c.args.reports.now.junit) in
+    option_map (rows_reported (ground_in c.args.prepared.now) (suite_view c.args.suite) next lines (lines_seen c.args.tests.now))
+    (told_in c.args.reports.now.junit) in
     record {
       back = c.requires.start;
       told = all_left _ _ _ (ap (λ (n : ℕ). text n (lines_left c.new-lines.result)) c.new-lines.ensures.first
@@ -37,11 +37,11 @@ pub returns-in_err-write_told-clause-written : goal.returns-in_err-write_told-cl
 returns-in_err-write_told-clause-written g c =
     let l = c.loop-index in
     stopped _ _ _ c.from_residual-in_err-write_told.ensures.0
-        (test_begun c.args.telling (ground_in c.args.prepared.now) (suite_view c.args.suite) c.args.tests.now l.index _ _ _ l.so_far.count
-        c.saturating_add-number.result c.number-line.result l.lines.next (lines_left l.lines)
+    (test_begun c.args.telling (ground_in c.args.prepared.now) (suite_view c.args.suite) c.args.tests.now l.index _ _ _ l.so_far.count
+    c.saturating_add-number.result c.number-line.result l.lines.next (lines_left l.lines)
     c.index-tests-index.result c.index-tests-index.result c.name.result.now c.walk_to-text.result.now _ _
     c.loop-index-test.true c.index-tests-index.is l.invariant.told c.in_err-write_told.ensures.written c.in_ok-told.ensures.tap c.name.ensures
-        c.number-line.ensures c.saturating_add-number.ensures
+    c.number-line.ensures c.saturating_add-number.ensures
     c.walk_to-text.ensures.line)
 
 pub loop-index-preserved : goal.loop-index-preserved
@@ -55,13 +55,13 @@ loop-index-preserved g c =
           l.lines.next _ (lines_left l.lines) _
           c.index-tests-index.result c.index-tests-index.result c.name.result.now c.walk_to-text.result.now _ _
           c.loop-index-test.true c.index-tests-index.is l.invariant.told c.in_ok-write_told.ensures.written c.in_ok-told.ensures.tap c.name.ensures
-              c.number-line.ensures c.saturating_add-number.ensures
+          c.number-line.ensures c.saturating_add-number.ensures
           c.walk_to-text.ensures.line c.walk_to-text.ensures.rest c.walk_to-text.ensures.next (ap (λ (t : Tally). t.count) c.tally_after-so_far.ensures);
       reported = one_reported c.args.telling bench suite c.args.tests.now l.index _ _ _ c.number-line.result l.lines.next _ (lines_left l.lines) _
           c.in_ok-told.told.passes
           c.index-tests-index.result c.index-tests-index.result c.name.result.now c.walk_to-text.result.now _
           c.loop-index-test.true c.index-tests-index.is c.in_ok-write_told.ensures.report c.in_ok-told.ensures.passes c.in_ok-told.ensures.junit
-              c.name.ensures c.number-line.ensures
+          c.name.ensures c.number-line.ensures
           c.walk_to-text.ensures.line c.walk_to-text.ensures.rest c.walk_to-text.ensures.next l.invariant.reported;
       counted = one_counted c.args.telling bench suite c.args.tests.now l.index l.so_far _ _ c.in_ok-told.told.passes c.points.result
           c.index-tests-index.result c.index-tests-index.result
@@ -71,7 +71,7 @@ loop-index-preserved g c =
 pub returns-clause-written : goal.returns-clause-written
 returns-clause-written g c =
     none_left _ _ _ _ c.loop-index.invariant.told (no_test_left c.args.telling (ground_in c.args.prepared.now) (suite_view c.args.suite)
-        c.args.tests.now c.loop-index.index _ _ _ (omega (arith, c.loop-index-test.false)))
+    c.args.tests.now c.loop-index.index _ _ _ (omega (arith, c.loop-index-test.false)))
 
 pub returns-clause-report : goal.returns-clause-report
 returns-clause-report g c = all_reported c.args.telling (ground_in c.args.prepared.now) (suite_view c.args.suite) c.args.tests.now c.loop-index.index

@@ -20,6 +20,6 @@ invariant-loop-index g l = record {
   reported : option_map (rows_reported (ground_in l.prepared) (suite_view l.suite) l.lines.next (lines_left l.lines)
       (lines_seen (drop l.index l.tests))) (told_in l.reports.junit)
       ≡ option_map (rows_reported (ground_in l.prepared) (suite_view l.suite) 1 (lines_of l.prepared.text.items) (lines_seen l.tests))
-          (told_in l.fn.reports.junit);
+      (told_in l.fn.reports.junit);
   counted : tally_rows (ground_in l.prepared) l.so_far (lines_seen (drop l.index l.tests)) ≡ tally_rows (ground_in l.prepared) l.fn.tally (lines_seen l.tests);
 }

@@ -10,4 +10,4 @@ returns-in_err-push_test-clause-written g c = stopped _ _ _ c.from_residual.ensu
 pub returns-in_err-write_text-clause-written : goal.returns-in_err-write_text-clause-written
 returns-in_err-write_text-clause-written g c = stopped _ _ _ c.from_residual-in_err-write_text.ensures.0
     (subst (AppendsFront (g.O.Write.contents c.args.output.now) (g.O.Write.contents c.write_text.new.output)) c.as_bytes.ensures.value
-        c.in_err-write_text.ensures)
+    c.in_err-write_text.ensures)

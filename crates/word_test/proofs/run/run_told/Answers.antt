@@ -18,8 +18,8 @@ returns-in_err-write_text g c =
     let old = g.O.Write.contents c.args.output.now in
     let begun = g.O.Write.contents c.write_text.new.output in
     stopped _ _ _ c.from_residual-in_err-write_text.ensures.0
-        (front_of_first (test_view c.args.words.now) old begun
-        (subst (AppendsFront old begun) (c.as_bytes.ensures.value ∙ c.begin_text.ensures) c.in_err-write_text.ensures))
+    (front_of_first (test_view c.args.words.now) old begun
+    (subst (AppendsFront old begun) (c.as_bytes.ensures.value ∙ c.begin_text.ensures) c.in_err-write_text.ensures))
 
 pub returns-in_err-count : goal.returns-in_err-count
 returns-in_err-count g c =
@@ -29,7 +29,7 @@ returns-in_err-count g c =
     stopped _ _ _ c.from_residual-in_err-count.ensures.0 (front_of_suites (test_view c.args.words.now) _ old begun ran
     (ap (λ (s : List Suite). map suite_view s) c.deref-3.ensures.value ∙ (c.in_ok-suites.ensures
     ∙ ap₂ (λ (s f : List (Bor (List ℕ))). suites_of (test_view c.args.words.now).reading (map (λ x. x.now) s) (map (λ x. x.now) f))
-        c.deref-2.ensures.value c.deref.ensures.value))
+    c.deref-2.ensures.value c.deref.ensures.value))
     (subst (Appends old begun) (c.as_bytes.ensures.value ∙ c.begin_text.ensures) c.in_ok-write_text.ensures)
     c.in_err-count.ensures)
 
@@ -39,10 +39,10 @@ returns-in_err-finish g c =
     let begun = g.O.Write.contents c.write_text.new.output in
     let ran = g.O.Write.contents c.run_suites.new.output in
     stopped _ _ _ c.from_residual-in_err-finish.ensures.0 (front_of_plan (test_view c.args.words.now) _ old begun ran ran c.in_ok-count.count
-        c.in_ok-count.all_pass
+    c.in_ok-count.all_pass
     (ap (λ (s : List Suite). map suite_view s) c.deref-3.ensures.value ∙ (c.in_ok-suites.ensures
     ∙ ap₂ (λ (s f : List (Bor (List ℕ))). suites_of (test_view c.args.words.now).reading (map (λ x. x.now) s) (map (λ x. x.now) f))
-        c.deref-2.ensures.value c.deref.ensures.value))
+    c.deref-2.ensures.value c.deref.ensures.value))
     (subst (Appends old begun) (c.as_bytes.ensures.value ∙ c.begin_text.ensures) c.in_ok-write_text.ensures)
     c.in_ok-count.ensures (front_none ran (end_text (test_view c.args.words.now).telling c.in_ok-count.count)))
 
@@ -52,10 +52,10 @@ returns-in_err-end g c =
     let begun = g.O.Write.contents c.write_text.new.output in
     let ran = g.O.Write.contents c.run_suites.new.output in
     stopped _ _ _ c.from_residual-in_err-end.ensures.0 (front_of_plan (test_view c.args.words.now) _ old begun ran ran c.in_ok-count.count
-        c.in_ok-count.all_pass
+    c.in_ok-count.all_pass
     (ap (λ (s : List Suite). map suite_view s) c.deref-3.ensures.value ∙ (c.in_ok-suites.ensures
     ∙ ap₂ (λ (s f : List (Bor (List ℕ))). suites_of (test_view c.args.words.now).reading (map (λ x. x.now) s) (map (λ x. x.now) f))
-        c.deref-2.ensures.value c.deref.ensures.value))
+    c.deref-2.ensures.value c.deref.ensures.value))
     (subst (Appends old begun) (c.as_bytes.ensures.value ∙ c.begin_text.ensures) c.in_ok-write_text.ensures)
     c.in_ok-count.ensures (front_none ran (end_text (test_view c.args.words.now).telling c.in_ok-count.count)))
 
@@ -66,10 +66,10 @@ returns-in_err-write_text-2 g c =
     let ran = g.O.Write.contents c.run_suites.new.output in
     let new = g.O.Write.contents c.write_text-2.new.output in
     stopped _ _ _ c.from_residual-in_err-write_text-2.ensures.0
-        (front_of_plan (test_view c.args.words.now) _ old begun ran new c.in_ok-count.count c.in_ok-count.all_pass
+    (front_of_plan (test_view c.args.words.now) _ old begun ran new c.in_ok-count.count c.in_ok-count.all_pass
     (ap (λ (s : List Suite). map suite_view s) c.deref-3.ensures.value ∙ (c.in_ok-suites.ensures
     ∙ ap₂ (λ (s f : List (Bor (List ℕ))). suites_of (test_view c.args.words.now).reading (map (λ x. x.now) s) (map (λ x. x.now) f))
-        c.deref-2.ensures.value c.deref.ensures.value))
+    c.deref-2.ensures.value c.deref.ensures.value))
     (subst (Appends old begun) (c.as_bytes.ensures.value ∙ c.begin_text.ensures) c.in_ok-write_text.ensures)
     c.in_ok-count.ensures (subst (AppendsFront ran new) (c.as_bytes-2.ensures.value ∙ c.in_ok-end.ensures) c.in_err-write_text-2.ensures))
 
@@ -82,7 +82,7 @@ returns g c =
     all_told (test_view c.args.words.now) _ old begun ran new c.in_ok-count.count c.in_ok-count.all_pass
     (ap (λ (s : List Suite). map suite_view s) c.deref-3.ensures.value ∙ (c.in_ok-suites.ensures
     ∙ ap₂ (λ (s f : List (Bor (List ℕ))). suites_of (test_view c.args.words.now).reading (map (λ x. x.now) s) (map (λ x. x.now) f))
-        c.deref-2.ensures.value c.deref.ensures.value))
+    c.deref-2.ensures.value c.deref.ensures.value))
     (subst (Appends old begun) (c.as_bytes.ensures.value ∙ c.begin_text.ensures) c.in_ok-write_text.ensures)
     c.in_ok-count.ensures
     (subst (Appends ran new) (c.as_bytes-2.ensures.value ∙ c.in_ok-end.ensures) c.in_ok-write_text-2.ensures)

@@ -15,12 +15,22 @@ pub returns-in-Ok-clause-refused : goal.returns-in-Ok-clause-refused
 returns-in-Ok-clause-refused g c = λ two. absurd (c.run_words.ensures.never two)
 
 pub returns-in-Ok-clause-memory : goal.returns-in-Ok-clause-memory
-returns-in-Ok-clause-memory g c = λ three. inr (test_view c.in-Ok.asked, c.in-Ok.ensures.taken, c.in-Ok.ensures.asked, c.run_words.ensures.begun
-    (omega (arith, three)))
+returns-in-Ok-clause-memory g c = λ three. inr (
+  test_view c.in-Ok.asked,
+  c.in-Ok.ensures.taken,
+  c.in-Ok.ensures.asked,
+  c.run_words.ensures.begun
+      (omega (arith, three)),
+)
 
 pub returns-in-Ok-clause-begun : goal.returns-in-Ok-clause-begun
-returns-in-Ok-clause-begun g c = λ four. inr (test_view c.in-Ok.asked, c.in-Ok.ensures.taken, c.in-Ok.ensures.asked, c.run_words.ensures.begun
-    (omega (arith, four)))
+returns-in-Ok-clause-begun g c = λ four. inr (
+  test_view c.in-Ok.asked,
+  c.in-Ok.ensures.taken,
+  c.in-Ok.ensures.asked,
+  c.run_words.ensures.begun
+      (omega (arith, four)),
+)
 
 pub returns-in-Err-clause-passed : goal.returns-in-Err-clause-passed
 returns-in-Err-clause-passed g c = λ zero. inl ((says_of_words test (texts c.args.words.now) _ _ _ c.in-Err.ensures.refused

@@ -10,7 +10,7 @@ pub returns-in-Ok-Some-clause-asked : goal.returns-in-Ok-Some-clause-asked
 returns-in-Ok-Some-clause-asked c =
     let told = rw c.in-Ok-Some.field-0-is at c.in-Ok-Some.ensures in
     sym (told ∙ asked_found (app_of c.in_ok-test_command.field-0) (texts c.args.words.now) c.in_ok-matches.matches c.in_ok-test_command.ensures.shape
-        c.in_ok-matches.ensures.values c.in_ok-matches.ensures.rows)
+    c.in_ok-matches.ensures.values c.in_ok-matches.ensures.rows)
 
 pub returns-in-Ok-None-clause-refused : goal.returns-in-Ok-None-clause-refused
 returns-in-Ok-None-clause-refused c =
@@ -27,5 +27,5 @@ returns-in-Ok-Some-clause-taken c = fits_by (app_of c.in_ok-test_command.field-0
 pub returns-in_err-matches-clause-refused : goal.returns-in_err-matches-clause-refused
 returns-in_err-matches-clause-refused c =
     refused_by (app_of c.in_ok-test_command.field-0) test (texts c.args.words.now) (words_asked (texts c.args.words.now) ≡ None)
-        c.in_err-matches.field-0.0 c.from_residual-in_err-matches.result
+    c.in_err-matches.field-0.0 c.from_residual-in_err-matches.result
     c.in_ok-test_command.ensures.shape c.in_err-matches.ensures.refused c.from_residual-in_err-matches.ensures.1

@@ -15,7 +15,7 @@ returns-then-not-contains c =
     let value = c.as_slice-address-items.ensures.value in
     let within = subst (λ ys. i < length ys) value c.loop-address-test.true in
     let off : is_written cells (get_or xs i 0) ≡ false = ap (λ ys. is_written cells (get_or ys i 0)) (sym value) ∙ sym c.contains.ensures
-        ∙ c.if-not-contains.true in
+    ∙ c.if-not-contains.true in
     sym (ap (λ b. b && are_written cells (drop (i + 1) xs)) off) ∙ sym (written_on cells i xs within) ∙ l.invariant
 
 pub loop-address-preserved : goal.loop-address-preserved
@@ -27,7 +27,7 @@ loop-address-preserved c =
     let value = c.as_slice-address-items.ensures.value in
     let within = subst (λ ys. i < length ys) value c.loop-address-test.true in
     let on : is_written cells (get_or xs i 0) ≡ true = ap (λ ys. is_written cells (get_or ys i 0)) (sym value) ∙ sym c.contains.ensures
-        ∙ c.if-not-contains.false in
+    ∙ c.if-not-contains.false in
     sym (ap (λ b. b && are_written cells (drop (i + 1) xs)) on) ∙ sym (written_on cells i xs within) ∙ l.invariant
 
 pub returns : goal.returns

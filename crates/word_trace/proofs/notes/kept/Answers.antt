@@ -32,7 +32,7 @@ loop-address-preserved c =
     let within = subst (λ xs. i < length xs) value c.loop-address-test.true in
     let is = ap (λ xs. is_kept map rom port (get_or xs i 0)) (sym value) ∙ sym c.is_kept.ensures ∙ c.if-not-is_kept.false in
     let more = pushed c.try_push.result _ _ c.try_push.ensures.ok c.try_push.ensures.full
-        (λ full. omega (arith, full, c.loop-address.invariant.short, c.loop-address-test.true, c.as_slice-address-items.ensures.fits)) in
+    (λ full. omega (arith, full, c.loop-address.invariant.short, c.loop-address-test.true, c.as_slice-address-items.ensures.fits)) in
     let grown = more ∙ ap (λ xs. items ++ get_or xs i 0 ∷ []) value in
     record {
       short = omega (arith, ap length more, length-append items (get_or c.as_slice-address-items.result.now i 0 ∷ []), c.loop-address.invariant.short);
@@ -48,5 +48,5 @@ returns c =
     let i = c.loop-address.address-index in
     let past = subst (λ xs. length xs ≤ i) c.as_slice-address-items.ensures.value c.loop-address-test.false in
     sym (ap (λ xs. items ++ xs) (none_left c.args.session.now.current.bus.map c.args.file.now.rom c.args.file.now.port (drop i stores)
-        (drop_of_length-le stores past)) ∙ append-nil items)
+    (drop_of_length-le stores past)) ∙ append-nil items)
     ∙ c.loop-address.invariant.rows

@@ -85,7 +85,7 @@ returns-then-is_at-clause-ok g c =
           makes_at note_step c.args.to c.args.limit c.args.session.now (known c.args.player.now) inv.0 l.player.is_over l.steps l.session
               (known l.player) (no_text (gathered c.args.tracer.now)) (noted_in l.tracer inv.1) inv.3.makes c.loop-steps-test.true
               turn.0 p.is_over None u (known p) turn.2.once turn.2.turn (noted_in c.noted_turn.new.tracer (inv.1 ++ step))
-                  (turn_noted_on l.session.current u.current l.tracer c.noted_turn.new.tracer inv.1 step turn.3) refl at' rest may,
+              (turn_noted_on l.session.current u.current l.tracer c.noted_turn.new.tracer inv.1 step turn.3) refl at' rest may,
         );
       },
       gathers_both _ (g.O.Write.contents l.output) _ _ l.tracer.sheet.text.items _ inv.1 step inv.3.text turn.4,
@@ -121,7 +121,7 @@ loop-steps-preserved g c =
         makes = makes_on note_step c.args.to c.args.limit c.args.session.now (known c.args.player.now) inv.0 l.player.is_over l.steps l.session
             (known l.player) (no_text (gathered c.args.tracer.now)) (noted_in l.tracer inv.1) inv.3.makes c.loop-steps-test.true
             turn.0 p.is_over None u (known p) turn.2.once turn.2.turn (noted_in c.noted_turn.new.tracer (inv.1 ++ step))
-                (turn_noted_on l.session.current u.current l.tracer c.noted_turn.new.tracer inv.1 step turn.3) refl off;
+            (turn_noted_on l.session.current u.current l.tracer c.noted_turn.new.tracer inv.1 step turn.3) refl off;
         text = gathers_both _ (g.O.Write.contents l.output) _ _ l.tracer.sheet.text.items _ inv.1 step inv.3.text turn.4;
         out = more.1 ∙ ap (λ out. out ++ more.0) inv.3.out ∙ append_assoc _ inv.2 more.0;
         appends = Appends-trans _ _ _ inv.2 more.0 inv.3.appends more.2;
@@ -165,7 +165,7 @@ returns-in-Err-clause-err g c =
           c.args.session.now c.args.player.now _ _ _ inv.0 l.steps l.session l.player u p turn.0
           inv.3.consumes inv.3.once inv.3.runs c.loop-steps-test.true turn.2
           (note_cut c.args.to c.args.limit c.args.session.now (known c.args.player.now) inv.0 l.steps l.session l.player u p turn.0 inv.1 turn.1
-              (no_text (gathered c.args.tracer.now)) l.tracer
+          (no_text (gathered c.args.tracer.now)) l.tracer
           inv.3.makes c.loop-steps-test.true turn.2.once turn.3),
       front_then _ (g.O.Write.contents l.output) _ _ l.tracer.sheet.text.items _ inv.1 turn.1 inv.3.text turn.4,
     )

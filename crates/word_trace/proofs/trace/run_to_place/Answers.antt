@@ -123,7 +123,7 @@ returns-clause-ok g c =
         ends_full c.args.place 18446744073709551615 c.args.session.now (known c.args.player.now) inv.0 l.player.is_over l.steps l.session
             (known l.player) inv.2.runs (omega (arith, c.loop-steps-test.false)) (omega (arith, c.loop-steps.auto.steps-end)) rest may
             ∙ ap (λ (e : Ending). record { steps = 18446744073709551615; ending = e; play = play_at l.session (known l.player) rest })
-                (sym c.ending_after.ensures),
+            (sym c.ending_after.ensures),
         makes_full pass_step c.args.place 18446744073709551615 c.args.session.now (known c.args.player.now) inv.0 l.player.is_over l.steps l.session
             (known l.player) (gathered c.args.tracer.now) (gathered l.tracer) inv.2.makes (omega (arith, c.loop-steps-test.false)) rest may,
       );
@@ -145,7 +145,7 @@ returns-in-Err-clause-err g c =
     let l = c.loop-steps in
     let turn = c.in-Err.ensures.err in
     run_cut c.args.place 18446744073709551615 (λ (p : Play). p) (λ (p : Play). ⊤) c.args.session.now c.args.player.now _ _ _ inv.0 l.steps l.session
-        l.player c.passed_turn.new.session c.passed_turn.new.player turn.0
+    l.player c.passed_turn.new.session c.passed_turn.new.player turn.0
     inv.2.consumes inv.2.once inv.2.runs c.loop-steps-test.true turn.1 (λ rest may. tt)
 
 pub returns-in-Err-clause-over : goal.returns-in-Err-clause-over

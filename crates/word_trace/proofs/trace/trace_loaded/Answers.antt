@@ -33,7 +33,7 @@ returns-in-Err-place_named g c =
       now = g.E.Write.contents c.place_named-2.new.errors;
     })
     c.in-Err-place_named.status ((c.args.input.now ≡ c.args.input.now) × (c.args.output.now ≡ c.args.output.now)) c.in-Ok.ensures.place
-        c.in-Err-place_named.ensures.place (told_second g.E.Write.contents _ _ _ _ c.in-Ok.ensures.quiet c.in-Err-place_named.ensures.told) (refl, refl)
+    c.in-Err-place_named.ensures.place (told_second g.E.Write.contents _ _ _ _ c.in-Ok.ensures.quiet c.in-Err-place_named.ensures.told) (refl, refl)
 
 pub returns : goal.returns
 returns g c =

@@ -40,7 +40,7 @@ returns-in-Err-clause-done g c a h fits =
       held = g.E.Write.contents c.args.errors.now;
       now = g.E.Write.contents c.refused_words.new.errors;
     }) c.in-Err.fault c.refused_words.result (c.args.input.now ≡ c.args.input.now) (c.refused_words.new.output ≡ c.args.output.now)
-        (c.in-Err.ensures.served a fits h)
+    (c.in-Err.ensures.served a fits h)
     c.refused_words.ensures.status c.refused_words.ensures.told refl c.refused_words.ensures.untouched)
 
 pub returns-in-Err-clause-bad_map : goal.returns-in-Err-clause-bad_map

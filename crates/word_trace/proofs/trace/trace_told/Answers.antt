@@ -14,12 +14,12 @@ returns-in-Ok g c =
     let file = c.args.words.now.file.file.now in
     let played = c.in-Ok.traced.played in
     let with_names = subst (λ (x : Option AssemblyView). TellsEnding file x (heard_of said now) played.ending played.steps c.regs-pc.result.pc)
-        (c.as_ref-assembly.ensures.value ∙ c.in-Ok.ensures.assembly) c.tell_ending.ensures.told in
+    (c.as_ref-assembly.ensures.value ∙ c.in-Ok.ensures.assembly) c.tell_ending.ensures.told in
     let told = subst (λ (n : ℕ). TellsEnding file c.args.loaded.now.assembly (heard_of said now) played.ending played.steps n)
-        (ap (λ r. r.pc) c.regs-pc.ensures) with_names in
+    (ap (λ r. r.pc) c.regs-pc.ensures) with_names in
     traced_to (trace_view c.args.words.now) (begin_view c.args.loaded.now) c.args.span.from c.args.span.to c.args.span.limit c.trace_span.new.loaded.session
     (streams_of (g.R.Read.remaining c.args.input.now) (g.R.Read.remaining c.trace_span.new.input) (g.O.Write.contents c.args.output.now)
-        (g.O.Write.contents c.trace_span.new.output))
+    (g.O.Write.contents c.trace_span.new.output))
     (heard_of (g.E.Write.contents c.args.errors.now) now) out said played c.in-Ok.traced.has_begun c.status_of_ending.result
     c.requires.limit c.requires.silent c.in-Ok.ensures.apart c.in-Ok.ensures.ok c.in-Ok.ensures.output c.tell_unbegun.ensures told c.status_of_ending.ensures
 
@@ -27,7 +27,7 @@ pub returns-in-Err : goal.returns-in-Err
 returns-in-Err g c =
     cut_off (trace_view c.args.words.now) (begin_view c.args.loaded.now) c.args.span.from c.args.span.to c.args.span.limit c.trace_span.new.loaded.session
     (streams_of (g.R.Read.remaining c.args.input.now) (g.R.Read.remaining c.trace_span.new.input) (g.O.Write.contents c.args.output.now)
-        (g.O.Write.contents c.trace_span.new.output))
+    (g.O.Write.contents c.trace_span.new.output))
     (heard_of (g.E.Write.contents c.args.errors.now) (g.E.Write.contents c.tell_cut.new.errors)) (g.E.Write.contents c.trace_span.new.errors)
-        c.in-Err.refusal c.tell_cut.result
+    c.in-Err.refusal c.tell_cut.result
     c.requires.limit c.requires.silent c.in-Err.ensures.fault c.in-Err.ensures.err c.in-Err.ensures.output c.tell_cut.ensures.told c.tell_cut.ensures.status

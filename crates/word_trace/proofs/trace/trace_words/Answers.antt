@@ -16,4 +16,4 @@ returns-in-Ok-clause-done g c =
       now = g.E.Write.contents c.trace_loaded.new.errors;
     }) (g.E.Write.contents c.tell_left_out.new.errors) c.trace_loaded.result
     ((c.trace_loaded.new.input ≡ c.args.input.now) × (c.trace_loaded.new.output ≡ c.args.output.now)) c.in-Ok.ensures.started.1
-        c.in-Ok.ensures.started.2 c.in-Ok.ensures.started.3 c.in-Ok.ensures.lost c.tell_left_out.ensures c.trace_loaded.ensures
+    c.in-Ok.ensures.started.2 c.in-Ok.ensures.started.3 c.in-Ok.ensures.lost c.tell_left_out.ensures c.trace_loaded.ensures

@@ -35,7 +35,7 @@ returns-clause-ok g c =
       now = g.O.Write.contents slow.new.output;
     } in
     let T : Tracer → Session → Player → Type 0 = λ t s p. IfOk slow.result
-        (λ ending. NotedTurn ending s p t streams slow.new.session slow.new.player slow.new.tracer) in
+    (λ ending. NotedTurn ending s p t streams slow.new.session slow.new.player slow.new.tracer) in
     subst (λ t. T t c.args.session.now c.args.player.now) same.2 (with_same (T c.take_counted_turn.new.tracer) same.0 same.1 slow.ensures.ok)
 
 pub returns-clause-err : goal.returns-clause-err
@@ -60,5 +60,5 @@ returns-clause-output g c =
     let same = c.take_counted_turn.ensures.not c.if-take_counted_turn.false in
     let slow = c.note_slowly in
     subst (λ (s : Session). (text : List ℕ) × (slow.new.session.current.bus.out ≡ s.current.bus.out ++ text)
-        × Writes (g.E.Write.contents c.args.errors.now) (g.E.Write.contents slow.new.errors) text slow.result)
+    × Writes (g.E.Write.contents c.args.errors.now) (g.E.Write.contents slow.new.errors) text slow.result)
     same.0 slow.ensures.output

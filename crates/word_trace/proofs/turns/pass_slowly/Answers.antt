@@ -12,9 +12,12 @@ pub returns-clause-ok : goal.returns-clause-ok
 returns-clause-ok g c =
     let turn = rw c.in-Ok-None.field-0-is at c.in-Ok-None.ensures.ok in
     let s = c.args.session.now.current in
-    let t = c.take_turn.new.session.current in
-    (turn.0, turned None _ _ _ _ _ _ turn.0 turn.1 turn.2 turn.3 turn.4, c.pass.ensures.passed
-        ∙ ap (λ x. passed t x (gathered c.args.tracer.now)) c.look_ahead-ahead.ensures)
+    let t = c.take_turn.new.session.current in (
+      turn.0,
+      turned None _ _ _ _ _ _ turn.0 turn.1 turn.2 turn.3 turn.4,
+      c.pass.ensures.passed
+          ∙ ap (λ x. passed t x (gathered c.args.tracer.now)) c.look_ahead-ahead.ensures,
+    )
 
 pub returns-in-Err-clause-err : goal.returns-in-Err-clause-err
 returns-in-Err-clause-err g c =

@@ -18,8 +18,8 @@ returns-clause-ok g c =
     let same = c.take_unnoted_turn.ensures.not c.if-take_unnoted_turn.false in
     let slow = c.pass_slowly in
     with_same (λ (s : Session) (p : Player). IfOk slow.result
-        (λ ending. PassedTurn ending s p c.args.tracer.now (g.R.Read.remaining c.args.input.now) (g.R.Read.remaining slow.new.input) slow.new.session
-        slow.new.player slow.new.tracer))
+    (λ ending. PassedTurn ending s p c.args.tracer.now (g.R.Read.remaining c.args.input.now) (g.R.Read.remaining slow.new.input) slow.new.session
+    slow.new.player slow.new.tracer))
     same.0 same.1 slow.ensures.ok
 
 pub returns-then-take_unnoted_turn-clause-output : goal.returns-then-take_unnoted_turn-clause-output
@@ -31,7 +31,7 @@ returns-clause-err g c =
     let same = c.take_unnoted_turn.ensures.not c.if-take_unnoted_turn.false in
     let slow = c.pass_slowly in
     with_same (λ (s : Session) (p : Player). OnErr slow.result
-        ((told : List ℕ) × TurnCut s p (g.R.Read.remaining c.args.input.now) (g.R.Read.remaining slow.new.input) slow.new.session slow.new.player told))
+    ((told : List ℕ) × TurnCut s p (g.R.Read.remaining c.args.input.now) (g.R.Read.remaining slow.new.input) slow.new.session slow.new.player told))
     same.0 same.1 slow.ensures.err
 
 pub returns-clause-output : goal.returns-clause-output
@@ -39,5 +39,5 @@ returns-clause-output g c =
     let same = c.take_unnoted_turn.ensures.not c.if-take_unnoted_turn.false in
     let slow = c.pass_slowly in
     subst (λ (s : Session). (text : List ℕ) × (slow.new.session.current.bus.out ≡ s.current.bus.out ++ text)
-        × Writes (g.E.Write.contents c.args.errors.now) (g.E.Write.contents slow.new.errors) text slow.result)
+    × Writes (g.E.Write.contents c.args.errors.now) (g.E.Write.contents slow.new.errors) text slow.result)
     same.0 slow.ensures.output

@@ -15,7 +15,7 @@ returns-clause-noted c = λ _.
 pub returns-clause-text : goal.returns-clause-text
 returns-clause-text c = λ _.
     tells_nothing (gathered c.args.tracer.now) c.args.session.now.current c.take_plain_turn.new.session.current
-        (sym c.has_no_rows.ensures ∙ c.if-not-has_no_rows.false)
+    (sym c.has_no_rows.ensures ∙ c.if-not-has_no_rows.false)
     (c.if-not-touches_no_other.ensures refl) (c.if-not-take_plain_turn.ensures.entry refl)
 
 pub returns-clause-made : goal.returns-clause-made

@@ -7,4 +7,4 @@ pub returns : goal.returns
 returns c =
     let i = c.self.inside in
     (c.len.ensures ∙ i.spans.ok.0) ∙ (sym (count_by i.source.items i.spans.items i.texts.items i.paired i.cut)
-        ∙ ap (λ (a : AssemblyView). length (source_lines a)) c.self.view_is)
+    ∙ ap (λ (a : AssemblyView). length (source_lines a)) c.self.view_is)

@@ -11,9 +11,9 @@ returns-then-ran-clause-steps c =
     let s = session_of before.trail before.machine before.breaks before.watches before.replayed in
     let t = session_of ran.new.course ran.new.machine before.breaks before.watches before.replayed in
     rw (← c.self.view_is) (runs_last s t ran.result.steps ran.new.machine c.map-stops.result.now c.map.result.now c.break_at-why.result
-        c.map-stops.ensures.none c.map.ensures.none
+    c.map-stops.ensures.none c.map.ensures.none
     (ran.ensures.last c.if-ran.true) (break_here before.breaks ran.new.machine ran.new.machine c.pc.result c.break_at-why.result c.pc.ensures
-        c.break_at-why.ensures) (ran.ensures.steps before.breaks before.watches before.replayed))
+    c.break_at-why.ensures) (ran.ensures.steps before.breaks before.watches before.replayed))
 
 pub returns-then-ran-limit-clause-steps : goal.returns-then-ran-limit-clause-steps
 returns-then-ran-limit-clause-steps c =

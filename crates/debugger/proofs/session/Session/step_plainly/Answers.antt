@@ -27,8 +27,16 @@ returns-clause-session c =
     let is = ran_one _ _ _ _ _ ran.ensures.ran some ran.ensures.within in
     let noted = c.note_step.ensures.noted before.machine c.self.invariant.1 (quick_follows _ _ is.made is.rest) in
     rw (← c.self.view_is) (
-    (λ i. record { earlier = noted.states i; current = ran.new.self; history = c.note_step.ensures.size i; breaks = before.breaks; watches =
-        before.watches; number = c.note_step.ensures.number i; replayed = before.replayed })
+    (λ i. record {
+      earlier = noted.states i;
+      current = ran.new.self;
+      history = c.note_step.ensures.size i;
+      breaks = before.breaks;
+      watches =
+          before.watches;
+      number = c.note_step.ensures.number i;
+      replayed = before.replayed;
+    })
     ∙ after_one ran.result.steps _ ran.new.self is.made some ran.ensures.within)
 
 pub invariant_of-self : goal.invariant_of-self
@@ -51,4 +59,4 @@ returns-then-ran-eq0-clause-session c =
     let ran = c.run_plainly-ran in
     let same = ran_nowhere _ _ _ _ _ ran.ensures.ran c.if-ran-eq0.true in
     rw (← c.self.view_is) (ap (λ (x : State). session_of before.trail x before.breaks before.watches before.replayed) same
-        ∙ after_none ran.result.steps _ c.if-ran-eq0.true)
+    ∙ after_none ran.result.steps _ c.if-ran-eq0.true)

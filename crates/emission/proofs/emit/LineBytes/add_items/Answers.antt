@@ -10,7 +10,7 @@ pub loop-item-preserved : goal.loop-item-preserved
 loop-item-preserved c =
     gathered_step (λ (i : Item). item_piece (number_in c.args.names.now) c.args.here i) item_view c.args.items.now c.loop-item.item-index c.item-item.result
     c.loop-item.self c.add_item.new.self (item_piece (number_in c.args.names.now) c.args.here (item_view c.item-item.result)) _ c.loop-item-test.true
-        c.item-item.is c.in_ok-add_item.ensures
+    c.item-item.is c.in_ok-add_item.ensures
     refl c.loop-item.invariant
 
 pub returns : goal.returns

@@ -7,6 +7,6 @@ pub returns-clause-all : goal.returns-clause-all
 returns-clause-all c e =
     let none : c.self.inside.failed ≡ None = c.in-None.is in
     skipped_are_counted c.self.inside.failed c.args.limit c.self.inside.offset c.self.inside.reading c.args.bytes.now none
-        (c.is_in_record.ensures.apart c.if-is_in_record.false) (omega (arith, c.if-bytes-saturating_sub.false, c.saturating_sub.ensures))
-        (sym c.all_are_skipped.ensures ∙ c.if-not-all_are_skipped.false)
+    (c.is_in_record.ensures.apart c.if-is_in_record.false) (omega (arith, c.if-bytes-saturating_sub.false, c.saturating_sub.ensures))
+    (sym c.all_are_skipped.ensures ∙ c.if-not-all_are_skipped.false)
     ∙ ap (λ (s : Fed). fed_up_to c.args.limit s c.args.bytes.now) c.self.view_is

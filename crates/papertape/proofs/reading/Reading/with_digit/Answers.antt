@@ -13,6 +13,6 @@ pub returns : goal.returns
 returns c =
     let le = c.needed.ensures in
     let done = digit_done c.self.inside.held c.args.byte c.self.inside.digits (the_view c.self.inside) c.read-claim.result refl (omega arith)
-        (omega arith) c.read-claim.ensures in
+    (omega arith) c.read-claim.ensures in
     subst (λ (t : Progress). Gives c.settle.result c.settle.new.self (with_digit t c.args.byte)) c.self.view_is
     (subst (λ (r : Result Progress TapeFault). Gives c.settle.result c.settle.new.self r) done c.settle.ensures)

@@ -79,12 +79,12 @@ module _ {M : Type 1} {𝓤 : Ura M} (𝓛 : Logic 𝓤) (at_mem : Memory → SP
 
       exits : (γ' : GName)
           → ent 𝓤 (sep 𝓤 (sem 𝓛 ((MutRef (named 0) κ R).own_val (record { ref_ptr = (b, o); ghost_name = γ'; now = x }) (vptr b o ∷ [])))
-              (sep 𝓤 (A.lft κ q) (sem 𝓛 (follows H' R γ γ' (with_session h))))) (Post (vptr b o))
+          (sep 𝓤 (A.lft κ q) (sem 𝓛 (follows H' R γ γ' (with_session h))))) (Post (vptr b o))
       exits γ' =
           qed 𝓛 (‵ ((MutRef (named 0) κ R).own_val (record { ref_ptr = (b, o); ghost_name = γ'; now = x }) (vptr b o ∷ [])) ∷ ‵ (flft κ q)
-              ∷ ‵ (follows H' R γ γ' (with_session h)) ∷ []) ∵
+          ∷ ‵ (follows H' R γ γ' (with_session h)) ∷ []) ∵
           suffices ! _ (ends_at 𝓛 f.ended stayed (f.clauses 𝓛 at_mem run) bound (vptr b o) (record { ref_ptr = (b, o); ghost_name = γ'; now = x })
-              (tt, tt) (tt, tt)) $
+          (tt, tt) (tt, tt)) $
           nothing ! $ nothing ! $ fjoin ! $ join ! $ nothing ! $ move ! (2 ∷ 0 ∷ []) $ join ! $ join ! $ frame ! $ says ! there $ done !
 
     module _ (C : Calls 𝓤 H) (Λ : Loops 𝓤 H) where
@@ -93,13 +93,13 @@ module _ {M : Type 1} {𝓤 : Ura M} (𝓛 : Logic 𝓤) (at_mem : Memory → SP
       unfolding slot_owns
       walk =
           qed 𝓛 ((‵ (flft κ q) ⊛ ‵ ftrue) ∷ ‵ (owns (MutRef (named 0) κ H' ∷ []) (record { ref_ptr = (rb, ro); ghost_name = γ; now = h }, tt)
-              (vptr rb ro ∷ [], tt)) ∷ []) ∵
+          (vptr rb ro ∷ [], tt)) ∷ []) ∵
           enter ! C Λ code.function (vptr rb ro ∷ []) _ $
           alloc_all ! (λ l. pass_all ! refl ((tt, tt), tt) $
           let En : Env 𝓤 H = env code.Mir.locals l in
           move ! (1 ∷ []) $ fsplit ! $ fsplit3 ! $ drop ! $ move ! (3 ∷ []) $ split ! $ move ! (2 ∷ 3 ∷ 0 ∷ []) $
           opens ! tt H' {h = h} rb ro (λ vs. move ! (1 ∷ []) $ rewrite ! 0 (λ (v : Option _). ‵ (H'.own_val (record h { session = v }) vs)) there refl
-              $ use1 𝓛 (‵ ((B E).own_val (box x) vs)) (id⊢ 𝓤 _) $
+          $ use1 𝓛 (‵ ((B E).own_val (box x) vs)) (id⊢ 𝓤 _) $
           box_out E ! (box x) vs (λ b o hv at_b ws fa. move ! (1 ∷ 2 ∷ []) $ fjoin ! $ move ! (1 ∷ []) $
           rewrite ! 2 (λ (us : List Val). ‵ (cell_at full_share H'.mir us rb ro)) ws refl $
           -- [the value; the token with the allocator; the word; the open borrow, in three entries]
@@ -112,14 +112,14 @@ module _ {M : Type 1} {𝓤 : Ura M} (𝓛 : Logic 𝓤) (at_mem : Memory → SP
           move ! (1 ∷ 2 ∷ []) $ fjoin ! $ move ! (2 ∷ 3 ∷ 4 ∷ 1 ∷ 0 ∷ []) $ group ! 5 $
           use1 𝓛 (later (some (λ (γ' : GName). raw (Part 𝓛 H' R (with_session h) (named 0) κ q rb ro b o γ (sem 𝓛 (Rest b o hv)) (back b o hv at_b) x γ'))))
           (lends_Part 𝓛 H' R (with_session h) (named 0) κ q rb ro b o γ (sem 𝓛 (Rest b o hv)) (back b o hv at_b) (H'.coded.code h) (H'.coded.code h)
-              x) $ await ! tt $ pick ! (λ γ'.
+          x) $ await ! tt $ pick ! (λ γ'.
           returns ! (look_at ! 0 refl) $ free_all ! refl $
           keep ! (0 ∷ []) $ by ! (exits b o hv γ')))))
 
   meets : (𝓣 : Tables 𝓤 H) → Meets 𝓛 f.signature (WpFn 𝓤 H 𝓣.C 𝓣.Λ code.function) (f.spec 𝓛 at_mem run)
   meets 𝓣 =
       walk_Meets 𝓛 f.ended stayed (Goes-spent_ref 𝓛 1 (0 ∷ []) tt (plain (λ _. H')), tt) (f.clauses 𝓛 at_mem run) (WpFn 𝓤 H 𝓣.C 𝓣.Λ code.function)
-          (WpFn-mono 𝓤 H 𝓛.laws 𝓣 code.function)
+      (WpFn-mono 𝓤 H 𝓛.laws 𝓣 code.function)
       (walked 𝓛 f.ended stayed (f.clauses 𝓛 at_mem run) (WpFn 𝓤 H 𝓣.C 𝓣.Λ code.function) (λ κs. (mut_vals, tt)) (λ κs. (mut_Tells (named 0) κs.0 H', tt))
       (λ κs qs bounds a g are. needs 𝓤 (IsSome a.0.now.session) _ (λ is.
       let got = present a.0.now.session is in walk κs.0 qs.0 a.0.ref_ptr.0 a.0.ref_ptr.1 a.0.ghost_name a.0.now got.0 got.1 𝓣.C 𝓣.Λ)))

@@ -19,10 +19,10 @@ pub returns-in_default-clause-ok : goal.returns-in_default-clause-ok
 returns-in_default-clause-ok c =
     let a = c.args.assembly.now in
     none_taken (λ d. name_of a.image d.0.0 d.0.1 d.1) (slice_get (named_numbers a) c.args.index) c.args.self.now
-        (zip_no_other a.names a.labels c.args.index (sym c.in_default.ensures'.told))
+    (zip_no_other a.names a.labels c.args.index (sym c.in_default.ensures'.told))
 
 pub returns-in_default-2-clause-ok : goal.returns-in_default-2-clause-ok
 returns-in_default-2-clause-ok c =
     let a = c.args.assembly.now in
     none_taken (λ d. name_of a.image d.0.0 d.0.1 d.1) (slice_get (named_numbers a) c.args.index) c.args.self.now
-        (zip_none a.names a.labels c.args.index (sym c.in_default.ensures))
+    (zip_none a.names a.labels c.args.index (sym c.in_default.ensures))

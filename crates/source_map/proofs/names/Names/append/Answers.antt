@@ -24,4 +24,4 @@ returns-clause-ok c =
     let a = c.args.assembly.now in
     c.loop-index.invariant.added
     ∙ ap (λ ds. c.args.self.now ++ names_of a.image ds) (take_all c.loop-index.index (named_numbers a)
-        (omega (arith, length-zip a.names a.labels, min-le_left (length a.names) (length a.labels))))
+    (omega (arith, length-zip a.names a.labels, min-le_left (length a.names) (length a.labels))))

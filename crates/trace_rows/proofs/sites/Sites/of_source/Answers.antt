@@ -9,12 +9,12 @@ returns-clause-labels c =
     let empty = c.in_ok-label_of.label_of.items in
     let first : map labelled c.spread_names.new.names.items ≡ labels_in a =
     first_names a empty (map labelled c.new-labels.result.items) (map labelled c.spread_names.new.names.items) c.in_ok-label_of.ensures
-        (ap (map labelled) c.new-labels.ensures.items) c.in_ok-spread_names.ensures.names in
+    (ap (map labelled) c.new-labels.ensures.items) c.in_ok-spread_names.ensures.names in
     let table : IsTable c.spread_names.new.table.items (label_place a) =
     first_places a empty c.spread_names.new.table.items (map labelled c.spread_names.new.names.items) c.in_ok-label_of.ensures first
-        c.in_ok-spread_names.ensures.table in
+    c.in_ok-spread_names.ensures.table in
     then_names a c.spread_names.new.table.items (map labelled c.spread_names.new.names.items) (map labelled c.spread_names-2.new.names.items) table
-        first c.in_ok-spread_names-2.ensures.names
+    first c.in_ok-spread_names-2.ensures.names
 
 pub returns-clause-label_of : goal.returns-clause-label_of
 returns-clause-label_of c =
@@ -22,12 +22,12 @@ returns-clause-label_of c =
     let empty = c.in_ok-label_of.label_of.items in
     let first : map labelled c.spread_names.new.names.items ≡ labels_in a =
     first_names a empty (map labelled c.new-labels.result.items) (map labelled c.spread_names.new.names.items) c.in_ok-label_of.ensures
-        (ap (map labelled) c.new-labels.ensures.items) c.in_ok-spread_names.ensures.names in
+    (ap (map labelled) c.new-labels.ensures.items) c.in_ok-spread_names.ensures.names in
     let table : IsTable c.spread_names.new.table.items (label_place a) =
     first_places a empty c.spread_names.new.table.items (map labelled c.spread_names.new.names.items) c.in_ok-label_of.ensures first
-        c.in_ok-spread_names.ensures.table in
+    c.in_ok-spread_names.ensures.table in
     let names : map labelled c.spread_names-2.new.names.items ≡ names_in a =
     then_names a c.spread_names.new.table.items (map labelled c.spread_names.new.names.items) (map labelled c.spread_names-2.new.names.items) table
-        first c.in_ok-spread_names-2.ensures.names in
+    first c.in_ok-spread_names-2.ensures.names in
     then_places a c.spread_names.new.table.items c.spread_names-2.new.table.items (map labelled c.spread_names-2.new.names.items) table names
-        c.in_ok-spread_names-2.ensures.table
+    c.in_ok-spread_names-2.ensures.table

@@ -13,4 +13,4 @@ returns-in-Err-clause-begun g c = λ three.
       now = g.O.Write.contents c.serve.new.output;
     } in
     has_begun_on (debug_view c.args.words.now) c.args.map c.args.image streams _ c.in-Err.fault c.requires.map c.requires.image
-        c.in-Err.ensures.serves c.in-Err.ensures.ends
+    c.in-Err.ensures.serves c.in-Err.ensures.ends

@@ -9,5 +9,5 @@ pub returns : goal.returns
 returns c =
     let other = λ (d : Opened). not (is_named c.args.uri.now d) in
     ap (map document_view) (filter_same _ (λ (d : Document). other (document_view d)) _ (λ x b f t. search rules) c.args.self.now.all.items
-        c.retain.new.self.items c.retain.ensures.filtered)
+    c.retain.new.self.items c.retain.ensures.filtered)
     ∙ filter_mapped document_view other c.args.self.now.all.items

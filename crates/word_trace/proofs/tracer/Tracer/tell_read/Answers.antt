@@ -14,7 +14,7 @@ returns-then-not-is_told-clause-written c =
 pub returns-then-not-is_told-clause-text : goal.returns-then-not-is_told-clause-text
 returns-then-not-is_told-clause-text c =
     none_told c.args.session.now.current c.args.self.now.sites c.args.moment.now c.args.finding c.args.self.now.written _
-        (sym c.is_told.ensures ∙ c.if-not-is_told.true)
+    (sym c.is_told.ensures ∙ c.if-not-is_told.true)
 
 pub returns-clause-written : goal.returns-clause-written
 returns-clause-written c =
@@ -32,5 +32,5 @@ returns-clause-text c =
     let after = c.push_finding.new.text.items in
     let there = subst (λ s. OnOk r (after ≡ old.sheet.text.items ++ finding_row state s moment finding)) (same_sites old noted _ c.note_written.ensures.marked)
     (subst (λ (s : Sheet). OnOk r (after ≡ s.text.items ++ finding_row state noted.sites moment finding)) c.note_written.ensures.sheet
-        c.push_finding.ensures) in
+    c.push_finding.ensures) in
     ok_then r _ _ (one_told state old.sites moment finding old.written old.sheet.text.items after (sym c.is_told.ensures ∙ c.if-not-is_told.false)) there

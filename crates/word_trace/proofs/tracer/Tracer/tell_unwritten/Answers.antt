@@ -33,9 +33,9 @@ loop-address-preserved c =
     let one = told m w (get_or xs i 0 ∷ []) in
     let number = c.args.self.now.all.visits in
     let found = subst (λ s. v.sheet.text.items ≡ l.self.sheet.text.items ++ findings state s c.args.moment.now number c.args.part one)
-        (same_sites c.args.self.now l.self _ inv.1.same)
+    (same_sites c.args.self.now l.self _ inv.1.same)
     (subst (λ ys. v.sheet.text.items ≡ l.self.sheet.text.items
-        ++ findings state l.self.sites c.args.moment.now number c.args.part (told m w (get_or ys i 0 ∷ []))) value ok.text) in (
+    ++ findings state l.self.sites c.args.moment.now number c.args.part (told m w (get_or ys i 0 ∷ []))) value ok.text) in (
       inv.0 ++ one,
       record {
         written = here ∙ ap (λ u. with_all_written u one) inv.1.written ∙ written_all c.args.self.now.written inv.0 one;
@@ -65,7 +65,7 @@ returns-clause-text c =
     let state = c.args.session.now.current in
     let past = subst (λ ys. length ys ≤ i) c.as_slice-address-items.ensures.value c.loop-address-test.false in
     let all = sym (append-nil inv.0) ∙ ap (λ ys. inv.0 ++ ys) (sym (told_none state.bus.map l.self.written (drop i xs) (drop_of_length-le xs past)))
-        ∙ inv.1.rest in
+    ∙ inv.1.rest in
     subst (λ ys. l.self.sheet.text.items ≡ c.args.self.now.sheet.text.items
     ++ findings state c.args.self.now.sites c.args.moment.now c.args.self.now.all.visits c.args.part ys) all inv.1.text
 
