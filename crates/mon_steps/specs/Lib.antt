@@ -4,3 +4,4 @@ pub mod Reasons
 pub mod RunTexts
 pub mod BackLines
 pub mod BackTexts
+pub mod ByLine
