@@ -10,11 +10,10 @@ ghost use Rattle.word_page.specs.Asked.{screen_asked, step_asked};
 ghost use Rattle.word_page.specs.CommandLine.{page};
 
 use crate::command::page_command;
-use crate::notes::step_of;
 use crate::wording::{AT_TAKES, ONE_NAME, SCREEN_TAKES};
 use arguments::{FileWords, WordsFault, file_words, is_given, matched, steps_asked, wrong_value};
 use clap::ArgMatches;
-use commands::address_of;
+use commands::{address_of, decimal_of};
 use std::alloc::Global;
 
 /// What a page shows when it is opened, as the words of `page` ask for it.
@@ -68,7 +67,7 @@ fn step_asked(word: Option<&str>) -> Option<Option<u32>>
 {
     match word {
         None => Some(None),
-        Some(word) => match step_of(word.as_bytes()) {
+        Some(word) => match decimal_of(word.as_bytes()) {
             None => None,
             Some(step) => Some(Some(step)),
         },
