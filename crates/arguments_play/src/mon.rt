@@ -77,8 +77,8 @@ fn wrong_besides(matches: &ArgMatches<'_>) -> &'static str {
     }
 }
 
-/// Returns what the values that were found ask for, or `None` if one is wrong.
-fn asked<'a>(matches: &ArgMatches<'a>) -> Option<MonWords<'a>>
+/// Returns the words of the matched values, or `None` if one is wrong.
+fn words_in<'a>(matches: &ArgMatches<'a>) -> Option<MonWords<'a>>
     ensures { option_map mon_view result ≡ mon_asked (first_value (found_of matches.now)) }
 {
     let Some(file) = file_words(matches) else {
@@ -116,7 +116,7 @@ pub fn read_mon_words<'a>(alloc: Global, words: &'a [&'a str]) -> Result<MonWord
         (asked (texts words.entry.now) ≡ None)) }
 {
     let matches = matched(mon_command(alloc)?, words)?;
-    match asked(&matches) {
+    match words_in(&matches) {
         Some(words) => Ok(words),
         None => Err(WordsFault::Wrong(wrong_value(&matches).unwrap_or(wrong_besides(&matches)))),
     }

@@ -81,8 +81,8 @@ fn status_asked(word: Option<&str>) -> Option<bool>
     }
 }
 
-/// Returns what the values that were found ask for, or `None` if one is wrong.
-fn asked<'a>(matches: &ArgMatches<'a>) -> Option<RunWords<'a>>
+/// Returns the words of the matched values, or `None` if one is wrong.
+fn words_in<'a>(matches: &ArgMatches<'a>) -> Option<RunWords<'a>>
     ensures { option_map run_view result ≡ run_asked (first_value (found_of matches.now)) }
 {
     let Some(file) = file_words(matches) else {
@@ -117,7 +117,7 @@ pub fn read_run_words<'a>(alloc: Global, words: &'a [&'a str]) -> Result<RunWord
         (asked (texts words.entry.now) ≡ None)) }
 {
     let matches = matched(run_command(alloc)?, words)?;
-    match asked(&matches) {
+    match words_in(&matches) {
         Some(words) => Ok(words),
         None => Err(WordsFault::Wrong(wrong_value(&matches).unwrap_or("--status takes A"))),
     }

@@ -86,8 +86,8 @@ pub fn trace_command<'a>(alloc: Global) -> Result<Command<'a>, Error>
     Ok(command)
 }
 
-/// Returns what the values that were found ask for, or `None` if one is wrong.
-fn asked<'a>(matches: &ArgMatches<'a>) -> Option<TraceWords<'a>>
+/// Returns the words of the matched values, or `None` if one is wrong.
+fn words_in<'a>(matches: &ArgMatches<'a>) -> Option<TraceWords<'a>>
     ensures { option_map trace_view result ≡ trace_asked (first_value (found_of matches.now)) }
 {
     let Some(file) = file_words(matches) else {
@@ -128,7 +128,7 @@ pub fn read_trace_words<'a>(
         (asked (texts words.entry.now) ≡ None)) }
 {
     let matches = matched(trace_command(alloc)?, words)?;
-    match asked(&matches) {
+    match words_in(&matches) {
         Some(words) => Ok(words),
         None => Err(value_fault(&matches)),
     }

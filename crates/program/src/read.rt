@@ -91,7 +91,7 @@ fn debug_words<'a>(matches: &ArgMatches<'a>) -> Option<DebugWords<'a>>
 }
 
 /// Returns what the subcommand that was found asks for, or `None` if a value is wrong.
-fn asked<'a>(matches: &ArgMatches<'a>) -> Option<Words<'a>>
+fn words_in<'a>(matches: &ArgMatches<'a>) -> Option<Words<'a>>
     ensures { option_map view result ≡ asked_of (subcommand_rows_of matches.now) }
 {
     match matches.subcommand()? {
@@ -133,7 +133,7 @@ pub fn read_words<'a>(alloc: Global, words: &'a [&'a str]) -> Result<Words<'a>, 
     ensures refused { IfErr result (IsRightRefusal (texts words.entry.now)) }
 {
     let matches = matched(command(alloc)?, words)?;
-    match asked(&matches) {
+    match words_in(&matches) {
         Some(words) => Ok(words),
         None => Err(WordsFault::Value),
     }

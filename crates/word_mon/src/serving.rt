@@ -77,7 +77,7 @@ fn serve<H: Files + AllocGlobal, R: Read, O: Write>(
 }
 
 /// Serves a session, says why it ended before its input did, and returns the exit status.
-fn served<H: Files + AllocGlobal, R: Read, O: Write, E: Write>(
+fn serve_session<H: Files + AllocGlobal, R: Read, O: Write, E: Write>(
     rt: &H,
     terminal: &mut Terminal<'_>,
     prompts: bool,
@@ -148,7 +148,7 @@ fn mon_loaded<'a, H: Env + Files + AllocGlobal, R: Read + IsTerminal, O: Write, 
                 loaded,
             };
             let line = warning_line.as_slice();
-            served(rt, &mut terminal, prompts, line, input, output, errors)
+            serve_session(rt, &mut terminal, prompts, line, input, output, errors)
         }
         Err(StartFault::OfNames(refusal)) => {
             let file = words.symbols.unwrap_or(words.file.file);

@@ -10,11 +10,10 @@ ghost use Rattle.word_page.specs.Asked.{screen_asked, step_asked};
 ghost use Rattle.word_page.specs.CommandLine.{page};
 
 use crate::command::page_command;
-use crate::notes::step_of;
 use crate::wording::{AT_TAKES, ONE_NAME, SCREEN_TAKES};
 use arguments::{FileWords, WordsFault, file_words, is_given, matched, steps_asked, wrong_value};
 use clap::ArgMatches;
-use commands::address_of;
+use commands::{address_of, decimal_of};
 use std::alloc::Global;
 
 /// What a page shows when it is opened, as the words of `page` ask for it.
@@ -68,7 +67,7 @@ fn step_asked(word: Option<&str>) -> Option<Option<u32>>
 {
     match word {
         None => Some(None),
-        Some(word) => match step_of(word.as_bytes()) {
+        Some(word) => match decimal_of(word.as_bytes()) {
             None => None,
             Some(step) => Some(Some(step)),
         },
@@ -89,7 +88,7 @@ fn screen_asked(word: Option<&str>) -> Option<Option<u16>>
     }
 }
 
-/// Returns what the values that were found ask for of a page when it is opened, or `None` if one is
+/// Returns the words that the values that were found are of a page when it is opened, or `None` if one is
 /// wrong.
 fn opening_asked<'a>(matches: &ArgMatches<'a>) -> Option<OpeningWords<'a>>
     ensures { option_map opening_view result ≡ opening_asked (first_value (found_of matches.now)) }
@@ -128,8 +127,8 @@ fn is_read(
     file == out || names_file(symbols, out) || names_file(input, out) || names_file(notes, out)
 }
 
-/// Returns what the values that were found ask for, or `None` if one is wrong.
-fn asked<'a>(matches: &ArgMatches<'a>) -> Option<PageWords<'a>>
+/// Returns the words of the matched values, or `None` if one is wrong.
+fn words_in<'a>(matches: &ArgMatches<'a>) -> Option<PageWords<'a>>
     ensures { option_map page_view result ≡ page_asked (first_value (found_of matches.now)) }
 {
     let Some(file) = file_words(matches) else {
@@ -187,7 +186,7 @@ pub fn read_page_words<'a>(alloc: Global, words: &'a [&'a str]) -> Result<PageWo
         (asked (texts words.entry.now) ≡ None)) }
 {
     let matches = matched(page_command(alloc)?, words)?;
-    match asked(&matches) {
+    match words_in(&matches) {
         Some(words) => Ok(words),
         None => Err(WordsFault::Wrong(wrong_words(&matches))),
     }

@@ -5,7 +5,7 @@ ghost use Rattle.std.specs.Prelude.{OnErr, OnOk, Some, false, option_map};
 ghost use Rattle.accesses.specs.Writing.{or_everywhere};
 ghost use Rattle.arguments.specs.Statuses.{status_of};
 ghost use Rattle.arguments.specs.Words.{Fits, Refuses, texts};
-ghost use Rattle.console.specs.Playing.{begun, is_at, played};
+ghost use Rattle.console.specs.Playing.{begun, played};
 ghost use Rattle.console.specs.Taking.{Waits};
 ghost use Rattle.console.specs.Written.{AreBytesOf, RanAs};
 ghost use Rattle.loading.specs.Place.{names_of};
@@ -32,7 +32,7 @@ use crate::wording::NOT_BEGUN;
 use accesses::Written;
 use arguments::{Refusal, put_two, refuse, refuse_file, refused_words};
 use arguments_play::{TraceWords, read_trace_words};
-use console::{Ending, Played, Player, begin, ending_after};
+use console::{Ending, Played, Player, begin, ending_after, is_at};
 use debugger::Session;
 use loading::{Loaded, load_machine, tell_left_out};
 use std::alloc::Global;
@@ -47,16 +47,6 @@ struct Span {
     from: Option<u16>,
     to: Option<u16>,
     limit: u64,
-}
-
-/// Returns whether the program counter is at an address, if there is one.
-fn is_at(place: Option<u16>, session: &Session) -> bool
-    ensures { result ≡ is_at place session.now.current }
-{
-    match place {
-        None => false,
-        Some(address) => session.regs().pc == address,
-    }
 }
 
 /// Returns whether the trace begins here: no place is named, or the program is at it.
