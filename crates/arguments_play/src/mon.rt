@@ -3,7 +3,7 @@
 ghost use Rattle.std.specs.Prelude.{◌≡◌, IsOkUnless, IfErr, IfOk, None, Some, false, option_map};
 ghost use Rattle.arguments.specs.Asked.{file_view};
 ghost use Rattle.arguments.specs.Words.{Fits, IsRefusalOf, texts};
-ghost use Rattle.arguments_play.specs.Mon.{MonAsked, asked, debug_asked, mon, mon_asked, mon_view};
+ghost use Rattle.arguments_play.specs.Mon.{MonAsked, words_in, debug_asked, mon, mon_asked, mon_view};
 ghost use Rattle.clap.specs.Words.{app_of, first_value, found_of, kind_of};
 ghost use Rattle.clap.specs.declared.builder.command.Command.TheViews.{out-Command};
 
@@ -108,12 +108,12 @@ fn words_in<'a>(matches: &ArgMatches<'a>) -> Option<MonWords<'a>>
 /// - `Wrong`: an option has a value that it cannot have.
 /// - `OutOfMemory`: an allocation failed.
 pub fn read_mon_words<'a>(alloc: Global, words: &'a [&'a str]) -> Result<MonWords<'a>, WordsFault>
-    ensures asked { IfOk result (λ w. asked (texts words.entry.now) ≡ Some (mon_view w)) }
+    ensures asked { IfOk result (λ w. words_in (texts words.entry.now) ≡ Some (mon_view w)) }
     ensures fits { IfOk result (λ _. Fits mon (texts words.entry.now)) }
     ensures served { (a : MonAsked) → Fits mon (texts words.entry.now)
-        → asked (texts words.entry.now) ≡ Some a → IsOkUnless result WordsFault.OutOfMemory }
+        → words_in (texts words.entry.now) ≡ Some a → IsOkUnless result WordsFault.OutOfMemory }
     ensures refused { IfErr result (IsRefusalOf mon (texts words.entry.now)
-        (asked (texts words.entry.now) ≡ None)) }
+        (words_in (texts words.entry.now) ≡ None)) }
 {
     let matches = matched(mon_command(alloc)?, words)?;
     match words_in(&matches) {
