@@ -10,4 +10,5 @@ mod paths;
 mod places;
 mod sources;
 
+pub use paths::{begins_at_root, folder_of};
 pub use places::load_places;

@@ -1,6 +1,6 @@
 //! Runs to where another line of a source begins.
 
-ghost use Rattle.std.specs.Prelude.{◌≡◌, ◌≤◌, ◌^◌, ◌&&◌, is_some, not};
+ghost use Rattle.std.specs.Prelude.{◌≡◌, ◌&&◌, is_some, not};
 ghost use Rattle.line_steps.specs.Lines.{begun, is_other};
 ghost use Rattle.model.specs.Run.{after_steps};
 ghost use Rattle.mon_runs.specs.LineRuns.{line_run};
@@ -36,7 +36,6 @@ fn lead_to_line(
     line: Option<FileLine>,
     limit: u32,
 ) -> Ended
-    requires { limit ≤ 2 ^ 29 }
     ensures steps { session.new ≡ after_steps result.did session.old }
     ensures run { line_run lines.now line limit stops.old.watches.items
         (session.old, stops.old.breaks.items)
@@ -44,15 +43,13 @@ fn lead_to_line(
     ensures watches { stops.new.watches ≡ stops.old.watches }
     ensures changes { stops.new.changes ≡ stops.old.changes }
 {
-    let mut did = 0u64;
     let mut call = None;
-    for _ in 0..limit {
+    for done in 0..limit {
         let within = call_begun(call, session);
         let made = make_step(session, stops, Goal::Rest, None);
-        did += made.did as u64;
         if let Some(why) = made.why {
             return Ended {
-                did,
+                did: done as u64 + made.did as u64,
                 why,
                 from: Some(made.from),
             };
@@ -60,14 +57,14 @@ fn lead_to_line(
         call = call_open(within, session);
         if is_at_line(session, lines, line, call) {
             return Ended {
-                did,
+                did: done as u64 + 1,
                 why: EndWhy::Met,
                 from: None,
             };
         }
     }
     Ended {
-        did,
+        did: limit as u64,
         why: EndWhy::Many,
         from: None,
     }

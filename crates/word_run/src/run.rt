@@ -1,10 +1,10 @@
 //! What the word `run` does.
 
-ghost use Rattle.std.specs.Prelude.{◌≡◌, ◌⊎◌, [], None, Some, false, if◌then◌else◌, option_map};
+ghost use Rattle.std.specs.Prelude.{◌≡◌, ◌⊎◌, ℕ, [], Option, None, Some, false};
+ghost use Rattle.std.specs.Prelude.{if◌then◌else◌, option_map};
 ghost use Rattle.arguments.specs.Words.{Fits, Refuses, texts};
-ghost use Rattle.arguments_play.specs.Run.{RunAsked, asked, run, run_view};
-ghost use Rattle.loading.specs.Warned.{OnlyWarned};
-ghost use Rattle.std.specs.Prelude.{Bool};
+ghost use Rattle.arguments_play.specs.Run.{RunAsked, words_in, run, run_view};
+ghost use Rattle.loading.specs.Warned.{OnlyWarned, omitted_at};
 ghost use Rattle.model.specs.State.{input_waits, is_map};
 ghost use Rattle.word_run.specs.Runs.{IsDone, RanOrInterrupted, Start, TellsEnd};
 ghost use Rattle.word_run.specs.Runs.{TellsInterrupted, heard_of, streams_of};
@@ -142,7 +142,8 @@ fn run_words<H: Files + AllocGlobal, R: Read, W: Write, S: Read, E: Write>(
         ((input.new ≡ input.old) × (output.new ≡ output.old)) }
     ensures bad_map { is_map words.now.file.rom words.now.file.port ≡ false → result ≡ 2 }
     ensures quiet { words.now.tells_cycles ≡ false → result ≡ 0
-        → OnlyWarned words.now.file.omits_fill (E.contents errors.old) (E.contents errors.new) }
+        → OnlyWarned (omitted_at (run_view words.now).file) (E.contents errors.old)
+        (E.contents errors.new) }
 {
     let loaded = match load_machine(rt, &words.file, words.others, words.symbols) {
         Ok(loaded) => loaded,
@@ -207,25 +208,25 @@ pub fn run_program<H: Files + AllocGlobal, R: Read, W: Write, S: Read, E: Write>
     // definition of a run, or it was not and the streams are unchanged, as the status says. The
     // error stream gets why, or how the run ended. Only a writer that was interrupted breaks a run
     // off, with the status 130.
-    ensures done { (a : RunAsked) → asked (texts words.entry.now) ≡ Some a
+    ensures done { (a : RunAsked) → words_in (texts words.entry.now) ≡ Some a
         → Fits run (texts words.entry.now) → IsDone a
         (streams_of (R.remaining input.old) (R.remaining input.new)
         (W.contents output.old.inner) (W.contents output.new.inner)) output.new.interrupted
         (heard_of (E.contents errors.old) (E.contents errors.new)) result
         ((input.new ≡ input.old) × (output.new ≡ output.old)) }
     // Other words read nothing, and write nothing on the output but help.
-    ensures refused { Refuses run (texts words.entry.now) (asked (texts words.entry.now) ≡ None)
+    ensures refused { Refuses run (texts words.entry.now) (words_in (texts words.entry.now) ≡ None)
         result (input.new ≡ input.old) (output.new ≡ output.old) }
     // A port and a ROM that make no map have the status 2, unless memory runs out.
-    ensures bad_map { (a : RunAsked) → asked (texts words.entry.now) ≡ Some a
+    ensures bad_map { (a : RunAsked) → words_in (texts words.entry.now) ≡ Some a
         → Fits run (texts words.entry.now)
         → is_map a.file.rom a.file.port ≡ false → (result ≡ 2) ⊎ (result ≡ 3) }
-    // Nothing but how many warnings there are, and how many names were left out, is written on the
-    // error stream with the status 0, unless cycles are asked for; and where a port is given, that
-    // fill was left out.
-    ensures quiet { (omits : Bool) → ((a : RunAsked) → asked (texts words.entry.now) ≡ Some a
-        → (a.tells_cycles ≡ false) × (a.file.omits_fill ≡ omits)) → result ≡ 0
-        → OnlyWarned omits (E.contents errors.old) (E.contents errors.new) }
+    // Nothing but how many warnings there are, how many names were left out, and, where a port is
+    // given, that the fill at it was left out, is written on the error stream with the status 0,
+    // unless cycles are asked for.
+    ensures quiet { (base : Option ℕ) → ((a : RunAsked) → words_in (texts words.entry.now) ≡ Some a
+        → (a.tells_cycles ≡ false) × (omitted_at a.file ≡ base)) → result ≡ 0
+        → OnlyWarned base (E.contents errors.old) (E.contents errors.new) }
 {
     match read_run_words(rt.alloc(), words) {
         Ok(words) => run_words(rt, &words, input, output, errors),
