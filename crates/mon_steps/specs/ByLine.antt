@@ -52,13 +52,14 @@ has_lines places = nat_lt 0 (length places.lines)
 -- ---- what is done
 
 -- A run from the line at the program counter to where another one begins.
-abbrev pub line_arrival : PlacesView → List Watch → Stand → Arrival
-line_arrival places watches stand = line_run (line_starts places.lines)
-    (line_at places.lines stand.0.0.current.regs.pc) most_steps watches (start_of stand)
+abbrev pub line_arrival : List LineStart → PlacesView → List Watch → Stand → Arrival
+line_arrival starts places watches stand
+    = line_run starts (line_at places.lines stand.0.0.current.regs.pc) most_steps watches
+    (start_of stand)
 
 abbrev pub ran_to_line : PlacesView → List Watch → Stand → Stand
 ran_to_line places watches stand = if has_lines places
-    then arrived (line_arrival places watches stand) stand else stand
+    then arrived (line_arrival (line_starts places.lines) places watches stand) stand else stand
 
 -- As many events are undone as lead back to where a line begins.
 abbrev pub undone_to_line : List LineStart → Course → Course
@@ -114,11 +115,13 @@ line_end_text places begun arrival = let state = arrival.1.0.current in
     else shown_end_text state places arrival.0 begun
 
 -- A run to where another line begins.
+abbrev pub run_by_line_text : List LineStart → List Watch → PlacesView → Stand → List ℕ
+run_by_line_text starts watches places stand = ended_text stand.0.0.current places
+    ++ line_end_text places (begun_at stand) (line_arrival starts places watches stand)
+
 abbrev pub line_run_text : List Watch → PlacesView → Stand → List ℕ
 line_run_text watches places stand = if has_lines places
-    then ended_text stand.0.0.current places
-    ++ line_end_text places (begun_at stand) (line_arrival places watches stand)
-    else no_lines
+    then run_by_line_text (line_starts places.lines) watches places stand else no_lines
 
 -- How many events were undone, and the line that they led to.
 abbrev pub back_here_text : ℕ → State → PlacesView → List ℕ

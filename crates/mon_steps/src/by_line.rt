@@ -3,17 +3,14 @@
 ghost use Rattle.std.specs.Prelude.{◌≡◌, ◌++◌, IfOk, OnOk, length};
 ghost use Rattle.std.specs.Option.{option_copied, option_to_list};
 ghost use Rattle.line_steps.specs.Back.{events_to_line, gone_back};
-ghost use Rattle.mon_runs.specs.LineRuns.{line_run};
-ghost use Rattle.mon_runs.specs.PastBreaks.{most_steps};
 ghost use Rattle.mon_session.specs.Course.{KeepsStops, ShowsOnly, course_of};
-ghost use Rattle.mon_steps.specs.BackTexts.{undone_text};
 ghost use Rattle.mon_steps.specs.ByLine.{back_here_text, back_text, came_text, here_text, is_met};
 ghost use Rattle.mon_steps.specs.ByLine.{known_text, line_arrival, line_at, line_back_text};
 ghost use Rattle.mon_steps.specs.ByLine.{line_end_text, line_run_text, line_start, line_starts};
-ghost use Rattle.mon_steps.specs.ByLine.{no_lines, place_of, ran_to_line, row_here, source_text};
-ghost use Rattle.mon_steps.specs.ByLine.{undone_if_held, undone_to_line};
-ghost use Rattle.mon_steps.specs.RunLines.{KeepsWatches, arrived, stand_of, start_of, watches_of};
-ghost use Rattle.mon_steps.specs.RunTexts.{begun_at, shown_end_text};
+ghost use Rattle.mon_steps.specs.ByLine.{no_lines, place_of, ran_to_line, row_here, run_by_line_text};
+ghost use Rattle.mon_steps.specs.ByLine.{source_text, undone_if_held, undone_to_line};
+ghost use Rattle.mon_steps.specs.RunLines.{KeepsWatches, arrived, stand_of, watches_of};
+ghost use Rattle.mon_steps.specs.RunTexts.{begun_at};
 
 use crate::back::tell_also_undone;
 use crate::endings::{Begun, show_end, show_since, tell_ended};
@@ -175,12 +172,13 @@ fn show_line_end(mon: &mut MonState, end: Ended, begun: Begun) -> Result<(), All
 /// Runs to where another line begins than the one at the program counter, and notes the steps.
 /// `starts` says where lines begin.
 fn make_line_run(mon: &mut MonState, starts: &[LineStart]) -> Ended
-    ensures run { line_run starts.now
-        (line_at mon.old.places.lines mon.old.session.current.regs.pc) most_steps
-        (watches_of mon.old) (start_of (stand_of mon.old))
-        ≡ (result, (mon.new.session, mon.new.stops.breaks.items)) }
     ensures stand { stand_of mon.new
-        ≡ arrived (result, (mon.new.session, mon.new.stops.breaks.items)) (stand_of mon.old) }
+        ≡ arrived (line_arrival starts.now mon.old.places (watches_of mon.old) (stand_of mon.old))
+        (stand_of mon.old) }
+    ensures end { result
+        ≡ (line_arrival starts.now mon.old.places (watches_of mon.old) (stand_of mon.old)).0 }
+    ensures session { mon.new.session
+        ≡ (line_arrival starts.now mon.old.places (watches_of mon.old) (stand_of mon.old)).1.0 }
     ensures text { mon.new.text ≡ mon.old.text }
     ensures watches { KeepsWatches mon.old mon.new }
 {
@@ -192,18 +190,32 @@ fn make_line_run(mon: &mut MonState, starts: &[LineStart]) -> Ended
 
 /// Runs to where another line begins, and says how that ended.
 fn go_to_line(mon: &mut MonState, starts: &[LineStart]) -> Result<(), AllocError>
-    requires { starts.now ≡ line_starts mon.old.places.lines }
     ensures stand { stand_of mon.new
-        ≡ arrived (line_arrival mon.old.places (watches_of mon.old) (stand_of mon.old))
+        ≡ arrived (line_arrival starts.now mon.old.places (watches_of mon.old) (stand_of mon.old))
         (stand_of mon.old) }
     ensures watches { KeepsWatches mon.old mon.new }
     ensures text { OnOk result (mon.new.text.items ≡ mon.old.text.items
         ++ line_end_text mon.old.places (begun_at (stand_of mon.old))
-        (line_arrival mon.old.places (watches_of mon.old) (stand_of mon.old))) }
+        (line_arrival starts.now mon.old.places (watches_of mon.old) (stand_of mon.old))) }
 {
     let begun = Begun::at(mon);
     let end = make_line_run(mon, starts);
     show_line_end(mon, end, begun)
+}
+
+/// Runs to where another line begins, and says how that ended. Where the program has ended before,
+/// it says that first.
+fn run_by_line(mon: &mut MonState, starts: &[LineStart]) -> Result<(), AllocError>
+    ensures stand { OnOk result (stand_of mon.new
+        ≡ arrived (line_arrival starts.now mon.old.places (watches_of mon.old) (stand_of mon.old))
+        (stand_of mon.old)) }
+    ensures watches { KeepsWatches mon.old mon.new }
+    ensures text { OnOk result (mon.new.text.items ≡ mon.old.text.items
+        ++ run_by_line_text starts.now (watches_of mon.old) mon.old.places
+        (stand_of mon.old)) }
+{
+    tell_ended(mon)?;
+    go_to_line(mon, starts)
 }
 
 /// Says that no lines are known.
@@ -230,8 +242,7 @@ pub fn run_to_line(mon: &mut MonState, alloc: Global) -> Result<(), AllocError>
         return say_no_lines(mon);
     }
     let starts = line_starts(alloc, mon.places.rows())?;
-    tell_ended(mon)?;
-    go_to_line(mon, starts.as_slice())
+    run_by_line(mon, starts.as_slice())
 }
 
 /// Undoes as many events as lead back to where a line begins, and notes them. Returns how many
