@@ -1,1 +1,3 @@
+pub mod Bytes
 pub mod NameStarts
+pub mod Undebugged

@@ -1,3 +1,4 @@
 pub mod Loads
 pub mod Paths
 pub mod Told
+pub mod Loaded

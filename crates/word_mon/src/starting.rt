@@ -1,27 +1,21 @@
 //! How a session begins on what was loaded.
 
-ghost use Rattle.std.specs.Prelude.{◌≡◌, ◌⊎◌, IfErr, IfOk, Option, OnOk, Some, if◌then◌else◌};
-ghost use Rattle.std.specs.Prelude.{option_map, slice_index, slice_set};
-ghost use Rattle.accesses.specs.Writing.{is_written};
-ghost use Rattle.model.specs.Image.{empty_image};
+ghost use Rattle.std.specs.Prelude.{◌≡◌, ◌⊎◌, IfErr, IfOk, Option, OnOk, Some, option_map};
 ghost use Rattle.source_map.specs.Lines.{PlacesView};
 ghost use Rattle.arguments.specs.Asked.{file_view, map_of};
 ghost use Rattle.arguments_play.specs.Mon.{mon_view};
 ghost use Rattle.loading.specs.declared.loaded.ImageNames.{ImageNames};
-ghost use Rattle.word_mon.specs.Starts.{AreNamed, ArePlaces, EndsNamed, EndsStart, HasBytesOf};
+ghost use Rattle.word_mon.specs.Starts.{AreNamed, ArePlaces, EndsNamed, EndsStart};
 ghost use Rattle.word_mon.specs.Starts.{IsNewState, IsWarningLine, places_in, with_names};
 ghost use Rattle.word_mon.specs.declared.starting.StartFault.TheVariants.{OfDebug, OfNames};
 
 use crate::terminal::of_memory;
-use accesses::Written;
 use arguments::{LoadFault, Refusal};
 use arguments_play::MonWords;
 use assembler::Assembly;
-use debug_files::load_places;
+use debug_files::load_places_of;
 use loading::{ImageNames, Loaded, load_names, tell_warnings};
-use memory_map::Image;
 use mon_files::Known;
-use mon_runs::Session;
 use mon_session::MonState;
 use source_map::Places;
 use std::alloc::{AllocError, Global};
@@ -115,38 +109,6 @@ fn of_source(names: Option<ImageNames>) -> Option<Assembly> {
     }
 }
 
-/// Makes an image without bytes.
-fn no_bytes(alloc: Global) -> Result<Image, Refusal>
-    ensures image { IfOk result (λ image. image ≡ empty_image) }
-    ensures refused { IfErr result (λ fault. fault ≡ Refusal.OutOfMemory) }
-{
-    Image::new(alloc).map_err(|_| Refusal::OutOfMemory)
-}
-
-/// Puts the byte of a session at an address, if the file has one there.
-fn put_byte(image: &mut Image, session: &Session, loaded: &Written, address: u16)
-    ensures { image.new ≡ if is_written loaded.now address
-        then slice_set image.old address
-        (Some (slice_index session.now.current.bus.memory address))
-        else image.old }
-{
-    if loaded.contains(address) {
-        image.put(address, session.peek(address));
-    }
-}
-
-/// Returns the bytes of a session at the addresses where its file has one.
-fn bytes_of(alloc: Global, session: &Session, loaded: &Written) -> Result<Image, Refusal>
-    ensures image { IfOk result (λ image. HasBytesOf session.now.current loaded.now image) }
-    ensures refused { IfErr result (λ fault. fault ≡ Refusal.OutOfMemory) }
-{
-    let mut image = no_bytes(alloc)?;
-    for place in 0..65536u32 {
-        put_byte(&mut image, session, loaded, place as u16);
-    }
-    Ok(image)
-}
-
 /// Returns the places of an image by the file of its debug information.
 fn debug_places<H: Files + AllocGlobal>(
     rt: &H,
@@ -160,9 +122,7 @@ fn debug_places<H: Files + AllocGlobal>(
         (file_view words.now.file)) }
 {
     let session = &loaded.session;
-    let image = bytes_of(rt.alloc(), session, &loaded.written)?;
-    let profile = session.profile();
-    Ok(load_places(rt, path, words.source_root, profile, &image)?)
+    Ok(load_places_of(rt, path, words.source_root, session, &loaded.written)?)
 }
 
 /// Returns the places of what was loaded: by its debug information, if such a file is named.
@@ -204,7 +164,7 @@ fn warning_line_of(
 ///
 /// # Errors
 ///
-/// `OfDebug` with the fault of `debug_files::load_places`; `OfNames` with that of
+/// `OfDebug` with the fault of `debug_files::load_places_of`; `OfNames` with that of
 /// `loading::load_names`, or with `OutOfMemory` if an allocation fails.
 pub fn start<H: Files + AllocGlobal>(
     rt: &H,
