@@ -16,3 +16,4 @@ pub use law::{each_line_is_read, each_read_line_is_a_line};
 pub use line_parts::{Expr, Item, Line, LineError, Operand, Statement, Token};
 pub use model::{AsmFaultKind, Index, Mnemonic, Profile};
 pub use text::{read_line, read_line_with};
+pub use token_tests::is_symbol;

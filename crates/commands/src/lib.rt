@@ -4,7 +4,7 @@
 #![tactic(auto)]
 
 pub use command_line::parse;
-pub use numbers::{address_of, digits};
+pub use numbers::{address_of, byte_of, decimal_of, digits};
 
 mod command_line;
 mod numbers;

@@ -49,7 +49,7 @@ pub fn digits(word: &[u8]) -> Option<u32>
 
 /// Returns the number that one to seven decimal digits write.
 #[tactic(auto, unfolding(model::specs::Commands::decimal_of))]
-fn decimal_of(word: &[u8]) -> Option<u32>
+pub fn decimal_of(word: &[u8]) -> Option<u32>
     ensures { result ≡ decimal_of word.now }
 {
     if word.is_empty() || word.len() > 7 {

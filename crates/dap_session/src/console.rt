@@ -35,6 +35,7 @@ use std::alloc::{AllocError, Global};
 fn may_change(asked: &Result<Command<'_>, Slip<'_>>) -> bool {
     match asked {
         Ok(Command::Nothing | Command::Step(_) | Command::Over | Command::Out) => true,
+        Ok(Command::Line | Command::LineBack) => true,
         Ok(Command::Until(_) | Command::Go(_) | Command::Back(_) | Command::Rback) => true,
         Ok(Command::Redo(_) | Command::Reset | Command::Set(_) | Command::SetFlag { .. }) => true,
         Ok(Command::Put { .. } | Command::Asm { .. } | Command::Type(_)) => true,

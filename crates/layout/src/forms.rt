@@ -53,7 +53,7 @@ fn either(short: Option<Code>, long: Option<Code>) -> Option<Form>
 }
 
 /// Returns the zero page mode with an index.
-fn zero_page_mode(index: Index) -> Mode
+pub fn zero_page_mode(index: Index) -> Mode
     ensures { result ≡ zero_page_mode index }
 {
     match index {

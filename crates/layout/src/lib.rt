@@ -8,5 +8,6 @@ mod forms;
 mod layout;
 mod placing;
 
+pub use forms::zero_page_mode;
 pub use layout::Placement;
 pub use placing::place_line;

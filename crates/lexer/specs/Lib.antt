@@ -1,2 +1,3 @@
+pub mod Front
 pub mod Lexing
 pub mod Stray

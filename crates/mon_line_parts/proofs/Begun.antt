@@ -43,3 +43,4 @@ place_is topic.Undisplay = refl
 place_is topic.Save = refl
 place_is topic.Reload = refl
 place_is topic.Page = refl
+place_is topic.Line = refl

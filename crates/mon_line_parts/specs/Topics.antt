@@ -88,6 +88,7 @@ place_of topic.Undisplay = 32
 place_of topic.Save = 33
 place_of topic.Reload = 34
 place_of topic.Page = 35
+place_of topic.Line = 36
 
 abbrev pub is_same : Topic → Topic → Bool
 is_same one other = place_of one == place_of other

@@ -12,7 +12,7 @@ pub struct Help {
 }
 
 /// The form, the effect and the example of each topic, in the order of `Topic`.
-pub const HELP: [(&str, &str, &str); 36] = [
+pub const HELP: [(&str, &str, &str); 37] = [
     ("step [N]", "makes N steps, or 1", "step 3"),
     ("over", "makes a JSR as one step", "over"),
     (
@@ -136,5 +136,10 @@ pub const HELP: [(&str, &str, &str); 36] = [
         "page FILE",
         "writes the kept steps as a page for a browser",
         "page run.html",
+    ),
+    (
+        "line [back]",
+        "runs to where another line begins, over calls; line back: back to where one begins",
+        "line, line back",
     ),
 ];

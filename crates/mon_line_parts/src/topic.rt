@@ -48,11 +48,12 @@ pub enum Topic {
     Save,
     Reload,
     Page,
+    Line,
 }
 
 /// The first words, each with its topic. A word of one letter or two is an abbreviation that two
 /// words would have in common.
-pub const WORDS: [(&[u8], Topic); 55] = [
+pub const WORDS: [(&[u8], Topic); 58] = [
     (b"step", Topic::Step),
     (b"s", Topic::Step),
     (b"over", Topic::Over),
@@ -74,6 +75,9 @@ pub const WORDS: [(&[u8], Topic); 55] = [
     (b"watch", Topic::Watch),
     (b"w", Topic::Watch),
     (b"list", Topic::List),
+    (b"li", Topic::List),
+    (b"l", Topic::List),
+    (b"line", Topic::Line),
     (b"delete", Topic::Delete),
     (b"unbreak", Topic::Delete),
     (b"display", Topic::Display),
@@ -163,10 +167,11 @@ pub const SUBJECTS: [(&[u8], Topic); 9] = [
 ];
 
 /// The topics, in the order in which help lists them.
-pub const TOPICS: [Topic; 35] = [
+pub const TOPICS: [Topic; 36] = [
     Topic::Step,
     Topic::Over,
     Topic::Out,
+    Topic::Line,
     Topic::Until,
     Topic::Go,
     Topic::Back,

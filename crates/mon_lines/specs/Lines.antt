@@ -33,6 +33,8 @@ pub data SeenCommand : Type 0 where
   step : ℕ → SeenCommand
   over : SeenCommand
   out : SeenCommand
+  to_line : SeenCommand
+  back_to_line : SeenCommand
   until : ℕ → SeenCommand
   go : Option ℕ → SeenCommand
   back : Undoing → SeenCommand
@@ -77,6 +79,8 @@ command_view command.Nothing = nothing
 command_view (command.Step count) = step count
 command_view command.Over = over
 command_view command.Out = out
+command_view command.Line = to_line
+command_view command.LineBack = back_to_line
 command_view (command.Until address) = until address
 command_view (command.Go count) = go count
 command_view (command.Back undoing) = back undoing
@@ -294,12 +298,18 @@ seeing places pc text topic.Stack = Ok (stack, text)
 seeing places pc text topic.Screen = screen_from places text
 seeing places pc text other = putting places pc text other
 
+-- What follows `line`: `back`, or nothing.
+abbrev pub line_or_back : List ℕ → SeenCommand × List ℕ
+line_or_back text = if is_word (codes "back") text then (back_to_line, after_word text)
+    else (to_line, text)
+
 -- What follows the first word, by its topic: that of one that moves the session here.
 abbrev pub moving : PlacesView → ℕ → List ℕ → Topic → Reads SeenCommand
 moving places pc text topic.Step =
     and_then (count_of places text) (λ count rest. Ok (step (unwrap_or count 1), rest))
 moving places pc text topic.Over = Ok (over, text)
 moving places pc text topic.Out = Ok (out, text)
+moving places pc text topic.Line = Ok (line_or_back text)
 moving places pc text topic.Until = until_from places pc text
 moving places pc text topic.Go = going_from places pc text
 moving places pc text topic.Back =

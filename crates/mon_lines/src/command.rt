@@ -100,6 +100,10 @@ pub enum Command<'a> {
     Step(u32),
     Over,
     Out,
+    /// To where another line of the source begins.
+    Line,
+    /// Back to where a line of the source begins.
+    LineBack,
     Until(u16),
     /// As many steps at most, if a number is given.
     Go(Option<u32>),

@@ -9,7 +9,7 @@ ghost use Rattle.mon_lines.specs.Lines.{asks_for_registers, assembled_from, brea
 ghost use Rattle.mon_lines.specs.Lines.{by_first_word, bytes_watched_from};
 ghost use Rattle.mon_lines.specs.Lines.{command_view, decimal_address, deleted_from, displayed_from};
 ghost use Rattle.mon_lines.specs.Lines.{going_from, helped_from, helped_on, instructions_from};
-ghost use Rattle.mon_lines.specs.Lines.{is_back, is_long, is_setting, line_of, paged_from};
+ghost use Rattle.mon_lines.specs.Lines.{is_back, is_long, is_setting, line_of, line_or_back, paged_from};
 ghost use Rattle.mon_lines.specs.Lines.{screen_from, set_from, shown_from, sized_from, slip_about};
 ghost use Rattle.mon_lines.specs.Lines.{undisplayed_from};
 ghost use Rattle.mon_lines.specs.Lines.{may_have_hex, is_short_decimal, line_by, put_from, putting};
@@ -302,6 +302,16 @@ fn undoing_of<'a>(places: &Places, text: &'a [u8]) -> Result<(Undoing, &'a [u8])
     Ok((Undoing::Events(count.unwrap_or(1)), rest))
 }
 
+/// Reads what follows `line`: `back`, or nothing.
+fn line_or_back<'a>(text: &'a [u8]) -> (Command<'a>, &'a [u8])
+    ensures { (command_view result.0, result.1.now) ≡ line_or_back text.now }
+{
+    if is_word(b"back", text) {
+        return (Command::LineBack, after_word(text));
+    }
+    (Command::Line, text)
+}
+
 /// Reads what follows `go` or `run`.
 fn going<'a>(places: &Places, pc: u16, text: &'a [u8]) -> Result<(Command<'a>, &'a [u8]), Flaw<'a>>
     ensures ok { IfOk result (λ p. going_from places.now pc text.now
@@ -455,6 +465,7 @@ fn moving<'a>(
         }
         Topic::Over => Ok((Command::Over, text)),
         Topic::Out => Ok((Command::Out, text)),
+        Topic::Line => Ok(line_or_back(text)),
         Topic::Until => until(places, pc, text),
         Topic::Go => going(places, pc, text),
         Topic::Back => {

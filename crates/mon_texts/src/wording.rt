@@ -1,8 +1,8 @@
 //! The words of what `mon` shows, each once. Definitions in `specs` name them.
 
 // Help.
-pub const MORE_WORDS: &str = "more words: out rback redo where history list delete display \
-undisplay\n  regs flags find stack set put asm type screen irq nmi reset save page\n  \
+pub const MORE_WORDS: &str = "more words: out line rback redo where history list delete \
+display\n  undisplay regs flags find stack set put asm type screen irq nmi reset\n  save page \
 reload help\nhelp WORD shows one of them, help all shows all.\n";
 
 pub const ADDRESS_FORMS: &str =

@@ -30,6 +30,7 @@ line_row image line = record {
   bytes = bytes_in image line.address;
   is_instruction = line.is_instruction;
   is_whole_line = true;
+  begins_line = true;
 }
 
 -- a line's row before others, if it has one

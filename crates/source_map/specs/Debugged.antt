@@ -53,6 +53,7 @@ piece program address begun shown = record {
   bytes = bytes_in program.image address;
   is_instruction = is_code program address begun;
   is_whole_line = is_same_row begun shown;
+  begins_line = shown.start == address;
 }
 
 abbrev pub piece_of : Program → ℕ → Option DebugRow → Option DebugRow → Option Row

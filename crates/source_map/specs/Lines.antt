@@ -36,6 +36,7 @@ row_of image line = if nat_lt 0 line.count && nat_le line.address 65535 then rec
   bytes = bytes_in image line.address;
   is_instruction = line.is_instruction;
   is_whole_line = true;
+  begins_line = true;
 } ∷ [] else []
 
 -- The rows of the lines that have bytes, in their order.

@@ -73,6 +73,7 @@ fn piece(profile: Profile, image: &Image, address: u16, begun: DebugRow, shown: 
         bytes: bytes_in(image, address),
         is_instruction: is_code(profile, image, address, begun),
         is_whole_line: is_same_row(begun, shown),
+        begins_line: shown.start == address as u64,
     }
 }
 

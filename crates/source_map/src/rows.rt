@@ -31,6 +31,8 @@ pub struct Row {
     pub is_instruction: bool,
     /// Whether the line has these bytes alone: it is no macro's call, and none of C.
     pub is_whole_line: bool,
+    /// Whether the line begins with them. Of the bytes of a macro's call the first do.
+    pub begins_line: bool,
 }
 
 /// An address at which bytes of a line begin.
@@ -78,6 +80,7 @@ fn push_row(rows: &mut Vec<Row>, image: &Image, line: SourceLine<'_>) -> Result<
             bytes: bytes_in(image, address),
             is_instruction: line.is_instruction,
             is_whole_line: true,
+            begins_line: true,
         })?;
     }
     Ok(())
