@@ -1,5 +1,5 @@
 -- What was done for the words of `trace`, from what was traced.
-use Rattle.std.proofs.Common.{◌≡◌, ◌∙◌, ◌++◌, ℕ, Bool, List, [], Option, Result, Ok, Err, inr, refl, sym, ap, subst}
+use Rattle.std.proofs.Common.{◌≡◌, ◌∙◌, ◌++◌, ℕ, Bool, List, [], Option, None, Result, Ok, Err, inr, refl, sym, ap, subst}
 use Rattle.std.specs.Io.KnownBytes.{Appends}
 use Rattle.assembler.specs.Assembly.{AssemblyView}
 use Rattle.accesses.specs.Writing.{bytes_in}
@@ -18,6 +18,7 @@ use Rattle.model.proofs.Written.{front_more}
 use Rattle.model.specs.Writers.{AppendsFront}
 use Rattle.arguments.specs.Statuses.{status_of}
 use Rattle.arguments.specs.declared.refusal.Refusal.{Refusal}
+use Rattle.word_run.specs.Known.{known_by}
 use Rattle.word_run.specs.Places.{place_asked}
 use Rattle.loading.specs.Told.{Heard, Tells}
 use Rattle.word_run.specs.Runs.{Streams, TellsEnding}
@@ -35,11 +36,11 @@ TracedAs a b from to limit streams now end flag = (input : List ℕ) × (rest : 
 -- What was told of a run is told of its outcome.
 told_of : (file : List ℕ) (assembly : Option AssemblyView) (heard : Heard) (ending why : Ending) (steps count pc at : ℕ) → ending ≡ why
     → steps ≡ count → pc ≡ at
-    → TellsEnding file assembly heard ending steps pc → TellsEnding file assembly heard why count at
+    → TellsEnding (known_by file assembly None) heard ending steps pc → TellsEnding (known_by file assembly None) heard why count at
 told_of file assembly heard ending why steps count pc at e n p told =
-    let E : Ending → Type 0 = λ x. TellsEnding file assembly heard x count at in
-    let N : ℕ → Type 0 = λ x. TellsEnding file assembly heard ending x at in
-    let P : ℕ → Type 0 = λ x. TellsEnding file assembly heard ending steps x in
+    let E : Ending → Type 0 = λ x. TellsEnding (known_by file assembly None) heard x count at in
+    let N : ℕ → Type 0 = λ x. TellsEnding (known_by file assembly None) heard ending x at in
+    let P : ℕ → Type 0 = λ x. TellsEnding (known_by file assembly None) heard ending steps x in
     subst E e (subst N n (subst P p told))
 
 -- A trace that came to an end, what its program has put out, and what was told of it.
@@ -49,7 +50,7 @@ pub traced_to : (a : TraceAsked) (b : Begin) (from to : Option ℕ) (limit : ℕ
     → TracedAs a b from to limit streams t end flag
     → ((text : List ℕ) × (t.current.bus.out ≡ b.session.current.bus.out ++ text) × Appends heard.held out text)
     → AppendsFront out said (unbegun_text flag)
-    → TellsEnding a.file.file b.assembly (record { held = said; now = heard.now }) end.ending end.steps t.current.regs.pc
+    → TellsEnding (known_by a.file.file b.assembly None) (record { held = said; now = heard.now }) end.ending end.steps t.current.regs.pc
     → status ≡ status_of_ending end.ending 0 → TracedTo a b from to streams heard status
 traced_to a b from to limit t streams heard out said end flag status long silent apart run put unbegun told is =
     let made = subst (λ n. TracedAs a b from to n streams t end flag) long run in

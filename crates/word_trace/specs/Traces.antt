@@ -27,6 +27,7 @@ use Rattle.arguments.specs.Statuses.{status_of}
 use Rattle.arguments.specs.declared.refusal.ReadFault.TheVariants.{Other}
 use Rattle.arguments.specs.declared.refusal.Refusal.{Refusal}
 use Rattle.arguments.specs.declared.refusal.Refusal.TheVariants.{OutOfMemory, Read, Write, WriteFile}
+use Rattle.word_run.specs.Known.{known_by}
 use Rattle.word_run.specs.Places.{place_asked}
 use Rattle.loading.specs.Told.{Heard, Tells}
 use Rattle.word_run.specs.Runs.{Streams, TellsEnding}
@@ -237,7 +238,7 @@ abbrev pub TellsTrace : TraceAsked → Option AssemblyView → Heard → Ending 
 TellsTrace a assembly heard begun end = (out : Option (List ℕ)) × (said : Option (List ℕ))
     × Appends heard.held out end.play.session.current.bus.out
     × AppendsFront out said (unbegun_text (has_begun begun))
-    × TellsEnding a.file.file assembly (record { held = said; now = heard.now })
+    × TellsEnding (known_by a.file.file assembly None) (record { held = said; now = heard.now })
     end.ending end.steps end.play.session.current.regs.pc
 
 -- Why a trace was cut short: the file for lcov is named.

@@ -39,7 +39,7 @@ use std::alloc::Global;
 use std::io::{Read, Write};
 use std::rt::Files;
 use trace_rows::Sites;
-use word_run::{place_named, status_of_ending, tell_ending};
+use word_run::{Known, place_named, status_of_ending, tell_ending};
 
 /// Where a trace begins and ends, if such places are named, and the most steps that it has.
 #[derive(Clone, Copy)]
@@ -487,7 +487,12 @@ fn trace_told<H: Files + AllocGlobal, R: Read, O: Write, E: Write>(
             let alloc = rt.alloc();
             let pc = loaded.session.regs().pc;
             let assembly = loaded.assembly.as_ref();
-            tell_ending(alloc, words.file.file, assembly, traced.played, pc, errors);
+            let known = Known {
+                file: words.file.file,
+                assembly,
+                debug: None,
+            };
+            tell_ending(alloc, known, traced.played, pc, errors);
             status_of_ending(traced.played.ending, 0)
         }
         Err(refusal) => tell_cut(refusal, words.lcov, errors),
