@@ -119,8 +119,8 @@ fn run_to<R: Read, W: Write, S: Read, E: Write>(
     }
 }
 
-/// Runs what was loaded up to the place of the words, with the debug information that they name, and
-/// returns the exit status.
+/// Runs what was loaded up to the place of the words, with the debug information that they name,
+/// and returns the exit status.
 fn run_loaded<H: Files + AllocGlobal, R: Read, W: Write, S: Read, E: Write>(
     rt: &H,
     words: &RunWords<'_>,
@@ -215,8 +215,9 @@ fn run_words<H: Files + AllocGlobal, R: Read, W: Write, S: Read, E: Write>(
 /// - 10: the limit of steps. 11: a fault of the program. 12: the console is full.
 /// - 13: nothing stands where the program runs, or at the vector of its BRK. With `--free` a run
 ///   does not end there.
-/// - 1: the source, the tape, the file of names or that of debug information is rejected. 2: the words, the place or the map
-///   are wrong. 3: memory ran out. 4: reading or writing failed. 130: the run was interrupted.
+/// - 1: the source, the tape, the file of names or that of debug information is rejected. 2: the
+///   words, the place or the map are wrong. 3: memory ran out. 4: reading or writing failed. 130:
+///   the run was interrupted.
 ///
 /// The program's output goes to `output`. Before it runs, a line on `errors` says how many warnings
 /// its source has, if it has some, one how many lines of a file of names gave no name, and one that
