@@ -2,8 +2,8 @@
 //!
 //! `run_program` serves the word. `specs/Runs.antt` says what it does by the status: the run is
 //! that of `console`, from the start of an image that the file can have. `specs/Told.antt` says
-//! what the error stream gets of a run's end; other words tell it by the same calls. `Known` is what
-//! is known of a program's names and lines: by its source, or by debug information
+//! what the error stream gets of a run's end; other words tell it by the same calls. `Known` is
+//! what is known of a program's names and lines: by its source, or by debug information
 //! (`specs/Known.antt`). A run can be interrupted by its writer, `Interruptible`.
 #![tactic(auto)]
 
