@@ -10,7 +10,7 @@ ghost use Rattle.model.specs.Commands.{byte_of};
 use arguments::{FileForm, flag, form_beside, form_in, form_said_by, option, takes_either};
 use clap::error::ErrorKind;
 use clap::{ArgMatches, Command, Error};
-use formatting::hex_value;
+use commands::byte_of;
 use image_reader::Form;
 use std::alloc::Global;
 
@@ -103,18 +103,6 @@ pub fn forms_said(
             Some(other) => forms_with(one, other, form_said_by(matches)),
         },
     }
-}
-
-/// Returns the byte that exactly two hex digits write; otherwise `None`.
-fn byte_of(word: &[u8]) -> Option<u8>
-    ensures { result ≡ byte_of word.now }
-{
-    let [high, low] = word else {
-        return None;
-    };
-    let high = hex_value(*high)?;
-    let low = hex_value(*low)?;
-    Some(high * 16 + low)
 }
 
 /// Returns the byte that gaps are filled with, by the word after `--fill`.

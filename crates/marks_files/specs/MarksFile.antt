@@ -2,6 +2,7 @@
 use Rattle.std.specs.Prelude.{◌≡◌, ⊤, ℕ, ◌+◌, not, Bool, true, false, if◌then◌else◌, ℤ, pos, List, [], ◌∷◌, codes, Option, Some, None, Result, Ok, Err}
 use Rattle.std.specs.Ordering.{int_eq}
 use Rattle.std.specs.Str.{bytes_eq}
+use Rattle.lexer.specs.Front.{first_field, without_blanks}
 use Rattle.model.specs.Commands.{address_of}
 use Rattle.model.specs.Names.{number_in}
 use Rattle.model.specs.TextLines.{lines_of}
@@ -9,7 +10,7 @@ use Rattle.model.specs.declared.instruction.Profile.{Profile}
 use Rattle.reached.specs.Reached.{tail_at}
 use Rattle.reached.specs.declared.inline.Inline.{Inline}
 use Rattle.reached.specs.declared.inline.Tail.{Tail}
-use Rattle.marks_files.specs.Fields.{Fields, behind_word, column_of, fields_of, front_word, is_nothing, skip}
+use Rattle.marks_files.specs.Fields.{Fields, behind_word, column_of, fields_of, is_nothing}
 use Rattle.marks_files.specs.Marks.{Marks, is_name, is_same_tail, is_text, is_whole, meets_other, meets_split, with_entry, with_following, with_label, with_range, with_remark, with_routine, with_split}
 use Rattle.marks_files.specs.Views.{marks_view}
 use Rattle.marks_files.specs.Values.{number_of, range_of, routine_of}
@@ -79,12 +80,12 @@ count_read number line f more low high m (Some count) = halves_read number line 
 abbrev pub high_read : ℕ → List ℕ → Fields → ℕ → ℕ → Marks → Option ℕ → Read
 high_read number line f more low m None = fault_at number f.rest_column BadAddress
 high_read number line f more low m (Some high) = count_read number line f more low high m
-    (number_of (front_word (behind_word f.rest)))
+    (number_of (first_field (behind_word f.rest)))
 
 abbrev pub split_read : ℕ → List ℕ → Fields → ℕ → Marks → Option ℕ → Read
 split_read number line f more m None = fault_at number f.value_column BadAddress
 split_read number line f more m (Some low) = high_read number line f more low m
-    (address_of (front_word f.rest))
+    (address_of (first_field f.rest))
 
 -- The vectors, where no address is said, or an address.
 abbrev pub entry_read : ℕ → Fields → Marks → Option ℕ → Read
@@ -125,7 +126,7 @@ name_read profile number line f address name m =
 abbrev pub label_read : Profile → ℕ → List ℕ → Fields → Marks → Option ℕ → Read
 label_read profile number line f m None = fault_at number f.value_column BadAddress
 label_read profile number line f m (Some address)
-    = name_read profile number line f address (front_word f.rest) m
+    = name_read profile number line f address (first_field f.rest) m
 
 -- A comment is what stands behind the address, up to the end of the line.
 abbrev pub remark_read : ℕ → Fields → Bool → Marks → Option ℕ → Read
@@ -156,7 +157,7 @@ fields_read profile number line f m = mark_read profile number line f m (word_of
 
 -- A line says nothing where it is empty or a comment, and otherwise what its word marks.
 unfoldable pub line_read : Profile → ℕ → List ℕ → Marks → Read
-line_read profile number line m = if is_nothing (skip line) then Ok m
+line_read profile number line m = if is_nothing (without_blanks line) then Ok m
     else fields_read profile number line (fields_of line) m
 
 abbrev pub then_read : Read → (Marks → Read) → Read

@@ -1,10 +1,12 @@
 //! The fields of a line.
 
-ghost use Rattle.std.specs.Prelude.{◌≡◌, ◌≤◌, ◌+◌, length, position};
-ghost use Rattle.std.specs.List.{prefix_len};
-ghost use Rattle.marks_files.specs.Fields.{behind_word, column_of, fields_of, front_word, is_blank};
-ghost use Rattle.marks_files.specs.Fields.{is_nothing, skip, word_length};
+ghost use Rattle.std.specs.Prelude.{◌≡◌, ◌≤◌, ◌+◌};
+ghost use Rattle.lexer.specs.Front.{field_length, first_field, without_blanks};
+ghost use Rattle.marks_files.specs.Fields.{behind_word, column_of, fields_of};
+ghost use Rattle.marks_files.specs.Fields.{is_nothing};
 ghost use Rattle.marks_files.specs.Views.{fields_view};
+
+use lexer::{field_length, first_field, without_blanks};
 
 /// The word that says what a line marks, its value, and what stands behind that, each with its
 /// column, counted from 1.
@@ -18,58 +20,11 @@ pub struct Fields<'a> {
     pub rest_column: usize,
 }
 
-/// Whether a byte is a blank.
-fn is_blank(byte: u8) -> bool
-    ensures { result ≡ is_blank byte }
-{
-    byte == b' ' || byte == b'\t'
-}
-
-/// The index of the first blank.
-fn first_blank(text: &[u8]) -> Option<usize>
-    ensures { result ≡ position is_blank text.now }
-{
-    text.iter().position(|byte| is_blank(*byte))
-}
-
-/// How many bytes come before the first blank.
-fn word_length(text: &[u8]) -> usize
-    ensures length { result ≡ word_length text.now }
-    ensures within { result ≤ length text.now }
-{
-    match first_blank(text) {
-        Some(at) => at,
-        None => text.len(),
-    }
-}
-
-/// Returns the bytes before the first blank.
-pub fn front_word(text: &[u8]) -> &[u8]
-    ensures { result.now ≡ front_word text.now }
-{
-    &text[..word_length(text)]
-}
-
-/// How many blanks stand at the front.
-fn blanks(text: &[u8]) -> usize
-    ensures counted { result ≡ prefix_len is_blank text.now }
-    ensures inside { result ≤ length text.now }
-{
-    text.iter().take_while(|byte| is_blank(**byte)).count()
-}
-
-/// Returns a text without the blanks at its front.
-pub fn skip(text: &[u8]) -> &[u8]
-    ensures { result.now ≡ skip text.now }
-{
-    &text[blanks(text)..]
-}
-
 /// Returns what stands behind the first word and the blanks after it.
 pub fn behind_word(text: &[u8]) -> &[u8]
     ensures { result.now ≡ behind_word text.now }
 {
-    skip(&text[word_length(text)..])
+    without_blanks(&text[field_length(text)..])
 }
 
 /// Returns the column in which the end of a line begins, counted from 1.
@@ -94,13 +49,13 @@ pub fn is_nothing(text: &[u8]) -> bool
 pub fn fields_of(line: &[u8]) -> Fields<'_>
     ensures { fields_view result ≡ fields_of line.now }
 {
-    let text = skip(line);
+    let text = without_blanks(line);
     let value = behind_word(text);
     let rest = behind_word(value);
     Fields {
-        word: front_word(text),
+        word: first_field(text),
         word_column: column_of(line, text),
-        value: front_word(value),
+        value: first_field(value),
         value_column: column_of(line, value),
         rest,
         rest_column: column_of(line, rest),

@@ -1,9 +1,10 @@
 //! A line, taken.
 
 ghost use Rattle.std.specs.Prelude.{◌≡◌};
+ghost use Rattle.lexer.specs.Front.{first_field};
 ghost use Rattle.model.specs.Commands.{address_of};
 ghost use Rattle.model.specs.Names.{number_in};
-ghost use Rattle.marks_files.specs.Fields.{behind_word, front_word};
+ghost use Rattle.marks_files.specs.Fields.{behind_word};
 ghost use Rattle.marks_files.specs.MarksFile.{IsRead, count_read, entry_read, fields_read, follow_read};
 ghost use Rattle.marks_files.specs.MarksFile.{halves_read, high_read, label_read, line_read};
 ghost use Rattle.marks_files.specs.MarksFile.{mark_read, name_once, name_read, range_read};
@@ -13,7 +14,7 @@ ghost use Rattle.marks_files.specs.Views.{fields_view, marks_view};
 ghost use Rattle.reached.specs.Reached.{tail_at};
 
 use crate::fault::{MarksError, MarksFaultKind, fault_at};
-use crate::fields::{Fields, behind_word, column_of, fields_of, front_word, is_nothing, skip};
+use crate::fields::{Fields, behind_word, column_of, fields_of, is_nothing};
 use crate::labels::is_name;
 use crate::marks::{
     Marks, RangeKind, Split, is_same_tail, is_text, is_whole, meets_other, meets_split, push_entry,
@@ -22,6 +23,7 @@ use crate::marks::{
 use crate::values::{number_of, range, routine};
 use crate::word::{MarkWord, word_of};
 use commands::address_of;
+use lexer::{first_field, without_blanks};
 use model::Profile;
 use reached::{Inline, tail_at};
 use std::alloc::Global;
@@ -111,10 +113,10 @@ fn take_count(
 ) -> Result<(), MarksError>
     ensures { IsRead result (marks_view marks.new) (count_read number line.now
         (fields_view fields.now) more low high (marks_view marks.old)
-        (number_of (front_word (behind_word (fields_view fields.now).rest)))) }
+        (number_of (first_field (behind_word (fields_view fields.now).rest)))) }
 {
     let counted = behind_word(fields.rest);
-    let Some(count) = number_of(front_word(counted)) else {
+    let Some(count) = number_of(first_field(counted)) else {
         return Err(MarksError::Fault(fault_at(
             number,
             column_of(line, counted),
@@ -141,9 +143,9 @@ fn take_high(
 ) -> Result<(), MarksError>
     ensures { IsRead result (marks_view marks.new) (high_read number line.now
         (fields_view fields.now) more low (marks_view marks.old)
-        (address_of (front_word (fields_view fields.now).rest))) }
+        (address_of (first_field (fields_view fields.now).rest))) }
 {
-    let Some(high) = address_of(front_word(fields.rest)) else {
+    let Some(high) = address_of(first_field(fields.rest)) else {
         return Err(MarksError::Fault(fault_at(
             number,
             fields.rest_column,
@@ -343,7 +345,7 @@ fn take_label(
             MarksFaultKind::BadAddress,
         )));
     };
-    let name = front_word(fields.rest);
+    let name = first_field(fields.rest);
     take_name(alloc, profile, marks, number, line, fields, address, name)
 }
 
@@ -431,7 +433,7 @@ pub fn take_line(
     ensures { IsRead result (marks_view marks.new)
         (line_read profile number line.now (marks_view marks.old)) }
 {
-    if is_nothing(skip(line)) {
+    if is_nothing(without_blanks(line)) {
         return Ok(());
     }
     let fields = fields_of(line);

@@ -1,11 +1,11 @@
 //! An instruction with addresses in place of its names.
 
 ghost use Rattle.std.specs.Prelude.{◌≡◌, ◌++◌, IfOk, OnOk};
-ghost use Rattle.model.specs.Token.{is_word_byte};
 ghost use Rattle.mon_settings.specs.Names.{begun_by, next_before, operand_text, without_names};
 ghost use Rattle.mon_settings.specs.Names.{word_text};
 
 use formatting::{digits_of, digits_of_address};
+use lexer::may_be_in_word;
 use source_map::Places;
 use std::alloc::{AllocError, Global};
 
@@ -22,13 +22,6 @@ pub enum Before {
     Text,
     /// Anything else: the word may be a name.
     Other,
-}
-
-/// Returns whether a byte is a letter, a digit or `_`.
-fn is_word_byte(byte: u8) -> bool
-    ensures { result ≡ is_word_byte byte }
-{
-    matches!(byte, b'A'..=b'Z' | b'a'..=b'z' | b'0'..=b'9' | b'_')
 }
 
 /// Returns what a byte that is of no word and no string begins.
@@ -93,7 +86,7 @@ pub fn without_names(alloc: Global, line: &[u8], places: &Places) -> Result<Vec<
     let mut word = Vec::new(alloc);
     let mut preceding = Before::Nothing;
     for byte in line {
-        if is_word_byte(*byte) {
+        if may_be_in_word(*byte) {
             word.push(*byte)?;
         } else {
             push_word(&mut text, preceding, word.as_slice(), places)?;

@@ -1,43 +1,17 @@
 //! Words in lines whose text has a fault.
 
 ghost use Rattle.std.specs.Prelude.{◌≡◌, ◌≤◌, IfOk, false, length};
-ghost use Rattle.std.specs.List.{prefix_len};
 ghost use Rattle.model.specs.AllFaults.{word_at};
 ghost use Rattle.model.specs.Source.{is_end};
 ghost use Rattle.model.specs.SourceLine.{read_line};
-ghost use Rattle.model.specs.Token.{is_word_byte};
 ghost use Rattle.name_uses.specs.Faulty.{faulty_line, has_either, has_word, is_faulty};
 
 use crate::lines::taken_from;
 use asm_line::read_line_with;
+use lexer::{may_be_in_word, word_at};
 use line_parts::{LineError, Token, next_line};
 use model::Profile;
 use std::alloc::{AllocError, Global};
-
-/// Returns whether a byte is a letter, a digit or `_`.
-fn may_be_in_word(byte: u8) -> bool
-    ensures { result ≡ is_word_byte byte }
-{
-    matches!(byte, b'A'..=b'Z' | b'a'..=b'z' | b'0'..=b'9' | b'_')
-}
-
-/// Returns how many letters, digits and `_` some bytes begin with.
-fn word_run(bytes: &[u8]) -> usize
-    ensures counted { result ≡ prefix_len is_word_byte bytes.now }
-    ensures inside { result ≤ length bytes.now }
-{
-    bytes
-        .iter()
-        .take_while(|byte| may_be_in_word(**byte))
-        .count()
-}
-
-/// Returns the letters, digits and `_` that some bytes begin with.
-fn word_at(bytes: &[u8]) -> &[u8]
-    ensures { result.now ≡ word_at bytes.now }
-{
-    &bytes[..word_run(bytes)]
-}
 
 /// Returns whether a word stands in a line.
 fn has_word(word: &[u8], line: &[u8]) -> bool

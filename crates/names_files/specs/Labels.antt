@@ -3,9 +3,10 @@
 -- (`-Ln`, `--dbgfile`) with cc65's own reader of debug files (`src/dbginfo/dbginfo.c`), and the
 -- table that DASM writes for `-s` (`src/main.c`).
 use Rattle.std.specs.Prelude.{ℕ, ◌==◌, ◌||◌, Bool, if◌then◌else◌, List, [], ◌∷◌, ◌++◌, codes, length, drop, take, position, Option, Some, None}
-use Rattle.std.specs.List.{prefix_len, starts_with}
+use Rattle.std.specs.List.{starts_with}
 use Rattle.std.specs.Option.{option_map, unwrap_or}
 use Rattle.std.specs.Str.{byte}
+use Rattle.lexer.specs.Front.{field_length, first_field, without_blanks}
 
 -- The hex digits of an address, and a name.
 pub record Label : Type 0 where
@@ -15,21 +16,6 @@ pub record Label : Type 0 where
 -- A text begins with another.
 abbrev pub begins : List ℕ → List ℕ → Bool
 begins text front = starts_with (λ a b. a == b) text front
-
-abbrev pub is_blank : ℕ → Bool
-is_blank b = b == 32 || b == 9
-
--- How many bytes come before the first blank.
-abbrev pub word_length : List ℕ → ℕ
-word_length text = unwrap_or (position is_blank text) (length text)
-
--- The bytes before the first blank.
-abbrev pub front_word : List ℕ → List ℕ
-front_word text = take (word_length text) text
-
--- A text without the blanks at its front.
-abbrev pub skip : List ℕ → List ℕ
-skip text = drop (prefix_len is_blank text) text
 
 -- ---- the monitor of VICE: `al C:0200 .loop`, or without `C:`
 
@@ -83,11 +69,11 @@ abbrev pub is_row_end : List ℕ → Bool
 is_row_end text = length text == 0 || begins text (codes "(")
 
 abbrev pub row_in : List ℕ → List ℕ → Option Label
-row_in name text = if is_row_end (skip (drop (word_length text) text))
-    then Some (record { digits = front_word text; name = name }) else None
+row_in name text = if is_row_end (without_blanks (drop (field_length text) text))
+    then Some (record { digits = first_field text; name = name }) else None
 
 unfoldable pub row_label : List ℕ → Option Label
-row_label line = row_in (front_word line) (skip (drop (word_length line) line))
+row_label line = row_in (first_field line) (without_blanks (drop (field_length line) line))
 
 -- ---- a label as a line of a source
 

@@ -3,6 +3,8 @@ use Rattle.std.specs.Prelude.{ℕ, ◌+◌, ◌==◌, ◌&&◌, ◌||◌, nat_lt
 use Rattle.std.specs.List.{list_all}
 use Rattle.std.specs.Option.{unwrap_or}
 use Rattle.std.specs.Str.{byte, bytes_eq}
+use Rattle.model.specs.Token.{is_blank}
+use Rattle.lexer.specs.Front.{first_field, without_blanks}
 use Rattle.model.specs.Expression.{Term}
 use Rattle.model.specs.Names.{Definitions, number_in}
 use Rattle.model.specs.SourceLine.{Line, Statement, definition, labelled, nothing, origin, bytes, words, words_high_first, reserve, finish, instruction, read_line}
@@ -11,7 +13,7 @@ use Rattle.model.specs.declared.expression.ExprFault.{ExprFault}
 use Rattle.model.specs.declared.instruction.Profile.{Profile}
 use Rattle.model.specs.declared.source_fault.AsmFaultKind.{AsmFaultKind}
 use Rattle.names_files.specs.ImageNames.{is_image_name}
-use Rattle.names_files.specs.Labels.{Label, begins, debug_label, definition_text, front_word, is_blank, label_of, row_label, skip}
+use Rattle.names_files.specs.Labels.{Label, begins, debug_label, definition_text, label_of, row_label}
 use Rattle.names_files.specs.declared.form.Form.{Form}
 use Rattle.names_files.specs.declared.form.Form.TheVariants as form
 
@@ -132,7 +134,7 @@ word_in text = if is_one_word text then Some (take (name_length text) text) else
 abbrev pub word_before : List ℕ → Option ℕ → Option (List ℕ)
 word_before line None = None
 word_before line (Some at) = if list_all is_blank (drop (at + 1) line) then None
-    else word_in (skip (take at line))
+    else word_in (without_blanks (take at line))
 
 -- The word in front of the first `=`, if nothing else stands there, and a value stands behind it.
 abbrev pub equation_word : List ℕ → Option (List ℕ)
@@ -151,7 +153,7 @@ read_meaning profile names line (Err fault)
 
 -- A line of DASM's table that begins with `---` is its head or its end.
 abbrev pub is_no_row : List ℕ → Bool
-is_no_row line = begins line (codes "---") || length (front_word line) == 0
+is_no_row line = begins line (codes "---") || length (first_field line) == 0
 
 -- Lines `al` stand among lines of a source.
 unfoldable pub label_in : Form → List ℕ → Option Label
@@ -165,4 +167,4 @@ unlabelled form.Plain profile names line
     = read_meaning profile names line (read_line profile line)
 unlabelled form.Debug profile names line = other
 unlabelled form.Table profile names line
-    = if is_no_row line then other else left_out (front_word line)
+    = if is_no_row line then other else left_out (first_field line)

@@ -1,14 +1,14 @@
 //! Lines in which other tools write a name and its address.
 
 ghost use Rattle.std.specs.Prelude.{◌≡◌, ◌≤◌, ◌==◌, ◌++◌, IfOk, length, option_map, position};
-ghost use Rattle.std.specs.List.{prefix_len};
 ghost use Rattle.std.specs.Str.{byte};
+ghost use Rattle.lexer.specs.Front.{field_length, first_field, without_blanks};
 ghost use Rattle.names_files.specs.Labels.{before, behind_bank, behind_key, debug_label};
-ghost use Rattle.names_files.specs.Labels.{definition_text, field, front_word, is_blank};
-ghost use Rattle.names_files.specs.Labels.{is_row_end, label_in, label_of, row_in, row_label, skip};
-ghost use Rattle.names_files.specs.Labels.{word_length};
+ghost use Rattle.names_files.specs.Labels.{definition_text, field};
+ghost use Rattle.names_files.specs.Labels.{is_row_end, label_in, label_of, row_in, row_label};
 ghost use Rattle.names_files.specs.Views.{label_view};
 
+use lexer::{field_length, first_field, without_blanks};
 use std::alloc::{AllocError, Global};
 
 /// The hex digits of an address, and a name.
@@ -16,53 +16,6 @@ use std::alloc::{AllocError, Global};
 pub struct Label<'a> {
     pub digits: &'a [u8],
     pub name: &'a [u8],
-}
-
-/// Returns whether a byte is a blank.
-pub fn is_blank(byte: u8) -> bool
-    ensures { result ≡ is_blank byte }
-{
-    byte == b' ' || byte == b'\t'
-}
-
-/// Returns the index of the first blank.
-fn first_blank(text: &[u8]) -> Option<usize>
-    ensures { result ≡ position is_blank text.now }
-{
-    text.iter().position(|byte| is_blank(*byte))
-}
-
-/// Returns how many bytes come before the first blank.
-fn word_length(text: &[u8]) -> usize
-    ensures length { result ≡ word_length text.now }
-    ensures within { result ≤ length text.now }
-{
-    match first_blank(text) {
-        Some(at) => at,
-        None => text.len(),
-    }
-}
-
-/// Returns the bytes before the first blank.
-pub fn front_word(text: &[u8]) -> &[u8]
-    ensures { result.now ≡ front_word text.now }
-{
-    &text[..word_length(text)]
-}
-
-/// Counts the blanks at the front.
-fn blanks(text: &[u8]) -> usize
-    ensures counted { result ≡ prefix_len is_blank text.now }
-    ensures inside { result ≤ length text.now }
-{
-    text.iter().take_while(|byte| is_blank(**byte)).count()
-}
-
-/// Returns a text without the blanks at its front.
-pub fn skip(text: &[u8]) -> &[u8]
-    ensures { result.now ≡ skip text.now }
-{
-    &text[blanks(text)..]
 }
 
 /// Returns what stands behind the name of a memory, if there is one.
@@ -180,9 +133,9 @@ fn is_row_end(text: &[u8]) -> bool
 fn row_in<'a>(name: &'a [u8], text: &'a [u8]) -> Option<Label<'a>>
     ensures { option_map label_view result ≡ row_in name.now text.now }
 {
-    let length = word_length(text);
-    if is_row_end(skip(&text[length..])) {
-        let digits = front_word(text);
+    let length = field_length(text);
+    if is_row_end(without_blanks(&text[length..])) {
+        let digits = first_field(text);
         Some(Label { digits, name })
     } else {
         None
@@ -194,8 +147,8 @@ fn row_in<'a>(name: &'a [u8], text: &'a [u8]) -> Option<Label<'a>>
 pub fn row_label(line: &[u8]) -> Option<Label<'_>>
     ensures { option_map label_view result ≡ row_label line.now }
 {
-    let length = word_length(line);
-    row_in(front_word(line), skip(&line[length..]))
+    let length = field_length(line);
+    row_in(first_field(line), without_blanks(&line[length..]))
 }
 
 /// Returns a label as a line of a source.

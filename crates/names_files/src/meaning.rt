@@ -3,17 +3,17 @@
 ghost use Rattle.std.specs.Prelude.{◌≡◌, ◌≤◌, ◌==◌, Ok, length, option_map, pos, position};
 ghost use Rattle.std.specs.List.{list_all};
 ghost use Rattle.std.specs.Str.{byte, bytes_eq};
+ghost use Rattle.model.specs.Token.{is_blank};
 ghost use Rattle.line_parts.specs.LineViews.{line_view, statement_view};
 ghost use Rattle.line_parts.specs.TermViews.{term_view};
-ghost use Rattle.names_files.specs.Labels.{is_blank};
 ghost use Rattle.names_files.specs.Meanings.{defined, equation_word, faulty_meaning, is_nothing};
 ghost use Rattle.names_files.specs.Meanings.{is_one_word, is_word_end};
 ghost use Rattle.names_files.specs.Meanings.{labelled_meaning, line_meaning, name_length, numbered};
 ghost use Rattle.names_files.specs.Meanings.{value_in, word_before, word_in};
 ghost use Rattle.names_files.specs.Views.{meaning_view};
 
-use crate::label::{is_blank, skip};
 use asm_line::{Expr, Line, Statement};
+use lexer::{is_blank_byte, without_blanks};
 use model::ExprFault;
 use symbols::{Symbols, eval};
 
@@ -123,7 +123,7 @@ pub fn read_meaning<'a>(names: &Symbols, line: Line<'a>) -> Meaning<'a>
 fn is_word_end(byte: u8) -> bool
     ensures { result ≡ is_word_end byte }
 {
-    is_blank(byte) || byte == b':'
+    is_blank_byte(byte) || byte == b':'
 }
 
 /// Returns the index of the first byte that ends a word.
@@ -155,7 +155,7 @@ fn are_word_ends(text: &[u8]) -> bool
 fn are_blanks(text: &[u8]) -> bool
     ensures { result ≡ list_all is_blank text.now }
 {
-    text.iter().all(|byte| is_blank(*byte))
+    text.iter().all(|byte| is_blank_byte(*byte))
 }
 
 /// Returns whether a text is a word, and nothing else but blanks and `:` behind it.
@@ -195,7 +195,7 @@ fn equation_word(line: &[u8]) -> Option<&[u8]>
             if are_blanks(&line[at + 1..]) {
                 None
             } else {
-                word_in(skip(&line[..at]))
+                word_in(without_blanks(&line[..at]))
             }
         }
     }

@@ -6,8 +6,9 @@ ghost use Rattle.names_files.specs.Views.{label_view, meaning_view};
 
 use crate::form::Form;
 use crate::kept::plain_meaning;
-use crate::label::{Label, debug_label, front_word, label_of, row_label};
+use crate::label::{Label, debug_label, label_of, row_label};
 use crate::meaning::Meaning;
+use lexer::first_field;
 use model::Profile;
 use std::alloc::{AllocError, Global};
 use symbols::Symbols;
@@ -16,7 +17,7 @@ use symbols::Symbols;
 fn is_no_row(line: &[u8]) -> bool
     ensures { result ≡ is_no_row line.now }
 {
-    line.starts_with(b"---") || front_word(line).is_empty()
+    line.starts_with(b"---") || first_field(line).is_empty()
 }
 
 /// Returns the label that a line gives, if it has the form of one.
@@ -56,7 +57,7 @@ pub fn unlabelled<'a>(
             if is_no_row(line) {
                 Ok(Meaning::Other)
             } else {
-                Ok(Meaning::LeftOut(front_word(line)))
+                Ok(Meaning::LeftOut(first_field(line)))
             }
         }
     }

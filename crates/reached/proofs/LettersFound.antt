@@ -1,10 +1,11 @@
 -- Strings behind calls, an address at a time.
-use Rattle.std.proofs.Common.{◌≡◌, ◌∙◌, ℕ, zero, suc, ◌+◌, ◌-◌, ◌<◌, ◌≤◌, List, Bool, true, false, Option, refl, ap, replicate, arith}
+use Rattle.std.proofs.Common.{◌≡◌, ◌∙◌, ℕ, zero, suc, ◌+◌, ◌-◌, ◌<◌, ◌≤◌, List, Bool, true, Option, refl, ap, arith}
 use Rattle.std.specs.Prelude.{slice_set}
+use Rattle.source_forms.specs.Labels.{no_flags}
 use Rattle.model.specs.declared.instruction.Profile.{Profile}
 use Rattle.source_forms.specs.declared.mark.Mark.{Mark}
 use Rattle.reached.specs.declared.inline.Inline.{Inline}
-use Rattle.reached.specs.Reached.{letters_to, no_letters, reached_string, with_run, with_string}
+use Rattle.reached.specs.Reached.{letters_to, reached_string, with_run, with_string}
 
 pub run_more : (letters : List Bool) (left at : ℕ) → 0 < left → with_run letters left at ≡ with_run (slice_set letters at true) (left - 1) (at + 1)
 unfolding with_run
@@ -20,12 +21,8 @@ unfolding with_run
 run_done letters all zero at none e = e
 run_done letters all (suc n) at none e = absurd (omega (arith, none))
 
-pub letters_are : (n : ℕ) → n ≡ 65536 → replicate {A = Bool} n false ≡ no_letters
-unfolding no_letters
-letters_are n e = ap (λ (k : ℕ). replicate {A = Bool} k false) e
-
 pub letters_none : (profile : Profile) (image : List (Option ℕ)) (marks : List Mark) (routines : List Inline) (reached : List Bool)
-    → letters_to profile image marks routines reached 0 ≡ no_letters
+    → letters_to profile image marks routines reached 0 ≡ no_flags
 unfolding letters_to
 letters_none profile image marks routines reached = refl
 

@@ -4,16 +4,17 @@ use Rattle.std.specs.Prelude.{IfSome, if◌then◌else◌, slice_set, slice_inde
 use Rattle.std.proofs.lemmas.List.{length-set, get_or_append_left}
 use Rattle.std.proofs.Math.Seq.{get_or-append_seam}
 use Rattle.std.proofs.lemmas.Bool.Decides.{eqb_tells}
+use Rattle.source_forms.specs.Pieces.{is_flagged}
 use Rattle.model.specs.declared.instruction.Profile.{Profile}
 use Rattle.source_forms.specs.declared.mark.Mark.{Mark}
 use Rattle.reached.specs.declared.inline.Inline.{Inline}
-use Rattle.reached.specs.Reached.{IsAmong, IsReached, LeadTo, Reaches, is_reached, ways_at}
+use Rattle.reached.specs.Reached.{IsAmong, IsReached, LeadTo, Reaches, ways_at}
 use Rattle.reached.specs.declared.ways.Ways.{Ways}
 use Rattle.reached.specs.Search.{AreUnset, IsSearch, Seen, unset, with_address}
 
 -- ---- flags
 
-unset_set : (flags : List Bool) (a : ℕ) → a < length flags → is_reached flags a ≡ false → suc (unset (slice_set flags a true)) ≡ unset flags
+unset_set : (flags : List Bool) (a : ℕ) → a < length flags → is_flagged flags a ≡ false → suc (unset (slice_set flags a true)) ≡ unset flags
 unset_set [] a below h = absurd (omega (arith, below))
 unset_set (true ∷ fs) zero below h = absurd cc
 unset_set (false ∷ fs) zero below h = refl
@@ -25,7 +26,7 @@ unset_more [] = refl
 unset_more (true ∷ fs) = unset_more fs
 unset_more (false ∷ fs) = omega (arith, unset_more fs)
 
-pub none_more : (flags : List Bool) → ((a : ℕ) → is_reached flags a ≡ false) → (a : ℕ) → is_reached (flags ++ false ∷ []) a ≡ false
+pub none_more : (flags : List Bool) → ((a : ℕ) → is_flagged flags a ≡ false) → (a : ℕ) → is_flagged (flags ++ false ∷ []) a ≡ false
 none_more [] each zero = refl
 none_more [] each (suc a) = refl
 none_more (f ∷ fs) each zero = each 0
@@ -41,10 +42,10 @@ more_unset flags new n h e = rw e (record {
   each = none_more flags h.each;
 })
 
-set_here : (flags : List Bool) (a : ℕ) → a < length flags → is_reached (slice_set flags a true) a ≡ true
+set_here : (flags : List Bool) (a : ℕ) → a < length flags → is_flagged (slice_set flags a true) a ≡ true
 set_here flags a below = get_or-set_same flags a true false below
 
-set_keeps : (flags : List Bool) (a b : ℕ) → a < length flags → is_reached flags b ≡ true → is_reached (slice_set flags a true) b ≡ true
+set_keeps : (flags : List Bool) (a b : ℕ) → a < length flags → is_flagged flags b ≡ true → is_flagged (slice_set flags a true) b ≡ true
 set_keeps flags a b below h = elim (eqb_tells b a) [
   | inl same ↦ rw same.1 (set_here flags a below)
   | inr other ↦ get_or-set_other flags a b true false other.1 ∙ h
@@ -62,7 +63,7 @@ module _ (profile : Profile) (cells : List (Option ℕ)) (marks : List Mark) (ro
   abbrev Added : Seen → ℕ → Bool → Seen
   Added s a x = if x then s else record { flags = slice_set s.flags a true; found = s.found ++ a ∷ [] }
 
-  added : (begun done : ℕ) (s : Seen) (a : ℕ) (x : Bool) → is_reached s.flags a ≡ x → Is begun done s → a < 65536 → CanReach a → Is begun done (Added s a x)
+  added : (begun done : ℕ) (s : Seen) (a : ℕ) (x : Bool) → is_flagged s.flags a ≡ x → Is begun done s → a < 65536 → CanReach a → Is begun done (Added s a x)
   added begun done s a true e h below way = h
   added begun done s a false e h below way =
       let inside : a < length s.flags = omega (arith, below, h.size) in
@@ -97,7 +98,7 @@ module _ (profile : Profile) (cells : List (Option ℕ)) (marks : List Mark) (ro
       }
 
   pub found_one : (begun done : ℕ) (s : Seen) (a : ℕ) → Is begun done s → a < 65536 → CanReach a → Is begun done (with_address s (Some a))
-  found_one begun done s a h below way = added begun done s a (is_reached s.flags a) refl h below way
+  found_one begun done s a h below way = added begun done s a (is_flagged s.flags a) refl h below way
 
   found_way : (begun done : ℕ) (s : Seen) (way : Option ℕ) → Is begun done s → IfSome way (λ a. a < 65536) → ((a : ℕ) → way ≡ Some a → CanReach a)
       → Is begun done (with_address s way)
@@ -105,25 +106,25 @@ module _ (profile : Profile) (cells : List (Option ℕ)) (marks : List Mark) (ro
   found_way begun done s (Some a) h below can = found_one begun done s a h below (can a refl)
 
   -- what was flagged stays so, and the address is flagged
-  added_keeps : (s : Seen) (a b : ℕ) (x : Bool) → a < length s.flags → is_reached s.flags b ≡ true → is_reached (Added s a x).flags b ≡ true
+  added_keeps : (s : Seen) (a b : ℕ) (x : Bool) → a < length s.flags → is_flagged s.flags b ≡ true → is_flagged (Added s a x).flags b ≡ true
   added_keeps s a b true below h = h
   added_keeps s a b false below h = set_keeps s.flags a b below h
 
-  added_here : (s : Seen) (a : ℕ) (x : Bool) → is_reached s.flags a ≡ x → a < length s.flags → is_reached (Added s a x).flags a ≡ true
+  added_here : (s : Seen) (a : ℕ) (x : Bool) → is_flagged s.flags a ≡ x → a < length s.flags → is_flagged (Added s a x).flags a ≡ true
   added_here s a true e below = e
   added_here s a false e below = set_here s.flags a below
 
-  keeps : (s : Seen) (way : Option ℕ) (b : ℕ) → length s.flags ≡ 65536 → IfSome way (λ a. a < 65536) → is_reached s.flags b ≡ true
-      → is_reached (with_address s way).flags b ≡ true
+  keeps : (s : Seen) (way : Option ℕ) (b : ℕ) → length s.flags ≡ 65536 → IfSome way (λ a. a < 65536) → is_flagged s.flags b ≡ true
+      → is_flagged (with_address s way).flags b ≡ true
   keeps s None b size below h = h
-  keeps s (Some a) b size below h = added_keeps s a b (is_reached s.flags a) (omega (arith, below, size)) h
+  keeps s (Some a) b size below h = added_keeps s a b (is_flagged s.flags a) (omega (arith, below, size)) h
 
   here : (s : Seen) (way : Option ℕ) (b : ℕ) → length s.flags ≡ 65536 → IfSome way (λ a. a < 65536) → way ≡ Some b
-      → is_reached (with_address s way).flags b ≡ true
+      → is_flagged (with_address s way).flags b ≡ true
   here s None b size below e = absurd cc
   here s (Some a) b size below e =
       let same : a ≡ b = cc in
-      subst (λ (k : ℕ). is_reached (with_address s (Some a)).flags k ≡ true) same (added_here s a (is_reached s.flags a) refl (omega (arith, below, size)))
+      subst (λ (k : ℕ). is_flagged (with_address s (Some a)).flags k ≡ true) same (added_here s a (is_flagged s.flags a) refl (omega (arith, below, size)))
 
   added_found : (s : Seen) (a i : ℕ) (x : Bool) → i < length s.found → (i < length (Added s a x).found)
       × (slice_index (Added s a x).found i ≡ slice_index s.found i)
@@ -133,7 +134,7 @@ module _ (profile : Profile) (cells : List (Option ℕ)) (marks : List Mark) (ro
   same_found : (s : Seen) (way : Option ℕ) (i : ℕ) → i < length s.found → (i < length (with_address s way).found)
       × (slice_index (with_address s way).found i ≡ slice_index s.found i)
   same_found s None i lt = (lt, refl)
-  same_found s (Some a) i lt = added_found s a i (is_reached s.flags a) lt
+  same_found s (Some a) i lt = added_found s a i (is_flagged s.flags a) lt
 
   -- ---- the starts
 
@@ -154,7 +155,7 @@ module _ (profile : Profile) (cells : List (Option ℕ)) (marks : List Mark) (ro
   unfolding Reaches
   began s new index a h within is below e =
       let more : Is index 0 (with_address s (Some a)) = found_one index 0 s a h below (0, (index, within, sym is)) in
-      let set : is_reached (with_address s (Some a)).flags a ≡ true = here s (Some a) a h.size below refl in
+      let set : is_flagged (with_address s (Some a)).flags a ≡ true = here s (Some a) a h.size below refl in
       rw e (record {
         size = more.size;
         count = more.count;
@@ -208,7 +209,7 @@ module _ (profile : Profile) (cells : List (Option ℕ)) (marks : List Mark) (ro
 
   -- ---- at the end
 
-  all_reached : (s : Seen) → Is (length starts) (length s.found) s → (n a : ℕ) → Reaches profile cells marks routines starts n a → is_reached s.flags a ≡ true
+  all_reached : (s : Seen) → Is (length starts) (length s.found) s → (n a : ℕ) → Reaches profile cells marks routines starts n a → is_flagged s.flags a ≡ true
   unfolding Reaches
   all_reached s h zero a way = rw (sym way.2) (h.starts_in way.0 way.1)
   all_reached s h (suc n) a way =

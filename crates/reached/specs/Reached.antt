@@ -1,6 +1,8 @@
 -- What control can reach in an image by branches, jumps and calls. Source: MCS6500 manual, chapters
 -- 4 and 8; mos65 for where the search ends, and for what stands behind calls.
-use Rattle.std.specs.Prelude.{◌≡◌, ℕ, zero, suc, ◌+◌, ◌-◌, ◌*◌, ◌%◌, ◌<◌, ◌⊎◌, ◌==◌, Bool, true, false, not, ◌||◌, ◌&&◌, nat_lt, nat_le, if◌then◌else◌, List, [], ◌∷◌, ◌++◌, length, Option, Some, None, option_map, replicate, slice_index, slice_index_or, slice_set}
+use Rattle.std.specs.Prelude.{◌≡◌, ℕ, zero, suc, ◌+◌, ◌-◌, ◌*◌, ◌%◌, ◌<◌, ◌⊎◌, ◌==◌, Bool, true, false, not, ◌||◌, ◌&&◌, nat_lt, nat_le, if◌then◌else◌, List, [], ◌∷◌, ◌++◌, length, Option, Some, None, option_map, slice_index, slice_set}
+use Rattle.source_forms.specs.Labels.{no_flags}
+use Rattle.source_forms.specs.Pieces.{is_flagged}
 use Rattle.model.specs.declared.instruction.Profile.{Profile}
 use Rattle.model.specs.declared.instruction.Mnemonic.{Mnemonic}
 use Rattle.model.specs.declared.instruction.Mnemonic.TheVariants.{Jmp, Jsr, Bra, Brk, Rti, Rts}
@@ -154,17 +156,13 @@ Reaches profile image marks routines starts (suc n) address = (before : ℕ)
     × Reaches profile image marks routines starts n before
     × LeadTo (ways_at profile image marks routines before) address
 
--- Whether an address is flagged as reached.
-abbrev pub is_reached : List Bool → ℕ → Bool
-is_reached reached address = slice_index_or reached address false
-
 -- The flags say exactly which addresses control reaches from the starts.
 pub record IsReached (profile : Profile) (image : List (Option ℕ)) (marks : List Mark)
     (routines : List Inline) (starts : List ℕ) (reached : List Bool) : Type 0 where
   pub size : length reached ≡ 65536
-  pub only : (a : ℕ) → is_reached reached a ≡ true
+  pub only : (a : ℕ) → is_flagged reached a ≡ true
       → (n : ℕ) × Reaches profile image marks routines starts n a
-  pub all : (n a : ℕ) → Reaches profile image marks routines starts n a → is_reached reached a ≡ true
+  pub all : (n a : ℕ) → Reaches profile image marks routines starts n a → is_flagged reached a ≡ true
 
 -- ---- where control comes in
 
@@ -217,20 +215,16 @@ abbrev pub with_string : List Bool → Option (ℕ × ℕ) → List Bool
 with_string letters None = letters
 with_string letters (Some string) = with_run letters (string.1 - string.0) string.0
 
--- No address is flagged. The word hides its size, so that no proof computes it.
-unfoldable pub no_letters : List Bool
-no_letters = replicate 65536 false
-
 -- The string behind an address that is reached.
 abbrev pub reached_string : Profile → List (Option ℕ) → List Mark → List Inline → List Bool → ℕ
     → Option (ℕ × ℕ)
-reached_string profile image marks routines reached address = if is_reached reached address
+reached_string profile image marks routines reached address = if is_flagged reached address
     then string_at profile image marks routines address else None
 
 -- Flags of the addresses in strings behind calls that are reached below an address.
 unfoldable pub letters_to : Profile → List (Option ℕ) → List Mark → List Inline → List Bool → ℕ
     → List Bool
-letters_to profile image marks routines reached zero = no_letters
+letters_to profile image marks routines reached zero = no_flags
 letters_to profile image marks routines reached (suc n)
     = with_string (letters_to profile image marks routines reached n)
     (reached_string profile image marks routines reached n)
@@ -256,7 +250,7 @@ instruction_len profile image marks address =
 -- Whether an address belongs to an instruction that is reached so many bytes before it.
 abbrev pub covers : Profile → List (Option ℕ) → List Mark → List Bool → ℕ → ℕ → Bool
 covers profile image marks reached back address =
-    nat_le back address && is_reached reached (address - back)
+    nat_le back address && is_flagged reached (address - back)
     && nat_lt back (instruction_len profile image marks (address - back))
 
 -- Whether an address belongs to an instruction that is reached.
@@ -284,4 +278,4 @@ pub record AreFollowed (profile : Profile) (image : List (Option ℕ)) (marks : 
   pub size : length followed ≡ 65536
   pub each : (a : ℕ) → a < 65536 → mark_at followed a
       ≡ followed_mark (mark_at marks a) (is_followed profile image marks reached a)
-      (is_reached (letters_to profile image marks routines reached 65536) a)
+      (is_flagged (letters_to profile image marks routines reached 65536) a)

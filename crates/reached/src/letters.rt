@@ -1,15 +1,15 @@
 //! Strings behind calls.
 
 ghost use Rattle.std.specs.Prelude.{◌≡◌, ◌+◌, ◌≤◌, length, IfOk};
-ghost use Rattle.reached.specs.Reached.{letters_to, no_letters, reached_string, string_at};
+ghost use Rattle.reached.specs.Reached.{letters_to, reached_string, string_at};
 ghost use Rattle.reached.specs.Reached.{string_behind, string_by, string_of, with_run, with_string};
 
 use crate::inline::{Inline, Tail};
-use crate::search::is_reached;
-use crate::ways::{after, byte_or_0, called_tail, code_bytes, fits, goes_on};
+use crate::ways::{after, called_tail, code_bytes, fits, goes_on};
 use model::{Profile, Row};
 use optable::decode_in;
 use source_forms::Mark;
+use source_writer::{byte_or_0, is_flagged, no_flags};
 use std::alloc::{AllocError, Global};
 
 /// Where a string begins that stands behind a call, and where control goes on behind it.
@@ -102,18 +102,6 @@ fn flag_string(letters: &mut Vec<bool>, string: Option<Span>)
     }
 }
 
-/// No address is flagged. The only error is that a request for memory was refused.
-fn no_letters(alloc: Global) -> Result<Vec<bool>, AllocError>
-    ensures none { IfOk result (λ letters. letters.items ≡ no_letters) }
-    ensures size { IfOk result (λ letters. length letters.items ≡ 65536) }
-{
-    let mut letters = Vec::with_capacity(alloc, 65536)?;
-    for _ in 0..65536u32 {
-        letters.push(false)?;
-    }
-    Ok(letters)
-}
-
 /// The string behind an address, if that is reached.
 fn reached_string(
     profile: Profile,
@@ -127,7 +115,7 @@ fn reached_string(
     ensures { result
         ≡ reached_string profile cells.now marks.now routines.now flags.now address }
 {
-    if is_reached(flags, address as usize) {
+    if is_flagged(flags, address as usize) {
         string_at(profile, cells, marks, routines, address)
     } else {
         None
@@ -148,7 +136,7 @@ pub fn letters_of(
     ensures { IfOk result (λ letters. letters.items
         ≡ letters_to profile cells.now marks.now routines.now flags.now 65536) }
 {
-    let mut letters = no_letters(alloc)?;
+    let mut letters = no_flags(alloc)?;
     for address in 0..65536u32 {
         let string = reached_string(profile, cells, marks, routines, flags, address as u16);
         flag_string(&mut letters, string);

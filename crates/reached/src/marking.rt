@@ -5,11 +5,12 @@ ghost use Rattle.reached.specs.Reached.{AreFollowed, covers, followed_mark, is_f
 
 use crate::inline::Inline;
 use crate::letters::letters_of;
-use crate::search::{is_reached, reached};
+use crate::search::reached;
 use crate::ways::instruction_len;
 use bus::Image;
 use model::Profile;
 use source_forms::Mark;
+use source_writer::is_flagged;
 use source_writer::stretch::mark_at;
 use std::alloc::{AllocError, Global};
 
@@ -29,7 +30,7 @@ fn covers(
         return false;
     }
     let first = address - back;
-    is_reached(flags, first as usize) && back < instruction_len(profile, cells, marks, first) as u16
+    is_flagged(flags, first as usize) && back < instruction_len(profile, cells, marks, first) as u16
 }
 
 /// Whether an address belongs to an instruction that is reached.
@@ -90,7 +91,7 @@ pub fn followed_marks(
     let mut followed = Vec::with_capacity(alloc, 65536)?;
     for address in 0..65536u32 {
         let is_code = is_followed(profile, cells, marks, flags.as_slice(), address as u16);
-        let is_letter = is_reached(letters.as_slice(), address as usize);
+        let is_letter = is_flagged(letters.as_slice(), address as usize);
         followed.push(followed_mark(mark_at(marks, address as usize), is_code, is_letter))?;
     }
     Ok(followed)

@@ -1,7 +1,7 @@
 //! The search for what control can reach.
 
 ghost use Rattle.std.specs.Prelude.{◌≡◌, ◌<◌, [], length, IfOk, IfSome, OnOk};
-ghost use Rattle.reached.specs.Reached.{IsReached, is_reached};
+ghost use Rattle.reached.specs.Reached.{IsReached};
 ghost use Rattle.reached.specs.Search.{AreUnset, IsSearch, seen_of, with_address};
 
 use crate::inline::Inline;
@@ -16,16 +16,6 @@ use std::alloc::{AllocError, Global};
 struct Search {
     flags: Vec<bool>,
     found: Vec<u16>,
-}
-
-/// Returns whether an address is flagged.
-pub fn is_reached(flags: &[bool], address: usize) -> bool
-    ensures { result ≡ is_reached flags.now address }
-{
-    match flags.get(address) {
-        Some(flag) => *flag,
-        None => false,
-    }
 }
 
 /// Returns flags of which none is set. The only error is that a request for memory was refused.

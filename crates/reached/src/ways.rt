@@ -1,6 +1,6 @@
 //! Where control goes from an instruction.
 
-ghost use Rattle.std.specs.Prelude.{◌≡◌, ◌+◌, ◌%◌, length, slice_index};
+ghost use Rattle.std.specs.Prelude.{◌≡◌, ◌+◌, ◌%◌, length};
 ghost use Rattle.source_forms.specs.Rows.{stretch};
 ghost use Rattle.reached.specs.Reached.{called_tail, comes_after, fits, goes_on, instruction_len};
 ghost use Rattle.reached.specs.Reached.{jumps, no_way, odd_len, odd_ways, target_by, ways_at};
@@ -10,6 +10,7 @@ use crate::inline::{Inline, Tail, behind, tail_at};
 use model::{Mnemonic, Mode, Profile, Row};
 use optable::{branch_target, decode_in};
 use source_forms::{Mark, Undocumented, undocumented_in};
+use source_writer::byte_or_0;
 use source_writer::stretch::{Bytes, stretch};
 
 /// The addresses to which control can go from an instruction: that which it names, and the one
@@ -118,16 +119,6 @@ fn no_way() -> Ways
     Ways {
         target: None,
         next: None,
-    }
-}
-
-/// Returns the byte at an index, or 0 after the last.
-pub fn byte_or_0(bytes: &[u8], place: usize) -> u8
-    ensures { result ≡ slice_index bytes.now place }
-{
-    match bytes.get(place) {
-        Some(byte) => *byte,
-        None => 0,
     }
 }
 

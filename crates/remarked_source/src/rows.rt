@@ -12,6 +12,7 @@ ghost use Rattle.remarked_source.specs.Views.{beside_view};
 use crate::beside::{Beside, push_blocks, push_notes};
 use assembler::{Assembly, SourceLine};
 use formatting::{address_text, push_blanks, push_byte};
+use source_writer::stretch::cell_at;
 use std::alloc::{AllocError, Global};
 
 /// Returns whether a line is a label alone.
@@ -43,16 +44,6 @@ fn push_padded(out: &mut Vec<u8>, text: &[u8]) -> Result<(), AllocError>
     let from = out.len();
     out.extend_from_slice(text)?;
     push_blanks(out, from, 40)
-}
-
-/// Returns the byte at an address, if there is one.
-pub fn cell_at(cells: &[Option<u8>], address: usize) -> Option<u8>
-    ensures { result ≡ cell_at cells.now address }
-{
-    match cells.get(address) {
-        Some(cell) => *cell,
-        None => None,
-    }
 }
 
 /// Returns the byte at an address, or 0 where there is none.

@@ -14,10 +14,11 @@ ghost use Rattle.remarked_source.specs.Splits.{split_from, split_row};
 ghost use Rattle.remarked_source.specs.Splits.{target_at, target_of};
 
 use crate::beside::lies_in;
-use crate::rows::{byte_at, cell_at, is_label};
+use crate::rows::{byte_at, is_label};
 use assembler::{Assembly, SourceLine};
 use formatting::{push_address, push_byte, push_count};
 use marks_files::Split;
+use source_writer::stretch::cell_at;
 use std::alloc::{AllocError, Global};
 
 /// Half of a word of a table: whether it is the high one, the address to which the word leads, and

@@ -9,8 +9,8 @@ use crate::stretch::cell_at;
 use model::Profile;
 use std::alloc::{AllocError, Global};
 
-/// No address is flagged. The only error is that a request for memory was refused.
-fn no_flags(alloc: Global) -> Result<Vec<bool>, AllocError>
+/// Returns flags of which none is set. The only error is that a request for memory was refused.
+pub fn no_flags(alloc: Global) -> Result<Vec<bool>, AllocError>
     ensures none { IfOk result (λ flags. flags.items ≡ no_flags) }
     ensures len { IfOk result (λ flags. length flags.items ≡ 65536) }
 {

@@ -17,6 +17,7 @@ mod rows;
 pub mod stretch;
 mod table;
 
-pub use flags::flags_of;
+pub use flags::{flags_of, no_flags};
 pub use labelled::{write_flagged_source, write_labelled_source};
+pub use piece::{byte_or_0, is_flagged};
 pub use source_forms::Mark;

@@ -74,8 +74,8 @@ fn room(flags: &[bool], address: usize, most: usize) -> usize
     count
 }
 
-/// The byte at an index, or 0 after the last.
-fn byte_or_0(bytes: &[u8], place: usize) -> u8
+/// Returns the byte at an index, or 0 after the last.
+pub fn byte_or_0(bytes: &[u8], place: usize) -> u8
     ensures { result ≡ slice_index bytes.now place }
 {
     match bytes.get(place) {

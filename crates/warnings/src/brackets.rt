@@ -4,18 +4,17 @@ ghost use Rattle.std.specs.Prelude.{◌≡◌, ◌<◌, ◌^◌, IfOk, option_ma
 ghost use Rattle.line_parts.specs.Contents.{map_option};
 ghost use Rattle.line_parts.specs.Lexemes.{lexeme_of, lexemes};
 ghost use Rattle.line_parts.specs.LineViews.{line_view, operand_view, statement_view};
-ghost use Rattle.model.specs.Reading.{is_symbol};
 ghost use Rattle.warnings.specs.Brackets.{after_label, behind_brackets, depth_behind, ends_address};
 ghost use Rattle.warnings.specs.Brackets.{is_bracketed, is_direct, is_in_brackets};
 ghost use Rattle.warnings.specs.Brackets.{line_may_mean_pointer, may_mean_pointer};
 ghost use Rattle.warnings.specs.Brackets.{operand_tokens, takes_pointer};
 ghost use Rattle.warnings.specs.Views.{tokens_view};
 
+use asm_line::is_symbol;
 use lexer::tokens_into;
 use line_parts::{Line, Operand, Statement, Token};
 use model::{LineFault, Mnemonic, Mode, Profile};
 use optable::encode_in;
-use parser::symbol;
 use std::alloc::AllocError;
 
 /// Whether a mnemonic has a form with a pointer.
@@ -52,16 +51,6 @@ fn line_may_mean_pointer(profile: Profile, line: &Option<Line<'_>>) -> bool
     match line {
         Some(Line::Labelled(_, statement)) => may_mean_pointer(profile, statement),
         Some(Line::Definition(_, _)) | None => false,
-    }
-}
-
-/// Whether a token is this symbol.
-fn is_symbol(token: &Token<'_>, byte: u8) -> bool
-    ensures { result ≡ is_symbol byte (lexeme_of token.now) }
-{
-    match symbol(token) {
-        Some(symbol) => symbol == byte,
-        None => false,
     }
 }
 

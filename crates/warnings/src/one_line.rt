@@ -5,7 +5,6 @@ ghost use Rattle.std.specs.Str.{str_to_ascii_uppercase};
 ghost use Rattle.line_parts.specs.Contents.{map_option};
 ghost use Rattle.line_parts.specs.LineViews.{line_view, name_view, operand_view, statement_view};
 ghost use Rattle.line_parts.specs.TermViews.{term_view};
-ghost use Rattle.model.specs.Layout.{zero_page_mode};
 ghost use Rattle.model.specs.Names.{number_in};
 ghost use Rattle.model.specs.Value.{eval_of};
 ghost use Rattle.warnings.specs.Views.{placed_view};
@@ -16,8 +15,9 @@ ghost use Rattle.warnings.specs.Warnings.{is_unused, name_in, names_register, wi
 use crate::placed_line::PlacedLine;
 use crate::used_names::note_word;
 use crate::written_numbers::value_at;
+use layout::zero_page_mode;
 use line_parts::{Expr, Line, Operand, Statement};
-use model::{Index, Mnemonic, Mode, Profile};
+use model::{Index, Mnemonic, Profile};
 use optable::encode_in;
 use std::alloc::{AllocError, Global};
 use symbols::Symbols;
@@ -92,17 +92,6 @@ pub fn note_capitals(
     let alike = capitals.value_of(&text).is_some();
     note_word(alloc, capitals, &text)?;
     Ok(alike)
-}
-
-/// The zero page mode with an index.
-fn zero_page_mode(index: Index) -> Mode
-    ensures { result ≡ zero_page_mode index }
-{
-    match index {
-        Index::Unindexed => Mode::Zp,
-        Index::X => Mode::ZpX,
-        Index::Y => Mode::ZpY,
-    }
 }
 
 /// Whether a mnemonic has the zero page mode with an index.

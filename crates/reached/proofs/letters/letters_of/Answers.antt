@@ -6,7 +6,7 @@ use Rattle.reached.proofs.letters.letters_of.Goals as goal
 pub loop-address-init : goal.loop-address-init
 loop-address-init c = record {
   so_far = c.in_ok-letters.ensures.none ∙ sym (letters_none c.args.profile c.args.cells.now c.args.marks.now c.args.routines.now c.args.flags.now);
-  size = c.in_ok-letters.ensures.size;
+  size = c.in_ok-letters.ensures.len;
 }
 
 pub loop-address-preserved : goal.loop-address-preserved
