@@ -230,10 +230,7 @@ fn spread_names(
 
 /// Returns the names of an assembly that stand for an address, and a table of those that addresses
 /// belong to.
-fn names_of_source(
-    alloc: Global,
-    assembly: &Assembly,
-) -> Result<(Vec<Label>, Vec<u32>), AllocError>
+fn names_of_source(alloc: Global, assembly: &Assembly) -> Result<(Vec<Label>, Vec<u32>), AllocError>
     ensures labels { IfOk result (λ p. map labelled p.0.items ≡ names_in assembly.now) }
     ensures label_of { IfOk result (λ p. IsTable p.1.items (label_for assembly.now)) }
 {
@@ -245,10 +242,7 @@ fn names_of_source(
 }
 
 /// Returns the same of an assembly that may be missing: then there is no name.
-fn labels_of(
-    alloc: Global,
-    names: Option<&Assembly>,
-) -> Result<(Vec<Label>, Vec<u32>), AllocError>
+fn labels_of(alloc: Global, names: Option<&Assembly>) -> Result<(Vec<Label>, Vec<u32>), AllocError>
     ensures { IfOk result (λ p. AreLabels (option_map (λ a. a.now) names.entry)
         (map labelled p.0.items) p.1.items) }
 {

@@ -54,7 +54,8 @@ fn push_label(
     Ok(())
 }
 
-/// Appends the number of a line after the name of its file, if that is shown, and a colon, likewise.
+/// Appends the number of a line after the name of its file, if that is shown, and a colon,
+/// likewise.
 #[tactic(auto, using(formatting::proofs::Padding::grown), unfolding(crate::specs::Words::with_line))]
 fn push_line_number(
     text: &mut Vec<u8>,
