@@ -430,7 +430,8 @@ fn trace_span<H: Files + AllocGlobal, R: Read, O: Write, E: Write>(
         (play_of (trace_view words.now) (begin_view loaded.old debug.entry) told)).ending)) }
     ensures err { OnErr result ((told : List ℕ) × AreBytesOf (R.remaining input.old) told
         × CutIn (traced span.from span.to span.limit
-        (play_of (trace_view words.now) (begin_view loaded.old debug.entry) told)) loaded.new.session
+        (play_of (trace_view words.now) (begin_view loaded.old debug.entry) told))
+        loaded.new.session
         × WroteFront (trace_view words.now) (begin_view loaded.old debug.entry)
         (λ g. trace_noted span.from span.to span.limit g
         (play_of (trace_view words.now) (begin_view loaded.old debug.entry) told))
