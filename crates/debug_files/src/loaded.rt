@@ -6,12 +6,11 @@ ghost use Rattle.debug_files.specs.Loaded.{ArePlacesOf, HasBytesOf};
 ghost use Rattle.debug_files.specs.Loads.{EndsDebug};
 ghost use Rattle.model.specs.Image.{empty_image};
 
-use crate::places::load_places;
+use crate::places::{DebugPlaces, load_places};
 use accesses::Written;
 use arguments::{LoadFault, Refusal};
 use debugger::Session;
 use memory_map::Image;
-use source_map::Places;
 use std::alloc::Global;
 use std::rt::Files;
 
@@ -60,8 +59,9 @@ pub fn load_places_of<H: Files + AllocGlobal>(
     root: Option<&str>,
     session: &Session,
     loaded: &Written,
-) -> Result<Places, LoadFault>
-    ensures places { IfOk result (ArePlacesOf session.now.current loaded.now) }
+) -> Result<DebugPlaces, LoadFault>
+    ensures places { IfOk result
+        (λ debug. ArePlacesOf session.now.current loaded.now debug.places) }
     ensures refused { IfErr result EndsDebug }
 {
     let image = bytes_of(rt.alloc(), session, loaded)?;

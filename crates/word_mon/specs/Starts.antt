@@ -8,6 +8,7 @@ use Rattle.arguments.specs.declared.refusal.Refusal.{Refusal}
 use Rattle.arguments.specs.declared.refusal.Refusal.TheVariants.{OutOfMemory}
 use Rattle.arguments_play.specs.Mon.{MonAsked}
 use Rattle.clap.specs.Words.{Text}
+use Rattle.debug_files.specs.Changed.{TellsChanged}
 use Rattle.debug_files.specs.Loaded.{ArePlacesOf, EndsDebugInfo}
 use Rattle.loading.specs.Loads.{AreOfFile, EndsNames}
 use Rattle.loading.specs.Machine.{AreLoaded}
@@ -56,11 +57,13 @@ ArePlaces (Some path) file session assembly loaded places
     = ArePlacesOf session.current loaded places
 
 -- The line that tells how many warnings a source has on a map, or that fill at the port was left
--- out of an image, as `run` writes them; nothing without a warning and fill, and nothing or a
--- beginning where memory runs out.
-abbrev pub IsWarningLine : Map → Option AssemblyView → Option ℕ → List ℕ → Type 0
-IsWarningLine bus_map assembly fill line
-    = TellsWarnings bus_map assembly 0 fill (record { held = Some []; now = Some line })
+-- out of an image, and the one that tells which sources have changed since debug information was made,
+-- as `run` writes them; nothing where there is none of these, and nothing or a beginning where memory
+-- runs out.
+abbrev pub IsWarningLine : Map → Option AssemblyView → Option ℕ → Option Text → List ℕ → Type 0
+IsWarningLine bus_map assembly fill debug line = (first : List ℕ)
+    × TellsWarnings bus_map assembly 0 fill (record { held = Some []; now = Some first })
+    × TellsChanged debug (Some first) (Some line)
 
 -- Why a session does not begin on what was loaded.
 abbrev pub EndsStart : Option Text → Option Text → FileAsked → StartFault → Type 0
@@ -96,4 +99,4 @@ StartsMon asked mon loaded warning_line = (image : List (Option ℕ))
     × (names : Option ImageNames) × AreNamed asked.symbols asked.file names
     × IsNewState (new_session asked.history (start (map_of asked.file) image)) asked.history
     (with_names names places) mon
-    × IsWarningLine (map_of asked.file) assembly fill warning_line
+    × IsWarningLine (map_of asked.file) assembly fill asked.debug_info warning_line

@@ -13,7 +13,7 @@ use crate::terminal::of_memory;
 use arguments::{LoadFault, Refusal};
 use arguments_play::MonWords;
 use assembler::Assembly;
-use debug_files::load_places_of;
+use debug_files::{DebugPlaces, load_places_of, tell_changed};
 use loading::{ImageNames, Loaded, load_names, tell_warnings};
 use mon_files::Known;
 use mon_session::MonState;
@@ -115,9 +115,9 @@ fn debug_places<H: Files + AllocGlobal>(
     words: &MonWords<'_>,
     path: &str,
     loaded: &Loaded,
-) -> Result<Places, StartFault>
-    ensures places { IfOk result (λ places. ArePlaces (Some path.now) words.now.file.file.now
-        loaded.now.session loaded.now.assembly loaded.now.written places) }
+) -> Result<DebugPlaces, StartFault>
+    ensures places { IfOk result (λ debug. ArePlaces (Some path.now) words.now.file.file.now
+        loaded.now.session loaded.now.assembly loaded.now.written debug.places) }
     ensures refused { IfErr result (EndsStart (mon_view words.now).symbols (Some path.now)
         (file_view words.now.file)) }
 {
@@ -125,37 +125,45 @@ fn debug_places<H: Files + AllocGlobal>(
     Ok(load_places_of(rt, path, words.source_root, session, &loaded.written)?)
 }
 
-/// Returns the places of what was loaded: by its debug information, if such a file is named.
+/// Returns the places of what was loaded: by its debug information, if such a file is named, with
+/// the names of the sources that have changed since.
 fn known_places<H: Files + AllocGlobal>(
     rt: &H,
     words: &MonWords<'_>,
     loaded: &Loaded,
-) -> Result<Places, StartFault>
-    ensures places { IfOk result (λ places. ArePlaces (mon_view words.now).debug_info
+) -> Result<DebugPlaces, StartFault>
+    ensures places { IfOk result (λ debug. ArePlaces (mon_view words.now).debug_info
         words.now.file.file.now loaded.now.session loaded.now.assembly loaded.now.written
-        places) }
+        debug.places) }
     ensures refused { IfErr result (EndsStart (mon_view words.now).symbols
         (mon_view words.now).debug_info (file_view words.now.file)) }
 {
     match words.debug_info {
-        None => Ok(places_of(rt.alloc(), words.file.file, &loaded.assembly)?),
+        None => Ok(DebugPlaces {
+            places: places_of(rt.alloc(), words.file.file, &loaded.assembly)?,
+            changed: Vec::new(rt.alloc()),
+        }),
         Some(path) => debug_places(rt, words, path, loaded),
     }
 }
 
 /// Returns the line that tells how many warnings a source has, if there is a source and it has
-/// some, or that fill at the port was left out; or a beginning of it where memory runs out.
+/// some, or that fill at the port was left out, and the one that tells which sources have changed
+/// since debug information was made; or a beginning of them where memory runs out.
 fn warning_line_of(
     alloc: Global,
     words: &MonWords<'_>,
     assembly: Option<&Assembly>,
     fill: Option<u32>,
+    changed: &[u8],
 ) -> Vec<u8>
     ensures { IsWarningLine (map_of (file_view words.now.file))
-        (option_map (λ a. a.now) assembly.entry) fill result.items }
+        (option_map (λ a. a.now) assembly.entry) fill (mon_view words.now).debug_info
+        result.items }
 {
     let mut line: Vec<u8> = Vec::new(alloc);
     tell_warnings(alloc, &words.file, assembly, 0, fill, &mut line);
+    tell_changed(words.debug_info, changed, &mut line);
     line
 }
 
@@ -179,12 +187,16 @@ pub fn start<H: Files + AllocGlobal>(
         × IsNewState loaded.session words.now.history (with_names names places) started.mon) }
     ensures loaded { IfOk result (λ started. started.loaded ≡ loaded.written) }
     ensures warned { IfOk result (λ started. IsWarningLine (map_of (file_view words.now.file))
-        loaded.assembly loaded.fill started.warning_line.items) }
+        loaded.assembly loaded.fill (mon_view words.now).debug_info started.warning_line.items) }
     ensures refused { IfErr result (EndsStart (mon_view words.now).symbols
         (mon_view words.now).debug_info (file_view words.now.file)) }
 {
-    let mut places = known_places(rt, words, &loaded)?;
-    let warning_line = warning_line_of(rt.alloc(), words, loaded.assembly.as_ref(), loaded.fill);
+    let DebugPlaces {
+        mut places,
+        changed,
+    } = known_places(rt, words, &loaded)?;
+    let source = loaded.assembly.as_ref();
+    let warning_line = warning_line_of(rt.alloc(), words, source, loaded.fill, changed.as_slice());
     let Loaded {
         session,
         assembly,

@@ -10,6 +10,7 @@ use Rattle.console.specs.declared.ending.Ending.{Ending}
 use Rattle.console.specs.declared.ending.PlayFault.{PlayFault}
 use Rattle.console.specs.declared.ending.Played.{Played}
 use Rattle.arguments.specs.Asked.{map_of}
+use Rattle.debug_files.specs.Changed.{TellsChanged}
 use Rattle.loading.specs.Machine.{IsMachine}
 use Rattle.loading.specs.Named.{MayLose}
 use Rattle.loading.specs.Place.{names_of, place_of}
@@ -154,35 +155,39 @@ ran_file a s w assembly source fill image streams interrupted held between now s
 -- A place that was found, of which nothing was told, with what is known of the program.
 pub ran_found : {E : Type 0} (contents : E → Option (List ℕ)) (a : RunAsked) (s : Session) (w v : List Bool)
     (assembly : Option AssemblyView) (debug known : Option PlacesView) (until : Option ℕ)
-    (streams : Streams) (interrupted : Bool) (first middle last : E) (status : ℕ) (Alone : Type 0)
+    (streams : Streams) (interrupted : Bool) (first second middle last : E) (status : ℕ) (Alone : Type 0)
     → AreDebugged a.debug_info s.current w assembly debug
-    → Ok until ≡ place_asked (names_of assembly) a.until → middle ≡ first → known ≡ known_by a.file.file assembly debug
+    → TellsChanged a.debug_info (contents first) (contents second)
+    → Ok until ≡ place_asked (names_of assembly) a.until → middle ≡ second → known ≡ known_by a.file.file assembly debug
     → v ≡ or_everywhere a.is_free w
     → RanOrInterrupted a known until (record { session = s; written = v }) streams interrupted
     (record { held = contents middle; now = contents last }) status
     → RanDebugged a assembly w (record { session = s; written = or_everywhere a.is_free w }) streams interrupted
     (record { held = contents first; now = contents last }) status Alone
-ran_found contents a s w v assembly debug known until streams interrupted first middle last status A debugged place quiet names counts ran =
-    let H : Heard = record { held = contents first; now = contents last } in
+ran_found contents a s w v assembly debug known until streams interrupted first second middle last status A debugged changed place quiet names counts ran =
+    let H : Heard = record { held = contents second; now = contents last } in
     let T : Start = record { session = s; written = or_everywhere a.is_free w } in
     let K = known_by a.file.file assembly debug in
     let heard = subst (λ e. RanOrInterrupted a known until (record { session = s; written = v }) streams interrupted
     (record { held = contents e; now = contents last }) status) quiet ran in
     let told = subst (λ x. RanOrInterrupted a x until (record { session = s; written = v }) streams interrupted H status) names heard in
     let from = subst (λ x. RanOrInterrupted a K until (record { session = s; written = x }) streams interrupted H status) counts told in
-    inr (debug, debugged, subst (λ r. RanIfFound a K r T streams interrupted H status A) place from)
+    inr (debug, debugged, contents second, changed, subst (λ r. RanIfFound a K r T streams interrupted H status A) place from)
 
 -- A place that was not found.
 pub ran_unfound : (a : RunAsked) (s : Start) (w : List Bool) (assembly : Option AssemblyView) (debug : Option PlacesView)
-    (streams : Streams) (interrupted : Bool) (heard : Heard) (status : ℕ) (Alone : Type 0)
-    → AreDebugged a.debug_info s.session.current w assembly debug
-    → Err status ≡ place_asked (names_of assembly) a.until → Tells heard (unplaced_line a.until) → Alone
+    (streams : Streams) (interrupted : Bool) (heard : Heard) (between : Option (List ℕ)) (status : ℕ) (Alone : Type 0)
+    → AreDebugged a.debug_info s.session.current w assembly debug → TellsChanged a.debug_info heard.held between
+    → Err status ≡ place_asked (names_of assembly) a.until → Tells (record { held = between; now = heard.now }) (unplaced_line a.until) → Alone
     → RanDebugged a assembly w s streams interrupted heard status Alone
-ran_unfound a s w assembly debug streams interrupted heard status A debugged place told alone =
+ran_unfound a s w assembly debug streams interrupted heard between status A debugged changed place told alone =
     inr (
       debug,
       debugged,
-      subst (λ r. RanIfFound a (known_by a.file.file assembly debug) r s streams interrupted heard status A) place (refl, told, alone),
+      between,
+      changed,
+      subst (λ r. RanIfFound a (known_by a.file.file assembly debug) r s streams interrupted
+          (record { held = between; now = heard.now }) status A) place (refl, told, alone),
     )
 
 -- The status of a place that was not found is not 0.

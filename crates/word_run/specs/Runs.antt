@@ -9,6 +9,7 @@ use Rattle.console.specs.declared.ending.Ending.{Ending}
 use Rattle.console.specs.declared.ending.PlayFault.{PlayFault}
 use Rattle.assembler.specs.Assembly.{AssemblyView}
 use Rattle.arguments.specs.Asked.{map_of}
+use Rattle.debug_files.specs.Changed.{TellsChanged}
 use Rattle.debug_files.specs.Loaded.{IsUndebugged}
 use Rattle.loading.specs.Machine.{IsMachine, IsUnmade}
 use Rattle.loading.specs.Named.{MayLose}
@@ -127,16 +128,18 @@ RanIfFound a known (Ok until) s streams interrupted heard status Alone
 RanIfFound a known (Err refused) s streams interrupted heard status Alone = (status ≡ refused)
     × Tells heard (unplaced_line a.until) × Alone
 
--- The debug information that is named was read, and a session ran, of which that is known; or it was
--- not read, and the error stream got why.
+-- The debug information that is named was read, the error stream got which of its sources have
+-- changed, and a session ran, of which that is known; or it was not read, and the error stream got
+-- why.
 abbrev pub RanDebugged : RunAsked → Option AssemblyView → List Bool → Start → Streams → Bool → Heard
     → ℕ → Type 0 → Type 0
 RanDebugged a assembly loaded s streams interrupted heard status Alone
     = IsUndebugged a.debug_info heard.held heard.now status Alone
     ⊎ ((debug : Option PlacesView)
     × AreDebugged a.debug_info s.session.current loaded assembly debug
+    × (between : Option (List ℕ)) × TellsChanged a.debug_info heard.held between
     × RanIfFound a (known_by a.file.file assembly debug) (place_asked (names_of assembly) a.until)
-    s streams interrupted heard status Alone)
+    s streams interrupted (heard_of between heard.now) status Alone)
 
 -- A session at the start of an image, with the image's bytes written, or all if a run goes on where
 -- nothing was.

@@ -6,7 +6,7 @@ ghost use Rattle.word_run.specs.Known.{AreDebugged, with_names_of};
 
 use arguments::{LoadFault, Refusal};
 use assembler::Assembly;
-use debug_files::load_places_of;
+use debug_files::{DebugPlaces, load_places_of};
 use loading::Loaded;
 use source_map::Places;
 use std::alloc::{AllocError, Global};
@@ -20,6 +20,14 @@ pub struct Known<'a> {
     pub file: &'a str,
     pub assembly: Option<&'a Assembly>,
     pub debug: Option<&'a Places>,
+}
+
+/// The places of debug information, if a file of it is named, and the names of its sources that have
+/// changed since that was made.
+#[derive(Drop)]
+pub struct Debugged {
+    pub places: Option<Places>,
+    pub changed: Vec<u8>,
 }
 
 /// Adds the names of an assembly, if there is one.
@@ -56,16 +64,25 @@ pub fn load_debug<H: Files + AllocGlobal>(
     file: Option<&str>,
     root: Option<&str>,
     loaded: &Loaded,
-) -> Result<Option<Places>, LoadFault>
-    ensures places { IfOk result (AreDebugged (option_map (λ f. f.now) file.entry)
-        loaded.now.session.current loaded.now.written loaded.now.assembly) }
+) -> Result<Debugged, LoadFault>
+    ensures places { IfOk result (λ debug. AreDebugged (option_map (λ f. f.now) file.entry)
+        loaded.now.session.current loaded.now.written loaded.now.assembly debug.places) }
     ensures refused { IfErr result (EndsDebugInfo (option_map (λ f. f.now) file.entry)) }
 {
     let Some(file) = file else {
-        return Ok(None);
+        return Ok(Debugged {
+            places: None,
+            changed: Vec::new(rt.alloc()),
+        });
     };
     let session = &loaded.session;
-    let mut places = load_places_of(rt, file, root, session, &loaded.written)?;
+    let DebugPlaces {
+        mut places,
+        changed,
+    } = load_places_of(rt, file, root, session, &loaded.written)?;
     with_names(rt.alloc(), &mut places, loaded.assembly.as_ref())?;
-    Ok(Some(places))
+    Ok(Debugged {
+        places: Some(places),
+        changed,
+    })
 }

@@ -17,6 +17,6 @@ mod wording;
 
 pub use ended::{status_of_ending, tell_ending};
 pub use interruptible::{Interruptible, open_requests};
-pub use known::{Known, load_debug};
+pub use known::{Debugged, Known, load_debug};
 pub use run::run_program;
 pub use started::{place_named, refusal_of};

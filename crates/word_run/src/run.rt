@@ -20,6 +20,7 @@ use accesses::Written;
 use arguments::{refuse, refused_words};
 use arguments_play::{RunWords, read_run_words};
 use console::{Played, play};
+use debug_files::tell_changed;
 use debugger::Session;
 use loading::{Loaded, load_machine, tell_warnings};
 use std::alloc::Global;
@@ -139,12 +140,14 @@ fn run_loaded<H: Files + AllocGlobal, R: Read, W: Write, S: Read, E: Write>(
         (W.contents output.old.inner) (W.contents output.new.inner)) output.new.interrupted
         (heard_of (E.contents errors.old) (E.contents errors.new)) result
         ((input.new ≡ input.old) × (output.new ≡ output.old)) }
-    ensures quiet { words.now.tells_cycles ≡ false → result ≡ 0 → errors.new ≡ errors.old }
+    ensures quiet { words.now.tells_cycles ≡ false → (run_view words.now).debug_info ≡ None
+        → result ≡ 0 → errors.new ≡ errors.old }
 {
     let debug = match load_debug(rt, words.debug_info, words.source_root, &loaded) {
         Ok(debug) => debug,
         Err(fault) => return fault.tell(words.debug_info.unwrap_or(words.file.file), errors),
     };
+    tell_changed(words.debug_info, debug.changed.as_slice(), errors);
     let until = match place_named(&loaded, words.until, errors) {
         Ok(until) => until,
         Err(status) => return status,
@@ -159,7 +162,7 @@ fn run_loaded<H: Files + AllocGlobal, R: Read, W: Write, S: Read, E: Write>(
     let known = Known {
         file: words.file.file,
         assembly: assembly.as_ref(),
-        debug: debug.as_ref(),
+        debug: debug.places.as_ref(),
     };
     let written = written.or_everywhere(words.is_free);
     run_to(
@@ -189,8 +192,9 @@ fn run_words<H: Files + AllocGlobal, R: Read, W: Write, S: Read, E: Write>(
         (heard_of (E.contents errors.old) (E.contents errors.new)) result
         ((input.new ≡ input.old) × (output.new ≡ output.old)) }
     ensures bad_map { is_map words.now.file.rom words.now.file.port ≡ false → result ≡ 2 }
-    ensures quiet { words.now.tells_cycles ≡ false → result ≡ 0
-        → OnlyWarned words.now.file.omits_fill (E.contents errors.old) (E.contents errors.new) }
+    ensures quiet { words.now.tells_cycles ≡ false → (run_view words.now).debug_info ≡ None
+        → result ≡ 0 → OnlyWarned words.now.file.omits_fill (E.contents errors.old)
+        (E.contents errors.new) }
 {
     let loaded = match load_machine(rt, &words.file, words.others, words.symbols) {
         Ok(loaded) => loaded,
@@ -220,8 +224,9 @@ fn run_words<H: Files + AllocGlobal, R: Read, W: Write, S: Read, E: Write>(
 ///   the run was interrupted.
 ///
 /// The program's output goes to `output`. Before it runs, a line on `errors` says how many warnings
-/// its source has, if it has some, one how many lines of a file of names gave no name, and one that
-/// fill at the port was left out. For each status but those of the first line a line on `errors`
+/// its source has, if it has some, one how many lines of a file of names gave no name, one that fill
+/// at the port was left out, and one which sources have changed since the debug information was
+/// made. For each status but those of the first line a line on `errors`
 /// says why; that a line cannot be written changes no status.
 pub fn run_program<H: Files + AllocGlobal, R: Read, W: Write, S: Read, E: Write>(
     rt: &H,
@@ -248,10 +253,11 @@ pub fn run_program<H: Files + AllocGlobal, R: Read, W: Write, S: Read, E: Write>
         → Fits run (texts words.entry.now)
         → is_map a.file.rom a.file.port ≡ false → (result ≡ 2) ⊎ (result ≡ 3) }
     // Nothing but how many warnings there are, and how many names were left out, is written on the
-    // error stream with the status 0, unless cycles are asked for; and where a port is given, that
-    // fill was left out.
+    // error stream with the status 0, unless cycles are asked for or debug information is named; and
+    // where a port is given, that fill was left out.
     ensures quiet { (omits : Bool) → ((a : RunAsked) → asked (texts words.entry.now) ≡ Some a
-        → (a.tells_cycles ≡ false) × (a.file.omits_fill ≡ omits)) → result ≡ 0
+        → (a.tells_cycles ≡ false) × (a.debug_info ≡ None) × (a.file.omits_fill ≡ omits))
+        → result ≡ 0
         → OnlyWarned omits (E.contents errors.old) (E.contents errors.new) }
 {
     match read_run_words(rt.alloc(), words) {

@@ -14,6 +14,7 @@ use Rattle.console.specs.declared.ending.Ending.TheVariants.{Until}
 use Rattle.console.specs.declared.ending.Played.{Played}
 use Rattle.console.specs.declared.turn.Player.{Player}
 use Rattle.arguments.specs.Asked.{map_of}
+use Rattle.debug_files.specs.Changed.{TellsChanged}
 use Rattle.debug_files.specs.Loaded.{IsUndebugged}
 use Rattle.loading.specs.Machine.{IsMachine, IsUnmade}
 use Rattle.loading.specs.Named.{MayLose}
@@ -303,16 +304,18 @@ TracedIfFound a b (Ok from) (Err refused) streams heard status Alone
 TracedIfFound a b (Err refused) to streams heard status Alone
     = (status ≡ refused) × Tells heard (unplaced_line a.from) × Alone
 
--- A trace between the places of the words, with the debug information that they name; or that was
--- not read, and the error stream got why.
+-- A trace between the places of the words, with the debug information that they name; before it the
+-- error stream got which of its sources have changed. Or that was not read, and the error stream got
+-- why.
 abbrev pub TracedDebugged : TraceAsked → Option AssemblyView → Session → List Bool → Streams → Heard → ℕ
     → Type 0 → Type 0
 TracedDebugged a assembly session loaded streams heard status Alone
     = IsUndebugged a.debug_info heard.held heard.now status Alone
     ⊎ ((debug : Option PlacesView) × AreDebugged a.debug_info session.current loaded assembly debug
+    × (between : Option (List ℕ)) × TellsChanged a.debug_info heard.held between
     × TracedIfFound a (record { assembly = assembly; debug = debug; session = session; written = loaded })
-    (place_asked (names_of assembly) a.from) (place_asked (names_of assembly) a.to) streams heard
-    status Alone)
+    (place_asked (names_of assembly) a.from) (place_asked (names_of assembly) a.to) streams
+    (record { held = between; now = heard.now }) status Alone)
 
 -- What was done for words: nothing was loaded, the error stream got why, and the others were left
 -- alone; or from the start of an image that the file can have, on the map of the words and with the

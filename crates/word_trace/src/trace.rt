@@ -33,6 +33,7 @@ use accesses::Written;
 use arguments::{Refusal, put_two, refuse, refuse_file, refused_words};
 use arguments_play::{TraceWords, read_trace_words};
 use console::{Ending, Played, Player, begin, ending_after};
+use debug_files::tell_changed;
 use debugger::Session;
 use loading::{Loaded, load_machine, tell_left_out};
 use source_map::Places;
@@ -585,7 +586,11 @@ fn trace_debugged<H: Files + AllocGlobal, R: Read, O: Write, E: Write>(
         result ((input.new ≡ input.old) × (output.new ≡ output.old)) }
 {
     match load_debug(rt, words.debug_info, words.source_root, loaded) {
-        Ok(debug) => trace_loaded(rt, words, loaded, debug.as_ref(), input, output, errors),
+        Ok(debug) => {
+            tell_changed(words.debug_info, debug.changed.as_slice(), errors);
+            let places = debug.places.as_ref();
+            trace_loaded(rt, words, loaded, places, input, output, errors)
+        }
         Err(fault) => fault.tell(words.debug_info.unwrap_or(words.file.file), errors),
     }
 }

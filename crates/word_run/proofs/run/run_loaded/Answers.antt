@@ -18,7 +18,7 @@ returns-in-Err-clause-done g c =
     c.in-Err.ensures.refused c.tell.ensures.status (rw c.unwrap_or.ensures at c.tell.ensures.told) (refl, refl))
 
 pub returns-in-Err-clause-quiet : goal.returns-in-Err-clause-quiet
-returns-in-Err-clause-quiet g c untold zero = absurd (omega (arith, zero, c.tell.ensures.status, some_load c.in-Err.fault))
+returns-in-Err-clause-quiet g c untold none zero = absurd (omega (arith, zero, c.tell.ensures.status, some_load c.in-Err.fault))
 
 pub returns-in-Err-place_named-clause-done : goal.returns-in-Err-place_named-clause-done
 returns-in-Err-place_named-clause-done g c =
@@ -29,11 +29,12 @@ returns-in-Err-place_named-clause-done g c =
     (record { session = loaded.session; written = or_everywhere c.args.words.now.is_free loaded.written })
     loaded.written loaded.assembly _ (streams_of given given held held) c.args.output.now.interrupted
     (heard_of (g.E.Write.contents c.args.errors.now) (g.E.Write.contents c.place_named.new.errors))
+    (g.E.Write.contents c.tell_changed.new.errors)
     c.in-Err-place_named.status ((c.args.input.now ≡ c.args.input.now) × (c.args.output.now ≡ c.args.output.now))
-    c.in-Ok.ensures.places c.in-Err-place_named.ensures.place c.in-Err-place_named.ensures.told (refl, refl)
+    c.in-Ok.ensures.places c.tell_changed.ensures.told c.in-Err-place_named.ensures.place c.in-Err-place_named.ensures.told (refl, refl)
 
 pub returns-in-Err-place_named-clause-quiet : goal.returns-in-Err-place_named-clause-quiet
-returns-in-Err-place_named-clause-quiet g c untold zero =
+returns-in-Err-place_named-clause-quiet g c untold none zero =
     absurd (unfound_status (names_of c.args.loaded.assembly) (run_view c.args.words.now).until c.in-Err-place_named.status
     c.in-Err-place_named.ensures.place zero)
 
@@ -45,11 +46,11 @@ returns-clause-done g c =
     c.in-Ok-place_named.until
     (streams_of (g.R.Read.remaining c.args.input.now) (g.R.Read.remaining ran.input) (g.W.Write.contents c.args.output.now.inner)
     (g.W.Write.contents ran.output.inner)) ran.output.interrupted
-    c.args.errors.now c.place_named.new.errors ran.errors c.run_to.result
+    c.args.errors.now c.tell_changed.new.errors c.place_named.new.errors ran.errors c.run_to.result
     ((ran.input ≡ c.args.input.now) × (ran.output ≡ c.args.output.now))
-    c.in-Ok.ensures.places c.in-Ok-place_named.ensures.place c.in-Ok-place_named.ensures.quiet
+    c.in-Ok.ensures.places c.tell_changed.ensures.told c.in-Ok-place_named.ensures.place c.in-Ok-place_named.ensures.quiet
     (ap₂ (known_by c.args.words.now.file.file.now) c.as_ref.ensures.value c.as_ref-2.ensures.value) c.or_everywhere-written.ensures
     c.run_to.ensures.ran
 
 pub returns-clause-quiet : goal.returns-clause-quiet
-returns-clause-quiet g c untold zero = c.run_to.ensures.quiet untold zero ∙ c.in-Ok-place_named.ensures.quiet
+returns-clause-quiet g c untold none zero = c.run_to.ensures.quiet untold zero ∙ (c.in-Ok-place_named.ensures.quiet ∙ c.tell_changed.ensures.quiet none)

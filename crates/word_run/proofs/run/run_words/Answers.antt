@@ -9,7 +9,7 @@ use Rattle.word_run.specs.Runs.{streams_of}
 use Rattle.word_run.proofs.run.run_words.Goals as goal
 
 pub returns-in-Err-clause-quiet : goal.returns-in-Err-clause-quiet
-returns-in-Err-clause-quiet g c untold zero = absurd (never_made c.in-Err.fault c.tell.result c.tell.ensures.status zero)
+returns-in-Err-clause-quiet g c untold none zero = absurd (never_made c.in-Err.fault c.tell.result c.tell.ensures.status zero)
 
 pub returns-clause-done : goal.returns-clause-done
 returns-clause-done g c =
@@ -25,10 +25,10 @@ returns-clause-done g c =
     c.run_loaded.ensures.done
 
 pub returns-clause-quiet : goal.returns-clause-quiet
-returns-clause-quiet g c untold zero =
+returns-clause-quiet g c untold none zero =
     only_warned g.E.Write.contents c.args.words.now.file.omits_fill (map_of (run_view c.args.words.now).file) _ c.in-Ok.loaded.lost
     c.in-Ok.loaded.fill c.args.errors.now c.tell_warnings.new.errors c.run_loaded.new.errors
-    (c.run_loaded.ensures.quiet untold zero)
+    (c.run_loaded.ensures.quiet untold none zero)
     (whole_unless (run_view c.args.words.now).file (run_view c.args.words.now).others (run_view c.args.words.now).symbols c.in-Ok.loaded.fill
     c.in-Ok.ensures.started.0 c.in-Ok.loaded.assembly c.in-Ok.ensures.started.1)
     c.tell_warnings.ensures
