@@ -24,7 +24,8 @@ pub fn of_memory<T>(made: Result<T, AllocError>) -> Result<T, Refusal>
     made.map_err(|_| Refusal::OutOfMemory)
 }
 
-/// Sources with their texts, and the names of those that have changed since the debug file was made.
+/// Sources with their texts, and the names of those that have changed since the debug file was
+/// made.
 #[derive(Drop)]
 pub struct Sources {
     pub files: Vec<SourceFile>,

@@ -22,8 +22,8 @@ pub struct Known<'a> {
     pub debug: Option<&'a Places>,
 }
 
-/// The places of debug information, if a file of it is named, and the names of its sources that have
-/// changed since that was made.
+/// The places of debug information, if a file of it is named, and the names of its sources that
+/// have changed since that was made.
 #[derive(Drop)]
 pub struct Debugged {
     pub places: Option<Places>,

@@ -224,10 +224,10 @@ fn run_words<H: Files + AllocGlobal, R: Read, W: Write, S: Read, E: Write>(
 ///   the run was interrupted.
 ///
 /// The program's output goes to `output`. Before it runs, a line on `errors` says how many warnings
-/// its source has, if it has some, one how many lines of a file of names gave no name, one that fill
-/// at the port was left out, and one which sources have changed since the debug information was
-/// made. For each status but those of the first line a line on `errors`
-/// says why; that a line cannot be written changes no status.
+/// its source has, if it has some, one how many lines of a file of names gave no name, one that
+/// fill at the port was left out, and one which sources have changed since the debug information
+/// was made. For each status but those of the first line a line on `errors` says why; that a line
+/// cannot be written changes no status.
 pub fn run_program<H: Files + AllocGlobal, R: Read, W: Write, S: Read, E: Write>(
     rt: &H,
     words: &[&str],
@@ -253,8 +253,8 @@ pub fn run_program<H: Files + AllocGlobal, R: Read, W: Write, S: Read, E: Write>
         → Fits run (texts words.entry.now)
         → is_map a.file.rom a.file.port ≡ false → (result ≡ 2) ⊎ (result ≡ 3) }
     // Nothing but how many warnings there are, and how many names were left out, is written on the
-    // error stream with the status 0, unless cycles are asked for or debug information is named; and
-    // where a port is given, that fill was left out.
+    // error stream with the status 0, unless cycles are asked for or debug information is named;
+    // and where a port is given, that fill was left out.
     ensures quiet { (omits : Bool) → ((a : RunAsked) → asked (texts words.entry.now) ≡ Some a
         → (a.tells_cycles ≡ false) × (a.debug_info ≡ None) × (a.file.omits_fill ≡ omits))
         → result ≡ 0
