@@ -55,8 +55,8 @@ mon_asked value = mon_of (file_asked value) (others_by value)
     (size_asked (value (codes "size")))
 
 -- What the words ask for, where the values that clap finds are right.
-abbrev pub asked : List Text → Option MonAsked
-asked words = mon_asked (value_in mon words)
+abbrev pub words_in : List Text → Option MonAsked
+words_in words = mon_asked (value_in mon words)
 
 -- What was read from the words, as what they ask for.
 abbrev pub mon_view : MonWords → MonAsked

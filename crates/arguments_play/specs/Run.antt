@@ -62,8 +62,8 @@ run_asked value = run_of (file_asked value) (others_by value) (value (codes "sym
     (is_flag (value (codes "cycles"))) (is_flag (value (codes "free")))
 
 -- What the words ask for, where the values that clap finds are right.
-abbrev pub asked : List Text → Option RunAsked
-asked words = run_asked (value_in run words)
+abbrev pub words_in : List Text → Option RunAsked
+words_in words = run_asked (value_in run words)
 
 -- What was read from the words, as what they ask for.
 abbrev pub run_view : RunWords → RunAsked

@@ -64,8 +64,8 @@ trace_asked value = trace_of (file_asked value) (others_by value) (value (codes 
     (is_flag (value (codes "unwritten"))) (is_flag (value (codes "free")))
 
 -- What the words ask for, where the values that clap finds are right.
-abbrev pub asked : List Text → Option TraceAsked
-asked words = trace_asked (value_in trace words)
+abbrev pub words_in : List Text → Option TraceAsked
+words_in words = trace_asked (value_in trace words)
 
 -- What was read from the words, as what they ask for.
 abbrev pub trace_view : TraceWords → TraceAsked

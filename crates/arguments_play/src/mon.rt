@@ -2,7 +2,7 @@
 
 ghost use Rattle.std.specs.Prelude.{◌≡◌, IsOkUnless, IfErr, IfOk, None, Some, false, option_map};
 ghost use Rattle.arguments.specs.Words.{Fits, IsRefusalOf, texts};
-ghost use Rattle.arguments_play.specs.Mon.{MonAsked, asked, mon, mon_asked, mon_view};
+ghost use Rattle.arguments_play.specs.Mon.{MonAsked, mon, mon_asked, mon_view, words_in};
 ghost use Rattle.clap.specs.Words.{app_of, first_value, found_of, kind_of};
 ghost use Rattle.clap.specs.declared.builder.command.Command.TheViews.{out-Command};
 
@@ -61,8 +61,8 @@ fn wrong_besides(matches: &ArgMatches<'_>) -> &'static str {
     }
 }
 
-/// Returns what the values that were found ask for, or `None` if one is wrong.
-fn asked<'a>(matches: &ArgMatches<'a>) -> Option<MonWords<'a>>
+/// Returns the words of the matched values, or `None` if one is wrong.
+fn words_in<'a>(matches: &ArgMatches<'a>) -> Option<MonWords<'a>>
     ensures { option_map mon_view result ≡ mon_asked (first_value (found_of matches.now)) }
 {
     let Some(file) = file_words(matches) else {
@@ -92,15 +92,15 @@ fn asked<'a>(matches: &ArgMatches<'a>) -> Option<MonWords<'a>>
 /// - `Wrong`: an option has a value that it cannot have.
 /// - `OutOfMemory`: an allocation failed.
 pub fn read_mon_words<'a>(alloc: Global, words: &'a [&'a str]) -> Result<MonWords<'a>, WordsFault>
-    ensures asked { IfOk result (λ w. asked (texts words.entry.now) ≡ Some (mon_view w)) }
+    ensures asked { IfOk result (λ w. words_in (texts words.entry.now) ≡ Some (mon_view w)) }
     ensures fits { IfOk result (λ _. Fits mon (texts words.entry.now)) }
     ensures served { (a : MonAsked) → Fits mon (texts words.entry.now)
-        → asked (texts words.entry.now) ≡ Some a → IsOkUnless result WordsFault.OutOfMemory }
+        → words_in (texts words.entry.now) ≡ Some a → IsOkUnless result WordsFault.OutOfMemory }
     ensures refused { IfErr result (IsRefusalOf mon (texts words.entry.now)
-        (asked (texts words.entry.now) ≡ None)) }
+        (words_in (texts words.entry.now) ≡ None)) }
 {
     let matches = matched(mon_command(alloc)?, words)?;
-    match asked(&matches) {
+    match words_in(&matches) {
         Some(words) => Ok(words),
         None => Err(WordsFault::Wrong(wrong_value(&matches).unwrap_or(wrong_besides(&matches)))),
     }

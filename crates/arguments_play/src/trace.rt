@@ -2,7 +2,7 @@
 
 ghost use Rattle.std.specs.Prelude.{◌≡◌, IsOkUnless, IfErr, IfOk, None, Some, false, option_map};
 ghost use Rattle.arguments.specs.Words.{Fits, IsRefusalOf, texts};
-ghost use Rattle.arguments_play.specs.Trace.{TraceAsked, asked, trace, trace_asked, trace_view};
+ghost use Rattle.arguments_play.specs.Trace.{TraceAsked, words_in, trace, trace_asked, trace_view};
 ghost use Rattle.clap.specs.Words.{app_of, first_value, found_of, kind_of};
 ghost use Rattle.clap.specs.declared.builder.command.Command.TheViews.{out-Command};
 
@@ -93,8 +93,8 @@ pub fn trace_command<'a>(alloc: Global) -> Result<Command<'a>, Error>
     Ok(command)
 }
 
-/// Returns what the values that were found ask for, or `None` if one is wrong.
-fn asked<'a>(matches: &ArgMatches<'a>) -> Option<TraceWords<'a>>
+/// Returns the words of the matched values, or `None` if one is wrong.
+fn words_in<'a>(matches: &ArgMatches<'a>) -> Option<TraceWords<'a>>
     ensures { option_map trace_view result ≡ trace_asked (first_value (found_of matches.now)) }
 {
     let Some(file) = file_words(matches) else {
@@ -130,15 +130,15 @@ pub fn read_trace_words<'a>(
     alloc: Global,
     words: &'a [&'a str],
 ) -> Result<TraceWords<'a>, WordsFault>
-    ensures asked { IfOk result (λ w. asked (texts words.entry.now) ≡ Some (trace_view w)) }
+    ensures asked { IfOk result (λ w. words_in (texts words.entry.now) ≡ Some (trace_view w)) }
     ensures fits { IfOk result (λ _. Fits trace (texts words.entry.now)) }
     ensures served { (a : TraceAsked) → Fits trace (texts words.entry.now)
-        → asked (texts words.entry.now) ≡ Some a → IsOkUnless result WordsFault.OutOfMemory }
+        → words_in (texts words.entry.now) ≡ Some a → IsOkUnless result WordsFault.OutOfMemory }
     ensures refused { IfErr result (IsRefusalOf trace (texts words.entry.now)
-        (asked (texts words.entry.now) ≡ None)) }
+        (words_in (texts words.entry.now) ≡ None)) }
 {
     let matches = matched(trace_command(alloc)?, words)?;
-    match asked(&matches) {
+    match words_in(&matches) {
         Some(words) => Ok(words),
         None => Err(WordsFault::Wrong(wrong_value(&matches).unwrap_or(DEBUG_TAKES))),
     }

@@ -1,6 +1,6 @@
 //! What an editor's views show of a session, and the breakpoints and watches that it lists.
 //!
-//! `stack` finds the frames of the stack, by what `pushed` takes to have pushed something; `frames`
+//! `stack` finds the frames of the stack, by what `mon_texts` takes to have pushed something; `frames`
 //! shows them. `variables` shows the variables of a scope, `memory` bytes, `rows` instructions,
 //! `looks` what a text names. `named` finds the variable that a client names. `paged` is a page
 //! of a list. `texts` makes texts of bytes, `source` is the source that a client sees. These change
@@ -27,7 +27,6 @@ mod looks;
 mod memory;
 mod named;
 mod paged;
-mod pushed;
 mod rows;
 mod source;
 mod stack;

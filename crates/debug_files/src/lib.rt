@@ -16,4 +16,5 @@ mod sources;
 
 pub use changed::tell_changed;
 pub use loaded::load_places_of;
+pub use paths::{begins_at_root, folder_of};
 pub use places::{DebugPlaces, load_places};

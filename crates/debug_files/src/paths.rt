@@ -21,7 +21,7 @@ fn name_start(path: &[u8]) -> usize
 }
 
 /// Returns whether a name begins with `/`.
-fn begins_at_root(name: &[u8]) -> bool
+pub fn begins_at_root(name: &[u8]) -> bool
     ensures { result ≡ begins_at_root name.now }
 {
     match name {
@@ -31,7 +31,7 @@ fn begins_at_root(name: &[u8]) -> bool
 }
 
 /// Returns the part of a path before the name of its file, with the `/`.
-fn folder_of(path: &[u8]) -> &[u8]
+pub fn folder_of(path: &[u8]) -> &[u8]
     ensures { result.now ≡ folder_of path.now }
 {
     &path[..name_start(path)]

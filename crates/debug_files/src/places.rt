@@ -3,7 +3,7 @@
 ghost use Rattle.std.specs.Prelude.{◌≡◌, IfErr, IfOk};
 ghost use Rattle.debug_files.specs.Loads.{AreDebugPlaces, EndsDebug};
 
-use crate::faults::told;
+use crate::faults::load_fault;
 use crate::sources::{Sources, of_memory, sources_of};
 use arguments::{LoadFault, read_most};
 use debug_records::read_debug_info;
@@ -45,7 +45,7 @@ pub fn load_places<H: Files + AllocGlobal>(
     let text = read_most(rt, file, MOST)?;
     let info = match read_debug_info(rt.alloc(), text.as_slice()) {
         Ok(info) => info,
-        Err(error) => return Err(told(error)),
+        Err(error) => return Err(load_fault(error)),
     };
     let Sources { files, changed } = sources_of(rt, file, root, info.files.as_slice())?;
     let places = of_memory(Places::of_debug(rt.alloc(), profile, image, &info, files))?;

@@ -1,2 +1,3 @@
 pub mod Marked
+pub mod Prefixes
 pub mod Told

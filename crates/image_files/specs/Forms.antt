@@ -1,12 +1,13 @@
 -- How a text tells its form, and when bytes are no raw image. Source: mos65.
-use Rattle.std.specs.Prelude.{ℕ, ◌==◌, ◌||◌, ◌&&◌, nat_le, nat_lt, is_some, length, Bool, true, false, if◌then◌else◌, List, [], ◌∷◌, drop, take, Result, Ok, Err}
+use Rattle.std.specs.Prelude.{ℕ, ◌==◌, ◌||◌, ◌&&◌, nat_le, nat_lt, length, Bool, true, false, if◌then◌else◌, List, [], ◌∷◌, drop, take, Result, Ok, Err}
 use Rattle.std.specs.List.{list_all, prefix_len}
+use Rattle.model.specs.Token.{is_digit}
 use Rattle.image_reader.specs.declared.form.Form.{Form}
 use Rattle.image_reader.specs.declared.form.Form.TheVariants.{Tape, Text, Raw, Prg}
 use Rattle.image_files.specs.declared.form.OtherText.{OtherText}
 use Rattle.image_files.specs.declared.form.OtherText.TheVariants as other
 use Rattle.image_reader.specs.declared.form.TextForm.TheVariants.{Hex, SRecord}
-use Rattle.model.specs.Digits.{hex_value}
+use Rattle.model.specs.Digits.{is_hex_byte}
 use Rattle.model.specs.Tape.{is_skipped}
 
 -- A byte of a text: $20..$7E, a tab or a line end.
@@ -20,9 +21,6 @@ front_bytes bytes = take 64 bytes
 -- What bytes look like that begin with no record.
 abbrev pub other_of : List ℕ → OtherText
 other_of bytes = if list_all is_plain (front_bytes bytes) then other.Plain else other.Bytes
-
-abbrev pub is_digit : ℕ → Bool
-is_digit b = nat_le 48 b && nat_le b 57
 
 -- `S` begins an S-record if a digit follows.
 abbrev pub s_form : List ℕ → List ℕ → Result Form OtherText
@@ -45,12 +43,9 @@ form_of bytes = first_form bytes (drop (prefix_len is_skipped bytes) bytes)
 
 -- ---- bytes that are given as raw ones
 
-abbrev pub is_hex : ℕ → Bool
-is_hex b = is_some (hex_value b)
-
 -- Eight hex digits stand behind the first byte that a tape does not skip, as in each record.
 abbrev pub has_digits : List ℕ → Bool
-has_digits rest = if nat_lt (length rest) 9 then false else list_all is_hex (take 8 (drop 1 rest))
+has_digits rest = if nat_lt (length rest) 9 then false else list_all is_hex_byte (take 8 (drop 1 rest))
 
 unfoldable pub begins_record : List ℕ → Bool
 begins_record bytes = has_digits (drop (prefix_len is_skipped bytes) bytes)

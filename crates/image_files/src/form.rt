@@ -2,8 +2,10 @@
 
 ghost use Rattle.std.specs.Prelude.{◌≡◌, ◌≤◌, drop, length};
 ghost use Rattle.std.specs.List.{list_all, prefix_len};
+ghost use Rattle.model.specs.Digits.{is_hex_byte};
+ghost use Rattle.model.specs.Token.{is_digit};
 ghost use Rattle.image_files.specs.Forms.{alone, begins_record, first_form, form_of, front_bytes};
-ghost use Rattle.image_files.specs.Forms.{has_digits, is_digit, is_hex, is_plain, other_of};
+ghost use Rattle.image_files.specs.Forms.{has_digits, is_plain, other_of};
 ghost use Rattle.image_files.specs.Forms.{record_of, s_form};
 ghost use Rattle.model.specs.Tape.{is_skipped};
 
@@ -131,14 +133,14 @@ pub fn form_of(bytes: &[u8]) -> Result<Form, OtherText>
 
 /// Returns whether a byte is a hex digit.
 fn is_hex(byte: u8) -> bool
-    ensures { result ≡ is_hex byte }
+    ensures { result ≡ is_hex_byte byte }
 {
     hex_value(byte).is_some()
 }
 
 /// Returns whether all of some bytes are hex digits.
 fn all_are_hex(bytes: &[u8]) -> bool
-    ensures { result ≡ list_all is_hex bytes.now }
+    ensures { result ≡ list_all is_hex_byte bytes.now }
 {
     let mut all = true;
     for byte in bytes {

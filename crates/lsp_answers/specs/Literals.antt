@@ -4,8 +4,8 @@ use Rattle.std.specs.Prelude.{ℕ, ◌/◌, ◌%◌, ◌==◌, nat_lt, ℤ, pos,
 use Rattle.std.specs.Fmt.{signed_decimal}
 use Rattle.std.specs.Option.{option_map}
 use Rattle.std.specs.Str.{str_eq_ignore_ascii_case}
+use Rattle.warnings.specs.Reaches.{number_alone}
 use Rattle.lsp_answers.specs.declared.written.TheConstants.{BYTE_EFFECT, WORD_EFFECT, DBYTE_EFFECT, RES_EFFECT, END_EFFECT}
-use Rattle.model.specs.Expression.{Term, literal, name, here, negated, binary, low, high}
 use Rattle.model.specs.Reading.{Read, expression_of}
 use Rattle.model.specs.Text.{hex_address, hex_byte}
 use Rattle.model.specs.Token.{Lexeme, is_printable}
@@ -41,19 +41,9 @@ number_words (pos n) = if nat_lt n 256 then byte_words n
     else if nat_lt n 65536 then word_words n else signed_decimal (pos n)
 number_words (negsuc n) = signed_decimal (negsuc n)
 
--- The number of a literal, if it has one.
-abbrev pub number_in : Term → Option ℤ
-number_in (literal number) = number
-number_in (name text) = None
-number_in here = None
-number_in (negated e) = None
-number_in (binary op a b) = None
-number_in (low e) = None
-number_in (high e) = None
-
 abbrev pub number_read : Read → Option ℤ
 number_read None = None
-number_read (Some read) = number_in read.0
+number_read (Some read) = number_alone read.0
 
 -- Of a token that is a number or a character: the number that the grammar reads in it.
 abbrev pub literal_words : Lexeme → Option (List ℕ)

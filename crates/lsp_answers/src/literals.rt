@@ -2,10 +2,11 @@
 
 ghost use Rattle.std.specs.Prelude.{◌≡◌, ◌∷◌, ◌++◌, [], IfOk, OnOk};
 ghost use Rattle.std.specs.Option.{option_map};
+ghost use Rattle.warnings.specs.Reaches.{number_alone};
 ghost use Rattle.line_parts.specs.Lexemes.{lexeme_of};
 ghost use Rattle.line_parts.specs.TermViews.{term_view};
 ghost use Rattle.lsp_answers.specs.Literals.{bit, bits, byte_words, character_words};
-ghost use Rattle.lsp_answers.specs.Literals.{directive_words, literal_words, number_in};
+ghost use Rattle.lsp_answers.specs.Literals.{directive_words, literal_words};
 ghost use Rattle.lsp_answers.specs.Literals.{number_read, number_words, word_words};
 ghost use Rattle.model.specs.Reading.{expression_of};
 
@@ -96,7 +97,7 @@ fn push_number(words: &mut Vec<u8>, number: i32) -> Result<(), AllocError>
 
 /// Returns the number of a literal, if it has one.
 fn number_in(expr: &Expr<'_>) -> Option<i32>
-    ensures { result ≡ number_in (term_view expr.now) }
+    ensures { result ≡ number_alone (term_view expr.now) }
 {
     match expr {
         Expr::Literal(number) => *number,

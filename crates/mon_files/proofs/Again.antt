@@ -1,6 +1,7 @@
 -- A session that goes back over all its events, and makes them again.
 use Rattle.std.proofs.Common.{◌≡◌, ◌∙◌, ℕ, ◌+◌, ◌-◌, ◌≤◌, List, [], ◌∷◌, ◌++◌, length, length-append, take, get_or, Result, Ok, Err, Option, Some, refl, sym, ap, subst, arith}
 use Rattle.std.specs.Prelude.{⊤, IfErr, OnOk, slice_get}
+use Rattle.model.specs.Transcript.{after_event}
 use Rattle.law_sessions.proofs.Backs.{back_of-held, length-keep_last}
 use Rattle.model.specs.Back.{back_of, states, without_last}
 use Rattle.model.specs.Event.{event_of}
@@ -15,7 +16,7 @@ use Rattle.mon_session.specs.Course.{Course}
 use Rattle.mon_session.specs.Events.{Kept, with_redone, with_undone}
 use Rattle.mon_steps.specs.BackLines.{if_held, if_next, remade_one, undone}
 use Rattle.page_data.specs.Changes.{Tells}
-use Rattle.page_data.specs.Events.{HoldsSession, if_led, led_by}
+use Rattle.page_data.specs.Events.{HoldsSession, led_by}
 use Rattle.page_data.specs.Start.{start_at, start_bytes}
 use Rattle.page_data.proofs.Telling.{told_none}
 
@@ -51,7 +52,7 @@ module _ (held : ℕ) (s t : Session) (all : held ≡ length s.earlier) (back : 
 
 -- ---- and again
 
-again_by : (s : Session) (r : Result State EventFault) → (if_made s r (λ t. made_again [] t)).1 ≡ if_led s r
+again_by : (s : Session) (r : Result State EventFault) → (if_made s r (λ t. made_again [] t)).1 ≡ after_event s r
 unfolding made_again
 again_by s (Ok state) = refl
 again_by s (Err fault) = refl
@@ -65,14 +66,14 @@ pub one_again : (course : Course) (e : Event) (next : Option Event) (t : Session
 one_again course e next t kept is some led then =
     (λ i. ((led ∙ sym (led_again e course.0)) i, then i)) ∙ ap (λ (n : Option Event). (if_next course n, with_redone course.1)) (sym some ∙ is)
 
-longer_by : (s : Session) (r : Result State EventFault) → length (if_led s r).earlier ≤ length s.earlier + 1
+longer_by : (s : Session) (r : Result State EventFault) → length (after_event s r).earlier ≤ length s.earlier + 1
 longer_by s (Ok state) = omega (arith, length-keep_last s.history (s.earlier ++ s.current ∷ []), length-append s.earlier (s.current ∷ []))
 longer_by s (Err fault) = omega arith
 
 pub one_longer : (e : Event) (s t : Session) → t ≡ led_by e s → length t.earlier ≤ length s.earlier + 1
 one_longer e s t led = subst (λ (x : Session). length x.earlier ≤ length s.earlier + 1) (sym led) (longer_by s (event_of s.current e))
 
-same_by : (s : Session) (r : Result State EventFault) → (if_led s r).history ≡ s.history
+same_by : (s : Session) (r : Result State EventFault) → (after_event s r).history ≡ s.history
 same_by s (Ok state) = refl
 same_by s (Err fault) = refl
 

@@ -18,7 +18,7 @@ use crate::wording::NEXT;
 use debugger::Session;
 use disasm::{TextLine, line_in};
 use formatting::{push_address, push_blanks, push_byte, push_text};
-use mon_line_parts::number_in;
+use mon_line_parts::{number_in, without_first};
 use source_map::Places;
 use std::alloc::AllocError;
 
@@ -45,16 +45,6 @@ fn front_of(row: &[u8]) -> &[u8]
     ensures { result.now ≡ front_of row.now }
 {
     &row[..before_number(row)]
-}
-
-/// Returns a text without its first byte.
-fn without_first(text: &[u8]) -> &[u8]
-    ensures { result.now ≡ drop 1 text.now }
-{
-    match text {
-        [] => text,
-        [_, rest @ ..] => rest,
-    }
 }
 
 /// Returns a text behind its first `$`.

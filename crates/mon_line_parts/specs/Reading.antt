@@ -3,6 +3,7 @@ use Rattle.std.specs.Prelude.{ℕ, ◌+◌, ◌==◌, ◌||◌, not, nat_lt, Boo
 use Rattle.std.specs.List.{prefix_len}
 use Rattle.std.specs.Option.{option_and_then, option_map}
 use Rattle.std.specs.Str.{byte, str_eq_ignore_ascii_case}
+use Rattle.lexer.specs.Front.{is_next}
 use Rattle.model.specs.Digits.{hex_value, number_from}
 use Rattle.model.specs.Token.{begins, is_blank, is_word_byte}
 use Rattle.mon_line_parts.specs.declared.slip.Lack.{Lack}
@@ -67,10 +68,6 @@ skip text = without_comment (drop (prefix_len is_blank text) text)
 
 abbrev pub after : ℕ → List ℕ → List ℕ
 after count text = skip (drop count text)
-
--- Whether a sign comes next.
-abbrev pub is_next : ℕ → List ℕ → Bool
-is_next sign text = begins (λ b. b == sign) text
 
 -- The text after a sign, if the sign comes next.
 abbrev pub past : ℕ → List ℕ → List ℕ

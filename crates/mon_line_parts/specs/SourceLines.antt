@@ -2,9 +2,10 @@
 -- `hello.a65:6`. Source: mos65.
 use Rattle.std.specs.Prelude.{ℕ, ℤ, pos, ◌+◌, ◌-◌, ◌%◌, ◌==◌, ◌&&◌, ◌||◌, not, nat_lt, Bool, if◌then◌else◌, List, [], ◌∷◌, drop, length, Option, Some, None, Ok, Err}
 use Rattle.std.specs.Str.{byte, bytes_eq}
+use Rattle.lexer.specs.Front.{is_next}
 use Rattle.model.specs.Token.{is_blank}
 use Rattle.source_map.specs.Lines.{PlacesView, SourceView, address_from}
-use Rattle.mon_line_parts.specs.Reading.{Reads, SeenFlaw, no_bytes, no_source, other_source, after, after_word, behind_part, is_empty, is_next, number_in, up_to, word_of}
+use Rattle.mon_line_parts.specs.Reading.{Reads, SeenFlaw, no_bytes, no_source, other_source, after, after_word, behind_part, is_empty, number_in, up_to, word_of}
 
 -- ---- how it is written
 

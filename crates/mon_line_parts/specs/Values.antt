@@ -3,9 +3,10 @@ use Rattle.std.specs.Prelude.{ℕ, zero, suc, ◌+◌, ℤ, pos, negsuc, ◌+ℤ
 use Rattle.std.specs.Int.{saturate_signed, w64}
 use Rattle.std.specs.Option.{option_or}
 use Rattle.std.specs.Str.{byte, str_eq_ignore_ascii_case}
+use Rattle.lexer.specs.Front.{is_next}
 pub use Rattle.source_map.specs.Lines.{PlacesView}
 pub use Rattle.source_map.specs.Names.{address_of}
-use Rattle.mon_line_parts.specs.Reading.{Reads, SeenFlaw, missing, unreadable, no_name, range, many, after, after_image_word, after_word, and_then, character_of, image_word, is_empty, is_next, number_in, past, quoted_next, word_of}
+use Rattle.mon_line_parts.specs.Reading.{Reads, SeenFlaw, missing, unreadable, no_name, range, many, after, after_image_word, after_word, and_then, character_of, image_word, is_empty, number_in, past, quoted_next, word_of}
 use Rattle.mon_line_parts.specs.SourceLines.{after_line, file_word, line_address, line_number, no_line_of, own_line}
 use Rattle.mon_line_parts.specs.declared.slip.Lack.{Lack}
 use Rattle.mon_line_parts.specs.declared.slip.Lack.TheVariants as lacking

@@ -15,8 +15,9 @@ mod topic;
 mod values;
 
 pub use help::Help;
+pub use lexer::is_next;
 pub use numbers::number_in;
-pub use scan::{after, after_word, file_of, is_empty, is_next, is_word, past, skip, word_of};
+pub use scan::{after, after_word, file_of, is_empty, is_word, past, skip, without_first, word_of};
 pub use slip::{Flaw, Lack};
 pub use source_map::{Places, is_same_word};
 pub use topic::{TOPICS, Topic, all_words, begins_with, nearest_of, subject_of, topic_of};

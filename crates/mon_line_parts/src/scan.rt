@@ -3,34 +3,14 @@
 ghost use Rattle.std.specs.Prelude.{◌≡◌, ◌≤◌, ◌==◌, drop, length};
 ghost use Rattle.std.specs.List.{prefix_len};
 ghost use Rattle.std.specs.Option.{option_map};
-ghost use Rattle.model.specs.Token.{is_blank, is_word_byte};
-ghost use Rattle.mon_line_parts.specs.Reading.{after, after_word, behind_part, character_of};
+ghost use Rattle.mon_line_parts.specs.Reading.{after, after_word, character_of};
 ghost use Rattle.mon_line_parts.specs.Reading.{escaped, file_of, is_empty, is_no_blank, is_no_quote};
-ghost use Rattle.mon_line_parts.specs.Reading.{after_image_word, image_word, is_name_byte, up_to};
-ghost use Rattle.mon_line_parts.specs.Reading.{is_next, is_word, past, quoted_next, skip};
+ghost use Rattle.mon_line_parts.specs.Reading.{after_image_word, image_word, is_name_byte};
+ghost use Rattle.mon_line_parts.specs.Reading.{is_word, past, quoted_next, skip};
 ghost use Rattle.mon_line_parts.specs.Reading.{with_escape, without_comment, without_quote, word_of};
 
+use lexer::{blank_run, is_next, word_run};
 use source_map::is_same_word;
-
-/// Counts the bytes at the front that are blanks.
-fn blanks(text: &[u8]) -> usize
-    ensures counted { result ≡ prefix_len is_blank text.now }
-    ensures inside { result ≤ length text.now }
-{
-    text.iter()
-        .take_while(|byte| matches!(**byte, b' ' | b'\t'))
-        .count()
-}
-
-/// Counts the bytes at the front that are letters, digits or `_`.
-fn word_bytes(text: &[u8]) -> usize
-    ensures counted { result ≡ prefix_len is_word_byte text.now }
-    ensures inside { result ≤ length text.now }
-{
-    text.iter()
-        .take_while(|byte| matches!(**byte, b'A'..=b'Z' | b'a'..=b'z' | b'0'..=b'9' | b'_'))
-        .count()
-}
 
 /// Returns whether nothing is left.
 pub fn is_empty(text: &[u8]) -> bool
@@ -54,7 +34,7 @@ fn without_comment(text: &[u8]) -> &[u8]
 pub fn skip(text: &[u8]) -> &[u8]
     ensures { result.now ≡ skip text.now }
 {
-    without_comment(&text[blanks(text)..])
+    without_comment(&text[blank_run(text)..])
 }
 
 /// Returns the text after its first bytes and the blanks behind them.
@@ -62,16 +42,6 @@ pub fn after(count: usize, text: &[u8]) -> &[u8]
     ensures { result.now ≡ after count text.now }
 {
     skip(&text[count.min(text.len())..])
-}
-
-/// Returns whether a sign comes next.
-pub fn is_next(sign: u8, text: &[u8]) -> bool
-    ensures { result ≡ is_next sign text.now }
-{
-    match text {
-        [] => false,
-        [first, ..] => *first == sign,
-    }
 }
 
 /// Returns the text after a sign, if the sign comes next.
@@ -89,14 +59,14 @@ pub fn past(sign: u8, text: &[u8]) -> &[u8]
 pub fn word_of(text: &[u8]) -> &[u8]
     ensures { result.now ≡ word_of text.now }
 {
-    &text[..word_bytes(text)]
+    &text[..word_run(text)]
 }
 
 /// Returns the text after its first word and the blanks behind it.
 pub fn after_word(text: &[u8]) -> &[u8]
     ensures { result.now ≡ after_word text.now }
 {
-    after(word_bytes(text), text)
+    after(word_run(text), text)
 }
 
 /// Counts the bytes at the front that are letters, digits, or `_ @ . :`.

@@ -12,8 +12,9 @@ ghost use Rattle.mon_line_parts.specs.SourceLines.{line_in, line_number, no_line
 ghost use Rattle.source_map.specs.Lines.{source_view};
 
 use crate::numbers::number_in;
-use crate::scan::{after, after_word, is_empty, is_next, word_of};
+use crate::scan::{after, after_word, is_empty, word_of};
 use crate::slip::Flaw;
+use lexer::is_next;
 use source_map::{Places, SourceFile};
 
 /// Counts the bytes before the first blank or `:`.

@@ -16,12 +16,13 @@ ghost use Rattle.mon_line_parts.specs.Values.{some_bytes, some_count, sum_of, te
 
 use crate::numbers::number_in;
 use crate::scan::{
-    after, after_image_word, after_word, character_of, image_word, is_empty, is_next, past,
-    quoted_next, without_first, word_of,
+    after, after_image_word, after_word, character_of, image_word, is_empty, past, quoted_next,
+    without_first, word_of,
 };
 use crate::slip::{Flaw, Lack};
 use crate::source_lines::{after_line, file_word, line_address, line_number, no_line_of, own_line};
 use arrayvec::ArrayVec;
+use lexer::is_next;
 use source_map::{Places, is_same_word};
 
 /// The highest count.

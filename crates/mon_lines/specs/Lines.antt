@@ -2,11 +2,12 @@
 use Rattle.std.specs.Prelude.{ℕ, ◌==◌, ◌&&◌, ◌||◌, nat_lt, not, is_none, is_some, Bool, true, false, codes, if◌then◌else◌, List, [], length, Option, Some, None, unwrap_or, Result, Ok, Err}
 use Rattle.std.specs.Option.{option_copied}
 use Rattle.std.specs.Str.{byte}
+use Rattle.lexer.specs.Front.{is_next}
 use Rattle.model.specs.Mnemonics.{mnemonic_named}
 use Rattle.model.specs.declared.event.Setting.{Setting}
 use Rattle.model.specs.declared.instruction.Mnemonic.{Mnemonic}
 use Rattle.model.specs.declared.instruction.Profile.TheVariants.{C}
-use Rattle.mon_line_parts.specs.Reading.{Reads, SeenFlaw, unknown, several, missing, behind, long, after, after_word, and_then, file_of, is_empty, is_next, is_word, number_in, past, skip, flaw_view, word_of}
+use Rattle.mon_line_parts.specs.Reading.{Reads, SeenFlaw, unknown, several, missing, behind, long, after, after_word, and_then, file_of, is_empty, is_word, number_in, past, skip, flaw_view, word_of}
 use Rattle.mon_line_parts.specs.Values.{PlacesView, address_of, bit_of, bytes_of, count_of}
 use Rattle.mon_lines.specs.Parts.{address_at, ends_of, flag_of, is_register_or_flag, kind_of, level_of, setting_of, shown_of, stretch_of, tests_of, times_of, undoing_of, watched_register}
 use Rattle.mon_line_parts.specs.Topics.{nearest_of, subject_of, topic_of}

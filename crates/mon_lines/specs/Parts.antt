@@ -1,9 +1,10 @@
 -- The parts of what a line asks for: tests, stretches of memory, settings. Source: mos65.
 use Rattle.std.specs.Prelude.{ℕ, zero, suc, ◌+◌, ◌-◌, ◌==◌, ◌&&◌, ◌||◌, min, nat_lt, nat_le, is_some, Bool, true, false, codes, if◌then◌else◌, List, [], ◌∷◌, ◌++◌, length, Option, Some, None, unwrap_or, Ok, Err}
 use Rattle.std.specs.Str.{byte, bytes_eq, str_eq_ignore_ascii_case}
+use Rattle.lexer.specs.Front.{is_next}
 use Rattle.model.specs.declared.event.Setting.{Setting}
 use Rattle.model.specs.declared.event.Setting.TheVariants as setting
-use Rattle.mon_line_parts.specs.Reading.{Reads, missing, unreadable, many, after, after_word, and_then, is_empty, is_next, is_word, past, word_of}
+use Rattle.mon_line_parts.specs.Reading.{Reads, missing, unreadable, many, after, after_word, and_then, is_empty, is_word, past, word_of}
 use Rattle.mon_line_parts.specs.Values.{PlacesView, count_of, sum_of}
 use Rattle.mon_lines.specs.declared.command.Compare.{Compare}
 use Rattle.mon_lines.specs.declared.command.Compare.TheVariants.{Equal, Other, Less, LessOrEqual, More, MoreOrEqual}

@@ -1,10 +1,10 @@
 -- What a run is made for. Source: mos65; what JSR, RTS and RTI do, MCS6500 manual, chapter 8.
-use Rattle.std.specs.Prelude.{ℕ, ◌==◌, ◌&&◌, ◌||◌, Bool, not, nat_lt, slice_index, Result, Ok, Err}
+use Rattle.std.specs.Prelude.{ℕ, ◌==◌, ◌&&◌, ◌||◌, Bool, not, nat_lt, slice_index}
+use Rattle.model.specs.Calls.{after_answer}
 use Rattle.model.specs.State.{State}
 use Rattle.model.specs.Step.{entry_due}
 use Rattle.model.specs.Session.{Session}
 use Rattle.model.specs.Breakpoints.{break_cleared}
-use Rattle.model.specs.declared.session_fault.SessionFault.{SessionFault}
 
 -- The opcode at the program counter.
 abbrev pub opcode_at_pc : State → ℕ
@@ -23,10 +23,6 @@ has_left stack before after =
 
 -- ---- a breakpoint for one run
 
-abbrev pub if_cleared : Session → Result Session SessionFault → Session
-if_cleared s (Ok t) = t
-if_cleared s (Err fault) = s
-
 -- The session with a breakpoint cleared, if it was set.
 unfoldable pub without_break : ℕ → Session → Session
-without_break address s = if_cleared s (break_cleared address s)
+without_break address s = after_answer s (break_cleared address s)

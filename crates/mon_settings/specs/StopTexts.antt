@@ -2,6 +2,7 @@
 use Rattle.std.specs.Prelude.{ℕ, ◌-◌, ◌==◌, ◌&&◌, nat_le, nat_lt, not, Bool, false, if◌then◌else◌, List, [], ◌∷◌, ◌++◌, length, take, get_or, Option, None, Some, codes}
 use Rattle.std.specs.List.{flat_map}
 use Rattle.std.specs.Str.{bytes_eq}
+use Rattle.mon_texts.specs.Pushed.{is_code}
 use Rattle.mon_settings.specs.declared.watches.Unwatched.{Unwatched}
 use Rattle.mon_settings.specs.declared.watches.Unwatched.TheVariants.{Port, Full, Wide}
 use Rattle.mon_lines.specs.declared.command.Register.{Register}
@@ -13,7 +14,6 @@ use Rattle.mon_instructions.specs.Places.{place_text}
 use Rattle.mon_texts.specs.Stops.{break_line, register_name, register_watch_line, watch_line}
 use Rattle.source_map.specs.Lines.{PlacesView, row_at}
 use Rattle.source_map.specs.Names.{Named, first_text, name_at}
-use Rattle.source_map.specs.declared.rows.Row.{Row}
 use Rattle.mon_session.specs.declared.wording.TheConstants.{BREAKS_FULL}
 use Rattle.mon_settings.specs.declared.wording.TheConstants.{DELETED, NOTHING_AT, NOTHING_SET, NOT_WATCHED, NO_INSTRUCTION_BEGINS, PORT_UNWATCHED, SECOND_ADDRESS, WATCHES_FULL, WATCH_TOO_WIDE}
 
@@ -23,11 +23,6 @@ use Rattle.mon_settings.specs.declared.wording.TheConstants.{DELETED, NOTHING_AT
 abbrev pub break_text : List Named → Break → List ℕ
 break_text names stop = break_line names stop.address stop.tests.items stop.times
 
--- Whether the line of a row is an instruction. Where there is no row, it is none.
-abbrev pub is_instruction : Option Row → Bool
-is_instruction None = false
-is_instruction (Some row) = row.is_instruction
-
 -- That no instruction of the source begins at an address, if all lines of the program are known.
 abbrev pub none_begins : List Named → ℕ → List ℕ
 none_begins names address
@@ -36,7 +31,7 @@ none_begins names address
 unfoldable pub lines_text : PlacesView → ℕ → List ℕ
 lines_text places address
     = if places.is_whole && nat_lt 0 (length places.lines)
-    && not (is_instruction (row_at places.lines address))
+    && not (is_code (row_at places.lines address))
     then none_begins places.names address else []
 
 -- A name is a text with a colon and four bytes behind it, as `loop:E150`: a name that had another

@@ -1,9 +1,10 @@
 //! Lines that set a break.
 
 ghost use Rattle.std.specs.Prelude.{◌≡◌, ◌++◌, IfOk, OnErr, OnOk, if◌then◌else◌};
+ghost use Rattle.mon_texts.specs.Pushed.{is_code};
 ghost use Rattle.model.specs.Breakpoints.{break_set};
 ghost use Rattle.mon_settings.specs.StopLines.{is_set, or_same, with_break};
-ghost use Rattle.mon_settings.specs.StopTexts.{again_text, break_text, is_instruction, lines_text};
+ghost use Rattle.mon_settings.specs.StopTexts.{again_text, break_text, lines_text};
 ghost use Rattle.mon_settings.specs.StopTexts.{none_begins, set_text};
 ghost use Rattle.source_map.specs.Lines.{row_at};
 ghost use Rattle.mon_session.specs.Course.{IsEither, KeepsStops, ShowsOnly, course_of};
@@ -39,7 +40,7 @@ fn break_in_session(mon: &mut MonState, address: u16) -> Result<bool, AllocError
 
 /// Returns whether an instruction of the source begins at an address.
 fn begins_instruction(places: &Places, address: u16) -> bool
-    ensures { result ≡ is_instruction (row_at places.now.lines address) }
+    ensures { result ≡ is_code (row_at places.now.lines address) }
 {
     match places.row_at(address) {
         None => false,

@@ -1,6 +1,7 @@
 -- What the outcome of an assembler's or a tape's reader makes of the status, the fault that is told,
 -- and what stands in the slot.
 use Rattle.std.proofs.Common.{◌≡◌, ℕ, ◌+◌, ◌<◌, List, length, Option, Some, None, Result, Ok, Err, ap, arith, refl, subst, sym, ◌⊎◌, inl, inr}
+use Rattle.law_sources.specs.Judging.{too_large}
 use Rattle.assembler.specs.Assembly.{AssemblyView, out_of_memory}
 use Rattle.clean_source.specs.Cleaned.{cleaned}
 use Rattle.model.specs.FaultNames.{source_fault_number}
@@ -12,7 +13,7 @@ use Rattle.model.specs.TapeFault.{tape_fault_number}
 use Rattle.model.specs.TapeFault.{out_of_memory as no_memory}
 use Rattle.model.specs.declared.source_fault.AsmFault.{AsmFault}
 use Rattle.model.specs.declared.tape.TapeFault.{TapeFault}
-use Rattle.mos65_c.specs.Answers.{AnswersSource, AnswersStart, AnswersTape, IsAssembly, Tells, no_fault, source_fault, tape_fault, too_large}
+use Rattle.mos65_c.specs.Answers.{AnswersSource, AnswersStart, AnswersTape, IsAssembly, Tells, no_fault, source_fault, tape_fault}
 use Rattle.mos65_c.specs.declared.names.Fault.{Fault}
 
 -- A part answered a value, so it answered no fault.

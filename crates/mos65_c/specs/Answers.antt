@@ -1,5 +1,6 @@
 -- What a status says of a session or an assembly before a call and after it. Source: mos65.
 use Rattle.std.specs.Prelude.{ℕ, ℤ, ◌≡◌, ◌≢◌, ◌+◌, ◌-◌, ◌<◌, ◌≤◌, ◌⊎◌, ◌++◌, false, true, List, length, drop, Option, Some, None, Result, IfErr, IfOk, IsOk, Ok, Err}
+use Rattle.law_sources.specs.Judging.{too_large}
 use Rattle.model.specs.State.{State, Map, has_port_byte}
 use Rattle.model.specs.Event.{event_of, start}
 use Rattle.model.specs.FaultNames.{event_fault_number, session_fault_number, source_fault_number}
@@ -15,7 +16,6 @@ use Rattle.model.specs.declared.event.EventFault.{EventFault}
 use Rattle.model.specs.declared.run_end.RunEnd.{RunEnd}
 use Rattle.model.specs.declared.session_fault.SessionFault.{SessionFault}
 use Rattle.model.specs.declared.source_fault.AsmFault.{AsmFault}
-use Rattle.model.specs.declared.source_fault.AsmFaultKind.TheVariants.{TooLarge}
 use Rattle.model.specs.declared.tape.TapeFault.{TapeFault}
 use Rattle.assembler.specs.Assembly.{AssemblyView, IsImageOrMemory, listing_of, out_of_memory}
 use Rattle.assembler.specs.Lines.{LineView}
@@ -129,9 +129,6 @@ pub record IsAssembly (map : Map) (text : List ℕ) (x : AssemblyView) : Type 0 
   pub names : (placed : List PlacedLine) (all : Context)
       → IsLaidOut (first_context map.profile) (read_lines map.profile text) placed all
       → x.names ≡ all.names
-
-abbrev pub too_large : AsmFault
-too_large = record { line = 0; kind = TooLarge }
 
 -- What comes of a text: its assembly, or its fault, unless memory was refused.
 pub record AssemblesText (map : Map) (text : List ℕ) (result : Result AssemblyView AsmFault) : Type 0

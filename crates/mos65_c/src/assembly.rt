@@ -1,10 +1,11 @@
 //! Sources assembled.
 
 ghost use Rattle.std.specs.Prelude.{◌≡◌, ◌≢◌, ◌<◌, Err, length, None, Some, take};
+ghost use Rattle.law_sources.specs.Judging.{too_large};
 ghost use Rattle.assembler.specs.Assembly.{AssemblyView, listing_of};
 ghost use Rattle.clean_source.specs.Cleaned.{cleaned};
 ghost use Rattle.model.specs.TapeText.{tape_text};
-ghost use Rattle.mos65_c.specs.Answers.{AnswersSource, AssemblesText, no_fault, too_large, written};
+ghost use Rattle.mos65_c.specs.Answers.{AnswersSource, AssemblesText, no_fault, written};
 ghost use Rattle.mos65_c.specs.Status.{config_map, config_status};
 
 use crate::config::{Config, map_of};

@@ -1,12 +1,13 @@
 //! The names of lines.
 
 ghost use Rattle.std.specs.Prelude.{◌≡◌, ◌≤◌, ◌++◌, IfOk, OnOk, length};
+ghost use Rattle.assembler.specs.FoundLines.{ends_line};
 ghost use Rattle.line_parts.specs.Lexemes.{lexemes};
 ghost use Rattle.line_parts.specs.LineViews.{line_view};
 ghost use Rattle.model.specs.Source.{is_end};
 ghost use Rattle.model.specs.SourceLine.{read_line};
 ghost use Rattle.name_uses.specs.Uses.{defines_first, line_uses, uses_in, uses_of};
-ghost use Rattle.name_uses.specs.Views.{ends_line, use_views};
+ghost use Rattle.name_uses.specs.Views.{use_views};
 
 use crate::name_use::NameUse;
 use crate::words::is_name_token;

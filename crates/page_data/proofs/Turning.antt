@@ -5,6 +5,7 @@ use Rattle.std.specs.List.{flat_map}
 use Rattle.std.proofs.lemmas.Bool.{cases_lt, false≢true}
 use Rattle.std.proofs.lemmas.Bool.Decides.{nat_tests}
 use Rattle.std.proofs.lemmas.List.{get_or-set_other, length-map, length-set}
+use Rattle.model.specs.Transcript.{after_event}
 use Rattle.model.specs.Effect.{status}
 use Rattle.model.specs.Event.{bus_with_patch, event_of, input_of, meets_port, patch_of, reset_of, reset_state, set_to}
 use Rattle.model.specs.Session.{Session, keep_last, with_state}
@@ -15,7 +16,7 @@ use Rattle.model.specs.declared.event.Event.TheVariants as event
 use Rattle.model.specs.declared.event.EventFault.{EventFault}
 use Rattle.model.specs.declared.event.EventFault.TheVariants.{BadLength, CyclesFull, InputFull, PastEnd, PortAddress}
 use Rattle.page_data.specs.Changes.{Tells, back, flipped, forth}
-use Rattle.page_data.specs.Events.{IsBefore, change_told, event_change, handed_by, if_led, is_reset, is_step, led_by, patched_by, patched_from}
+use Rattle.page_data.specs.Events.{IsBefore, change_told, event_change, handed_by, is_reset, is_step, led_by, patched_by, patched_from}
 use Rattle.page_data.specs.Format.{IsSmall, bytes_of, cell, counted, eight as eight_of, head, marks, without_zeros}
 use Rattle.page_data.specs.Steps.{IsAhead, cells_after, with_input}
 use Rattle.page_data.specs.declared.ahead.Ahead.{Ahead}
@@ -426,10 +427,10 @@ step_recorded e s new start more is made tells room =
 -- ---- an event of a session
 
 pub made_led : (e : Event) (s new : Session) → (t : State) × (event_of s.current e ≡ Ok t) × (new ≡ with_state s t) → new ≡ led_by e s
-made_led e s new made = made.2 ∙ sym (ap (if_led s) made.1)
+made_led e s new made = made.2 ∙ sym (ap (after_event s) made.1)
 
 pub refused_led : (e : Event) (s new : Session) (fault : EventFault) → (event_of s.current e ≡ Err fault) × (new ≡ s) → new ≡ led_by e s
-refused_led e s new fault h = h.1 ∙ sym (ap (if_led s) h.0)
+refused_led e s new fault h = h.1 ∙ sym (ap (after_event s) h.0)
 
 -- ---- a record, part by part
 

@@ -4,14 +4,14 @@
 -- The record of an event that is no step is one as that of a step: it reads nothing, and stores
 -- where a patch puts its bytes. It has no cycles, as no step has. A reset alone has 7, and is told
 -- as an interrupt entry that stores nothing, as no entry does.
-use Rattle.std.specs.Prelude.{◌≡◌, ℕ, ◌+◌, ◌-◌, ◌%◌, nat_lt, Bool, true, false, if◌then◌else◌, List, [], ◌∷◌, ◌++◌, take, None, bit_xor, Result, Ok, Err}
+use Rattle.std.specs.Prelude.{◌≡◌, ℕ, ◌+◌, ◌-◌, ◌%◌, nat_lt, Bool, true, false, if◌then◌else◌, List, [], ◌∷◌, ◌++◌, take, None, bit_xor}
+use Rattle.model.specs.Transcript.{after_event}
 use Rattle.model.specs.Effect.{status}
 use Rattle.model.specs.Event.{event_of}
-use Rattle.model.specs.Session.{Session, with_state}
+use Rattle.model.specs.Session.{Session}
 use Rattle.model.specs.State.{State}
 use Rattle.model.specs.declared.event.Event.{Event}
-use Rattle.model.specs.declared.event.Event.TheVariants.{Step, Reset, Irq, Nmi, Set, Patch, Input}
-use Rattle.model.specs.declared.event.EventFault.{EventFault}
+use Rattle.model.specs.declared.event.Event.TheVariants.{Step, Reset, Patch, Input}
 use Rattle.page_data.specs.Changes.{Tells, flipped}
 use Rattle.page_data.specs.Format.{Change}
 use Rattle.page_data.specs.Start.{start_at, start_bytes}
@@ -94,13 +94,8 @@ change_told event before t = record {
 
 -- ---- a session
 
--- An event leads a session on if it is accepted. A rejected one changes nothing.
-abbrev pub if_led : Session → Result State EventFault → Session
-if_led s (Ok state) = with_state s state
-if_led s (Err fault) = s
-
 abbrev pub led_by : Event → Session → Session
-led_by event s = if_led s (event_of s.current event)
+led_by event s = after_event s (event_of s.current event)
 
 -- Some bytes are the data of a session from a state on: read, they give this state, and then the
 -- records that tell of all states that the session holds.

@@ -1,6 +1,7 @@
 -- Runs to an address, and subroutines called from outside the program. Source: mos65; what JSR
 -- pushes, MCS6500 manual, chapter 8.
 use Rattle.std.specs.Prelude.{ℕ, ◌+◌, ◌%◌, List, [], ◌∷◌, Option, Some, None, Result, Ok, Err}
+use Rattle.model.specs.Calls.{after_answer}
 use Rattle.model.specs.State.{State}
 use Rattle.model.specs.Event.{event_of}
 use Rattle.model.specs.Session.{Session, with_state}
@@ -32,13 +33,8 @@ after_events s (event ∷ events) = after_events (after_event s event) events
 
 -- ---- a run to an address
 
--- The session with a breakpoint cleared, if it was set.
-abbrev pub if_cleared : Session → Result Session SessionFault → Session
-if_cleared s (Ok t) = t
-if_cleared s (Err fault) = s
-
 unfoldable pub without_break : ℕ → Session → Session
-without_break address s = if_cleared s (break_cleared address s)
+without_break address s = after_answer s (break_cleared address s)
 
 -- How a run that also ends at an address ends, and the session after it: a breakpoint is set there,
 -- the session is made ready, it runs, and the breakpoint is cleared. One that was set before stays

@@ -2,9 +2,9 @@
 use Rattle.std.specs.Prelude.{ℕ, ◌-◌, List, [], ◌++◌, Option, None, Some, codes, decimal, drop}
 use Rattle.std.specs.List.{find}
 use Rattle.std.specs.Option.{option_map}
+use Rattle.formatting.specs.Padding.{blanks}
 use Rattle.fault_notes.specs.Near.{is_near}
 use Rattle.model.specs.Names.{Definitions}
-use Rattle.t65_failures.specs.Steps.{blanks}
 use Rattle.t65_values.specs.FaultWords.{example_words, fault_words}
 use Rattle.t65_values.specs.ValueText.{word_of}
 use Rattle.t65_values.specs.Visible.{visible_text}

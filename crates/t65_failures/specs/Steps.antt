@@ -1,6 +1,7 @@
 -- The last steps of a call as text, and the session after they are told. Source: mos65.
-use Rattle.std.specs.Prelude.{ℕ, zero, suc, ◌+◌, ◌-◌, ◌%◌, ◌==◌, nat_lt, false, min, if◌then◌else◌, List, [], ◌∷◌, ◌++◌, Option, None, Some, Result, Ok, Err, codes, decimal, encode_utf8, length, map, replicate, slice_index}
+use Rattle.std.specs.Prelude.{ℕ, zero, suc, ◌+◌, ◌-◌, ◌%◌, ◌==◌, nat_lt, false, min, if◌then◌else◌, List, [], ◌∷◌, ◌++◌, Option, None, Some, Result, Ok, Err, codes, decimal, encode_utf8, length, map, slice_index}
 use Rattle.std.specs.List.{flat_map}
+use Rattle.formatting.specs.Padding.{padded}
 use Rattle.model.specs.Back.{back_of}
 use Rattle.model.specs.Disassembly.{row_line}
 use Rattle.model.specs.Effect.{status}
@@ -38,13 +39,6 @@ row_character b = if b == 10 then [] else encode_utf8 b
 unfoldable pub instruction_text : State → ℕ → List ℕ
 instruction_text state address
     = flat_map row_character (row_by state address (three_bytes state.bus.memory address))
-
-abbrev pub blanks : ℕ → List ℕ
-blanks count = replicate count 32
-
--- A text with blanks behind it up to a width.
-unfoldable pub padded : ℕ → List ℕ → List ℕ
-padded width text = text ++ blanks (width - length text)
 
 -- The registers. The status register is told with B clear.
 unfoldable pub regs_text : Regs → List ℕ

@@ -2,12 +2,13 @@
 
 ghost use Rattle.std.specs.Prelude.{◌≡◌, ◌-◌, ◌≤◌, ◌++◌, Ok, OnOk, false, string_bytes, string_len};
 ghost use Rattle.std.specs.List.{flat_map};
+ghost use Rattle.formatting.specs.Padding.{padded, blanks};
 ghost use Rattle.model.specs.Effect.{status};
 ghost use Rattle.model.specs.Run.{after_steps};
 ghost use Rattle.t65_failures.specs.Steps.{after_last_steps, around_text, arrival_count};
-ghost use Rattle.t65_failures.specs.Steps.{arrival_steps_text, arrival_text, blanks};
+ghost use Rattle.t65_failures.specs.Steps.{arrival_steps_text, arrival_text};
 ghost use Rattle.t65_failures.specs.Steps.{instruction_text, signal_name, signal_text, steps_by};
-ghost use Rattle.t65_failures.specs.Steps.{last_steps_text, padded, regs_text};
+ghost use Rattle.t65_failures.specs.Steps.{last_steps_text, regs_text};
 ghost use Rattle.t65_failures.specs.Steps.{row_character, source_text, step_text, steps_text, undone_text};
 ghost use Rattle.t65_failures.specs.Texts.{named_byte};
 ghost use Rattle.t65_runner.specs.Requests.{after_arrival};
@@ -82,7 +83,7 @@ fn pad(text: &mut String, from: usize, width: usize) -> Result<(), AllocError>
 }
 
 /// Appends the row of the instruction at an address, with blanks behind it up to a width.
-#[tactic(auto, unfolding(crate::specs::Steps::padded))]
+#[tactic(auto, unfolding(formatting::specs::Padding::padded))]
 fn push_padded_row(
     text: &mut String,
     session: &Session,
@@ -228,7 +229,7 @@ fn push_signal(text: &mut String, signal: Signal) -> Result<(), AllocError>
 }
 
 /// Appends the name of an interrupt between brackets, with blanks behind it up to a width.
-#[tactic(auto, unfolding(crate::specs::Steps::padded))]
+#[tactic(auto, unfolding(formatting::specs::Padding::padded))]
 fn push_padded_signal(text: &mut String, signal: Signal, width: usize) -> Result<(), AllocError>
     ensures { OnOk result (string_bytes text.new
         ≡ string_bytes text.old ++ padded width (signal_text signal)) }

@@ -3,6 +3,7 @@ use Rattle.std.specs.Prelude.{ℕ, zero, suc, ◌+◌, ◌-◌, ◌==◌, ◌&&�
 use Rattle.std.specs.Borrow.{Bor}
 use Rattle.std.specs.Str.{byte, bytes_eq}
 use Rattle.std.specs.List.{prefix_len}
+use Rattle.lexer.specs.Front.{is_next}
 use Rattle.model.specs.Names.{Definitions}
 use Rattle.model.specs.Token.{is_string_byte}
 use Rattle.t65_values.specs.declared.fault.RowFault.{RowFault}
@@ -43,7 +44,7 @@ use Rattle.t65_reader.specs.declared.row.Request.{Request}
 use Rattle.t65_reader.specs.declared.row.Signal.{Signal}
 use Rattle.t65_reader.specs.declared.row.Signal.TheVariants.{Irq, Nmi}
 use Rattle.t65_reader.specs.Sequences.{just, sequence_of}
-use Rattle.t65_values.specs.ValueText.{Reads, address_of, after_sign, after_word, and_then, ends, fault_at, is_next, letter_in, number_of, skip_blanks, value_of, word_of}
+use Rattle.t65_values.specs.ValueText.{Reads, address_of, after_sign, after_word, and_then, ends, fault_at, letter_in, number_of, skip_blanks, value_of, word_of}
 
 -- ---- items
 

@@ -1,9 +1,10 @@
 -- Bytes in order: values, random bytes and strings, with commas between them. Source: mos65.
 use Rattle.std.specs.Prelude.{ℕ, zero, suc, ◌+◌, nat_le, Bool, not, if◌then◌else◌, List, [], ◌∷◌, ◌++◌, length, drop, codes, Option, Some, None, Ok, Err}
 use Rattle.std.specs.Str.{byte, bytes_eq}
+use Rattle.lexer.specs.Front.{is_next}
 use Rattle.model.specs.Names.{Definitions}
 use Rattle.t65_values.specs.StringText.{Character, character_of}
-use Rattle.t65_values.specs.ValueText.{Reads, after_word, and_then, fault_at, is_next, number_of, skip_blanks, value_of, word_of}
+use Rattle.t65_values.specs.ValueText.{Reads, after_word, and_then, fault_at, number_of, skip_blanks, value_of, word_of}
 use Rattle.t65_values.specs.declared.expression.Atom.{Atom}
 use Rattle.t65_values.specs.declared.expression.Atom.TheVariants.{Number, Random}
 use Rattle.t65_values.specs.declared.expression.Value.{Value}

@@ -1,21 +1,19 @@
 //! The items of a row: what is given before its call, and what is wanted after it.
 
-ghost use Rattle.std.specs.Prelude.{◌≡◌, ◌≢◌, ◌==◌, ◌+◌, ◌≤◌, ◌++◌, ◌∷◌, [], drop, false, IfErr};
-ghost use Rattle.std.specs.Prelude.{IfOk, length, Some, None, take, true, List};
-ghost use Rattle.std.specs.List.{prefix_len};
-ghost use Rattle.model.specs.Token.{is_string_byte};
+ghost use Rattle.std.specs.Prelude.{◌≡◌, ◌≢◌, ◌==◌, ◌+◌, ◌≤◌, ◌++◌, ◌∷◌, [], false, IfErr};
+ghost use Rattle.std.specs.Prelude.{IfOk, length, Some, None, true};
 ghost use Rattle.t65_reader.specs.RowText.{base_of, before, bracket_item, count_items, either_of};
-ghost use Rattle.t65_reader.specs.RowText.{fits, is_over, item_by, item_of, items_of, items_within};
-ghost use Rattle.t65_reader.specs.RowText.{lack_at, letter_item, memory_item, place_in, place_item};
-ghost use Rattle.t65_reader.specs.RowText.{place_of, relation_at, relation_of, sequence_after};
+ghost use Rattle.t65_reader.specs.RowText.{fits, is_over, item_by, item_of, items_of};
+ghost use Rattle.t65_reader.specs.RowText.{lack_at, memory_item, place_in, place_item};
+ghost use Rattle.t65_reader.specs.RowText.{place_of, relation_at, relation_of};
 ghost use Rattle.t65_reader.specs.RowText.{sequence_at, sign_count, string_of, string_place};
 ghost use Rattle.t65_reader.specs.RowText.{string_word, value_items, word_item};
 ghost use Rattle.t65_values.specs.ValueText.{fault_at, letter_in, word_of};
-ghost use Rattle.t65_reader.specs.declared.row.Item.{Item as SeenItem};
 
 use crate::row::{Item, Register, Relation, Target};
 use crate::sequence::{just, out_of_memory, sequence_of, without_first};
 use assembler::Assembly;
+use lexer::string_run;
 use opcode_facts::Flag;
 use std::alloc::Global;
 use t65_values::{
@@ -178,16 +176,6 @@ fn push_items(
         push(found, item)?;
     }
     Ok(())
-}
-
-/// Counts the bytes $20..$7E other than `"` at the front of a text.
-fn string_run(text: &[u8]) -> usize
-    ensures counted { result ≡ prefix_len is_string_byte text.now }
-    ensures inside { result ≤ length text.now }
-{
-    text.iter()
-        .take_while(|byte| matches!(**byte, b' ' | b'!' | b'#'..=b'~'))
-        .count()
 }
 
 /// Reads the bytes between two `"`.

@@ -3,6 +3,7 @@ use Rattle.std.proofs.Common.{◌≡◌, ℕ, zero, suc, ◌+◌, ◌-◌, ◌%�
 use Rattle.std.specs.Prelude.{◌==◌, ⊤, Bool, true, false, if◌then◌else◌, IfErr, OnOk}
 use Rattle.std.proofs.Math.Nat.{mod-add-mod, mod_self, mod-lt}
 use Rattle.std.proofs.lemmas.Bool.{le-leb}
+use Rattle.model.specs.Calls.{after_answer}
 use Rattle.model.specs.Back.{back_of, number_back, states, without_last}
 use Rattle.model.specs.Breakpoints.{break_cleared, break_set, table_with, table_without, with_breaks}
 use Rattle.model.specs.Event.{event_of, start}
@@ -15,7 +16,7 @@ use Rattle.model.specs.declared.event.Event.TheVariants as event
 use Rattle.model.specs.declared.event.EventFault.{EventFault}
 use Rattle.model.specs.declared.run_end.RunEnd.{RunEnd}
 use Rattle.model.specs.declared.session_fault.SessionFault.{SessionFault}
-use Rattle.rig.specs.Subroutine.{after_event, after_events, call_of, called, if_accepted, if_cleared, jsr_events, return_address, run_by, run_to_of, without_break}
+use Rattle.rig.specs.Subroutine.{after_event, after_events, call_of, called, if_accepted, jsr_events, return_address, run_by, run_to_of, without_break}
 use Rattle.t65_runner.specs.Interrupts.{entry_events, interrupted}
 use Rattle.t65_reader.specs.declared.row.Signal.{Signal}
 use Rattle.t65_reader.specs.declared.row.Signal.TheVariants.{Irq, Nmi}
@@ -95,7 +96,7 @@ since_breaks s now breaks since = record {
   watches = since.watches;
 }
 
-since_table : (s : State) (now : Session) (table : Result (List ℕ) SessionFault) → IsSince s now → IsSince s (if_cleared now (with_breaks now table))
+since_table : (s : State) (now : Session) (table : Result (List ℕ) SessionFault) → IsSince s now → IsSince s (after_answer now (with_breaks now table))
 since_table s now (Ok breaks) since = since_breaks s now breaks since
 since_table s now (Err fault) since = since
 

@@ -1,6 +1,5 @@
 mod Ends
 mod Heads
-mod Paths
 mod Programs
 mod Ready
 mod Spared

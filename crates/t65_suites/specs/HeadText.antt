@@ -2,10 +2,11 @@
 use Rattle.std.specs.Prelude.{ℕ, ◌+◌, ◌==◌, ◌&&◌, nat_lt, Bool, not, if◌then◌else◌, List, [], ◌∷◌, take, drop, codes, Option, Some, None, Result, Ok, Err}
 use Rattle.std.specs.Str.{byte, bytes_eq}
 use Rattle.std.specs.List.{prefix_len}
+use Rattle.lexer.specs.Front.{is_next}
 use Rattle.memory_map.specs.declared.port.TheConstants.{DEFAULT_PORT}
 use Rattle.model.specs.declared.instruction.Profile.{Profile}
 use Rattle.model.specs.declared.instruction.Profile.TheVariants as profile
-use Rattle.t65_values.specs.ValueText.{Reads, after_sign, after_word, and_then, ends, fault_at, is_next, number_of, skip_blanks, word_of}
+use Rattle.t65_values.specs.ValueText.{Reads, after_sign, after_word, and_then, ends, fault_at, number_of, skip_blanks, word_of}
 use Rattle.t65_reader.specs.RowText.{fault_in, string_of}
 use Rattle.t65_values.specs.declared.fault.RowFault.{RowFault}
 use Rattle.t65_values.specs.declared.fault.RowFaultKind.TheVariants.{NoSource, Syntax}

@@ -4,7 +4,7 @@ ghost use Rattle.std.specs.Prelude.{◌≡◌, ◌≤◌, ◌⊎◌, ◌++◌, I
 ghost use Rattle.std.specs.Prelude.{vec_len};
 ghost use Rattle.std.specs.Str.{IsUtf8};
 ghost use Rattle.t65_suites.specs.Ends.{EndsAnyTest};
-ghost use Rattle.t65_suites.specs.Paths.{begins_at_root, folder_for, name_start, source_path};
+ghost use Rattle.t65_suites.specs.Paths.{folder_for, source_path};
 ghost use Rattle.t65_suites.specs.Suites.{suite_view};
 ghost use Rattle.t65_suites.specs.Prepared.{path_of};
 
@@ -12,6 +12,7 @@ use crate::fault::TestFault;
 use crate::suites::Suite;
 use arguments::{ReadFault, Refusal, read_most};
 use clean_source::unmarked;
+use debug_files::{begins_at_root, folder_of};
 use std::alloc::{AllocError, Global};
 use std::rt::Files;
 
@@ -46,30 +47,6 @@ pub fn read_rows_text<H: Files + AllocGlobal>(rt: &H, path: &str) -> Result<Vec<
     without_mark(rt.alloc(), &text)
 }
 
-/// Returns where the name of the file begins in its path: after the last `/`, if there is one.
-fn name_start(path: &[u8]) -> usize
-    ensures start { result ≡ name_start 0 0 path.now }
-    ensures within { result ≤ length path.now }
-{
-    let mut start = 0usize;
-    for (at, byte) in path.iter().enumerate() {
-        if *byte == b'/' {
-            start = at + 1;
-        }
-    }
-    start
-}
-
-/// Returns whether a name begins with `/`.
-fn begins_at_root(name: &[u8]) -> bool
-    ensures { result ≡ begins_at_root name.now }
-{
-    match name {
-        [first, ..] => *first == b'/',
-        [] => false,
-    }
-}
-
 /// Returns the folder in which a name is looked for, with the `/`: that of the file of rows, unless
 /// the name begins with `/`.
 fn folder_for<'a>(file: &'a [u8], name: &[u8]) -> &'a [u8]
@@ -78,7 +55,7 @@ fn folder_for<'a>(file: &'a [u8], name: &[u8]) -> &'a [u8]
     if begins_at_root(name) {
         return &file[..0];
     }
-    &file[..name_start(file)]
+    folder_of(file)
 }
 
 /// Returns two texts, one after the other.

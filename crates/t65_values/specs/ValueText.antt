@@ -3,6 +3,7 @@
 use Rattle.std.specs.Prelude.{ℕ, ℤ, pos, negsuc, ◌+◌, ◌==◌, ◌/◌, ◌%◌, ◌&&◌, ◌||◌, nat_le, nat_lt, Bool, true, false, if◌then◌else◌, List, [], ◌∷◌, length, take, drop, codes, Option, Some, None, Result, Ok, Err}
 use Rattle.std.specs.Str.{byte, bytes_eq}
 use Rattle.std.specs.List.{list_all, prefix_len}
+use Rattle.lexer.specs.Front.{is_next}
 use Rattle.model.specs.Digits.{hex_number, decimal_number, is_hex_byte}
 use Rattle.model.specs.Names.{Definitions, number_in}
 use Rattle.model.specs.Token.{is_blank, is_digit, is_word_byte, begins}
@@ -42,10 +43,6 @@ word_of text = take (prefix_len is_word_byte text) text
 
 abbrev pub after_word : List ℕ → List ℕ
 after_word text = skip_blanks (drop (prefix_len is_word_byte text) text)
-
--- Whether a sign comes next.
-abbrev pub is_next : ℕ → List ℕ → Bool
-is_next sign text = begins (λ b. b == sign) text
 
 -- A line ends with its last byte, or where `;` begins a comment.
 abbrev pub ends : List ℕ → Bool

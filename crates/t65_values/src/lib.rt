@@ -18,8 +18,9 @@ pub use assembler::Assembly;
 pub use characters::character_of;
 pub use expression::{Atom, Operation, Operator, Value};
 pub use fault::{Base, RowFault, RowFaultKind, TextFault};
+pub use lexer::is_next;
 pub use scan::{
-    address_of, after, after_sign, after_word, ends, fault_at, hex_of, is_next, is_text, number_of,
+    address_of, after, after_sign, after_word, ends, fault_at, hex_of, is_text, number_of,
     skip_blanks, word_of,
 };
 pub use value::{Letters, letter_in, value_of};

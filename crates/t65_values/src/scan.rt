@@ -1,13 +1,13 @@
 //! Words, signs, numbers and addresses at the front of a text.
 
-ghost use Rattle.std.specs.Prelude.{◌≡◌, ◌==◌, ◌+◌, ◌<◌, ◌≤◌, drop, false, IfErr, IfOk, IfSome, length};
-ghost use Rattle.std.specs.Prelude.{take, true};
-ghost use Rattle.std.specs.List.{list_all, prefix_len};
+ghost use Rattle.std.specs.Prelude.{◌≡◌, ◌==◌, ◌+◌, ◌<◌, ◌≤◌, drop, false, IfErr, IfOk, length};
+ghost use Rattle.std.specs.Prelude.{true};
+ghost use Rattle.std.specs.List.{list_all};
 ghost use Rattle.std.specs.Str.{bytes_eq};
 ghost use Rattle.model.specs.Digits.{hex_number, is_hex_byte};
-ghost use Rattle.model.specs.Token.{begins, is_blank, is_digit, is_word_byte};
-ghost use Rattle.t65_values.specs.ValueText.{address_of, address_or_fault, after_sign, after_word};
-ghost use Rattle.t65_values.specs.ValueText.{base_address_of, ends, fault_at, is_next, name_of};
+ghost use Rattle.model.specs.Token.{begins, is_digit};
+ghost use Rattle.t65_values.specs.ValueText.{address_of, after_sign, after_word};
+ghost use Rattle.t65_values.specs.ValueText.{base_address_of, ends, fault_at, name_of};
 ghost use Rattle.t65_values.specs.ValueText.{is_long, lack_of, number_fault, number_in_word, number_of};
 ghost use Rattle.t65_values.specs.ValueText.{number_or_fault, skip_blanks};
 ghost use Rattle.t65_values.specs.ValueText.{sum_or_fault, unnamed, word_of};
@@ -16,6 +16,7 @@ use crate::fault::{Base, RowFault, RowFaultKind};
 use assembler::Assembly;
 use commands::digits;
 use formatting::hex_value;
+use lexer::{blank_run, is_next, word_run};
 
 /// Returns the fault that is seen where a text begins.
 pub fn fault_at(kind: RowFaultKind, text: &[u8]) -> RowFault
@@ -27,31 +28,11 @@ pub fn fault_at(kind: RowFaultKind, text: &[u8]) -> RowFault
     }
 }
 
-/// Counts the blanks at the front of a text.
-fn blank_run(text: &[u8]) -> usize
-    ensures counted { result ≡ prefix_len is_blank text.now }
-    ensures inside { result ≤ length text.now }
-{
-    text.iter()
-        .take_while(|byte| matches!(**byte, b' ' | b'\t'))
-        .count()
-}
-
 /// Returns a text without the blanks in front of it.
 pub fn skip_blanks(text: &[u8]) -> &[u8]
     ensures { result.now ≡ skip_blanks text.now }
 {
     &text[blank_run(text)..]
-}
-
-/// Counts the letters, digits and `_` at the front of a text.
-fn word_run(text: &[u8]) -> usize
-    ensures counted { result ≡ prefix_len is_word_byte text.now }
-    ensures inside { result ≤ length text.now }
-{
-    text.iter()
-        .take_while(|byte| matches!(**byte, b'A'..=b'Z' | b'a'..=b'z' | b'0'..=b'9' | b'_'))
-        .count()
 }
 
 /// Returns the word at the front of a text; empty where none is.
@@ -66,17 +47,6 @@ pub fn after_word(text: &[u8]) -> &[u8]
     ensures { result.now ≡ after_word text.now }
 {
     skip_blanks(&text[word_run(text)..])
-}
-
-/// Returns whether a sign comes next.
-pub fn is_next(sign: u8, text: &[u8]) -> bool
-    ensures next { result ≡ is_next sign text.now }
-    ensures some { result ≡ true → 0 < length text.now }
-{
-    match text {
-        [] => false,
-        [first, ..] => *first == sign,
-    }
 }
 
 /// Returns whether a line ends: with its last byte, or with a comment.

@@ -9,10 +9,9 @@ ghost use Rattle.t65_values.specs.ValueText.{operator_of, value_of, word_of};
 
 use crate::expression::{Atom, Operation, Operator, Value};
 use crate::fault::{Base, RowFault};
-use crate::scan::{
-    address_of, after, after_sign, after_word, is_next, is_text, number_of, word_of,
-};
+use crate::scan::{address_of, after, after_sign, after_word, is_text, number_of, word_of};
 use assembler::Assembly;
+use lexer::is_next;
 
 /// The letters of a row's ranges.
 #[derive(Clone, Copy)]

@@ -7,6 +7,7 @@ use Rattle.std.proofs.lemmas.List.{append_assoc, get_or-map, get_or-replicate, g
 use Rattle.std.proofs.lemmas.List.Folds.{position_or_len_push}
 use Rattle.std.proofs.lemmas.List.Sums.{prefix_len-le-length}
 use Rattle.std.proofs.lemmas.Bool.{cases_eq, cases_lt, eq-eqb, eqb-true, eqb-false, le-ltb, leb-true, lt-ltb, ne_eqb}
+use Rattle.source_map.specs.Names.{named_numbers}
 use Rattle.model.specs.Image.{cell_at}
 use Rattle.model.specs.Names.{Definitions}
 use Rattle.assembler.specs.Assembly.{AssemblyView}
@@ -14,7 +15,7 @@ use Rattle.assembler.specs.Lines.{LineView}
 use Rattle.trace_rows.specs.declared.lines.SourceLine.{SourceLine}
 use Rattle.trace_rows.specs.declared.sites.Label.{Label}
 use Rattle.trace_rows.specs.SourceLines.{Listed, line_of, lines_of, listed}
-use Rattle.trace_rows.specs.Sites.{IsTable, Labelled, Numbered, addresses_of, first_at, index_at, index_of, is_wanted, label_for, label_place, labelled, labels_in, line_addresses, name_if_free, name_of, names_in, names_of, nowhere, numbered, or_below, put_if_none}
+use Rattle.trace_rows.specs.Sites.{IsTable, Labelled, Numbered, addresses_of, first_at, index_at, index_of, is_wanted, label_for, label_place, labelled, labels_in, line_addresses, name_if_free, name_of, names_in, names_of, nowhere, or_below, put_if_none}
 
 -- ---- options
 
@@ -428,9 +429,9 @@ none_more old more e = sym (ap (λ ls. old ++ ls) e ∙ append-nil old)
 -- ---- the names of a source: first its labels, then the others
 
 pub first_names : (a : AssemblyView) (table : List ℕ) (old new : List Labelled) → IsTable table (λ address. None) → old ≡ []
-    → new ≡ old ++ names_of a.image (index_at table) true (numbered a) → new ≡ labels_in a
-first_names a table old new t e n = n ∙ (ap (λ ls. ls ++ names_of a.image (index_at table) true (numbered a)) e
-    ∙ same_names a.image table nowhere true (numbered a) t)
+    → new ≡ old ++ names_of a.image (index_at table) true (named_numbers a) → new ≡ labels_in a
+first_names a table old new t e n = n ∙ (ap (λ ls. ls ++ names_of a.image (index_at table) true (named_numbers a)) e
+    ∙ same_names a.image table nowhere true (named_numbers a) t)
 
 pub first_places : (a : AssemblyView) (table new : List ℕ) (labels : List Labelled) → IsTable table (λ address. None) → labels ≡ labels_in a
     → IsTable new (or_below a.image (λ address. option_or (index_at table address) (first_at (addresses_of labels) address))) → IsTable new (label_place a)
@@ -438,9 +439,9 @@ first_places a table new labels t e n = subst (λ ls. IsTable new (or_below a.im
     (spread_over a.image table new nowhere (first_at (addresses_of labels)) t n)
 
 pub then_names : (a : AssemblyView) (table : List ℕ) (old new : List Labelled) → IsTable table (label_place a) → old ≡ labels_in a
-    → new ≡ old ++ names_of a.image (index_at table) false (numbered a) → new ≡ names_in a
-then_names a table old new t e n = n ∙ (ap (λ ls. ls ++ names_of a.image (index_at table) false (numbered a)) e
-    ∙ ap (λ ls. labels_in a ++ ls) (same_names a.image table (label_place a) false (numbered a) t))
+    → new ≡ old ++ names_of a.image (index_at table) false (named_numbers a) → new ≡ names_in a
+then_names a table old new t e n = n ∙ (ap (λ ls. ls ++ names_of a.image (index_at table) false (named_numbers a)) e
+    ∙ ap (λ ls. labels_in a ++ ls) (same_names a.image table (label_place a) false (named_numbers a) t))
 
 pub then_places : (a : AssemblyView) (table new : List ℕ) (names : List Labelled) → IsTable table (label_place a) → names ≡ names_in a
     → IsTable new (or_below a.image (λ address. option_or (index_at table address) (first_at (addresses_of names) address))) → IsTable new (label_for a)

@@ -1,9 +1,9 @@
 -- Which label and which line of the source an address belongs to, by the tables of a source.
 -- Source: mos65.
 use Rattle.std.specs.Prelude.{◌≡◌, ℕ, zero, suc, ◌+◌, ◌-◌, ◌%◌, ◌<◌, ◌==◌, ◌&&◌, nat_le, not, ℤ, pos, negsuc, Bool, true, false, is_none, is_some, if◌then◌else◌, List, [], ◌∷◌, ◌++◌, Option, None, Some, length, map, position, slice_get, slice_index, slice_set, take}
-use Rattle.std.specs.List.{flat_map, zip}
+use Rattle.std.specs.List.{flat_map}
 use Rattle.std.specs.Option.{option_map, option_or}
-use Rattle.std.specs.Borrow.{Bor}
+use Rattle.source_map.specs.Names.{named_numbers}
 use Rattle.assembler.specs.Assembly.{AssemblyView}
 use Rattle.model.specs.Image.{cell_at}
 use Rattle.source_map.specs.Lines.{PlacesView}
@@ -38,10 +38,6 @@ label_near sites address = option_map (distance_from address) (label_at sites ad
 -- The line that begins at an address.
 abbrev pub line_at : Sites → ℕ → Option SourceLine
 line_at sites address = row_by sites.lines.items (index_at sites.line_of.items address)
-
--- A label behind a reference.
-abbrev pub near_view : Option (Bor (List ℕ) × ℕ) → Option (List ℕ × ℕ)
-near_view near = option_map (λ p. (p.0.now, p.1)) near
 
 -- ---- the labels and the tables of a source
 
@@ -107,17 +103,13 @@ line_addresses lines = map (λ line. line.address) lines
 
 -- ---- names by their address
 
--- The names of an assembled source, and whether each is a label, which stands before `:`.
-abbrev pub numbered : AssemblyView → List Numbered
-numbered assembly = zip assembly.names assembly.labels
-
 -- No address has a name yet.
 abbrev pub nowhere : ℕ → Option ℕ
 nowhere address = None
 
 -- The labels of an assembled source.
 abbrev pub labels_in : AssemblyView → List Labelled
-labels_in assembly = names_of assembly.image nowhere true (numbered assembly)
+labels_in assembly = names_of assembly.image nowhere true (named_numbers assembly)
 
 -- The index of the label that an address belongs to: of the first that stands there, or otherwise
 -- of the nearest one below, if the image has a byte at the address and at each one between.
@@ -127,7 +119,7 @@ label_place assembly = or_below assembly.image (first_at (addresses_of (labels_i
 -- The labels, and then the definitions that stand where no label's bytes are.
 abbrev pub names_in : AssemblyView → List Labelled
 names_in assembly = labels_in assembly
-    ++ names_of assembly.image (label_place assembly) false (numbered assembly)
+    ++ names_of assembly.image (label_place assembly) false (named_numbers assembly)
 
 -- The index of the name that an address belongs to: of its label, or where it has none of the first
 -- definition that stands there, or otherwise of the nearest one below, likewise.

@@ -4,11 +4,12 @@ ghost use Rattle.std.specs.Prelude.{◌≡◌, ◌+◌, ◌++◌, ◌==◌, [], 
 ghost use Rattle.std.specs.Prelude.{if◌then◌else◌, length, map, nat_lt, option_map, slice_get};
 ghost use Rattle.std.specs.Prelude.{slice_index};
 ghost use Rattle.std.specs.Option.{option_copied, option_or, option_to_list};
+ghost use Rattle.source_map.specs.Names.{near_view, named_numbers};
 ghost use Rattle.model.specs.Image.{cell_at};
 ghost use Rattle.trace_rows.specs.Sites.{AreLabels, IsTable, addresses_of, first_at, index_at, is_wanted};
 ghost use Rattle.trace_rows.specs.Sites.{label_for, label_near, labelled, line_addresses, line_at};
-ghost use Rattle.trace_rows.specs.Sites.{line_by_places, line_for, name_if_free, names_in, names_of, near_view};
-ghost use Rattle.trace_rows.specs.Sites.{numbered, or_below, put_if_none};
+ghost use Rattle.trace_rows.specs.Sites.{line_by_places, line_for, name_if_free, names_in, names_of};
+ghost use Rattle.trace_rows.specs.Sites.{or_below, put_if_none};
 ghost use Rattle.trace_rows.specs.SourceLines.{lines_by, lines_in, listed};
 
 use crate::lines::{SourceLine, lines_by, lines_of};
@@ -149,7 +150,7 @@ fn push_name_at(
 ) -> Result<(), AllocError>
     ensures { OnOk result (map labelled names.new.items ≡ map labelled names.old.items
         ++ names_of assembly.now.image (index_at table.now.items) labels
-        (option_to_list (slice_get (numbered assembly.now) index))) }
+        (option_to_list (slice_get (named_numbers assembly.now) index))) }
 {
     match (assembly.symbol(index), assembly.is_label(index)) {
         (Some((text, number)), Some(is_label)) => {
@@ -173,7 +174,7 @@ fn push_names(
     labels: bool,
 ) -> Result<(), AllocError>
     ensures { OnOk result (map labelled names.new.items ≡ map labelled names.old.items
-        ++ names_of assembly.now.image (index_at table.now.items) labels (numbered assembly.now)) }
+        ++ names_of assembly.now.image (index_at table.now.items) labels (named_numbers assembly.now)) }
 {
     for index in 0..assembly.symbol_count() {
         push_name_at(alloc, names, table, assembly, labels, index)?;
@@ -217,7 +218,7 @@ fn spread_names(
 ) -> Result<(), AllocError>
     requires { length table.old.items ≡ 65536 }
     ensures names { OnOk result (map labelled names.new.items ≡ map labelled names.old.items
-        ++ names_of assembly.now.image (index_at table.old.items) labels (numbered assembly.now)) }
+        ++ names_of assembly.now.image (index_at table.old.items) labels (named_numbers assembly.now)) }
     ensures table { OnOk result (IsTable table.new.items (or_below assembly.now.image
         (λ address. option_or (index_at table.old.items address)
         (first_at (addresses_of (map labelled names.new.items)) address)))) }

@@ -5,8 +5,9 @@ use Rattle.std.proofs.lemmas.Bool.{cases_Bool, eqb-true}
 use Rattle.std.proofs.lemmas.Bool.Decides.{leb_tells}
 use Rattle.std.proofs.lemmas.List.{append-nil, get_or_past}
 use Rattle.std.proofs.lemmas.List.Elements.{Contains-append_left, Contains-push, Contains-push_cases}
+use Rattle.dump_faults.specs.Faults.{same_cell}
 use Rattle.model.specs.Image.{cell_at}
-use Rattle.word_cmp.specs.Differences.{same_cell, differs, differences_below, differences}
+use Rattle.word_cmp.specs.Differences.{differs, differences_below, differences}
 
 abbrev Cells : Type 0
 Cells = List (Option ℕ)

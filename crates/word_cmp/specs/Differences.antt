@@ -1,12 +1,7 @@
 -- Where two images differ. Source: mos65.
-use Rattle.std.specs.Prelude.{ℕ, zero, suc, ◌==◌, Bool, true, false, not, if◌then◌else◌, List, [], ◌∷◌, ◌++◌, length, Option, Some, None}
+use Rattle.std.specs.Prelude.{ℕ, zero, suc, ◌==◌, Bool, not, if◌then◌else◌, List, [], ◌∷◌, ◌++◌, length, Option}
+use Rattle.dump_faults.specs.Faults.{same_cell}
 use Rattle.model.specs.Image.{cell_at}
-
--- Whether two cells are the same: both nothing, or the same byte.
-abbrev pub same_cell : Option ℕ → Option ℕ → Bool
-same_cell None None = true
-same_cell (Some a) (Some b) = a == b
-same_cell one other = false
 
 -- Whether two images differ at an address.
 abbrev pub differs : List (Option ℕ) → List (Option ℕ) → ℕ → Bool

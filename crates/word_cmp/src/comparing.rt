@@ -2,8 +2,9 @@
 
 ghost use Rattle.std.specs.Prelude.{◌≡◌, ◌≢◌, ◌↔◌, ℕ, [], IfOk, not};
 ghost use Rattle.std.specs.List.{Contains};
+ghost use Rattle.dump_faults.specs.Faults.{same_cell};
 ghost use Rattle.model.specs.Image.{cell_at};
-ghost use Rattle.word_cmp.specs.Differences.{differences, same_cell};
+ghost use Rattle.word_cmp.specs.Differences.{differences};
 
 use memory_map::Image;
 use std::alloc::{AllocError, Global};

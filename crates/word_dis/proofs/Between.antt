@@ -3,9 +3,10 @@ use Rattle.std.proofs.Common.{◌≡◌, ◌≢◌, ℕ, suc, ◌+◌, ◌<◌, 
 use Rattle.std.specs.Prelude.{slice_set}
 use Rattle.std.proofs.lemmas.List.{get_or-replicate, get_or_past, length-replicate, length-set}
 use Rattle.std.proofs.lemmas.Bool.Decides.{leb_tells}
+use Rattle.image_writer.specs.Window.{with_cell}
 use borrow.Author.Count.{below_more}
 use Rattle.model.specs.Image.{empty_image, cell_at}
-use Rattle.word_dis.specs.Marks.{cell_between, with_cell}
+use Rattle.word_dis.specs.Marks.{cell_between}
 
 -- below an address the cells are those of the part between two addresses, and from it on there are none
 pub record IsPart (cells part : List (Option ℕ)) (first last address : ℕ) : Type 0 where

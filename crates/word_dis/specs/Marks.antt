@@ -1,5 +1,5 @@
 -- What is marked, and the part of an image that is written. Source: mos65.
-use Rattle.std.specs.Prelude.{ℕ, nat_le, nat_lt, ◌&&◌, ◌||◌, Bool, false, is_some, if◌then◌else◌, List, [], ◌∷◌, length, Option, Some, None, slice_set}
+use Rattle.std.specs.Prelude.{ℕ, nat_le, nat_lt, ◌&&◌, ◌||◌, Bool, false, is_some, if◌then◌else◌, List, [], ◌∷◌, length, Option, None}
 use Rattle.model.specs.Image.{cell_at}
 use Rattle.source_forms.specs.declared.mark.Mark.{Mark}
 use Rattle.source_forms.specs.declared.mark.Mark.TheVariants.{Code, Data, Text, Address, Return}
@@ -40,8 +40,3 @@ has_labels asked = asked.labels || is_some asked.symbols
 abbrev pub cell_between : List (Option ℕ) → ℕ → ℕ → ℕ → Option ℕ
 cell_between cells first last address = if nat_le first address && nat_le address last
     then cell_at cells address else None
-
--- An image with a cell put at an address, where it is a byte.
-abbrev pub with_cell : List (Option ℕ) → ℕ → Option ℕ → List (Option ℕ)
-with_cell cells address None = cells
-with_cell cells address (Some b) = slice_set cells address (Some b)

@@ -1,10 +1,10 @@
 //! What is marked, and the part of an image that is written.
 ghost use Rattle.std.specs.Prelude.{◌≡◌, ℕ, ◌<◌, IfOk, length, slice_index_or, vec_len};
+ghost use Rattle.image_writer.specs.Window.{with_cell};
 ghost use Rattle.model.specs.Image.{cell_at};
 ghost use Rattle.marks_files.specs.Views.{marks_view};
 ghost use Rattle.source_forms.specs.Rows.{mark_at};
 ghost use Rattle.word_dis.specs.Marks.{cell_between, lies_in, lies_in_one, mark_of, said_mark};
-ghost use Rattle.word_dis.specs.Marks.{with_cell};
 
 use bus::Image;
 use marks_files::Marks;

@@ -1,11 +1,11 @@
 -- A file of notes at steps of a run: lines `STEP TEXT`. Source: mos65.
 use Rattle.std.specs.Prelude.{◌≡◌, ⊤, ℕ, ◌+◌, ◌==◌, ◌&&◌, nat_lt, Bool, not, if◌then◌else◌, List, [], ◌∷◌, ◌++◌, codes, decimal, length, take, drop, Option, Some, None, Result, Ok, Err}
 use Rattle.std.specs.List.{prefix_len}
+use Rattle.lexer.specs.Front.{without_blanks}
 use Rattle.arguments.specs.FaultLines.{fault_line, line_of}
 use Rattle.arguments.specs.declared.refusal.Refusal.TheVariants.{OutOfMemory}
 use Rattle.model.specs.Commands.{decimal_of}
 use Rattle.model.specs.TextLines.{lines_of}
-use Rattle.model.specs.Token.{is_blank}
 use Rattle.page_writer.specs.declared.opening.Note.{Note}
 use Rattle.word_page.specs.declared.notes.NotesFault.{NotesFault}
 use Rattle.word_page.specs.declared.notes.NotesFault.TheVariants.{NoNote, TooLong}
@@ -23,9 +23,6 @@ note_view note = (note.step, note.text.now)
 
 abbrev pub is_word_byte : ℕ → Bool
 is_word_byte b = not (b == 32) && not (b == 9)
-
-abbrev pub without_blanks : List ℕ → List ℕ
-without_blanks text = drop (prefix_len is_blank text) text
 
 -- A number of one to seven digits, and something behind it.
 abbrev pub note_with : Option ℕ → List ℕ → Option Noted

@@ -3,18 +3,19 @@
 ghost use Rattle.std.specs.Prelude.{◌≡◌, ◌≤◌, [], IfErr, IfOk, None, Ok, Some, decimal};
 ghost use Rattle.std.specs.Prelude.{if◌then◌else◌, length, map, option_map};
 ghost use Rattle.std.specs.List.{prefix_len};
+ghost use Rattle.lexer.specs.Front.{without_blanks};
 ghost use Rattle.model.specs.Commands.{decimal_of};
 ghost use Rattle.model.specs.TextLines.{lines_of};
-ghost use Rattle.model.specs.Token.{is_blank};
 ghost use Rattle.model.specs.Writers.{AppendsFront};
 ghost use Rattle.word_page.specs.Notes.{IsFaultIn, IsFaultOf, is_word_byte, no_note_line, note_of};
 ghost use Rattle.word_page.specs.Notes.{note_view, notes_from, notes_in, notes_line, notes_status};
-ghost use Rattle.word_page.specs.Notes.{with_line, without_blanks};
+ghost use Rattle.word_page.specs.Notes.{with_line};
 
 use crate::wording::{NO_NOTE, NOTES_TOO_LONG};
 use arguments::{Refusal, put_named, refuse};
-use commands::digits;
+use commands::decimal_of;
 use formatting::{Text, push_decimal};
+use lexer::without_blanks;
 use line_parts::next_line;
 use page_writer::Note;
 use std::alloc::{AllocError, Global};
@@ -34,34 +35,6 @@ pub enum NotesFault {
     OutOfMemory,
 }
 
-/// Returns the number that one to seven decimal digits write, or `None` for any other word.
-#[tactic(auto, unfolding(model::specs::Commands::decimal_of))]
-pub fn step_of(word: &[u8]) -> Option<u32>
-    ensures { result ≡ decimal_of word.now }
-{
-    if word.is_empty() || word.len() > 7 {
-        return None;
-    }
-    digits(word)
-}
-
-/// Counts the blanks at the front of a text.
-fn blank_run(text: &[u8]) -> usize
-    ensures counted { result ≡ prefix_len is_blank text.now }
-    ensures inside { result ≤ length text.now }
-{
-    text.iter()
-        .take_while(|byte| matches!(**byte, b' ' | b'\t'))
-        .count()
-}
-
-/// Returns a text without the blanks at its front.
-fn without_blanks(text: &[u8]) -> &[u8]
-    ensures { result.now ≡ without_blanks text.now }
-{
-    &text[blank_run(text)..]
-}
-
 /// Counts the bytes before the first blank of a text.
 fn word_run(text: &[u8]) -> usize
     ensures counted { result ≡ prefix_len is_word_byte text.now }
@@ -78,7 +51,7 @@ fn note_of(line: &[u8]) -> Option<Note<'_>>
     ensures { option_map note_view result ≡ note_of line.now }
 {
     let count = word_run(line);
-    let step = step_of(&line[..count])?;
+    let step = decimal_of(&line[..count])?;
     let text = without_blanks(&line[count..]);
     if text.is_empty() {
         return None;

@@ -3,7 +3,7 @@
 ghost use Rattle.std.specs.Prelude.{◌≡◌, ◌⊎◌, [], None, Some, false, if◌then◌else◌};
 ghost use Rattle.accesses.specs.Writing.{or_everywhere};
 ghost use Rattle.arguments.specs.Words.{Fits, Refuses, texts};
-ghost use Rattle.arguments_play.specs.Run.{RunAsked, asked, run, run_view};
+ghost use Rattle.arguments_play.specs.Run.{RunAsked, words_in, run, run_view};
 ghost use Rattle.loading.specs.Warned.{OnlyWarned};
 ghost use Rattle.std.specs.Prelude.{Bool};
 ghost use Rattle.model.specs.State.{input_waits, is_map};
@@ -239,23 +239,23 @@ pub fn run_program<H: Files + AllocGlobal, R: Read, W: Write, S: Read, E: Write>
     // definition of a run, or it was not and the streams are unchanged, as the status says. The
     // error stream gets why, or how the run ended. Only a writer that was interrupted breaks a run
     // off, with the status 130.
-    ensures done { (a : RunAsked) → asked (texts words.entry.now) ≡ Some a
+    ensures done { (a : RunAsked) → words_in (texts words.entry.now) ≡ Some a
         → Fits run (texts words.entry.now) → IsDone a
         (streams_of (R.remaining input.old) (R.remaining input.new)
         (W.contents output.old.inner) (W.contents output.new.inner)) output.new.interrupted
         (heard_of (E.contents errors.old) (E.contents errors.new)) result
         ((input.new ≡ input.old) × (output.new ≡ output.old)) }
     // Other words read nothing, and write nothing on the output but help.
-    ensures refused { Refuses run (texts words.entry.now) (asked (texts words.entry.now) ≡ None)
+    ensures refused { Refuses run (texts words.entry.now) (words_in (texts words.entry.now) ≡ None)
         result (input.new ≡ input.old) (output.new ≡ output.old) }
     // A port and a ROM that make no map have the status 2, unless memory runs out.
-    ensures bad_map { (a : RunAsked) → asked (texts words.entry.now) ≡ Some a
+    ensures bad_map { (a : RunAsked) → words_in (texts words.entry.now) ≡ Some a
         → Fits run (texts words.entry.now)
         → is_map a.file.rom a.file.port ≡ false → (result ≡ 2) ⊎ (result ≡ 3) }
     // Nothing but how many warnings there are, and how many names were left out, is written on the
     // error stream with the status 0, unless cycles are asked for or debug information is named;
     // and where a port is given, that fill was left out.
-    ensures quiet { (omits : Bool) → ((a : RunAsked) → asked (texts words.entry.now) ≡ Some a
+    ensures quiet { (omits : Bool) → ((a : RunAsked) → words_in (texts words.entry.now) ≡ Some a
         → (a.tells_cycles ≡ false) × (a.debug_info ≡ None) × (a.file.omits_fill ≡ omits))
         → result ≡ 0
         → OnlyWarned omits (E.contents errors.old) (E.contents errors.new) }

@@ -11,7 +11,7 @@ use Rattle.accesses.specs.declared.moment.Moment.{Moment}
 use Rattle.accesses.specs.declared.tally.Count.{Count}
 use Rattle.arguments.specs.Asked.{FileAsked}
 use Rattle.model.specs.State.{Map, State, is_port}
-use Rattle.trace_rows.specs.Counts.{with_counts}
+use Rattle.trace_rows.specs.Counts.{with_counts, nothing_counted}
 use Rattle.trace_rows.specs.Findings.{finding_row}
 use Rattle.trace_rows.specs.Steps.{step_row}
 use Rattle.trace_rows.specs.declared.sites.Sites.{Sites}
@@ -38,9 +38,6 @@ pub record Gathers (held now : Option (List ℕ)) (before after text : List ℕ)
 abbrev pub first_tally : Bool → Option Counts
 first_tally false = None
 first_tally true = Some (record { visits = no_counts; cycles = no_counts })
-
-abbrev pub nothing : Count
-nothing = record { visits = 0; cycles = 0 }
 
 -- One step more, which took so many cycles.
 abbrev pub counted : Count → ℕ → Count
@@ -150,8 +147,8 @@ none_gathered asked sites written = record {
   sites = sites;
   tally = first_tally asked.counts;
   written = written;
-  entries = nothing;
-  all = nothing;
+  entries = nothing_counted;
+  all = nothing_counted;
 }
 
 -- What a step touches is asked for where it is shown or looked at.

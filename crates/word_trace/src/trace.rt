@@ -5,7 +5,7 @@ ghost use Rattle.std.specs.Prelude.{OnErr, OnOk, Some, false, option_map};
 ghost use Rattle.accesses.specs.Writing.{or_everywhere};
 ghost use Rattle.arguments.specs.Statuses.{status_of};
 ghost use Rattle.arguments.specs.Words.{Fits, Refuses, texts};
-ghost use Rattle.console.specs.Playing.{begun, is_at, played};
+ghost use Rattle.console.specs.Playing.{begun, played};
 ghost use Rattle.console.specs.Taking.{Waits};
 ghost use Rattle.console.specs.Written.{AreBytesOf, RanAs};
 ghost use Rattle.loading.specs.Place.{names_of};
@@ -14,7 +14,7 @@ ghost use Rattle.model.specs.Writers.{AppendsFront, Writes};
 ghost use Rattle.word_run.specs.Places.{place_asked};
 ghost use Rattle.word_run.specs.Runs.{heard_of, streams_of};
 ghost use Rattle.trace_rows.specs.declared.sites.Sites.{Sites};
-ghost use Rattle.arguments_play.specs.Trace.{TraceAsked, asked, trace, trace_view};
+ghost use Rattle.arguments_play.specs.Trace.{TraceAsked, trace, trace_view, words_in};
 ghost use Rattle.word_trace.specs.Beginnings.{AreSites, HasPlaces, first_written};
 ghost use Rattle.word_trace.specs.Gathered.{Gathers, gathered, none_gathered};
 ghost use Rattle.word_trace.specs.Texts.{GotFront, GotText, Noted, by_steps, no_text, note_step};
@@ -32,7 +32,7 @@ use crate::wording::NOT_BEGUN;
 use accesses::Written;
 use arguments::{Refusal, put_two, refuse, refuse_file, refused_words};
 use arguments_play::{TraceWords, read_trace_words};
-use console::{Ending, Played, Player, begin, ending_after};
+use console::{Ending, Played, Player, begin, ending_after, is_at};
 use debug_files::tell_changed;
 use debugger::Session;
 use loading::{Loaded, load_machine, tell_left_out};
@@ -49,16 +49,6 @@ struct Span {
     from: Option<u16>,
     to: Option<u16>,
     limit: u64,
-}
-
-/// Returns whether the program counter is at an address, if there is one.
-fn is_at(place: Option<u16>, session: &Session) -> bool
-    ensures { result ≡ is_at place session.now.current }
-{
-    match place {
-        None => false,
-        Some(address) => session.regs().pc == address,
-    }
 }
 
 /// Returns whether the trace begins here: no place is named, or the program is at it.
@@ -637,16 +627,16 @@ pub fn trace_program<H: Files + AllocGlobal, R: Read, O: Write, E: Write>(
     // unchanged, as the status says. Where a stream or memory failed, a beginning of what such a
     // trace notes was written. The error stream gets how many names were left out, the program's
     // output, and why it ended.
-    ensures done { (a : TraceAsked) → asked (texts words.entry.now) ≡ Some a
+    ensures done { (a : TraceAsked) → words_in (texts words.entry.now) ≡ Some a
         → Fits trace (texts words.entry.now) → IsDone a
         (streams_of (R.remaining input.old) (R.remaining input.new) (O.contents output.old)
         (O.contents output.new)) (heard_of (E.contents errors.old) (E.contents errors.new))
         result ((input.new ≡ input.old) × (output.new ≡ output.old)) }
     // Other words read nothing, and write nothing on the output but help.
-    ensures refused { Refuses trace (texts words.entry.now) (asked (texts words.entry.now) ≡ None)
+    ensures refused { Refuses trace (texts words.entry.now) (words_in (texts words.entry.now) ≡ None)
         result (input.new ≡ input.old) (output.new ≡ output.old) }
     // A port and a ROM that make no map have the status 2, unless memory runs out.
-    ensures bad_map { (a : TraceAsked) → asked (texts words.entry.now) ≡ Some a
+    ensures bad_map { (a : TraceAsked) → words_in (texts words.entry.now) ≡ Some a
         → Fits trace (texts words.entry.now)
         → is_map a.file.rom a.file.port ≡ false → (result ≡ 2) ⊎ (result ≡ 3) }
 {

@@ -1,6 +1,6 @@
 use Rattle.std.proofs.Common.{◌≡◌, ◌++◌}
 use Rattle.std.specs.Prelude.{string_bytes}
-use Rattle.t65_failures.specs.Steps.{blanks}
+use Rattle.formatting.specs.Padding.{blanks}
 use Rattle.t65_failures.proofs.steps.push_blanks.Given as goal
 
 abbrev pub invariant-loop : goal.invariant-loop

@@ -1,7 +1,8 @@
 use Rattle.std.proofs.Common.{◌++◌, ◌∙◌, ap}
 use Rattle.std.specs.Prelude.{string_bytes}
+use Rattle.formatting.specs.Padding.{padded}
 use Rattle.model.specs.declared.registers.Regs.{Regs}
-use Rattle.t65_failures.specs.Steps.{instruction_text, padded, regs_text, source_text, step_text}
+use Rattle.t65_failures.specs.Steps.{instruction_text, regs_text, source_text, step_text}
 use Rattle.t65_failures.proofs.Joined.{five}
 use Rattle.t65_failures.proofs.steps.push_step.Goals as goal
 

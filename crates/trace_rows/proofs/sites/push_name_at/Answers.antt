@@ -1,7 +1,8 @@
 use Rattle.std.proofs.Common.{rules, ◌≡◌, ◌++◌, OnOk, ap, sym, ◌∙◌, map}
 use Rattle.std.specs.Prelude.{slice_get}
 use Rattle.std.proofs.lemmas.Result.{IfOk-equal}
-use Rattle.trace_rows.specs.Sites.{index_at, labelled, name_if_free, numbered}
+use Rattle.source_map.specs.Names.{named_numbers}
+use Rattle.trace_rows.specs.Sites.{index_at, labelled, name_if_free}
 use Rattle.trace_rows.proofs.Places.{name_left, name_none, name_taken, none_more, zip_no_other, zip_none}
 use Rattle.trace_rows.proofs.sites.push_name_at.Goals as goal
 
@@ -28,12 +29,12 @@ pub returns-in_default : goal.returns-in_default
 returns-in_default c =
     let a = c.args.assembly.now in
     none_more (map labelled c.args.names.now.items) _
-    (name_none a.image (index_at c.args.table.now.items) c.args.labels (slice_get (numbered a) c.args.index)
+    (name_none a.image (index_at c.args.table.now.items) c.args.labels (slice_get (named_numbers a) c.args.index)
     (zip_no_other a.names a.labels c.args.index (sym c.in_default.ensures'.told)))
 
 pub returns-in_default-2 : goal.returns-in_default-2
 returns-in_default-2 c =
     let a = c.args.assembly.now in
     none_more (map labelled c.args.names.now.items) _
-    (name_none a.image (index_at c.args.table.now.items) c.args.labels (slice_get (numbered a) c.args.index)
+    (name_none a.image (index_at c.args.table.now.items) c.args.labels (slice_get (named_numbers a) c.args.index)
     (zip_none a.names a.labels c.args.index (sym c.in_default.ensures)))

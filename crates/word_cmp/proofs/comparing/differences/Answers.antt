@@ -1,6 +1,7 @@
 use Rattle.std.proofs.Common.{◌≡◌, ℕ, not, length, sym, ap, ◌∙◌, arith}
+use Rattle.dump_faults.specs.Faults.{same_cell}
 use Rattle.model.specs.Image.{cell_at}
-use Rattle.word_cmp.specs.Differences.{same_cell, differences_below}
+use Rattle.word_cmp.specs.Differences.{differences_below}
 use Rattle.word_cmp.proofs.Below.{nothing_below, no_more, one_more, each_address, equal_images}
 use Rattle.word_cmp.proofs.comparing.differences.Goals as goal
 use Rattle.word_cmp.proofs.comparing.differences.Goals.{then-is_different+in_ok-push, else-is_different}

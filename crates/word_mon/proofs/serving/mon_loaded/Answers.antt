@@ -27,7 +27,7 @@ returns-in-Ok-clause-done g c = inr (inr (
   c.first_view-view.ensures,
   c.wants_prompts-prompts.result,
   c.wants_prompts-prompts.ensures,
-  rw c.as_slice-line.ensures.value at c.served.ensures.ended,
+  rw c.as_slice-line.ensures.value at c.serve_session.ensures.ended,
 ))
 
 pub returns-in-Err-OfNames-clause-done : goal.returns-in-Err-OfNames-clause-done

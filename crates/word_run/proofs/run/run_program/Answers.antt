@@ -2,7 +2,7 @@ use Rattle.std.proofs.Common.{◌≡◌, ◌≤◌, Bool, None, arith, inl, inr,
 use Rattle.arguments.proofs.Refusing.{not_refused, refuses}
 use Rattle.arguments.specs.Words.{IsStatusOf, texts}
 use Rattle.arguments.proofs.Parsed.{not_both, one_asked}
-use Rattle.arguments_play.specs.Run.{RunAsked, asked, run, run_view}
+use Rattle.arguments_play.specs.Run.{RunAsked, words_in, run, run_view}
 use Rattle.word_run.specs.Runs.{IsDone}
 use Rattle.loading.proofs.Machines.{unmade_by_memory}
 use Rattle.loading.proofs.WarningsTold.{untold}
@@ -24,13 +24,13 @@ returns-in-Ok-clause-done g c a h fits =
 
 pub returns-in-Ok-clause-refused : goal.returns-in-Ok-clause-refused
 returns-in-Ok-clause-refused g c =
-    not_refused run (texts c.args.words.now) (asked (texts c.args.words.now) ≡ None) c.run_words.result
+    not_refused run (texts c.args.words.now) (words_in (texts c.args.words.now) ≡ None) c.run_words.result
     (c.run_words.new.input ≡ c.args.input.now) (c.run_words.new.output ≡ c.args.output.now)
     c.in-Ok.ensures.fits (not_both _ (run_view c.in-Ok.words) c.in-Ok.ensures.asked)
 
 pub returns-in-Err-clause-refused : goal.returns-in-Err-clause-refused
 returns-in-Err-clause-refused g c =
-    refuses run (texts c.args.words.now) (asked (texts c.args.words.now) ≡ None) c.in-Err.fault c.refused_words.result
+    refuses run (texts c.args.words.now) (words_in (texts c.args.words.now) ≡ None) c.in-Err.fault c.refused_words.result
     (c.args.input.now ≡ c.args.input.now) (c.refused_words.new.output ≡ c.args.output.now)
     c.in-Err.ensures.refused c.refused_words.ensures.status refl c.refused_words.ensures.untouched
 

@@ -1,7 +1,7 @@
 use Rattle.std.proofs.Common.{Err, Ok, ap, refl}
 use Rattle.word_mon.specs.Done.{opening}
 use Rattle.word_mon.proofs.Ends.{attends_err}
-use Rattle.word_mon.proofs.serving.served.Goals as goal
+use Rattle.word_mon.proofs.serving.serve_session.Goals as goal
 
 pub returns-in-Ok-clause-ended : goal.returns-in-Ok-clause-ended
 returns-in-Ok-clause-ended g c =

@@ -3,7 +3,7 @@ use Rattle.word_cmp.specs.CompareWord.{IsSaid}
 use Rattle.word_cmp.proofs.CompareWord.{about_of, memory, the_first}
 use Rattle.tape_words.proofs.Said.{said_front, said_right, said_wrong}
 use Rattle.tape_words.specs.Asked.{cmp_view}
-use Rattle.word_cmp.proofs.compare.done.Goals as goal
+use Rattle.word_cmp.proofs.compare.compare_files.Goals as goal
 
 pub returns-clause-right : goal.returns-clause-right
 returns-clause-right g c = λ zero. said_right (IsSaid (cmp_view c.args.words.now)) c.compared.result c.answered.result _ _

@@ -4,7 +4,7 @@ use Rattle.model.specs.Writers.{AppendsFront}
 use Rattle.word_dis.specs.Advice.{advice, remark}
 use Rattle.word_dis.specs.Views.{source_view}
 use Rattle.word_dis.proofs.Images.{is_done}
-use Rattle.word_dis.proofs.run.done.Goals as goal
+use Rattle.word_dis.proofs.run.serve_words.Goals as goal
 
 pub returns-in-Ok-write_text-clause-done : goal.returns-in-Ok-write_text-clause-done
 returns-in-Ok-write_text-clause-done g c same =

@@ -2,7 +2,7 @@ use Rattle.std.proofs.Common.{◌∙◌, ap, arith}
 use Rattle.arguments.specs.Statuses.{status_of}
 use Rattle.arguments.specs.declared.refusal.Refusal.{Refusal}
 use Rattle.word_lsp.proofs.Ended.{cut_off, ended, large, most}
-use Rattle.word_lsp.proofs.serving.done.Goals as goal
+use Rattle.word_lsp.proofs.serving.serve_words.Goals as goal
 
 -- ---- the map is wrong
 

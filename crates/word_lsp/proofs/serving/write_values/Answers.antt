@@ -5,7 +5,7 @@ use Rattle.serde_json.specs.View.{view}
 use Rattle.serde_json.specs.declared.value.Value.{Value}
 use Rattle.word_lsp.specs.Writing.{AreWritten}
 use Rattle.word_lsp.proofs.Written.{front_behind, some_written, written_end, written_step}
-use Rattle.word_lsp.proofs.serving.told.Goals as goal
+use Rattle.word_lsp.proofs.serving.write_values.Goals as goal
 
 pub loop-value-init : goal.loop-value-init
 loop-value-init g c = ([], Appends-nil _, λ behind h. h)

@@ -2,7 +2,7 @@ use Rattle.std.proofs.Common.{rules, ap, None, option_map, ◌≡◌, ◌∙◌}
 use Rattle.clap.specs.Words.{found_of}
 use Rattle.program.proofs.Found.{asm_found, debug_found, dis_found}
 use Rattle.program.specs.Asked.{asm, debug, dis}
-use Rattle.program.proofs.read.asked.Goals as goal
+use Rattle.program.proofs.read.words_in.Goals as goal
 
 pub returns-in_err-dis_words-in-dis-default : goal.returns-in_err-dis_words-in-dis-default
 returns-in_err-dis_words-in-dis-default c =

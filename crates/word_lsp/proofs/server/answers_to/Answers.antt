@@ -4,7 +4,7 @@ use Rattle.model.specs.State.{Map}
 use Rattle.word_lsp.specs.Settings.{chosen_after}
 use Rattle.word_lsp.specs.State.{State, documents_view}
 use Rattle.word_lsp.specs.declared.phase.Phase.{Phase}
-use Rattle.word_lsp.proofs.server.asked.Goals as goal
+use Rattle.word_lsp.proofs.server.answers_to.Goals as goal
 
 pub returns-clause-state : goal.returns-clause-state
 returns-clause-state c =

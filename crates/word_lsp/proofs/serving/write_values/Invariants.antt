@@ -2,7 +2,7 @@ use Rattle.std.proofs.Common.{◌++◌, drop, map, List, ℕ}
 use Rattle.std.specs.Io.KnownBytes.{Appends}
 use Rattle.serde_json.specs.View.{view}
 use Rattle.word_lsp.specs.Writing.{AreWritten}
-use Rattle.word_lsp.proofs.serving.told.Given as goal
+use Rattle.word_lsp.proofs.serving.write_values.Given as goal
 
 -- so much was written, and what the rest of the values gives comes behind it
 abbrev pub invariant-loop-value : goal.invariant-loop-value
