@@ -174,7 +174,8 @@ fn push_names(
     labels: bool,
 ) -> Result<(), AllocError>
     ensures { OnOk result (map labelled names.new.items ≡ map labelled names.old.items
-        ++ names_of assembly.now.image (index_at table.now.items) labels (named_numbers assembly.now)) }
+        ++ names_of assembly.now.image (index_at table.now.items) labels
+        (named_numbers assembly.now)) }
 {
     for index in 0..assembly.symbol_count() {
         push_name_at(alloc, names, table, assembly, labels, index)?;
@@ -218,7 +219,8 @@ fn spread_names(
 ) -> Result<(), AllocError>
     requires { length table.old.items ≡ 65536 }
     ensures names { OnOk result (map labelled names.new.items ≡ map labelled names.old.items
-        ++ names_of assembly.now.image (index_at table.old.items) labels (named_numbers assembly.now)) }
+        ++ names_of assembly.now.image (index_at table.old.items) labels
+        (named_numbers assembly.now)) }
     ensures table { OnOk result (IsTable table.new.items (or_below assembly.now.image
         (λ address. option_or (index_at table.old.items address)
         (first_at (addresses_of (map labelled names.new.items)) address)))) }

@@ -24,7 +24,8 @@ use Rattle.word_run.specs.Told.{unplaced_line}
 pub told_at : (file : List ℕ) (x y : Option AssemblyView) (heard : Heard) (why : Ending) (steps pc at : ℕ) → x ≡ y → pc ≡ at
     → TellsEnding (known_by file x None) heard why steps pc → TellsEnding (known_by file y None) heard why steps at
 told_at file x y heard why steps pc at same there told =
-    subst (λ (n : ℕ). TellsEnding (known_by file y None) heard why steps n) there (subst (λ (a : Option AssemblyView). TellsEnding (known_by file a None) heard why steps pc) same told)
+    subst (λ (n : ℕ). TellsEnding (known_by file y None) heard why steps n) there
+    (subst (λ (a : Option AssemblyView). TellsEnding (known_by file a None) heard why steps pc) same told)
 
 -- What was told of a run is told of the definition's.
 pub shown : (a : PageAsked) (assembly : Option AssemblyView) (until : Option ℕ) (s : Start) (t : Session) (heard : Heard) (end : Played) (status : ℕ)

@@ -60,7 +60,8 @@ traced_to a b from to limit t streams heard out said end flag status long silent
     = sym (ap (λ (xs : List ℕ). xs ++ put.0) silent) ∙ sym put.1 ∙ ap (λ (now : Session). now.current.bus.out) same.session in
     let begins = subst (λ (b : Bool). AppendsFront out said (unbegun_text b)) made.6 unbegun in
     let tells =
-    told_of (known_by a.file.file b.assembly b.debug) (record { held = said; now = heard.now }) end.ending outcome.ending end.steps outcome.steps t.current.regs.pc
+    told_of (known_by a.file.file b.assembly b.debug) (record { held = said; now = heard.now }) end.ending outcome.ending
+    end.steps outcome.steps t.current.regs.pc
     outcome.play.session.current.regs.pc same.ending same.steps
     (ap (λ (now : Session). now.current.regs.pc) same.session) told in (
       Ok outcome,

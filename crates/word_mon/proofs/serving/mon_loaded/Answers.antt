@@ -43,5 +43,6 @@ pub returns-in-Err-OfDebug-clause-done : goal.returns-in-Err-OfDebug-clause-done
 returns-in-Err-OfDebug-clause-done g c =
     let ends = rw c.in-Err-OfDebug.field-0-is at c.in-Err-OfDebug.ensures.refused in
     inr (inl (inr (ends_debug c.args.words.now.debug_info c.args.words.now.file.file
-    (g.E.Write.contents c.args.errors.now) (g.E.Write.contents c.tell.new.errors) c.in-Err-OfDebug.fault c.tell.result ((c.args.input.now ≡ c.args.input.now) × (c.args.output.now ≡ c.args.output.now))
+    (g.E.Write.contents c.args.errors.now) (g.E.Write.contents c.tell.new.errors) c.in-Err-OfDebug.fault
+    c.tell.result ((c.args.input.now ≡ c.args.input.now) × (c.args.output.now ≡ c.args.output.now))
     ends c.tell.ensures.status (rw c.unwrap_or-file-in-Err-OfDebug.ensures at c.tell.ensures.told) (refl, refl))))

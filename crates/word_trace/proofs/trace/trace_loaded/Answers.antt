@@ -38,7 +38,8 @@ returns-in-Err-place_named g c =
 pub returns : goal.returns
 returns g c =
     let names = names_of c.args.loaded.now.assembly in let a = trace_view c.args.words.now in
-    traced_between a (begin_view c.args.loaded.now c.args.debug) c.in-Ok.from c.in-Ok-place_named.to (place_asked names a.from) (place_asked names a.to) (record {
+    traced_between a (begin_view c.args.loaded.now c.args.debug) c.in-Ok.from c.in-Ok-place_named.to
+    (place_asked names a.from) (place_asked names a.to) (record {
       given = g.R.Read.remaining c.args.input.now;
       left = g.R.Read.remaining c.trace_told.new.input;
       held = g.O.Write.contents c.args.output.now;

@@ -62,7 +62,8 @@ returns-in_err-write_lines-clause-err g c =
     c.in_ok-traced.traced.played c.in_ok-traced.traced.has_begun c.in_ok-tracer.ensures.nothing
     (c.or_everywhere-written.ensures ∙ ap (or_everywhere c.args.words.now.is_free) c.in_ok-copied.ensures.copied) c.in_ok-traced.ensures.ok in
     err_always c.from_residual-in_err-write_lines.result
-    (wrote_all (trace_view c.args.words.now) (begin_view c.args.loaded.now c.args.debug) c.args.span.from c.args.span.to c.args.span.limit c.trace_between.new.session
+    (wrote_all (trace_view c.args.words.now) (begin_view c.args.loaded.now c.args.debug)
+    c.args.span.from c.args.span.to c.args.span.limit c.trace_between.new.session
     (g.R.Read.remaining c.args.input.now) (g.R.Read.remaining c.trace_between.new.input) (g.O.Write.contents c.args.output.now)
     (g.O.Write.contents c.trace_between.new.output) c.in_ok-traced.traced.played
     (run.0, run.1, run.2, run.3, run.4, run.5))

@@ -5,7 +5,8 @@ use Rattle.word_trace.proofs.trace.trace_words.Goals as goal
 
 pub returns-in-Ok-clause-done : goal.returns-in-Ok-clause-done
 returns-in-Ok-clause-done g c =
-    traced_file (trace_view c.args.words.now) c.in-Ok.loaded.assembly c.in-Ok.loaded.session c.in-Ok.loaded.written c.in-Ok.loaded.fill c.in-Ok.ensures.started.0 c.in-Ok.loaded.lost (record {
+    traced_file (trace_view c.args.words.now) c.in-Ok.loaded.assembly c.in-Ok.loaded.session c.in-Ok.loaded.written c.in-Ok.loaded.fill
+    c.in-Ok.ensures.started.0 c.in-Ok.loaded.lost (record {
       given = g.R.Read.remaining c.args.input.now;
       left = g.R.Read.remaining c.trace_debugged.new.input;
       held = g.O.Write.contents c.args.output.now;
