@@ -634,7 +634,8 @@ pub fn trace_program<H: Files + AllocGlobal, R: Read, O: Write, E: Write>(
         result ((input.new ≡ input.old) × (output.new ≡ output.old)) }
     // Other words read nothing, and write nothing on the output but help.
     ensures refused { Refuses trace (texts words.entry.now)
-        (words_in (texts words.entry.now) ≡ None) result (input.new ≡ input.old) (output.new ≡ output.old) }
+        (words_in (texts words.entry.now) ≡ None) result (input.new ≡ input.old)
+        (output.new ≡ output.old) }
     // A port and a ROM that make no map have the status 2, unless memory runs out.
     ensures bad_map { (a : TraceAsked) → words_in (texts words.entry.now) ≡ Some a
         → Fits trace (texts words.entry.now)
