@@ -32,6 +32,7 @@ fn put_changed<E: Write>(file: &str, changed: &[u8], errors: &mut E)
 
 /// Writes which sources have changed since a debug file was made, if one is named and some have, or
 /// a beginning of that line if a write fails.
+#[tactic(auto, using(crate::proofs::Told::told_changed))]
 pub fn tell_changed<E: Write>(file: Option<&str>, changed: &[u8], errors: &mut E)
     ensures told { TellsChanged (option_map (λ f. f.now) file.entry) (E.contents errors.old)
         (E.contents errors.new) }
