@@ -15,7 +15,7 @@ use Rattle.assembler.specs.Lines.{LineView}
 use Rattle.trace_rows.specs.declared.lines.SourceLine.{SourceLine}
 use Rattle.trace_rows.specs.declared.sites.Label.{Label}
 use Rattle.trace_rows.specs.SourceLines.{Listed, line_of, lines_of, listed}
-use Rattle.trace_rows.specs.Sites.{IsTable, Labelled, Numbered, addresses_of, first_at, index_at, index_of, is_wanted, label_for, label_place, labelled, labels_in, line_addresses, name_if_free, name_of, names_in, names_of, nowhere, or_below, put_if_none}
+use Rattle.trace_rows.specs.Sites.{AreLabels, IsTable, Labelled, Numbered, addresses_of, first_at, index_at, index_of, is_wanted, label_for, label_place, labelled, labels_in, line_addresses, name_if_free, name_of, names_in, names_of, nowhere, or_below, put_if_none}
 
 -- ---- options
 
@@ -467,3 +467,8 @@ pub lines_more : (lines : List LineView) (i : ℕ) (old new : List Listed) → o
     → new ≡ old ++ lines_of (option_to_list (slice_get lines i)) → new ≡ lines_of (take (i + 1) lines)
 lines_more lines i old new e n =
     n ∙ (ap (λ ls. ls ++ lines_of (option_to_list (slice_get lines i))) e ∙ sym (ap (λ k. lines_of (take k lines)) (add-one i) ∙ lines_suc lines i))
+
+-- The names of an assembly that is there.
+pub labels_are : (assembly : Option AssemblyView) (a : AssemblyView) (labels : List Labelled) (table : List ℕ) → assembly ≡ Some a
+    → labels ≡ names_in a → IsTable table (label_for a) → AreLabels assembly labels table
+labels_are assembly a labels table is named places = subst (λ (x : Option AssemblyView). AreLabels x labels table) (sym is) (named, places)

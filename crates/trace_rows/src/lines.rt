@@ -1,7 +1,8 @@
 //! The lines that are shown for bytes: from an assembly, or from places.
 
-ghost use Rattle.std.specs.Prelude.{◌≡◌, ◌++◌, IfOk, OnOk, map, slice_get};
-ghost use Rattle.std.specs.Option.{option_to_list};
+ghost use Rattle.std.specs.Prelude.{◌≡◌, ◌++◌, [], IfOk, OnOk, map, slice_get};
+ghost use Rattle.std.specs.Option.{option_to_list, unwrap_or};
+ghost use Rattle.source_map.specs.Lines.{text_of, texts_at};
 ghost use Rattle.assembler.specs.Assembly.{source_lines};
 ghost use Rattle.assembler.specs.Lines.{line_view};
 ghost use Rattle.trace_rows.specs.SourceLines.{line_by, line_of, lines_by, lines_in, lines_of};
@@ -81,18 +82,28 @@ pub fn lines_of(alloc: Global, assembly: &Assembly) -> Result<Vec<SourceLine>, A
     Ok(lines)
 }
 
+/// Returns the text of the line of a row: no byte where its file has none.
+fn text_of_row(places: &Places, row: Row) -> &[u8]
+    ensures { result.now
+        ≡ unwrap_or (text_of (texts_at places.now.sources row.file) row.line) [] }
+{
+    match places.text_of(row.file, row.line) {
+        Some(text) => text,
+        None => &[],
+    }
+}
+
 /// Returns the line that is shown for the bytes of a row.
 fn line_of_row(alloc: Global, places: &Places, row: Row) -> Result<SourceLine, AllocError>
     ensures { IfOk result (λ line. listed line ≡ line_by places.now.sources row) }
 {
-    let text = places.text_of(row.file, row.line).unwrap_or(b"");
     Ok(SourceLine {
         file: Vec::from_slice(alloc, places.file_name(row.file))?,
         number: row.line,
         address: row.address,
         len: row.count.min(3) as u16,
         is_instruction: row.is_instruction,
-        text: Vec::from_slice(alloc, text)?,
+        text: Vec::from_slice(alloc, text_of_row(places, row))?,
     })
 }
 
@@ -104,7 +115,8 @@ pub fn lines_by(alloc: Global, places: &Places) -> Result<Vec<SourceLine>, Alloc
 {
     let mut lines = Vec::new(alloc);
     for row in places.rows() {
-        lines.push(line_of_row(alloc, places, *row)?)?;
+        let line = line_of_row(alloc, places, *row)?;
+        lines.push(line)?;
     }
     Ok(lines)
 }

@@ -245,13 +245,17 @@ fn names_of_source(alloc: Global, assembly: &Assembly) -> Result<(Vec<Label>, Ve
 }
 
 /// Returns the same of an assembly that may be missing: then there is no name.
+#[tactic(auto, using(crate::proofs::Places::labels_are))]
 fn labels_of(alloc: Global, names: Option<&Assembly>) -> Result<(Vec<Label>, Vec<u32>), AllocError>
     ensures { IfOk result (λ p. AreLabels (option_map (λ a. a.now) names.entry)
         (map labelled p.0.items) p.1.items) }
 {
     match names {
         None => Ok((Vec::new(alloc), Vec::new(alloc))),
-        Some(names) => names_of_source(alloc, names),
+        Some(names) => {
+            let (labels, label_of) = names_of_source(alloc, names)?;
+            Ok((labels, label_of))
+        }
     }
 }
 

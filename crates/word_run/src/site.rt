@@ -64,20 +64,22 @@ fn source_text(
         return Ok(Vec::new(alloc));
     };
     let places = Places::of_source(alloc, file.as_bytes(), assembly)?;
-    site_text(alloc, &places, address)
+    let site = site_text(alloc, &places, address)?;
+    Ok(site)
 }
 
 /// Returns what is known of an address: by debug information, or otherwise by a source.
 ///
 /// Errors: `AllocError` if an allocation fails.
-#[tactic(auto, using(crate::proofs::Sites::debug_site))]
+#[tactic(auto, using(crate::proofs::Sites::debug_site, crate::proofs::Sites::none_site))]
 fn known_text(alloc: Global, known: Known<'_>, address: u16) -> Result<Vec<u8>, AllocError>
     ensures { IfOk result (λ site. IsSite (known_view known.entry) address site.items) }
 {
-    match known.debug {
-        Some(places) => site_text(alloc, places, address),
-        None => source_text(alloc, known.file, known.assembly, address),
-    }
+    let site = match known.debug {
+        Some(places) => site_text(alloc, places, address)?,
+        None => source_text(alloc, known.file, known.assembly, address)?,
+    };
+    Ok(site)
 }
 
 /// Returns what is said of an address: nothing where nothing is known, nor where memory runs out.

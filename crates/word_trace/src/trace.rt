@@ -238,12 +238,16 @@ fn source_sites(alloc: Global, loaded: &Loaded) -> Result<Sites, Refusal>
 /// Returns the labels of what was loaded, and the lines of debug information.
 ///
 /// Errors: `OutOfMemory` if an allocation fails.
+#[tactic(auto, using(crate::proofs::Sites::has_places))]
 fn debug_sites(alloc: Global, loaded: &Loaded, debug: &Places) -> Result<Sites, Refusal>
     ensures sites { IfOk result (HasPlaces loaded.now.assembly debug.now) }
     ensures fault { IfErr result (λ refusal. refusal ≡ Refusal.OutOfMemory) }
 {
     let names = loaded.assembly.as_ref();
-    Sites::of_places(alloc, names, debug).map_err(|_| Refusal::OutOfMemory)
+    match Sites::of_places(alloc, names, debug) {
+        Ok(sites) => Ok(sites),
+        Err(_) => Err(Refusal::OutOfMemory),
+    }
 }
 
 /// Returns the labels of what was loaded, and its lines: those of debug information, if there is
