@@ -1,11 +1,11 @@
 //! What the word `run` does.
 
-ghost use Rattle.std.specs.Prelude.{◌≡◌, ◌⊎◌, [], None, Some, false, if◌then◌else◌};
+ghost use Rattle.std.specs.Prelude.{◌≡◌, ◌⊎◌, ℕ, [], Option, None, Some, false};
+ghost use Rattle.std.specs.Prelude.{if◌then◌else◌};
 ghost use Rattle.accesses.specs.Writing.{or_everywhere};
 ghost use Rattle.arguments.specs.Words.{Fits, Refuses, texts};
 ghost use Rattle.arguments_play.specs.Run.{RunAsked, words_in, run, run_view};
-ghost use Rattle.loading.specs.Warned.{OnlyWarned};
-ghost use Rattle.std.specs.Prelude.{Bool};
+ghost use Rattle.loading.specs.Warned.{OnlyWarned, omitted_at};
 ghost use Rattle.model.specs.State.{input_waits, is_map};
 ghost use Rattle.word_run.specs.Known.{known_view};
 ghost use Rattle.word_run.specs.Runs.{IsDone, RanDebugged, RanOrInterrupted, Start, TellsEnd};
@@ -193,7 +193,7 @@ fn run_words<H: Files + AllocGlobal, R: Read, W: Write, S: Read, E: Write>(
         ((input.new ≡ input.old) × (output.new ≡ output.old)) }
     ensures bad_map { is_map words.now.file.rom words.now.file.port ≡ false → result ≡ 2 }
     ensures quiet { words.now.tells_cycles ≡ false → (run_view words.now).debug_info ≡ None
-        → result ≡ 0 → OnlyWarned words.now.file.omits_fill (E.contents errors.old)
+        → result ≡ 0 → OnlyWarned (omitted_at (run_view words.now).file) (E.contents errors.old)
         (E.contents errors.new) }
 {
     let loaded = match load_machine(rt, &words.file, words.others, words.symbols) {
@@ -252,13 +252,13 @@ pub fn run_program<H: Files + AllocGlobal, R: Read, W: Write, S: Read, E: Write>
     ensures bad_map { (a : RunAsked) → words_in (texts words.entry.now) ≡ Some a
         → Fits run (texts words.entry.now)
         → is_map a.file.rom a.file.port ≡ false → (result ≡ 2) ⊎ (result ≡ 3) }
-    // Nothing but how many warnings there are, and how many names were left out, is written on the
-    // error stream with the status 0, unless cycles are asked for or debug information is named;
-    // and where a port is given, that fill was left out.
-    ensures quiet { (omits : Bool) → ((a : RunAsked) → words_in (texts words.entry.now) ≡ Some a
-        → (a.tells_cycles ≡ false) × (a.debug_info ≡ None) × (a.file.omits_fill ≡ omits))
+    // Nothing but how many warnings there are, how many names were left out, and, where a port is
+    // given, that the fill at it was left out, is written on the error stream with the status 0,
+    // unless cycles are asked for or debug information is named.
+    ensures quiet { (base : Option ℕ) → ((a : RunAsked) → words_in (texts words.entry.now) ≡ Some a
+        → (a.tells_cycles ≡ false) × (a.debug_info ≡ None) × (omitted_at a.file ≡ base))
         → result ≡ 0
-        → OnlyWarned omits (E.contents errors.old) (E.contents errors.new) }
+        → OnlyWarned base (E.contents errors.old) (E.contents errors.new) }
 {
     match read_run_words(rt.alloc(), words) {
         Ok(words) => run_words(rt, &words, input, output, errors),

@@ -2,8 +2,9 @@ use Rattle.std.proofs.Common.{refl}
 use Rattle.arguments.specs.Asked.{map_of}
 use Rattle.arguments_play.specs.Run.{run_view}
 use Rattle.loading.proofs.Machines.{never_made}
-use Rattle.loading.proofs.Whole.{whole_unless}
+use Rattle.loading.proofs.Whole.{omitted_or_none}
 use Rattle.loading.proofs.WarningsTold.{only_warned}
+use Rattle.loading.specs.Warned.{omitted_at}
 use Rattle.word_run.proofs.Ran.{ran_file}
 use Rattle.word_run.specs.Runs.{streams_of}
 use Rattle.word_run.proofs.run.run_words.Goals as goal
@@ -26,9 +27,9 @@ returns-clause-done g c =
 
 pub returns-clause-quiet : goal.returns-clause-quiet
 returns-clause-quiet g c untold none zero =
-    only_warned g.E.Write.contents c.args.words.now.file.omits_fill (map_of (run_view c.args.words.now).file) _ c.in-Ok.loaded.lost
+    only_warned g.E.Write.contents (omitted_at (run_view c.args.words.now).file) (map_of (run_view c.args.words.now).file) _ c.in-Ok.loaded.lost
     c.in-Ok.loaded.fill c.args.errors.now c.tell_warnings.new.errors c.run_loaded.new.errors
     (c.run_loaded.ensures.quiet untold none zero)
-    (whole_unless (run_view c.args.words.now).file (run_view c.args.words.now).others (run_view c.args.words.now).symbols c.in-Ok.loaded.fill
+    (omitted_or_none (run_view c.args.words.now).file (run_view c.args.words.now).others (run_view c.args.words.now).symbols c.in-Ok.loaded.fill
     c.in-Ok.ensures.started.0 c.in-Ok.loaded.assembly c.in-Ok.ensures.started.1)
     c.tell_warnings.ensures
