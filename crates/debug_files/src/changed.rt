@@ -24,9 +24,8 @@ fn put_changed<E: Write>(file: &str, changed: &[u8], errors: &mut E)
     ensures { AppendsFront (E.contents errors.old) (E.contents errors.new)
         (changed_line file.now changed.now) }
 {
-    match changed {
-        [] => {}
-        [_, ..] => put_named(file, &[CHANGED.as_bytes(), changed, b"\n"], errors),
+    if !changed.is_empty() {
+        put_named(file, &[CHANGED.as_bytes(), changed, b"\n"], errors);
     }
 }
 

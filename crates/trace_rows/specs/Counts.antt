@@ -1,5 +1,5 @@
 -- What was counted, as tables of text. Source: mos65.
-use Rattle.std.specs.Prelude.{ℕ, zero, suc, ◌+◌, ◌-◌, ◌%◌, ◌==◌, nat_lt, Bool, false, ◌&&◌, ◌||◌, if◌then◌else◌, List, [], ◌∷◌, ◌++◌, Option, None, Some, codes, decimal, map, slice_index, slice_index_or, slice_set, is_none}
+use Rattle.std.specs.Prelude.{ℕ, zero, suc, ◌+◌, ◌-◌, ◌%◌, ◌==◌, nat_lt, Bool, false, ◌&&◌, ◌||◌, if◌then◌else◌, List, [], ◌∷◌, ◌++◌, Option, None, Some, codes, decimal, length, map, slice_index, slice_index_or, slice_set, is_none}
 use Rattle.std.specs.List.{flat_map}
 use Rattle.model.specs.Text.{hex_address}
 use Rattle.accesses.specs.Tallies.{Counts, count_at, saturated}
@@ -93,8 +93,8 @@ count_of_line counts line = record {
 
 -- A line's number, after the name of its file if that is shown.
 abbrev pub number_text : List ℕ → ℕ → List ℕ
-number_text [] number = count_text 4 number
-number_text (b ∷ file) number = (b ∷ file) ++ codes ":" ++ decimal number
+number_text file number = if length file == 0 then count_text 4 number
+    else file ++ codes ":" ++ decimal number
 
 -- A line's number and text.
 unfoldable pub line_text : SourceLine → List ℕ

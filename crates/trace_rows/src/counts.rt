@@ -171,13 +171,12 @@ fn push_label_rows(text: &mut Vec<u8>, sites: &Sites, counts: &[Count]) -> Resul
 fn push_number(text: &mut Vec<u8>, file: &[u8], number: u32) -> Result<(), AllocError>
     ensures { OnOk result (text.new.items ≡ text.old.items ++ number_text file.now number) }
 {
-    match file {
-        [] => push_padded(text, number as u64, NUMBER),
-        [_, ..] => {
-            text.extend_from_slice(file)?;
-            text.push(b':')?;
-            push_count(text, number as u64)
-        }
+    if file.is_empty() {
+        push_padded(text, number as u64, NUMBER)
+    } else {
+        text.extend_from_slice(file)?;
+        text.extend_from_slice(b":")?;
+        push_count(text, number as u64)
     }
 }
 
