@@ -17,4 +17,4 @@ mod sources;
 pub use changed::tell_changed;
 pub use loaded::load_places_of;
 pub use paths::{begins_at_root, folder_of};
-pub use places::{DebugPlaces, load_places};
+pub use places::DebugPlaces;
