@@ -9,7 +9,7 @@ use crate::paths::source_path;
 use arguments::{Refusal, read_most};
 use debug_records::File;
 use source_map::SourceFile;
-use std::alloc::{AllocError, Global};
+use std::alloc::AllocError;
 use std::rt::Files;
 
 /// The most bytes of a source that is shown.
