@@ -51,8 +51,8 @@ returns-in-Err-clause-bad_map g c a h fits bad =
 pub returns-in-Ok-clause-quiet : goal.returns-in-Ok-clause-quiet
 returns-in-Ok-clause-quiet g c base none zero =
     let given = none (run_view c.in-Ok.words) c.in-Ok.ensures.asked in
-    subst (λ (at : Option ℕ). OnlyWarned at (g.E.Write.contents c.args.errors.now) (g.E.Write.contents c.run_words.new.errors)) given.1
-    (c.run_words.ensures.quiet given.0 zero)
+    subst (λ (at : Option ℕ). OnlyWarned at (g.E.Write.contents c.args.errors.now) (g.E.Write.contents c.run_words.new.errors)) given.2
+    (c.run_words.ensures.quiet given.0 given.1 zero)
 
 -- Help was written, and nothing was told.
 pub returns-in-Err-clause-quiet : goal.returns-in-Err-clause-quiet
