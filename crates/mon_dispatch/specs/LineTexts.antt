@@ -16,7 +16,6 @@ use Rattle.mon_lines.specs.declared.command.Command.TheVariants as line
 use Rattle.mon_dispatch.specs.LookTexts.{look_text}
 use Rattle.mon_steps.specs.RunLines.{stand_of, watches_of}
 use Rattle.mon_steps.specs.RunTexts.{out_text, over_text, run_text, some_steps_text, until_text}
-use Rattle.mon_steps.specs.ByLine.{line_back_text, line_run_text}
 use Rattle.mon_steps.specs.BackTexts.{history_text, redo_text, undo_text, undo_to_stop_text}
 use Rattle.mon_runs.specs.Stops.{is_watched}
 use Rattle.mon_runs.specs.declared.watches.Watch.{Watch}
@@ -35,8 +34,6 @@ line_text (line.Step count) mon
     = some_steps_text count (watches_of mon) mon.places (stand_of mon)
 line_text line.Over mon = over_text (watches_of mon) mon.places (stand_of mon)
 line_text line.Out mon = out_text (watches_of mon) mon.places (stand_of mon)
-line_text line.Line mon = line_run_text (watches_of mon) mon.places (stand_of mon)
-line_text line.LineBack mon = line_back_text mon.places (course_of mon)
 line_text (line.Until address) mon
     = until_text address (watches_of mon) mon.places (stand_of mon)
 line_text (line.Go count) mon

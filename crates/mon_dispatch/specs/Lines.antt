@@ -17,7 +17,6 @@ use Rattle.mon_settings.specs.Displays.{with_display, without_display}
 use Rattle.mon_settings.specs.FlagLines.{flag_setting}
 use Rattle.mon_settings.specs.Names.{without_names}
 use Rattle.mon_steps.specs.BackLines.{history_shown, most_remade, remade, undone_by, undone_by_watches}
-use Rattle.mon_steps.specs.ByLine.{ran_to_line, undone_if_held}
 use Rattle.mon_steps.specs.RunLines.{KeepsWatches, Stand, ran_by, ran_until, returned, some_steps, stand_of, stepped_over, watches_of}
 use Rattle.mon_session.specs.declared.mon_state.MonState.{MonState}
 use Rattle.mon_dispatch.specs.LineTexts.{behind_text, line_text, slip_line}
@@ -90,9 +89,6 @@ Does (line.Step count) old new
     = Arrives (some_steps count (watches_of old) (stand_of old)) old new
 Does line.Over old new = Arrives (stepped_over (watches_of old) (stand_of old)) old new
 Does line.Out old new = Arrives (returned (watches_of old) (stand_of old)) old new
-Does line.Line old new
-    = Arrives (ran_to_line old.places (watches_of old) (stand_of old)) old new
-Does line.LineBack old new = Becomes (undone_if_held old.places (course_of old)) old new
 Does (line.Until address) old new
     = Arrives (ran_until address (watches_of old) (stand_of old)) old new
 Does (line.Go count) old new = Arrives (ran_by count (watches_of old) (stand_of old)) old new
@@ -134,8 +130,6 @@ outcome_of line.Nothing = outcome.Moved
 outcome_of (line.Step count) = outcome.Moved
 outcome_of line.Over = outcome.Moved
 outcome_of line.Out = outcome.Moved
-outcome_of line.Line = outcome.Moved
-outcome_of line.LineBack = outcome.Moved
 outcome_of (line.Until address) = outcome.Moved
 outcome_of (line.Go count) = outcome.Moved
 outcome_of (line.Back undoing) = outcome.Moved

@@ -19,8 +19,7 @@ use mon_settings::{
     set, set_break, set_flag, set_irq, set_watch, show_displays, undisplay,
 };
 use mon_steps::{
-    redo, run, run_to_line, run_until, show_history, step_out, step_over, steps, undo,
-    undo_to_line, undo_to_stop,
+    redo, run, run_until, show_history, step_out, step_over, steps, undo, undo_to_stop,
 };
 use mon_texts::push_slip;
 use std::alloc::{AllocError, Global};
@@ -43,7 +42,6 @@ fn outcome_of(command: &Command<'_>) -> Outcome
     match command {
         Command::Quit => Outcome::Over,
         Command::Nothing | Command::Step(_) | Command::Over | Command::Out => Outcome::Moved,
-        Command::Line | Command::LineBack => Outcome::Moved,
         Command::Until(_) | Command::Go(_) | Command::Back(_) => Outcome::Moved,
         Command::Rback | Command::Redo(_) | Command::Reset => Outcome::Moved,
         _ => Outcome::Stays,
@@ -92,8 +90,6 @@ fn obey(mon: &mut MonState, alloc: Global, command: &Command<'_>) -> Result<(), 
         Command::Step(count) => steps(mon, *count),
         Command::Over => step_over(mon),
         Command::Out => step_out(mon),
-        Command::Line => run_to_line(mon, alloc),
-        Command::LineBack => undo_to_line(mon, alloc),
         Command::Until(address) => run_until(mon, *address),
         Command::Go(count) => run(mon, *count),
         Command::Back(undoing) => undo(mon, *undoing),

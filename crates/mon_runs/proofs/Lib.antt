@@ -1,7 +1,6 @@
 pub mod Counts
 pub mod Apart
 pub mod LookedRuns
-pub mod Lines
 pub mod Past
 pub mod Way
 pub mod Again

@@ -9,7 +9,6 @@
 //!   program has nothing to do, or waits for input (`specs/Rests.antt`).
 //! - `stretches` makes so many steps, on past a break whose tests do not hold. `runs` makes the
 //!   runs (`specs/PastBreaks.antt`).
-//! - `line_runs` runs to where another line of a source begins (`specs/LineRuns.antt`).
 //! - `back` and `recall` undo events, and make undone events again (`specs/Back.antt`,
 //!   `specs/Recall.antt`).
 //! - `laws` states that a run that is looked at leads where as many steps lead, and that undone
@@ -21,7 +20,6 @@ mod breaks;
 mod changes;
 mod ended;
 pub mod laws;
-mod line_runs;
 mod looked;
 mod recall;
 mod rests;
@@ -36,10 +34,10 @@ pub use breaks::Break;
 pub use changes::RegisterChange;
 pub use debugger::{Event, RunEnd, Session, SessionFault, Why};
 pub use ended::{EndWhy, Ended};
-pub use line_runs::line;
+pub use looked::{Goal, Made, make_step};
 pub use mon_lines::WatchKind;
 pub use recall::{back_to_stop, make_again};
 pub use rests::has_no_handler;
-pub use runs::{go, out, over, run, until};
+pub use runs::{MOST_STEPS, go, out, over, run, until};
 pub use stops::Stops;
 pub use watches::Watch;

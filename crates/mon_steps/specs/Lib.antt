@@ -4,4 +4,3 @@ pub mod Reasons
 pub mod RunTexts
 pub mod BackLines
 pub mod BackTexts
-pub mod ByLine

@@ -3,15 +3,11 @@
 ghost use Rattle.std.specs.Prelude.{◌≡◌, ◌&&◌, is_some, not};
 ghost use Rattle.line_steps.specs.Lines.{begun, is_other};
 ghost use Rattle.model.specs.Run.{after_steps};
-ghost use Rattle.mon_runs.specs.LineRuns.{line_run};
+ghost use Rattle.mon_line_runs.specs.LineRuns.{line_run};
 ghost use Rattle.mon_runs.specs.PastBreaks.{most_steps};
 
-use crate::ended::{EndWhy, Ended};
-use crate::looked::{Goal, make_step};
-use crate::runs::MOST_STEPS;
-use crate::stops::Stops;
-use debugger::Session;
 use line_steps::{FileLine, LineStart, begun, call_begun, call_open, is_other};
+use mon_runs::{EndWhy, Ended, Goal, MOST_STEPS, Session, Stops, make_step};
 
 /// Returns whether another line than `line` begins at the current state, and the run is within no
 /// call.
