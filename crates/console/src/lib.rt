@@ -11,7 +11,7 @@
 pub use ending::{Ending, PlayFault, Played};
 pub use memo::Memo;
 pub use running::play;
-pub use stretch::take_plain_turn;
+pub use stretch::{is_at, take_plain_turn};
 pub use turn::{Player, begin, ending_after, take_turn};
 
 mod ending;

@@ -9,8 +9,6 @@ use Rattle.dap_messages.specs.declared.counting.Counting.{Counting}
 use Rattle.dap_messages.specs.declared.request.Page.{Page}
 use Rattle.dap_views.specs.Pages.{page_of}
 use Rattle.dap_messages.specs.SeenAnswers.{SeenAnswer, SeenItem, frame_at_line, frame_without_line, frames_body}
-use Rattle.dap_views.specs.declared.pushed.Pushed.{Pushed as OwnPushed}
-use Rattle.dap_views.specs.declared.pushed.Pushed.TheVariants as own
 use Rattle.dap_views.specs.declared.stack.Frame.{Frame}
 use Rattle.model.specs.State.{State}
 use Rattle.mon_instructions.specs.Places.{place_text}
@@ -24,13 +22,6 @@ use Rattle.source_map.specs.Names.{Named}
 use Rattle.source_map.specs.declared.rows.Row.{Row}
 
 -- ---- which frames there are
-
--- What is taken to have pushed something, as `where` takes it.
-abbrev pub seen : OwnPushed → Pushed
-seen (own.Call at) = Call at
-seen (own.Break at) = Break at
-seen (own.Interrupt at) = Interrupt at
-seen own.Byte = Byte
 
 abbrev pub new_frame : ℕ → ℕ → Bool → Frame
 new_frame id address is_interrupted

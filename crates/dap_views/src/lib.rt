@@ -1,16 +1,16 @@
 //! What an editor's views show of a session, and the breakpoints and watches that it lists.
 //!
-//! `stack` finds the frames of the stack, by what `pushed` takes to have pushed something; `frames`
-//! shows them. `variables` shows the variables of a scope, `memory` bytes, `rows` instructions,
-//! `looks` what a text names. `named` finds the variable that a client names. `paged` is a page
-//! of a list. `texts` makes texts of bytes, `source` is the source that a client sees. These change
-//! nothing. `laws` has what holds of all frames.
+//! `stack` finds the frames of the stack, by what `mon_texts` takes to have pushed something;
+//! `frames` shows them. `variables` shows the variables of a scope, `memory` bytes, `rows`
+//! instructions, `looks` what a text names. `named` finds the variable that a client names. `paged`
+//! is a page of a list. `texts` makes texts of bytes, `source` is the source that a client sees.
+//! These change nothing. `laws` has what holds of all frames.
 //!
 //! Each list of breakpoints replaces the one before: `wanted` reads the breakpoints of a list,
 //! `listed` sets them and answers, `watches` watches bytes. `locations` has the lines at which they
 //! can stand, `targets` the addresses at which a line can be gone to.
 //!
-//! The values of what is shown, and of answers, are made by `dap_messages`.
+//! What is shown and answered are values of `dap_messages`, which alone writes them as JSON.
 //!
 //! What is shown stands in `specs/Frames.antt`, `specs/Scopes.antt`, `specs/Pages.antt`,
 //! `specs/Memory.antt`, `specs/Rows.antt`, `specs/Looks.antt` and `specs/Named.antt`, with the
@@ -27,7 +27,6 @@ mod looks;
 mod memory;
 mod named;
 mod paged;
-mod pushed;
 mod rows;
 mod source;
 mod stack;

@@ -1,12 +1,12 @@
 //! The frames of the stack: where the program is, and the calls and interrupts that have led there.
 
 ghost use Rattle.std.specs.Prelude.{◌≡◌, ◌++◌, ◌∷◌, [], ◌≤◌, IfOk, OnOk};
-ghost use Rattle.dap_views.specs.Frames.{frame_of, frames_from, has_frame, new_frame, seen};
+ghost use Rattle.dap_views.specs.Frames.{frame_of, frames_from, has_frame, new_frame};
 ghost use Rattle.dap_views.specs.Frames.{stack_frames};
 
-use crate::pushed::{Pushed, pushed_at, pushed_len};
 use mon_runs::Session;
 use mon_session::MonState;
+use mon_texts::{Pushed, pushed_at, pushed_len};
 use source_map::Places;
 use std::alloc::{AllocError, Global};
 
@@ -44,7 +44,7 @@ fn push(
 /// Appends the frame that was left by what has pushed the bytes from an address on, if that is a
 /// call, a BRK or an interrupt.
 fn push_frame(frames: &mut Vec<Frame>, id: u16, pushed: Pushed) -> Result<(), AllocError>
-    ensures { OnOk result (frames.new.items ≡ frames.old.items ++ frame_of id (seen pushed)) }
+    ensures { OnOk result (frames.new.items ≡ frames.old.items ++ frame_of id pushed) }
 {
     match pushed {
         Pushed::Call(address) | Pushed::Break(address) => push(frames, id, address, false),

@@ -66,7 +66,7 @@ fn number_of(kind: DebugFaultKind) -> u8
 }
 
 /// Returns why a debug file is not loaded.
-pub fn told(error: DebugError) -> LoadFault
+pub fn load_fault(error: DebugError) -> LoadFault
     ensures { IsToldAs error result }
 {
     match error {

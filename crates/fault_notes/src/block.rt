@@ -242,14 +242,14 @@ pub fn faults_text(
 
 /// Returns the text of all faults of a source on a map, as `faults_text` writes it under the name
 /// of the source's file. It is empty if the source has no fault.
-fn all_faults_text(
+pub fn all_faults_text(
     alloc: Global,
     file: &[u8],
     source: &[u8],
     map: &MapSpec,
 ) -> Result<Vec<u8>, AllocError>
     // Blocks of all faults that the source has on the map.
-    ensures told { IfOk result (λ text. IsToldText file.now source.now map.now.profile
+    ensures { IfOk result (λ text. IsToldText file.now source.now map.now.profile
         (faults_of map.now source.now) text.items) }
 {
     let faults = source_faults(alloc, source, map)?;

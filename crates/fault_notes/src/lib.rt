@@ -22,6 +22,6 @@ mod scan;
 mod values;
 mod wording;
 
-pub use block::{faults_text, told_faults};
+pub use block::{all_faults_text, faults_text, told_faults};
 pub use near::is_near;
 pub use note::{Context, note_of};

@@ -21,7 +21,7 @@ fn are_same(one: Option<u8>, other: Option<u8>) -> bool
 }
 
 /// Returns what an image has at an address, and nothing past its last address.
-fn cell_at(image: &Image, address: u32) -> Option<u8>
+pub fn cell_at(image: &Image, address: u32) -> Option<u8>
     ensures { result ≡ cell_at image.now address }
 {
     match image.cells().get(address as usize) {

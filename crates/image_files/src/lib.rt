@@ -25,7 +25,7 @@ mod written;
 pub use bytes::{form_by, image_of_bytes};
 pub use ends::ends_of;
 pub use file::{image_bytes, image_of_file};
-pub use fill::{fill_at, without_port};
+pub use fill::{cell_at, fill_at, without_port};
 pub use form::OtherText;
 pub use looks::{looks_raw, refuse_image};
 pub use options::{fill_asked, form_said, forms_said, said_of, with_image_options};

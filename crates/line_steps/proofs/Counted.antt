@@ -91,7 +91,7 @@ none_by None false n h k = refl
 none_by None true n h k = cc
 none_by (Some x) here n h k = cc
 
-first_none : (n : ℕ) (has : ℕ → Bool) → NoneTo has n → first_to n has ≡ None
+pub first_none : (n : ℕ) (has : ℕ → Bool) → NoneTo has n → first_to n has ≡ None
 unfolding first_to
 first_none zero has none = refl
 first_none (suc n) has none =
@@ -107,7 +107,7 @@ before_by : (before : Option ℕ) (here : Bool) (m n : ℕ) → before ≡ Some 
 before_by (Some x) here m n h = h
 before_by None here m n h = cc
 
-first_at : (n : ℕ) (has : ℕ → Bool) (k : ℕ) → NoneTo has k → has (suc k) ≡ true → suc k ≤ n → first_to n has ≡ Some (suc k)
+pub first_at : (n : ℕ) (has : ℕ → Bool) (k : ℕ) → NoneTo has k → has (suc k) ≡ true → suc k ≤ n → first_to n has ≡ Some (suc k)
 unfolding first_to
 first_at zero has k none here within = absurd (omega (arith, within))
 first_at (suc n) has k none here within = elim (cases_lt k n) [

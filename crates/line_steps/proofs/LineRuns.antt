@@ -18,7 +18,7 @@ use Rattle.line_steps.proofs.Counted.{NoneTo, first_beyond, first_last, first_ne
 use Rattle.line_steps.proofs.Steps.{IsOn, made_next, ends_all, ends_met, ends_refused, ends_stopped}
 
 -- the call that the run is within, one step more
-call_on : (s u v : Session) (k : ℕ) (call before after : Option ℕ) → IsCall s k call → u ≡ after_steps k s
+pub call_on : (s u v : Session) (k : ℕ) (call before after : Option ℕ) → IsCall s k call → u ≡ after_steps k s
     → v ≡ after_steps (k + 1) s → before ≡ call_begun call u.current → after ≡ call_open before v.current → IsCall s (k + 1) after
 call_on s u v k call before after is made made_more begins opens =
     let first : before ≡ call_begun call (state_on s k) = begins ∙ ap (λ (x : Session). call_begun call x.current) made in
@@ -27,7 +27,7 @@ call_on s u v k call before after is made made_more begins opens =
     subst (IsCall s (k + 1)) (sym second) (call_more s k call is)
 
 -- whether it is at such a line
-line_is : (lines : List LineStart) (from : Option FileLine) (s t : Session) (k : ℕ) (call : Option ℕ)
+pub line_is : (lines : List LineStart) (from : Option FileLine) (s t : Session) (k : ℕ) (call : Option ℕ)
     → t ≡ after_steps k s → IsCall s k call
     → (is_other from (begun lines t.current) && not (is_some call)) ≡ is_line_on lines from s k
 line_is lines from s t k call made is =

@@ -48,7 +48,7 @@ one_on s t h none = run_goes 1 s t (omega arith) h none ∙ ap one_later (run_en
 later_is_beyond : (e : RunEnd) → one_later e ≡ beyond 1 e
 later_is_beyond e = let z : suc e.did ≡ 1 + e.did = omega arith in λ i. record { did = z i; why = e.why }
 
-made_at_most : (s : Session) (t : State) (why : Option Why) → step s.current ≡ Ok t → why ≡ stop_of s s.current t → (run_end 1 s).did ≡ 1
+pub made_at_most : (s : Session) (t : State) (why : Option Why) → step s.current ≡ Ok t → why ≡ stop_of s s.current t → (run_end 1 s).did ≡ 1
 made_at_most s t None h is = ap (λ (e : RunEnd). e.did) (one_on s t h is)
 made_at_most s t (Some why) h is = ap (λ (e : RunEnd). e.did) (run_stops 1 s t why (omega arith) h is)
 

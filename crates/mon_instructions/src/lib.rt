@@ -15,6 +15,6 @@ pub use instructions::{
     push_byte_column, push_front, push_instruction, push_next, push_open_row, push_row,
 };
 pub use listed::push_listed;
-pub use made::push_made_row;
+pub use made::{push_line_text, push_made_row};
 pub use places::{push_character, push_place};
 pub use stores::push_stores;

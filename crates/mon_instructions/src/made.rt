@@ -82,8 +82,10 @@ fn push_line_bytes(text: &mut Vec<u8>, line: &[u8]) -> Result<(), AllocError>
     Ok(())
 }
 
-/// Appends the text of a line.
-fn push_line_text(text: &mut Vec<u8>, line: &[u8]) -> Result<(), AllocError>
+/// Appends the text of a line without the blanks at its ends, and a blank in place of each tab.
+///
+/// Errors: `AllocError` if an allocation fails.
+pub fn push_line_text(text: &mut Vec<u8>, line: &[u8]) -> Result<(), AllocError>
     ensures { OnOk result (text.new.items ≡ text.old.items ++ line_text line.now) }
 {
     push_line_bytes(text, trimmed(line))

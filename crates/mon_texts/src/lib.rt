@@ -19,6 +19,7 @@ pub mod wording;
 pub use calls::push_calls;
 pub use help::{push_example, push_help};
 pub use memory::push_memory;
+pub use pushed::{Pushed, pushed_at, pushed_len};
 pub use screen::{push_output_since, push_screen};
 pub use slips::push_slip;
 pub use stack::push_stack;

@@ -15,20 +15,10 @@ use crate::machine::OUT_OF_MEMORY;
 use crate::texts::tell;
 use bus::MapSpec;
 use clean_source::clean_source;
-use fault_notes::faults_text;
-use source_faults::source_faults;
+use fault_notes::all_faults_text;
 use std::alloc::{AllocError, Global};
 use warning_notes::warnings_text;
 use warnings::source_warnings;
-
-/// Returns the text of all faults of a text on a map, under the name of its file.
-fn text_of(alloc: Global, name: &[u8], text: &[u8], map: &MapSpec) -> Result<Vec<u8>, AllocError>
-    ensures { IfOk result (λ told. IsToldText name.now text.now map.now.profile
-        (faults_of map.now text.now) told.items) }
-{
-    let faults = source_faults(alloc, text, map)?;
-    faults_text(alloc, name, text, map, &faults)
-}
 
 /// Returns the text of all faults of a source on a map, under the name of its file.
 fn told_of(alloc: Global, name: &[u8], source: &[u8], map: &MapSpec) -> Result<Vec<u8>, AllocError>
@@ -36,7 +26,7 @@ fn told_of(alloc: Global, name: &[u8], source: &[u8], map: &MapSpec) -> Result<V
         (faults_of map.now (cleaned source.now)) told.items) }
 {
     let text = clean_source(alloc, source)?;
-    text_of(alloc, name, &text, map)
+    all_faults_text(alloc, name, &text, map)
 }
 
 /// Writes the beginning of the text of all faults of a source for which `out` has room, under the

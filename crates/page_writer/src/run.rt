@@ -4,7 +4,7 @@ ghost use Rattle.std.specs.Prelude.{◌≡◌, ◌<◌, ◌++◌, ℕ, List, IfO
 ghost use Rattle.std.specs.Io.KnownBytes.{Appends};
 ghost use Rattle.base64.specs.Engines.{standard};
 ghost use Rattle.base64.specs.GeneralPurpose.{encode_of};
-ghost use Rattle.console.specs.Playing.{begun, is_at, played};
+ghost use Rattle.console.specs.Playing.{begun, played};
 ghost use Rattle.console.specs.Written.{RanAs};
 ghost use Rattle.page_data.specs.Safe.{is_safe_text};
 ghost use Rattle.page_data.specs.Start.{start_at, start_bytes};
@@ -13,7 +13,7 @@ ghost use Rattle.page_writer.specs.Steps.{steps_of};
 
 use crate::turn::record_turn;
 use accesses::Written;
-use console::{Ending, Played, begin, ending_after};
+use console::{Ending, Played, begin, ending_after, is_at};
 use debugger::Session;
 use page_data::{SendFault, push_start, send_groups, send_rest};
 use std::alloc::Global;
@@ -21,16 +21,6 @@ use std::io::Write;
 
 /// How many bytes wait at least before they are written.
 const FULL: usize = 49152;
-
-/// Returns whether the program counter is at an address, if there is one.
-fn is_at(place: Option<u16>, session: &Session) -> bool
-    ensures { result ≡ is_at place session.now.current }
-{
-    match place {
-        None => false,
-        Some(address) => session.regs().pc == address,
-    }
-}
 
 /// For the proof: each of some bytes has eight bits.
 fn has_bytes(bytes: &[u8])

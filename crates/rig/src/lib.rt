@@ -7,7 +7,7 @@
 
 pub use given::{Called, Given};
 pub use ranges::{read, read_output};
-pub use subroutine::{call, call_with, run_to};
+pub use subroutine::{call, call_with, happen, patch_byte, run_to};
 
 mod given;
 mod ranges;

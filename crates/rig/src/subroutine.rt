@@ -145,7 +145,8 @@ fn push_return(session: &mut Session, address: u16)
     happen(session, Event::Set(Setting::Pc(address)));
 }
 
-fn patch_byte(session: &mut Session, address: u16, byte: u8)
+/// Puts a byte at an address.
+pub fn patch_byte(session: &mut Session, address: u16, byte: u8)
     ensures { session.new ≡ after_event session.old (byte_patched address byte) }
 {
     happen(
@@ -158,8 +159,9 @@ fn patch_byte(session: &mut Session, address: u16, byte: u8)
     );
 }
 
+/// Makes an event. One that is refused changes nothing.
 #[tactic(auto, unfolding(crate::specs::Subroutine::after_event))]
-fn happen(session: &mut Session, event: Event)
+pub fn happen(session: &mut Session, event: Event)
     ensures { session.new ≡ after_event session.old event }
 {
     let _ = session.event(event);

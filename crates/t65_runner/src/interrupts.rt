@@ -1,36 +1,14 @@
 //! Handlers called as an interrupt enters them.
 
-ghost use Rattle.std.specs.Prelude.{◌≡◌, ◌≢◌, IfErr, IfOk, [], false};
-ghost use Rattle.model.specs.Effect.{decimal_after_entry};
+ghost use Rattle.std.specs.Prelude.{◌≡◌, ◌≢◌, IfOk, [], false};
 ghost use Rattle.model.specs.State.{State};
-ghost use Rattle.rig.specs.Subroutine.{after_event, byte_patched};
 ghost use Rattle.t65_runner.specs.Interrupts.{entered_flags, interrupt_of, interrupted};
 ghost use Rattle.t65_runner.specs.Start.{IsSince};
 
 use crate::requests::run_back;
 use debugger::{Event, Flags, Profile, RunEnd, Session, Setting};
+use rig::{happen, patch_byte};
 use std::alloc::AllocError;
-
-/// Makes an event; one that is refused changes nothing.
-#[tactic(auto, unfolding(rig::specs::Subroutine::after_event))]
-pub fn happen(session: &mut Session, event: Event)
-    ensures { session.new ≡ after_event session.old event }
-{
-    let _ = session.event(event);
-}
-
-fn patch_byte(session: &mut Session, address: u16, byte: u8)
-    ensures { session.new ≡ after_event session.old (byte_patched address byte) }
-{
-    happen(
-        session,
-        Event::Patch {
-            address,
-            bytes: [byte, 0, 0],
-            count: 1,
-        },
-    );
-}
 
 /// Returns the flags after an interrupt's entry.
 fn entered_flags(profile: Profile, flags: Flags) -> Flags

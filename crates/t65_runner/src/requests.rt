@@ -10,9 +10,8 @@ ghost use Rattle.t65_runner.specs.Requests.{waited, waited_on};
 ghost use Rattle.t65_runner.specs.Start.{IsSince};
 ghost use Rattle.t65_runner.specs.declared.requests.Wait.TheVariants.{Ended};
 
-use crate::interrupts::happen;
 use debugger::{Event, RunEnd, Session, Why};
-use rig::run_to;
+use rig::{happen, run_to};
 use std::alloc::AllocError;
 use t65_reader::Signal;
 

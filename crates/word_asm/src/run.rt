@@ -180,7 +180,11 @@ fn written<H: Files + AllocGlobal, E: Write>(
 
 /// Assembles a file and writes the files that are asked for, or why not, and returns the exit
 /// status. All texts are whole before a file is made.
-fn done<H: Files + AllocGlobal, E: Write>(rt: &H, words: &FilesWords<'_>, errors: &mut E) -> u8
+fn serve_words<H: Files + AllocGlobal, E: Write>(
+    rt: &H,
+    words: &FilesWords<'_>,
+    errors: &mut E,
+) -> u8
     ensures status { result ≤ 4 }
     ensures quiet { result ≡ 0 → errors.new ≡ errors.old }
     ensures done { result ≡ 0 → HasSource (map_asked (files_view words.now)) }
@@ -235,7 +239,7 @@ pub fn asm_files<H: Files + AllocGlobal, O: Write, E: Write>(
         ⊎ (Fits asm (texts words.entry.now) × (output.new ≡ output.old)) }
 {
     match read_files_words(rt.alloc(), words) {
-        Ok(words) => done(rt, &words, errors),
+        Ok(words) => serve_words(rt, &words, errors),
         Err(fault) => refused_words(fault, output, errors),
     }
 }

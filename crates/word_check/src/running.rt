@@ -204,7 +204,7 @@ fn check_files<H: Files + AllocGlobal, O: Write, E: Write>(
 }
 
 /// Checks the files of the words, and returns the exit status.
-fn done<H: Files + AllocGlobal, O: Write, E: Write>(
+fn serve_words<H: Files + AllocGlobal, O: Write, E: Write>(
     rt: &H,
     words: &CheckWords<'_>,
     output: &mut O,
@@ -279,7 +279,7 @@ pub fn check<H: Files + AllocGlobal, O: Write, E: Write>(
         (O.contents output.old) (O.contents output.new) (output.new ≡ output.old) result) }
 {
     match read_words(rt.alloc(), words) {
-        Ok(words) => done(rt, &words, output, errors),
+        Ok(words) => serve_words(rt, &words, output, errors),
         Err(fault) => refused_words(fault, output, errors),
     }
 }

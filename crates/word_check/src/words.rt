@@ -76,9 +76,12 @@ fn words_of<'a>(
     }))
 }
 
-/// Returns what the values that were found ask for, or `None` if there is no file or a value is
+/// Returns the words of the matched values, or `None` if there is no file or a value is
 /// wrong.
-fn asked<'a>(alloc: Global, matches: &ArgMatches<'a>) -> Result<Option<CheckWords<'a>>, AllocError>
+fn words_in<'a>(
+    alloc: Global,
+    matches: &ArgMatches<'a>,
+) -> Result<Option<CheckWords<'a>>, AllocError>
     ensures { IfOk result (λ w. option_map check_view w
         ≡ check_by (first_value (found_of matches.now)) (all_values (found_of matches.now))) }
 {
@@ -107,7 +110,7 @@ pub fn read_words<'a>(alloc: Global, words: &'a [&'a str]) -> Result<CheckWords<
         (IsRefusalOf check (texts words.entry.now) (check_asked (texts words.entry.now) ≡ None)) }
 {
     let matches = matched(check_command(alloc)?, words)?;
-    match asked(alloc, &matches) {
+    match words_in(alloc, &matches) {
         Ok(Some(words)) => Ok(words),
         Ok(None) => Err(value_fault(&matches)),
         Err(_) => Err(WordsFault::OutOfMemory),

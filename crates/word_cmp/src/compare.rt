@@ -183,7 +183,7 @@ fn other_refused<E: Write>(words: &CmpWords<'_>, why: ImageFileRefusal<'_>, erro
 }
 
 /// Compares the files of the words, and returns the exit status.
-fn done<H: Files + AllocGlobal, O: Write, E: Write>(
+fn compare_files<H: Files + AllocGlobal, O: Write, E: Write>(
     rt: &H,
     words: &CmpWords<'_>,
     output: &mut O,
@@ -247,7 +247,7 @@ pub fn tape_cmp<H: Files + AllocGlobal, O: Write, E: Write>(
         ⊎ Asks (texts words.entry.now) (λ _. output.new ≡ output.old)) }
 {
     match read_cmp_words(rt.alloc(), words) {
-        Ok(words) => done(rt, &words, output, errors),
+        Ok(words) => compare_files(rt, &words, output, errors),
         Err(fault) => refused_words(fault, output, errors),
     }
 }

@@ -113,7 +113,7 @@ fn both_done<'a, H: Files + AllocGlobal>(
 
 /// Converts a file, or two. The error has the file that it is of.
 #[tactic(auto, using(crate::proofs::Whole::bytes_end))]
-fn done<'a, H: Files + AllocGlobal>(
+fn convert_files<'a, H: Files + AllocGlobal>(
     rt: &H,
     words: &ConvertWords<'a>,
 ) -> Result<(), (&'a str, ConvertFault)>
@@ -171,12 +171,16 @@ fn ended<E: Write>(file: &str, fault: ConvertFault, errors: &mut E) -> u8
 }
 
 /// Converts the file of the words, or says why not, and returns the exit status.
-fn served<H: Files + AllocGlobal, E: Write>(rt: &H, words: &ConvertWords<'_>, errors: &mut E) -> u8
+fn serve_words<H: Files + AllocGlobal, E: Write>(
+    rt: &H,
+    words: &ConvertWords<'_>,
+    errors: &mut E,
+) -> u8
     ensures status { result ≤ 4 }
     ensures two { result ≡ 2 → ⊥ }
     ensures quiet { result ≡ 0 → errors.new ≡ errors.old }
 {
-    match done(rt, words) {
+    match convert_files(rt, words) {
         Ok(()) => 0,
         Err((file, fault)) => ended(file, fault, errors),
     }
@@ -209,7 +213,7 @@ pub fn convert<H: Files + AllocGlobal, O: Write, E: Write>(
         × (convert_asked (texts words.entry.now) ≡ None)) }
 {
     match read_convert_words(rt.alloc(), words) {
-        Ok(words) => served(rt, &words, errors),
+        Ok(words) => serve_words(rt, &words, errors),
         Err(fault) => refused_words(fault, output, errors),
     }
 }

@@ -57,7 +57,7 @@ fn text_of<'a, H: Files + AllocGlobal>(
 /// Writes the source that the words ask for, and what `asm` has to be told of it, or why there is
 /// none, and returns the exit status.
 #[tactic(auto, using(crate::proofs::Ended::not_written, crate::proofs::Images::is_done, crate::proofs::Images::is_begun))]
-fn done<H: Files + AllocGlobal, O: Write, E: Write>(
+fn serve_words<H: Files + AllocGlobal, O: Write, E: Write>(
     rt: &H,
     words: &SourceWords<'_>,
     output: &mut O,
@@ -107,7 +107,7 @@ fn done_with_marks<H: Files + AllocGlobal, O: Write, E: Write>(
 {
     let path = words.marks.unwrap_or(words.tape);
     match with_marks(rt, words) {
-        Ok(words) => done(rt, &words, output, errors),
+        Ok(words) => serve_words(rt, &words, output, errors),
         Err(why) => why.tell(path, errors),
     }
 }

@@ -1,13 +1,13 @@
 //! Where control comes in.
 
 ghost use Rattle.std.specs.Prelude.{◌≡◌, ◌≤◌, ◌++◌, IfOk, OnOk, option_map};
-ghost use Rattle.model.specs.Image.{cell_at};
 ghost use Rattle.word_dis.specs.Views.{source_view};
 ghost use Rattle.word_dis.specs.Written.{entries, firsts, half_targets, is_followed, split_targets};
 ghost use Rattle.word_dis.specs.Written.{starts_of, target_list, targets, word_at, words_between};
 
 use crate::asked::SourceWords;
 use bus::Image;
+use image_files::cell_at;
 use marks_files::Split;
 use reached::vectors;
 use remarked_source::target_at;
@@ -35,23 +35,13 @@ fn push_entries(
     }
 }
 
-/// The byte at an address, if there is one.
-fn byte_at(part: &Image, address: u32) -> Option<u8>
-    ensures { result ≡ cell_at part.now address }
-{
-    match part.cells().get(address as usize) {
-        Some(cell) => *cell,
-        None => None,
-    }
-}
-
 /// Appends the word at an address, and so much more, where both its bytes are there.
 fn push_word(starts: &mut Vec<u16>, part: &Image, more: u16, address: u32) -> Result<(), AllocError>
     requires { address ≤ 131072 }
     ensures { OnOk result
         (starts.new.items ≡ starts.old.items ++ word_at part.now more address) }
 {
-    match (byte_at(part, address), byte_at(part, address + 1)) {
+    match (cell_at(part, address), cell_at(part, address + 1)) {
         (Some(low), Some(high)) => {
             let word = low as u32 + 256 * high as u32 + more as u32;
             starts.push((word % 65536) as u16)?;

@@ -508,7 +508,7 @@ fn answer_of(
 }
 
 /// Returns what is to be said of the file that the words name.
-fn done<'a, H: Files + AllocGlobal>(
+fn answer_to<'a, H: Files + AllocGlobal>(
     rt: &H,
     words: &InfoWords<'a>,
 ) -> Result<Answer, FileRefusal<'a>>
@@ -568,7 +568,7 @@ pub fn tape_info<H: Files + AllocGlobal, O: Write, E: Write>(
         (O.contents output.old) (O.contents output.new) ⊎ (output.new ≡ output.old)) }
 {
     match read_info_words(rt.alloc(), words) {
-        Ok(words) => answered(done(rt, &words), output, errors),
+        Ok(words) => answered(answer_to(rt, &words), output, errors),
         Err(fault) => refused_words(fault, output, errors),
     }
 }

@@ -295,7 +295,7 @@ fn replies(
 
 /// Does what a request asks for, and returns what is to be told then. The only error is that a
 /// request for memory was refused.
-fn asked(
+fn answers_to(
     alloc: Global,
     words: &MapSpec,
     server: &mut Server,
@@ -365,7 +365,7 @@ pub fn serve(
 {
     let request = read_request(message);
     match message.get("id") {
-        Some(id) => asked(alloc, words, server, message, id, request),
+        Some(id) => answers_to(alloc, words, server, message, id, request),
         None => noted(alloc, words, server, message, request),
     }
 }

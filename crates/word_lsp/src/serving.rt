@@ -31,7 +31,7 @@ use std::io::{Read, Write};
 ///
 /// Errors: `Write` if the output fails; `OutOfMemory` if an allocation fails, before or here. A
 /// beginning of the messages was written then.
-fn told<O: Write>(
+fn write_values<O: Write>(
     alloc: Global,
     values: Result<Vec<Value>, AllocError>,
     output: &mut O,
@@ -81,9 +81,9 @@ fn answer<O: Write>(
     match message {
         Ok(Some(message)) => match asks_for_end(server, &message) {
             Some(status) => Ok(Some(status)),
-            None => told(alloc, serve(alloc, map, server, &message), output),
+            None => write_values(alloc, serve(alloc, map, server, &message), output),
         },
-        Ok(None) => told(alloc, refused(alloc, Failure::NotJson), output),
+        Ok(None) => write_values(alloc, refused(alloc, Failure::NotJson), output),
         Err(_) => Err(StreamFault::OutOfMemory),
     }
 }
@@ -154,7 +154,7 @@ fn cut_off<E: Write>(fault: StreamFault, errors: &mut E) -> u8
 }
 
 /// Serves a session on the map of the words, and returns the exit status.
-fn done<R: Read, O: Write, E: Write>(
+fn serve_words<R: Read, O: Write, E: Write>(
     alloc: Global,
     words: &LspWords,
     input: &mut R,
@@ -231,7 +231,7 @@ pub fn lsp<H: AllocGlobal, R: Read, O: Write, E: Write>(
     ensures untouched { result ≡ 2 → output.new ≡ output.old }
 {
     match read_words(rt.alloc(), words) {
-        Ok(words) => done(rt.alloc(), &words, input, output, errors),
+        Ok(words) => serve_words(rt.alloc(), &words, input, output, errors),
         Err(fault) => refused_words(fault, output, errors),
     }
 }

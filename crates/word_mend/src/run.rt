@@ -414,7 +414,7 @@ fn mended<'a, H: Files + AllocGlobal>(
 }
 
 /// Mends the text of a file: what is said of it.
-fn done<'a, H: Files + AllocGlobal>(
+fn answer_to<'a, H: Files + AllocGlobal>(
     rt: &H,
     words: &MendWords<'a>,
 ) -> Result<Answer, FileRefusal<'a>>
@@ -464,7 +464,7 @@ pub fn tape_mend<H: Files + AllocGlobal, O: Write, E: Write>(
         (O.contents output.old) (O.contents output.new) ⊎ (output.new ≡ output.old)) }
 {
     match read_mend_words(rt.alloc(), words) {
-        Ok(words) => answered(done(rt, &words), output, errors),
+        Ok(words) => answered(answer_to(rt, &words), output, errors),
         Err(fault) => refused_words(fault, output, errors),
     }
 }

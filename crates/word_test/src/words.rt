@@ -375,9 +375,12 @@ fn test_of<'a>(
     }))
 }
 
-/// Returns what the values that were found ask for, or `None` if no file is among them, one is
+/// Returns the words of the matched values, or `None` if no file is among them, one is
 /// wrong, or a report would replace a file.
-fn asked<'a>(alloc: Global, matches: &ArgMatches<'a>) -> Result<Option<TestWords<'a>>, AllocError>
+fn words_in<'a>(
+    alloc: Global,
+    matches: &ArgMatches<'a>,
+) -> Result<Option<TestWords<'a>>, AllocError>
     ensures { IfOk result (λ w. option_map test_view w
         ≡ test_asked (first_value (found_of matches.now)) (all_values (found_of matches.now))) }
 {
@@ -456,7 +459,7 @@ pub fn read_words<'a>(alloc: Global, words: &'a [&'a str]) -> Result<TestWords<'
         (words_asked (texts words.entry.now) ≡ None)) }
 {
     let matches = matched(test_command(alloc)?, words)?;
-    match asked(alloc, &matches) {
+    match words_in(alloc, &matches) {
         Ok(Some(words)) => Ok(words),
         Ok(None) => Err(WordsFault::Wrong(wrong_words(&matches))),
         Err(_) => Err(WordsFault::OutOfMemory),

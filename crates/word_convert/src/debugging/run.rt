@@ -113,7 +113,7 @@ fn serve_file<H: Files + AllocGlobal, R: Read, O: Write, E: Write>(
 }
 
 /// Does what the words ask for, and returns the exit status.
-fn done<H: Files + AllocGlobal, R: Read, O: Write, E: Write>(
+fn serve_words<H: Files + AllocGlobal, R: Read, O: Write, E: Write>(
     rt: &H,
     words: &DebugImageWords<'_>,
     input: &mut R,
@@ -183,7 +183,7 @@ pub fn debug_image<H: Files + AllocGlobal, R: Read, O: Write, E: Write>(
         ⊎ Asks (texts words.entry.now) (λ asked. is_map asked.rom asked.port ≡ false)) }
 {
     match read_debug_words(rt.alloc(), words) {
-        Ok(words) => done(rt, &words, input, output, errors),
+        Ok(words) => serve_words(rt, &words, input, output, errors),
         Err(fault) => refused_words(fault, output, errors),
     }
 }

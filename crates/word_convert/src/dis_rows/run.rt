@@ -40,7 +40,7 @@ fn listing<'a, H: Files + AllocGlobal>(
 
 /// Writes the rows that the words ask for, or why there are none, and returns the exit status.
 #[tactic(auto, using(crate::proofs::Listed::not_listed, crate::proofs::Listed::is_told, crate::proofs::Listed::is_begun))]
-fn done<H: Files + AllocGlobal, O: Write, E: Write>(
+fn write_rows<H: Files + AllocGlobal, O: Write, E: Write>(
     rt: &H,
     words: &DisImageWords<'_>,
     output: &mut O,
@@ -101,7 +101,7 @@ pub fn dis_image<H: Files + AllocGlobal, O: Write, E: Write>(
         (O.contents output.old) (O.contents output.new) ⊎ (output.new ≡ output.old)) }
 {
     match read_dis_words(rt.alloc(), words) {
-        Ok(words) => done(rt, &words, output, errors),
+        Ok(words) => write_rows(rt, &words, output, errors),
         Err(fault) => refused_words(fault, output, errors),
     }
 }

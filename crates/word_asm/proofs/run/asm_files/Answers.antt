@@ -6,13 +6,13 @@ use Rattle.word_asm.specs.Views.{files_view}
 use Rattle.word_asm.proofs.run.asm_files.Goals as goal
 
 pub returns-in-Ok-clause-done : goal.returns-in-Ok-clause-done
-returns-in-Ok-clause-done g c = λ h. inr (files_view c.in-Ok.words, c.in-Ok.ensures.fits, c.in-Ok.ensures.asked, (c.done.ensures.done h, refl))
+returns-in-Ok-clause-done g c = λ h. inr (files_view c.in-Ok.words, c.in-Ok.ensures.fits, c.in-Ok.ensures.asked, (c.serve_words.ensures.done h, refl))
 
 pub returns-in-Ok-clause-rejected : goal.returns-in-Ok-clause-rejected
-returns-in-Ok-clause-rejected g c = λ h. (files_view c.in-Ok.words, c.in-Ok.ensures.fits, c.in-Ok.ensures.asked, c.done.ensures.rejected h)
+returns-in-Ok-clause-rejected g c = λ h. (files_view c.in-Ok.words, c.in-Ok.ensures.fits, c.in-Ok.ensures.asked, c.serve_words.ensures.rejected h)
 
 pub returns-in-Ok-clause-refused : goal.returns-in-Ok-clause-refused
-returns-in-Ok-clause-refused g c = λ h. inr (inr (files_view c.in-Ok.words, c.in-Ok.ensures.fits, c.in-Ok.ensures.asked, c.done.ensures.refused h))
+returns-in-Ok-clause-refused g c = λ h. inr (inr (files_view c.in-Ok.words, c.in-Ok.ensures.fits, c.in-Ok.ensures.asked, c.serve_words.ensures.refused h))
 
 pub returns-in-Ok-clause-begun : goal.returns-in-Ok-clause-begun
 returns-in-Ok-clause-begun g c = λ h. inr (c.in-Ok.ensures.fits, refl)

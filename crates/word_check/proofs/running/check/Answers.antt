@@ -11,8 +11,8 @@ returns-in-Ok-clause-right g c = λ zero.
       check_view c.in-Ok.words,
       c.in-Ok.ensures.fits,
       c.in-Ok.ensures.asked,
-      done_at _ _ _ _ c.done.result 0
-          (c.done.ensures.done (omega (arith, zero))) zero (λ e. omega (arith, e)),
+      done_at _ _ _ _ c.serve_words.result 0
+          (c.serve_words.ensures.done (omega (arith, zero))) zero (λ e. omega (arith, e)),
     )
 
 pub returns-in-Ok-clause-told : goal.returns-in-Ok-clause-told
@@ -20,7 +20,7 @@ returns-in-Ok-clause-told g c = λ one. (
   check_view c.in-Ok.words,
   c.in-Ok.ensures.fits,
   c.in-Ok.ensures.asked,
-  done_at _ _ _ _ c.done.result 1 (c.done.ensures.done (omega (arith, one)))
+  done_at _ _ _ _ c.serve_words.result 1 (c.serve_words.ensures.done (omega (arith, one)))
       one (λ e. omega (arith, e)),
 )
 
@@ -30,15 +30,15 @@ returns-in-Ok-clause-refused g c = λ two.
       check_view c.in-Ok.words,
       c.in-Ok.ensures.fits,
       c.in-Ok.ensures.asked,
-      refused_at _ _ _ _ c.done.result 2
-          (c.done.ensures.done (omega (arith, two))) two,
+      refused_at _ _ _ _ c.serve_words.result 2
+          (c.serve_words.ensures.done (omega (arith, two))) two,
     ))
 
 pub returns-in-Ok-clause-begun : goal.returns-in-Ok-clause-begun
-returns-in-Ok-clause-begun g c = λ four. inr (check_view c.in-Ok.words, c.in-Ok.ensures.fits, c.in-Ok.ensures.asked, c.done.ensures.begun four)
+returns-in-Ok-clause-begun g c = λ four. inr (check_view c.in-Ok.words, c.in-Ok.ensures.fits, c.in-Ok.ensures.asked, c.serve_words.ensures.begun four)
 
 pub returns-in-Ok-clause-untouched : goal.returns-in-Ok-clause-untouched
-returns-in-Ok-clause-untouched g c = λ least most. elim (c.done.ensures.done most) [
+returns-in-Ok-clause-untouched g c = λ least most. elim (c.serve_words.ensures.done most) [
   | inl mapless ↦ inl mapless.2
   | inr done ↦ inr (check_view c.in-Ok.words, c.in-Ok.ensures.fits, c.in-Ok.ensures.asked, done)
 ]

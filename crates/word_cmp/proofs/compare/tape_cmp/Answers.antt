@@ -6,16 +6,16 @@ use Rattle.tape_words.specs.CommandLines.{cmp}
 use Rattle.word_cmp.proofs.compare.tape_cmp.Goals as goal
 
 pub returns-in-Ok-clause-right : goal.returns-in-Ok-clause-right
-returns-in-Ok-clause-right g c = λ zero. inr (cmp_view c.in-Ok.words, c.in-Ok.ensures.taken, c.in-Ok.ensures.asked, c.done.ensures.right zero)
+returns-in-Ok-clause-right g c = λ zero. inr (cmp_view c.in-Ok.words, c.in-Ok.ensures.taken, c.in-Ok.ensures.asked, c.compare_files.ensures.right zero)
 
 pub returns-in-Ok-clause-wrong : goal.returns-in-Ok-clause-wrong
-returns-in-Ok-clause-wrong g c = λ one. (cmp_view c.in-Ok.words, c.in-Ok.ensures.taken, c.in-Ok.ensures.asked, c.done.ensures.wrong one)
+returns-in-Ok-clause-wrong g c = λ one. (cmp_view c.in-Ok.words, c.in-Ok.ensures.taken, c.in-Ok.ensures.asked, c.compare_files.ensures.wrong one)
 
 pub returns-in-Ok-clause-refused : goal.returns-in-Ok-clause-refused
-returns-in-Ok-clause-refused g c = λ two. inr (inr (cmp_view c.in-Ok.words, c.in-Ok.ensures.taken, c.in-Ok.ensures.asked, c.done.ensures.fault two))
+returns-in-Ok-clause-refused g c = λ two. inr (inr (cmp_view c.in-Ok.words, c.in-Ok.ensures.taken, c.in-Ok.ensures.asked, c.compare_files.ensures.fault two))
 
 pub returns-in-Ok-clause-begun : goal.returns-in-Ok-clause-begun
-returns-in-Ok-clause-begun g c = λ four. inr (elim (c.done.ensures.begun four) [
+returns-in-Ok-clause-begun g c = λ four. inr (elim (c.compare_files.ensures.begun four) [
   | inl told ↦ inl (cmp_view c.in-Ok.words, c.in-Ok.ensures.taken, c.in-Ok.ensures.asked, told)
   | inr same ↦ inr (cmp_view c.in-Ok.words, c.in-Ok.ensures.taken, c.in-Ok.ensures.asked, same)
 ])

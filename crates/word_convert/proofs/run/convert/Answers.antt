@@ -15,4 +15,4 @@ returns-in-Err-clause-silent g c = λ fits.
     c.refused_words.ensures.untouched said.0 said.1
 
 pub returns-in-Ok-clause-refused : goal.returns-in-Ok-clause-refused
-returns-in-Ok-clause-refused g c = λ two. absurd (c.served.ensures.two two)
+returns-in-Ok-clause-refused g c = λ two. absurd (c.serve_words.ensures.two two)

@@ -33,7 +33,7 @@ returns-in-Ok-Some g c =
     let found = subst (λ (found : Option Value). IsMessage c.deref.result.now (option_map view found)) c.in-Ok-Some.field-0-is c.in-Ok-Some.ensures in
     let is = subst (λ (body : List ℕ). IsMessage body (Some message)) c.deref.ensures.value found in
     let ending = sym c.in-None.is ∙ c.asks_for_end.ensures in
-    through c.serve.result c.told.result _ _ _ _ _ _ _ (both c.serve.result _ _ c.serve.ensures.state c.serve.ensures.answers) c.told.ensures
+    through c.serve.result c.write_values.result _ _ _ _ _ _ _ (both c.serve.result _ _ c.serve.ensures.state c.serve.ensures.answers) c.write_values.ensures
     (λ values done end h.
     let vs = map view values.items in
     let does = subst (λ (end : Option ℕ). DoesUnless end c.args.map.now old message new vs None) ending (done.0, done.1, refl) in
@@ -52,7 +52,7 @@ returns-in-Ok-None g c =
     let body = c.args.body.items in
     let found = subst (λ (found : Option Value). IsMessage c.deref.result.now (option_map view found)) c.in-Ok-None.field-0-is c.in-Ok-None.ensures in
     let is = subst (λ (body : List ℕ). IsMessage body None) c.deref.ensures.value found in
-    through c.refused.result c.told-in-Ok-None.result _ _ _ _ _ _ _ c.refused.ensures c.told-in-Ok-None.ensures
+    through c.refused.result c.write_values-in-Ok-None.result _ _ _ _ _ _ _ c.refused.ensures c.write_values-in-Ok-None.ensures
     (λ values done end h. (
       h.1,
       subst (λ (end : Option ℕ). Answers c.args.map.now body state state end h.1) (sym h.0)

@@ -10,9 +10,9 @@ use Rattle.word_lsp.proofs.serving.lsp.Goals as goal
 
 pub returns-in-Ok-clause-session : goal.returns-in-Ok-clause-session
 returns-in-Ok-clause-session g c a h fits other =
-    subst (λ (b : LspAsked). IsServed (map_for b) (g.R.Read.remaining c.args.input.now) (g.R.Read.remaining c.done.new.input) c.done.result
-    (g.O.Write.contents c.args.output.now) (g.O.Write.contents c.done.new.output))
-    (one_asked _ (lsp_view c.in-Ok.words) a c.in-Ok.ensures.asked h) (c.done.ensures.session other)
+    subst (λ (b : LspAsked). IsServed (map_for b) (g.R.Read.remaining c.args.input.now) (g.R.Read.remaining c.serve_words.new.input) c.serve_words.result
+    (g.O.Write.contents c.args.output.now) (g.O.Write.contents c.serve_words.new.output))
+    (one_asked _ (lsp_view c.in-Ok.words) a c.in-Ok.ensures.asked h) (c.serve_words.ensures.session other)
 
 pub returns-in-Err-clause-session : goal.returns-in-Err-clause-session
 returns-in-Err-clause-session g c a h fits other =
@@ -25,8 +25,8 @@ returns-in-Ok-clause-right g c = λ zero.
       lsp_view c.in-Ok.words,
       c.in-Ok.ensures.fits,
       c.in-Ok.ensures.asked,
-      at_end _ _ _ _ _ c.done.result 0
-          (c.done.ensures.session (λ e. omega (arith, zero, e))) zero (omega arith),
+      at_end _ _ _ _ _ c.serve_words.result 0
+          (c.serve_words.ensures.session (λ e. omega (arith, zero, e))) zero (omega arith),
     )
 
 pub returns-in-Ok-clause-early : goal.returns-in-Ok-clause-early
@@ -34,20 +34,20 @@ returns-in-Ok-clause-early g c = λ one. (
   lsp_view c.in-Ok.words,
   c.in-Ok.ensures.fits,
   c.in-Ok.ensures.asked,
-  at_end _ _ _ _ _ c.done.result 1
-      (c.done.ensures.session (λ e. omega (arith, one, e))) one (omega arith),
+  at_end _ _ _ _ _ c.serve_words.result 1
+      (c.serve_words.ensures.session (λ e. omega (arith, one, e))) one (omega arith),
 )
 
 pub returns-in-Ok-clause-wrong : goal.returns-in-Ok-clause-wrong
-returns-in-Ok-clause-wrong g c = λ two. inr (inr (lsp_view c.in-Ok.words, c.in-Ok.ensures.fits, c.in-Ok.ensures.asked, c.done.ensures.wrong two))
+returns-in-Ok-clause-wrong g c = λ two. inr (inr (lsp_view c.in-Ok.words, c.in-Ok.ensures.fits, c.in-Ok.ensures.asked, c.serve_words.ensures.wrong two))
 
 pub returns-in-Ok-clause-cut : goal.returns-in-Ok-clause-cut
 returns-in-Ok-clause-cut g c = λ four. inr (
   lsp_view c.in-Ok.words,
   c.in-Ok.ensures.fits,
   c.in-Ok.ensures.asked,
-  served_with _ _ _ _ _ c.done.result 4
-      (c.done.ensures.session (λ e. omega (arith, four, e))) four,
+  served_with _ _ _ _ _ c.serve_words.result 4
+      (c.serve_words.ensures.session (λ e. omega (arith, four, e))) four,
 )
 
 pub returns-in-Err-clause-right : goal.returns-in-Err-clause-right
@@ -68,8 +68,8 @@ returns-in-Err-clause-cut g c = λ four. inl ((says_of_words lsp_app (texts c.ar
 
 pub returns-in-Ok-clause-refused : goal.returns-in-Ok-clause-refused
 returns-in-Ok-clause-refused g c =
-    not_refused lsp_app (texts c.args.words.now) (lsp_asked (texts c.args.words.now) ≡ None) c.done.result
-    (c.done.new.input ≡ c.args.input.now) (c.done.new.output ≡ c.args.output.now)
+    not_refused lsp_app (texts c.args.words.now) (lsp_asked (texts c.args.words.now) ≡ None) c.serve_words.result
+    (c.serve_words.new.input ≡ c.args.input.now) (c.serve_words.new.output ≡ c.args.output.now)
     c.in-Ok.ensures.fits (not_both _ (lsp_view c.in-Ok.words) c.in-Ok.ensures.asked)
 
 pub returns-in-Err-clause-refused : goal.returns-in-Err-clause-refused

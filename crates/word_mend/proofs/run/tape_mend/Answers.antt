@@ -13,7 +13,7 @@ returns-in-Ok-clause-right g c = λ zero. inr (
   mend_view c.in-Ok.words,
   c.in-Ok.ensures.taken,
   c.in-Ok.ensures.asked,
-  said_right (IsSaid (mend_view c.in-Ok.words)) c.done.result c.answered.result _ _ c.done.ensures.about c.answered.ensures.said zero,
+  said_right (IsSaid (mend_view c.in-Ok.words)) c.answer_to.result c.answered.result _ _ c.answer_to.ensures.about c.answered.ensures.said zero,
 )
 
 pub returns-in-Ok-clause-wrong : goal.returns-in-Ok-clause-wrong
@@ -21,20 +21,21 @@ returns-in-Ok-clause-wrong g c = λ one. (
   mend_view c.in-Ok.words,
   c.in-Ok.ensures.taken,
   c.in-Ok.ensures.asked,
-  said_wrong (IsSaid (mend_view c.in-Ok.words)) c.done.result c.answered.result _ _ _ c.done.ensures.about c.answered.ensures.said c.answered.ensures.alone one,
+  said_wrong (IsSaid (mend_view c.in-Ok.words)) c.answer_to.result c.answered.result _ _ _ c.answer_to.ensures.about c.answered.ensures.said
+      c.answered.ensures.alone one,
 )
 
 pub returns-in-Ok-clause-refused : goal.returns-in-Ok-clause-refused
 returns-in-Ok-clause-refused g c = λ two. absurd
-    (no_two (said_two (IsSaid (mend_view c.in-Ok.words)) c.done.result c.answered.result _ _ EndsMend c.done.ensures.about c.answered.ensures.said
-    c.done.ensures.refused two))
+    (no_two (said_two (IsSaid (mend_view c.in-Ok.words)) c.answer_to.result c.answered.result _ _ EndsMend c.answer_to.ensures.about c.answered.ensures.said
+    c.answer_to.ensures.refused two))
 
 pub returns-in-Ok-clause-begun : goal.returns-in-Ok-clause-begun
 returns-in-Ok-clause-begun g c = λ four. inr (
   mend_view c.in-Ok.words,
   c.in-Ok.ensures.taken,
   c.in-Ok.ensures.asked,
-  said_front (IsSaid (mend_view c.in-Ok.words)) c.done.result c.answered.result _ _ _ c.done.ensures.about c.answered.ensures.said
+  said_front (IsSaid (mend_view c.in-Ok.words)) c.answer_to.result c.answered.result _ _ _ c.answer_to.ensures.about c.answered.ensures.said
       c.answered.ensures.alone four,
 )
 

@@ -6,13 +6,13 @@ use Rattle.word_convert.specs.DebugCommandLine.{debug}
 use Rattle.word_convert.proofs.debugging.run.debug_image.Goals as goal
 
 pub returns-in-Ok-clause-ended : goal.returns-in-Ok-clause-ended
-returns-in-Ok-clause-ended g c = λ zero. inr (debug_view c.in-Ok.words, c.in-Ok.ensures.taken, c.in-Ok.ensures.asked, c.done.ensures.ended zero)
+returns-in-Ok-clause-ended g c = λ zero. inr (debug_view c.in-Ok.words, c.in-Ok.ensures.taken, c.in-Ok.ensures.asked, c.serve_words.ensures.ended zero)
 
 pub returns-in-Ok-clause-wrong : goal.returns-in-Ok-clause-wrong
-returns-in-Ok-clause-wrong g c = λ one. (debug_view c.in-Ok.words, c.in-Ok.ensures.taken, c.in-Ok.ensures.asked, c.done.ensures.wrong one)
+returns-in-Ok-clause-wrong g c = λ one. (debug_view c.in-Ok.words, c.in-Ok.ensures.taken, c.in-Ok.ensures.asked, c.serve_words.ensures.wrong one)
 
 pub returns-in-Ok-clause-refused : goal.returns-in-Ok-clause-refused
-returns-in-Ok-clause-refused g c = λ two. inr (inr (debug_view c.in-Ok.words, c.in-Ok.ensures.taken, c.in-Ok.ensures.asked, c.done.ensures.bad two))
+returns-in-Ok-clause-refused g c = λ two. inr (inr (debug_view c.in-Ok.words, c.in-Ok.ensures.taken, c.in-Ok.ensures.asked, c.serve_words.ensures.bad two))
 
 pub returns-in-Err-clause-ended : goal.returns-in-Err-clause-ended
 returns-in-Err-clause-ended g c = λ zero. inl ((says_of_words debug (texts c.args.words.now) _ _ _ c.in-Err.ensures.refused

@@ -6,16 +6,16 @@ use Rattle.word_convert.specs.ListingCommandLine.{dis}
 use Rattle.word_convert.proofs.dis_rows.run.dis_image.Goals as goal
 
 pub returns-in-Ok-clause-done : goal.returns-in-Ok-clause-done
-returns-in-Ok-clause-done g c = λ zero. inr (dis_view c.in-Ok.words, c.in-Ok.ensures.taken, c.in-Ok.ensures.asked, c.done.ensures.done zero)
+returns-in-Ok-clause-done g c = λ zero. inr (dis_view c.in-Ok.words, c.in-Ok.ensures.taken, c.in-Ok.ensures.asked, c.write_rows.ensures.done zero)
 
 pub returns-in-Ok-clause-refused : goal.returns-in-Ok-clause-refused
-returns-in-Ok-clause-refused g c = λ two. absurd (c.done.ensures.never two)
+returns-in-Ok-clause-refused g c = λ two. absurd (c.write_rows.ensures.never two)
 
 pub returns-in-Ok-clause-wrong : goal.returns-in-Ok-clause-wrong
-returns-in-Ok-clause-wrong g c = λ one. (dis_view c.in-Ok.words, c.in-Ok.ensures.taken, c.in-Ok.ensures.asked, c.done.ensures.wrong one)
+returns-in-Ok-clause-wrong g c = λ one. (dis_view c.in-Ok.words, c.in-Ok.ensures.taken, c.in-Ok.ensures.asked, c.write_rows.ensures.wrong one)
 
 pub returns-in-Ok-clause-begun : goal.returns-in-Ok-clause-begun
-returns-in-Ok-clause-begun g c = λ four. inr (dis_view c.in-Ok.words, c.in-Ok.ensures.taken, c.in-Ok.ensures.asked, c.done.ensures.begun four)
+returns-in-Ok-clause-begun g c = λ four. inr (dis_view c.in-Ok.words, c.in-Ok.ensures.taken, c.in-Ok.ensures.asked, c.write_rows.ensures.begun four)
 
 pub returns-in-Err-clause-done : goal.returns-in-Err-clause-done
 returns-in-Err-clause-done g c = λ zero. inl ((says_of_words dis (texts c.args.words.now) _ _ _ c.in-Err.ensures.refused
