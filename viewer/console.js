@@ -42,7 +42,8 @@ function drawConsole() {
 
 const SIGNALS = [[4, "input interrupts"], [8, "IRQ asked"], [16, "NMI pending"]];
 
-// What was taken of the input last, and what waits; and what asks for an interrupt.
+// What was taken of the input last, and what waits, in the console and below the screen; and what
+// asks for an interrupt.
 function drawInput() {
   const {run, cur} = now, taken = run.countBelow(run.takenAt, cur);
   const given = run.countBelow(run.givenAt, cur + 1);
@@ -52,7 +53,9 @@ function drawInput() {
   const html = `input ${text(Math.max(0, taken - 12), taken)}${mark}<b>${text(taken, given)}</b>`;
   const asked = SIGNALS.filter(([bit]) => run.lines[cur] & bit).map(([, words]) => words);
   const signals = `<span class="I">${asked.join(", ")}</span> `;
-  put("in", (asked.length ? signals : "") + (run.given.length ? html : ""));
+  const told = (asked.length ? signals : "") + (run.given.length ? html : "");
+  put("in", told);
+  put("taken", told);
 }
 
 // A click in the console: the step that put the byte out.

@@ -56,6 +56,8 @@ const KEYS = [
   ["s", "for S", () => toSet("S")],
   ["c", "next byte put out", () => toNear(now.run.outAt, 1)],
   ["C", "the byte put out before", () => toNear(now.run.outAt, -1)],
+  ["k", "next byte of input taken", () => toNear(now.run.takenAt, 1)],
+  ["K", "the byte taken before", () => toNear(now.run.takenAt, -1)],
   ["i", "next interrupt", () => toNear(now.run.entries, 1)],
   ["I", "the interrupt before", () => toNear(now.run.entries, -1)],
   ["P", "back to the jump, the call or the branch before this moment", toJump],

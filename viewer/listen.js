@@ -28,6 +28,7 @@ function showTab(value) {
   document.body.dataset.tab = value;
   setPressed($("tabs"), value);
   draw();
+  revealByte();
 }
 
 function listenToLists() {

@@ -1,7 +1,8 @@
 "use strict";
 // Memory: a page of it as bytes, and who changed the chosen one; or all of it as a map, or a
 // screen.
-const {sight, showPage, makePageButtons, bestPage, drawMemory, cellAt, pressInGrid} = (() => {
+const {sight, showPage, makePageButtons, bestPage, drawMemory, revealByte, cellAt,
+  pressInGrid} = (() => {
 
 // What is shown: a page of bytes, the map, or the screen; that page, and whether as text.
 const sight = {kind: "page", page: 0, isText: false};
@@ -123,6 +124,11 @@ function drawGrid() {
   });
 }
 
+// Where a page of memory is higher than its place, the chosen byte is to be seen.
+function revealByte() {
+  cells[now.byte - sight.page * 256]?.scrollIntoView({block: "nearest"});
+}
+
 const letterOf = byte => isPrinted(byte) ? String.fromCharCode(byte) : "·";
 
 // What the marks of a cell say, for those who do not see it.
@@ -204,8 +210,9 @@ function pressInGrid(event) {
   event.stopPropagation();
 }
 
-return {sight, showPage, makePageButtons, bestPage, drawMemory, cellAt, pressInGrid};
+return {sight, showPage, makePageButtons, bestPage, drawMemory, revealByte, cellAt, pressInGrid};
 })();
 if (typeof module !== "undefined") {
-  module.exports = {sight, showPage, makePageButtons, bestPage, drawMemory, cellAt, pressInGrid};
+  module.exports = {sight, showPage, makePageButtons, bestPage, drawMemory, revealByte, cellAt,
+    pressInGrid};
 }

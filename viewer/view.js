@@ -156,8 +156,9 @@ function showView(value) {
 
 function choose(address) {
   now.byte = address;
-  if (now.byte >= 0) showPage(now.byte >> 8);
-  else draw();
+  if (now.byte < 0) return draw();
+  showPage(now.byte >> 8);
+  revealByte();
 }
 
 function mark(marked) {

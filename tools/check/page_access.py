@@ -1,6 +1,6 @@
 """What a page owes every reader: that the last line is marked, that texts can be told from what is
 behind them, that the keyboard alone reaches what a click does, that its address says what is shown,
-that it can be searched, and that lines and bytes have names."""
+that it can be searched, that lines and bytes have names, and that a thumb finds a byte."""
 
 import re
 
@@ -40,6 +40,8 @@ CONTRAST = """(() => {
 FOCUS = """(e => e.dataset.r || e.id || e.tagName)(document.activeElement)"""
 CLICKED = {"A", "X", "Y", "S", "pc", "SPAN", "TR", "TD", "step", "slider", "rows", "out", "find"}
 MOST_TABS = 99
+# A phone's screen, and the least side of what a thumb meets, in its points.
+PHONE, THUMB = (390, 844), 36
 
 
 def light_of(color):
@@ -188,6 +190,35 @@ def look_at_list(browser, compare, name):
         browser.key("L")
         compare(f"{name} listed bytes", browser.js(listed), wanted)
     browser.js("viewer.choose(-1)")
+
+
+def look_at_input(browser, compare, name, run, at):
+    """What was taken of the input, and what waits, stands below the screen as beside the console."""
+    given = b"".join(change["given"] for change in run.changes[:at + 1])
+    taken = sum(change["takes"] for change in run.changes[:at])
+    text = "".join("\u23ce" if b == 10 else chr(b) if 31 < b < 127 else "\u00b7"
+                   for b in given[max(0, taken - 12):])
+    shown = browser.js(f"viewer.go({at}), ['#in', '#taken'].map(it => document.querySelector(it)"
+                       ".textContent.match(/input (?!interrupts)(.*)$/)?.[1] ?? '')")
+    compare(f"{name} input at {at}", shown, [text, text])
+
+
+def look_at_phone(browser, compare, name):
+    """On a phone a byte is as wide and as high as a thumb asks, and the chosen one is in sight."""
+    screen = {"deviceScaleFactor": 1, "mobile": True}
+    browser.call("Emulation.setDeviceMetricsOverride", width=PHONE[0], height=PHONE[1], **screen)
+    browser.open(name)
+    browser.js("document.querySelector('#tabs [value=memory]').click(), viewer.choose(0x2F3)")
+    sides = browser.js("[...document.querySelectorAll('#grid td')].map(e => e.getBoundingClientRect())"
+                       ".map(box => Math.min(box.width, box.height))")
+    compare(f"{name} bytes on a phone", min(sides) >= THUMB, True)
+    is_seen = ("(([box, foot]) => box.top > 0 && box.bottom < foot.top)(['#grid .pick', '#cell']"
+               ".map(it => document.querySelector(it).getBoundingClientRect()))")
+    compare(f"{name} chosen byte on a phone", browser.js(is_seen), True)
+    wide = "document.documentElement.scrollWidth"
+    compare(f"{name} width on a phone", browser.js(wide), PHONE[0])
+    screen = {"deviceScaleFactor": 1, "mobile": False}
+    browser.call("Emulation.setDeviceMetricsOverride", width=1280, height=720, **screen)
 
 
 def look_at_copy(browser, compare, name, at):

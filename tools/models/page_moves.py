@@ -46,6 +46,8 @@ class Run:
         self.risen = [k for k in range(1, self.last + 1) if self.stack[k] > self.stack[k - 1]]
         self.outs += self.after(lambda change: change["out"] is not None)
         self.entries = self.after(is_entry)
+        # (what was taken before the page begins was at its start)
+        self.taken = [0] * (view.taken > 0) + self.after(lambda change: change["takes"])
         words = [fact.split() for fact in lines if fact.startswith("line ")]
         self.lines = {int(address, 16): int(number) for _, number, address, _ in words}
 
@@ -213,6 +215,12 @@ def to_output(browser, rng, at, run):
     return near(run.outs, at, key == "c")
 
 
+def to_input(browser, rng, at, run):
+    key = rng.choice("kK")
+    browser.key(key)
+    return near(run.taken, at, key == "k")
+
+
 def to_interrupt(browser, rng, at, run):
     key = rng.choice("iI")
     browser.key(key)
@@ -236,7 +244,7 @@ def to_other_view(browser, rng, at, run):
 
 
 MOVES = [by_steps, by_steps, by_typing, by_slider, by_address, to_an_end, to_set, to_jump, in_time, on_line,
-         to_visit, over, back_over, to_write, to_output, to_interrupt, there_and_back, to_other_view]
+         to_visit, over, back_over, to_write, to_output, to_input, to_interrupt, there_and_back, to_other_view]
 
 
 def move(browser, rng, at, run):

@@ -1,10 +1,10 @@
 //! What an editor's views show of a session, and the breakpoints and watches that it lists.
 //!
-//! `stack` finds the frames of the stack, by what `mon_texts` takes to have pushed something; `frames`
-//! shows them. `variables` shows the variables of a scope, `memory` bytes, `rows` instructions,
-//! `looks` what a text names. `named` finds the variable that a client names. `paged` is a page
-//! of a list. `texts` makes texts of bytes, `source` is the source that a client sees. These change
-//! nothing. `laws` has what holds of all frames.
+//! `stack` finds the frames of the stack, by what `mon_texts` takes to have pushed something;
+//! `frames` shows them. `variables` shows the variables of a scope, `memory` bytes, `rows`
+//! instructions, `looks` what a text names. `named` finds the variable that a client names. `paged`
+//! is a page of a list. `texts` makes texts of bytes, `source` is the source that a client sees.
+//! These change nothing. `laws` has what holds of all frames.
 //!
 //! Each list of breakpoints replaces the one before: `wanted` reads the breakpoints of a list,
 //! `listed` sets them and answers, `watches` watches bytes. `locations` has the lines at which they

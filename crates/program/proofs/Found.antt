@@ -14,7 +14,7 @@ use Rattle.clap.specs.declared.parser.matches.Found.{Found}
 use Rattle.arguments.specs.Words.{IsMisfit}
 use Rattle.arguments.specs.declared.fault.WordsFault.{WordsFault}
 use Rattle.arguments.specs.declared.fault.WordsFault.TheVariants.{Help, OutOfMemory, Usage, Value, Wrong}
-use Rattle.program.specs.Asked.{Asked, asked, asked_of, asm, asm_asked, debug, debug_asked, dis, dis_asked}
+use Rattle.program.specs.Asked.{Asked, words_in, asked_of, asm, asm_asked, debug, debug_asked, dis, dis_asked}
 use Rattle.program.specs.CommandLine.{mos65}
 use Rattle.program.specs.Refused.{IsRightRefusal}
 use Rattle.program.specs.declared.asked.Words.{Words}
@@ -53,7 +53,7 @@ refused (Err e) words fault is misfit = subst (IsRightRefusal words) (sym is) (r
 
 -- what was found of the subcommand
 pub found_asked : (app : App) (words : List Text) (found : Option (Text × List Row)) → app ≡ mos65 → found ≡ subcommand_of app words
-    → asked_of found ≡ asked words
+    → asked_of found ≡ words_in words
 found_asked app words found is parse = ap asked_of (parse ∙ ap (λ (a : App). subcommand_of a words) is)
 
 firsts : {A : Type 0} (f : A → Text) (g : A → List Row) (o : Option A)

@@ -101,5 +101,5 @@ abbrev pub asked_of : Option (Text × List Row) → Option Asked
 asked_of = option_and_then (λ p. asked_by p.0 (λ name. first_of name p.1))
 
 -- what the program's words ask for, where the values that clap finds are right
-abbrev pub asked : List Text → Option Asked
-asked words = asked_of (subcommand_of mos65 words)
+abbrev pub words_in : List Text → Option Asked
+words_in words = asked_of (subcommand_of mos65 words)

@@ -4,7 +4,7 @@ use Rattle.clap.specs.Words.{Text}
 use Rattle.arguments.specs.Words.{Fits, IsRefusalOf}
 use Rattle.arguments.specs.declared.fault.WordsFault.{WordsFault}
 use Rattle.arguments.specs.declared.fault.WordsFault.TheVariants.{Wrong}
-use Rattle.program.specs.Asked.{asked}
+use Rattle.program.specs.Asked.{words_in}
 use Rattle.program.specs.CommandLine.{mos65}
 
 -- by clap's definition the words fit the command line
@@ -15,4 +15,4 @@ IsTaken words = Fits mos65 words
 -- value among them is wrong. Which one is never said. Memory may run out at any words
 abbrev pub IsRightRefusal : List Text → WordsFault → Type 0
 IsRightRefusal words (Wrong which) = ⊥
-IsRightRefusal words fault = IsRefusalOf mos65 words (asked words ≡ None) fault
+IsRightRefusal words fault = IsRefusalOf mos65 words (words_in words ≡ None) fault

@@ -3,7 +3,7 @@ ghost use Rattle.std.specs.Prelude.{◌≡◌, ◌⊎◌, Err, None, Some, IsOkU
 ghost use Rattle.std.specs.Prelude.{option_map};
 ghost use Rattle.arguments.specs.Words.{texts};
 ghost use Rattle.clap.specs.Words.{first_value, found_of, subcommand_rows_of};
-ghost use Rattle.program.specs.Asked.{Asked, asked, asked_of, asm_asked, debug_asked, dis_asked};
+ghost use Rattle.program.specs.Asked.{Asked, words_in, asked_of, asm_asked, debug_asked, dis_asked};
 ghost use Rattle.program.specs.Asked.{overwrites};
 ghost use Rattle.program.specs.Refused.{IsRightRefusal, IsTaken};
 ghost use Rattle.program.specs.Views.{asm_view, debug_view, dis_view, view};
@@ -123,12 +123,12 @@ fn words_in<'a>(matches: &ArgMatches<'a>) -> Option<Words<'a>>
 ///   have one name.
 /// - `OutOfMemory`: an allocation failed.
 pub fn read_words<'a>(alloc: Global, words: &'a [&'a str]) -> Result<Words<'a>, WordsFault>
-    ensures asked { IfOk result (λ w. asked (texts words.entry.now) ≡ Some (view w)) }
+    ensures asked { IfOk result (λ w. words_in (texts words.entry.now) ≡ Some (view w)) }
     ensures taken { IfOk result (λ w. IsTaken (texts words.entry.now)) }
-    ensures served { (a : Asked) → IsTaken (texts words.entry.now) → asked
+    ensures served { (a : Asked) → IsTaken (texts words.entry.now) → words_in
         (texts words.entry.now) ≡ Some a → IsOkUnless result WordsFault.OutOfMemory }
     ensures wrong { IsTaken (texts words.entry.now)
-        → asked (texts words.entry.now) ≡ None
+        → words_in (texts words.entry.now) ≡ None
         → (result ≡ Err WordsFault.Value) ⊎ (result ≡ Err WordsFault.OutOfMemory) }
     ensures refused { IfErr result (IsRightRefusal (texts words.entry.now)) }
 {

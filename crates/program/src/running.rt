@@ -3,7 +3,7 @@ ghost use Rattle.std.specs.Prelude.{◌≡◌, ◌≤◌, ◌⊎◌, Some, None}
 ghost use Rattle.std.specs.IoError.{error_kind};
 ghost use Rattle.arguments.specs.FaultLines.{IsTold};
 ghost use Rattle.arguments.specs.Words.{Refuses, texts};
-ghost use Rattle.program.specs.Asked.{AsmAsked, DebugAsked, DisAsked, asked, asm, debug, dis};
+ghost use Rattle.program.specs.Asked.{AsmAsked, DebugAsked, DisAsked, words_in, asm, debug, dis};
 ghost use Rattle.program.specs.CommandLine.{mos65};
 ghost use Rattle.program.specs.Refused.{IsTaken};
 ghost use Rattle.program.specs.Runs.{RunsAsm, RunsDebug, RunsDis};
@@ -63,20 +63,21 @@ pub fn program<H: Files + AllocGlobal, R: Read, O: Write, E: Write>(
     ensures untouched { 1 ≤ result → result ≤ 2
         → (input.new ≡ input.old) × (output.new ≡ output.old) }
     // Words that fit nothing, or one of whose values is wrong, are refused.
-    ensures refuses { Refuses mos65 (texts words.entry.now) (asked (texts words.entry.now) ≡ None)
-        result (input.new ≡ input.old) (output.new ≡ output.old) }
+    ensures refuses { Refuses mos65 (texts words.entry.now)
+        (words_in (texts words.entry.now) ≡ None) result
+        (input.new ≡ input.old) (output.new ≡ output.old) }
     // Words that are right do what they ask for.
-    ensures asm { (a : AsmAsked) → asked (texts words.entry.now) ≡ Some (asm a)
+    ensures asm { (a : AsmAsked) → words_in (texts words.entry.now) ≡ Some (asm a)
         → IsTaken (texts words.entry.now)
         → RunsAsm a result ((input.new ≡ input.old) × (output.new ≡ output.old)) }
-    ensures dis { (d : DisAsked) → asked (texts words.entry.now) ≡ Some (dis d)
+    ensures dis { (d : DisAsked) → words_in (texts words.entry.now) ≡ Some (dis d)
         → IsTaken (texts words.entry.now) → RunsDis d (record {
           given = R.remaining input.old;
           left = R.remaining input.new;
           held = O.contents output.old;
           now = O.contents output.new;
         }) result (input.new ≡ input.old) (output.new ≡ output.old) }
-    ensures debug { (d : DebugAsked) → asked (texts words.entry.now) ≡ Some (debug d)
+    ensures debug { (d : DebugAsked) → words_in (texts words.entry.now) ≡ Some (debug d)
         → IsTaken (texts words.entry.now) → RunsDebug d (record {
           given = R.remaining input.old;
           left = R.remaining input.new;

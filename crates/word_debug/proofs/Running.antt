@@ -4,7 +4,7 @@ use Rattle.arguments.specs.Words.{IsRefusalOf}
 use Rattle.arguments.specs.declared.fault.WordsFault.{WordsFault}
 use Rattle.arguments.specs.declared.fault.WordsFault.TheVariants.{Help, OutOfMemory as NoMemory, Usage, Value, Wrong}
 use Rattle.arguments.specs.declared.refusal.Refusal.TheVariants.{OutOfMemory}
-use Rattle.program.specs.Asked.{DebugAsked, asked}
+use Rattle.program.specs.Asked.{DebugAsked, words_in}
 use Rattle.program.specs.CommandLine.{mos65}
 use Rattle.program.specs.Refused.{IsRightRefusal}
 use Rattle.clap.specs.Words.{Text}
@@ -60,7 +60,7 @@ memory_serves plain streams status Unread Unwritten three unread unwritten = rec
   serves = λ d h taken. memory_runs d streams status (Unread × Unwritten) three (unread, unwritten);
 }
 
-pub refused_of : (words : List Text) (fault : WordsFault) → IsRightRefusal words fault → IsRefusalOf mos65 words (asked words ≡ None) fault
+pub refused_of : (words : List Text) (fault : WordsFault) → IsRightRefusal words fault → IsRefusalOf mos65 words (words_in words ≡ None) fault
 refused_of words (Help text) right = right
 refused_of words (Usage text) right = right
 refused_of words Value right = right

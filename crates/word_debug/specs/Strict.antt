@@ -5,7 +5,7 @@ use Rattle.arguments.specs.FaultLines.{IsTold}
 use Rattle.arguments.specs.Statuses.{status_of}
 use Rattle.arguments.specs.Words.{Refuses}
 use Rattle.arguments.specs.declared.refusal.Refusal.{Refusal}
-use Rattle.program.specs.Asked.{DebugAsked, asked, debug}
+use Rattle.program.specs.Asked.{DebugAsked, words_in, debug}
 use Rattle.program.specs.CommandLine.{mos65}
 use Rattle.program.specs.Refused.{IsTaken}
 use Rattle.clap.specs.Words.{Text}
@@ -72,18 +72,18 @@ pub record ServesStrict (plain : List Text) (streams : Streams) (status : ℕ)
   -- A source, a tape, words or a map that are rejected leave the input and the output unchanged.
   pub untouched : 1 ≤ status → status ≤ 2 → Unread × Unwritten
   -- Words that fit nothing, or one of whose values is wrong, are refused.
-  pub refuses : Refuses mos65 plain (asked plain ≡ None) status Unread Unwritten
+  pub refuses : Refuses mos65 plain (words_in plain ≡ None) status Unread Unwritten
   -- Words that are right do what they ask for.
-  pub serves : (d : DebugAsked) → asked plain ≡ Some (debug d) → IsTaken plain
+  pub serves : (d : DebugAsked) → words_in plain ≡ Some (debug d) → IsTaken plain
       → RunsStrict d streams status (Unread × Unwritten)
 
 -- The error stream got the fault line of words that are refused, or that of the session that they ask
 -- for.
 abbrev pub IsToldStrict : List Text → ℕ → Option (List ℕ) → Option (List ℕ) → Type 0
 IsToldStrict plain status held now = IsTold status held now
-    ⊎ ((d : DebugAsked) × (asked plain ≡ Some (debug d)) × IsToldOfSession d.file status held now)
+    ⊎ ((d : DebugAsked) × (words_in plain ≡ Some (debug d)) × IsToldOfSession d.file status held now)
 
 -- The fault line of the session that right words ask for.
 abbrev pub NamesFile : List Text → ℕ → Option (List ℕ) → Option (List ℕ) → Type 0
-NamesFile plain status held now = (d : DebugAsked) → asked plain ≡ Some (debug d) → IsTaken plain
+NamesFile plain status held now = (d : DebugAsked) → words_in plain ≡ Some (debug d) → IsTaken plain
     → 1 ≤ status → status ≤ 4 → IsToldOfSession d.file status held now

@@ -7,7 +7,7 @@ ghost use Rattle.accesses.specs.Writing.{bytes_in};
 ghost use Rattle.arguments.specs.Asked.{file_view, map_of};
 ghost use Rattle.arguments.specs.Words.{Fits, Refuses, texts};
 ghost use Rattle.arguments.specs.declared.refusal.ReadFault.TheVariants.{Other};
-ghost use Rattle.arguments_play.specs.Mon.{MonAsked, asked, mon, mon_view};
+ghost use Rattle.arguments_play.specs.Mon.{MonAsked, words_in, mon, mon_view};
 ghost use Rattle.arguments.specs.OtherFiles.{others_view};
 ghost use Rattle.loading.specs.Machine.{AreLoaded};
 ghost use Rattle.model.specs.Event.{start};
@@ -204,7 +204,7 @@ pub fn mon<H: Env + Files + AllocGlobal, R: Read + IsTerminal, O: Write, E: Writ
     // or none began and the streams are unchanged, as the status says. At 0 the session has served
     // the lines of the input, and has written what is said of them and nothing else. Where a stream
     // or memory fails, it has written a beginning of that.
-    ensures done { (a : MonAsked) → asked (texts words.entry.now) ≡ Some a
+    ensures done { (a : MonAsked) → words_in (texts words.entry.now) ≡ Some a
         → Fits mon (texts words.entry.now)
         → IsDone a (R.remaining input.old) (R.remaining input.new)
         (O.contents output.old) (O.contents output.new) (record {
@@ -212,10 +212,10 @@ pub fn mon<H: Env + Files + AllocGlobal, R: Read + IsTerminal, O: Write, E: Writ
           now = E.contents errors.new;
         }) result ((input.new ≡ input.old) × (output.new ≡ output.old)) }
     // Other words read nothing, and write nothing on the output but help.
-    ensures refused { Refuses mon (texts words.entry.now) (asked (texts words.entry.now) ≡ None)
+    ensures refused { Refuses mon (texts words.entry.now) (words_in (texts words.entry.now) ≡ None)
         result (input.new ≡ input.old) (output.new ≡ output.old) }
     // A port and a ROM that make no map have the status 2, unless memory runs out.
-    ensures bad_map { (a : MonAsked) → asked (texts words.entry.now) ≡ Some a
+    ensures bad_map { (a : MonAsked) → words_in (texts words.entry.now) ≡ Some a
         → Fits mon (texts words.entry.now)
         → is_map a.file.rom a.file.port ≡ false → (result ≡ 2) ⊎ (result ≡ 3) }
     ensures quiet { result ≡ 0 → errors.new ≡ errors.old }

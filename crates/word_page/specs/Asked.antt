@@ -98,8 +98,8 @@ page_asked value = page_of (file_asked value) (value (codes "OUT")) (value (code
     (value (codes "title")) (opening_asked value) (is_flag (value (codes "free")))
 
 -- What the words ask for, where the values that clap finds are right.
-abbrev pub asked : List Text → Option PageAsked
-asked words = page_asked (value_in page words)
+abbrev pub words_in : List Text → Option PageAsked
+words_in words = page_asked (value_in page words)
 
 -- What was read from the words, as what they ask for.
 abbrev pub page_view : PageWords → PageAsked

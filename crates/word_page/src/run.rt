@@ -8,7 +8,7 @@ ghost use Rattle.loading.specs.Named.{MayLose};
 ghost use Rattle.loading.specs.Place.{names_of};
 ghost use Rattle.model.specs.State.{is_map};
 ghost use Rattle.model.specs.Writers.{AppendsFront};
-ghost use Rattle.word_page.specs.Asked.{PageAsked, asked, page_view};
+ghost use Rattle.word_page.specs.Asked.{PageAsked, words_in, page_view};
 ghost use Rattle.word_page.specs.CommandLine.{page};
 ghost use Rattle.word_page.specs.Done.{AreNamed, EndsFile, EndsPage, IsDone, IsInput, IsShown};
 ghost use Rattle.word_page.specs.Done.{Ran, place_besides, place_in, start_in};
@@ -28,7 +28,7 @@ use page_writer::{
 use std::alloc::{AllocError, Global};
 use std::io::Write;
 use std::rt::Files;
-use word_run::{place_named, status_of_ending, tell_ending};
+use word_run::{Known, place_named, status_of_ending, tell_ending};
 
 /// The most bytes of input that a program can be given.
 const MOST_INPUT: u64 = 65_536;
@@ -287,7 +287,12 @@ fn show_to<H: Files + AllocGlobal, E: Write>(
         Ok(played) => {
             let pc = loaded.session.regs().pc;
             let assembly = loaded.assembly.as_ref();
-            tell_ending(rt.alloc(), words.file.file, assembly, played, pc, errors);
+            let known = Known {
+                file: words.file.file,
+                assembly,
+                debug: None,
+            };
+            tell_ending(rt.alloc(), known, played, pc, errors);
             status_of_ending(played.ending, 0)
         }
         Err(why) => why.tell(errors),
@@ -378,16 +383,16 @@ pub fn page<H: Files + AllocGlobal, O: Write, E: Write>(
     // definition of a run, or it was not, or a file could not be read or written, as the status
     // says. The error stream gets why, or how the run ended. What the page got, no clause can say
     // of a file: `write_page` says it of a writer.
-    ensures done { (a : PageAsked) → asked (texts words.entry.now) ≡ Some a
+    ensures done { (a : PageAsked) → words_in (texts words.entry.now) ≡ Some a
         → Fits page (texts words.entry.now) → (output.new ≡ output.old) × IsDone a (record {
           held = E.contents errors.old;
           now = E.contents errors.new;
         }) result }
     // Other words write nothing on the output but help.
-    ensures refused { Refuses page (texts words.entry.now) (asked (texts words.entry.now) ≡ None)
+    ensures refused { Refuses page (texts words.entry.now) (words_in (texts words.entry.now) ≡ None)
         result (Unit {0}) (output.new ≡ output.old) }
     // A port and a ROM that make no map have the status 2, unless memory runs out.
-    ensures bad_map { (a : PageAsked) → asked (texts words.entry.now) ≡ Some a
+    ensures bad_map { (a : PageAsked) → words_in (texts words.entry.now) ≡ Some a
         → Fits page (texts words.entry.now)
         → is_map a.file.rom a.file.port ≡ false → (result ≡ 2) ⊎ (result ≡ 3) }
 {

@@ -4,7 +4,7 @@ ghost use Rattle.std.specs.Prelude.{◌≡◌, IsOkUnless, IfErr, IfOk, None, So
 ghost use Rattle.std.specs.Prelude.{option_map};
 ghost use Rattle.arguments.specs.Words.{Fits, IsRefusalOf, texts};
 ghost use Rattle.clap.specs.Words.{first_value, found_of};
-ghost use Rattle.word_page.specs.Asked.{PageAsked, asked, is_read, names_file, opening_asked};
+ghost use Rattle.word_page.specs.Asked.{PageAsked, words_in, is_read, names_file, opening_asked};
 ghost use Rattle.word_page.specs.Asked.{opening_view, page_asked, page_steps, page_view};
 ghost use Rattle.word_page.specs.Asked.{screen_asked, step_asked};
 ghost use Rattle.word_page.specs.CommandLine.{page};
@@ -88,8 +88,7 @@ fn screen_asked(word: Option<&str>) -> Option<Option<u16>>
     }
 }
 
-/// Returns the words that the values that were found are of a page when it is opened, or `None` if one is
-/// wrong.
+/// Returns what the matched values ask for of a page when it is opened, or `None` if one is wrong.
 fn opening_asked<'a>(matches: &ArgMatches<'a>) -> Option<OpeningWords<'a>>
     ensures { option_map opening_view result ≡ opening_asked (first_value (found_of matches.now)) }
 {
@@ -178,12 +177,12 @@ fn wrong_words(matches: &ArgMatches<'_>) -> &'static str {
 ///   read.
 /// - `OutOfMemory`: an allocation failed.
 pub fn read_page_words<'a>(alloc: Global, words: &'a [&'a str]) -> Result<PageWords<'a>, WordsFault>
-    ensures asked { IfOk result (λ w. asked (texts words.entry.now) ≡ Some (page_view w)) }
+    ensures asked { IfOk result (λ w. words_in (texts words.entry.now) ≡ Some (page_view w)) }
     ensures fits { IfOk result (λ _. Fits page (texts words.entry.now)) }
     ensures served { (a : PageAsked) → Fits page (texts words.entry.now)
-        → asked (texts words.entry.now) ≡ Some a → IsOkUnless result WordsFault.OutOfMemory }
+        → words_in (texts words.entry.now) ≡ Some a → IsOkUnless result WordsFault.OutOfMemory }
     ensures refused { IfErr result (IsRefusalOf page (texts words.entry.now)
-        (asked (texts words.entry.now) ≡ None)) }
+        (words_in (texts words.entry.now) ≡ None)) }
 {
     let matches = matched(page_command(alloc)?, words)?;
     match words_in(&matches) {

@@ -1,7 +1,7 @@
 use Rattle.std.proofs.Common.{sym, ◌∙◌, ◌≡◌, None}
 use Rattle.arguments.proofs.Parsed.{asked_by, fits_by, not_both, refused_by, served_by}
 use Rattle.arguments.specs.Words.{texts}
-use Rattle.arguments_play.specs.Run.{asked, run, run_asked}
+use Rattle.arguments_play.specs.Run.{words_in, run, run_asked}
 use Rattle.clap.specs.Words.{app_of, first_value, found_of}
 use Rattle.arguments_play.proofs.run.read_run_words.Goals as goal
 
@@ -12,7 +12,7 @@ returns-in_err-matches-clause-served c a fits h =
 
 pub returns-in_err-matches-clause-refused : goal.returns-in_err-matches-clause-refused
 returns-in_err-matches-clause-refused c =
-    refused_by (app_of c.in_ok-run_command.field-0) run (texts c.args.words.now) (asked (texts c.args.words.now) ≡ None) c.in_err-matches.field-0.0
+    refused_by (app_of c.in_ok-run_command.field-0) run (texts c.args.words.now) (words_in (texts c.args.words.now) ≡ None) c.in_err-matches.field-0.0
     c.from_residual-in_err-matches.result
     c.in_ok-run_command.ensures.shape c.in_err-matches.ensures.refused c.from_residual-in_err-matches.ensures.1
 

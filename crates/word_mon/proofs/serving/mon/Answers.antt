@@ -2,7 +2,7 @@ use Rattle.std.proofs.Common.{◌≡◌, None, inl, inr, refl, subst}
 use Rattle.arguments.proofs.Refusing.{not_refused, refuses}
 use Rattle.arguments.specs.Words.{IsStatusOf, texts}
 use Rattle.arguments.proofs.Parsed.{not_both, one_asked}
-use Rattle.arguments_play.specs.Mon.{MonAsked, asked, mon, mon_view}
+use Rattle.arguments_play.specs.Mon.{MonAsked, words_in, mon, mon_view}
 use Rattle.loading.proofs.Machines.{unloaded_files_by_memory}
 use Rattle.word_mon.specs.Done.{IsDone}
 use Rattle.word_mon.proofs.serving.mon.Goals as goal
@@ -18,13 +18,13 @@ returns-in-Ok-clause-done g c a h fits =
 
 pub returns-in-Ok-clause-refused : goal.returns-in-Ok-clause-refused
 returns-in-Ok-clause-refused g c =
-    not_refused mon (texts c.args.words.now) (asked (texts c.args.words.now) ≡ None) c.mon_words.result
+    not_refused mon (texts c.args.words.now) (words_in (texts c.args.words.now) ≡ None) c.mon_words.result
     (c.mon_words.new.input ≡ c.args.input.now) (c.mon_words.new.output ≡ c.args.output.now)
     c.in-Ok.ensures.fits (not_both _ (mon_view c.in-Ok.words) c.in-Ok.ensures.asked)
 
 pub returns-in-Err-clause-refused : goal.returns-in-Err-clause-refused
 returns-in-Err-clause-refused g c =
-    refuses mon (texts c.args.words.now) (asked (texts c.args.words.now) ≡ None) c.in-Err.fault c.refused_words.result
+    refuses mon (texts c.args.words.now) (words_in (texts c.args.words.now) ≡ None) c.in-Err.fault c.refused_words.result
     (c.args.input.now ≡ c.args.input.now) (c.refused_words.new.output ≡ c.args.output.now)
     c.in-Err.ensures.refused c.refused_words.ensures.status refl c.refused_words.ensures.untouched
 

@@ -3,7 +3,7 @@ use Rattle.arguments.proofs.Refusing.{not_refused, refuses}
 use Rattle.arguments.proofs.Parsed.{not_both, one_asked}
 use Rattle.arguments.specs.Words.{IsStatusOf, texts}
 use Rattle.loading.proofs.Unloaded.{unloaded_by_memory}
-use Rattle.word_page.specs.Asked.{PageAsked, asked, page_view}
+use Rattle.word_page.specs.Asked.{PageAsked, words_in, page_view}
 use Rattle.word_page.specs.CommandLine.{page}
 use Rattle.word_page.specs.Done.{IsDone}
 use Rattle.word_page.proofs.run.page.Goals as goal
@@ -19,12 +19,12 @@ returns-in-Ok-clause-done g c a h fits = (
 
 pub returns-in-Ok-clause-refused : goal.returns-in-Ok-clause-refused
 returns-in-Ok-clause-refused g c =
-    not_refused page (texts c.args.words.now) (asked (texts c.args.words.now) ≡ None) c.show_words.result
+    not_refused page (texts c.args.words.now) (words_in (texts c.args.words.now) ≡ None) c.show_words.result
     (Unit {0}) (c.args.output.now ≡ c.args.output.now) c.in-Ok.ensures.fits (not_both _ (page_view c.in-Ok.words) c.in-Ok.ensures.asked)
 
 pub returns-in-Err-clause-refused : goal.returns-in-Err-clause-refused
 returns-in-Err-clause-refused g c =
-    refuses page (texts c.args.words.now) (asked (texts c.args.words.now) ≡ None) c.in-Err.fault c.refused_words.result
+    refuses page (texts c.args.words.now) (words_in (texts c.args.words.now) ≡ None) c.in-Err.fault c.refused_words.result
     (Unit {0}) (c.refused_words.new.output ≡ c.args.output.now)
     c.in-Err.ensures.refused c.refused_words.ensures.status tt c.refused_words.ensures.untouched
 

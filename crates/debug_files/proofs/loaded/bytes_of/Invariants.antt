@@ -1,6 +1,6 @@
 use Rattle.std.proofs.Common.{◌≤◌}
-use Rattle.word_mon.proofs.Bytes.{HasBytesBelow}
-use Rattle.word_mon.proofs.starting.bytes_of.Given as goal
+use Rattle.debug_files.proofs.Bytes.{HasBytesBelow}
+use Rattle.debug_files.proofs.loaded.bytes_of.Given as goal
 
 abbrev pub invariant-loop-place : goal.invariant-loop-place
 invariant-loop-place l = record {

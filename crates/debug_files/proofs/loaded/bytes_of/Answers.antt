@@ -1,6 +1,6 @@
 use Rattle.std.proofs.Common.{arith}
-use Rattle.word_mon.proofs.Bytes.{all_taken, byte_taken, none_taken}
-use Rattle.word_mon.proofs.starting.bytes_of.Goals as goal
+use Rattle.debug_files.proofs.Bytes.{all_taken, byte_taken, none_taken}
+use Rattle.debug_files.proofs.loaded.bytes_of.Goals as goal
 
 pub loop-place-init : goal.loop-place-init
 loop-place-init c = record {

@@ -1,7 +1,7 @@
 use Rattle.std.proofs.Common.{◌≡◌, ap, map}
 use Rattle.trace_rows.specs.Sites.{IsTable, label_place, labelled, labels_in, names_in}
 use Rattle.trace_rows.proofs.Places.{first_names, first_places, then_names, then_places}
-use Rattle.trace_rows.proofs.sites.Sites.of_source.Goals as goal
+use Rattle.trace_rows.proofs.sites.names_of_source.Goals as goal
 
 pub returns-clause-labels : goal.returns-clause-labels
 returns-clause-labels c =

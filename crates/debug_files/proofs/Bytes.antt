@@ -6,7 +6,7 @@ use Rattle.std.proofs.lemmas.List.{get_or-replicate, get_or-set_other, get_or-se
 use Rattle.accesses.specs.Writing.{is_written}
 use Rattle.model.specs.Image.{cell_at, empty_image}
 use Rattle.model.specs.State.{State}
-use Rattle.word_mon.specs.Starts.{HasBytesOf, byte_where}
+use Rattle.debug_files.specs.Loaded.{HasBytesOf, byte_where}
 
 -- The bytes below an address were taken, and none above.
 pub record HasBytesBelow (state : State) (marks : List Bool) (image : List (Option ℕ)) (past : ℕ) : Type 0 where
