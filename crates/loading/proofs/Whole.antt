@@ -32,7 +32,7 @@ spared omits bus_map whole fill is = subst (MayOmit omits bus_map) (sym is) (at_
 
 of_file : (said : Option Form) (omits : Bool) (bus_map : Map) (fill : Option ℕ) (image : Cells) → IsSparedFile said omits bus_map fill image
     → MayOmit omits bus_map fill
-of_file said omits bus_map fill image file = spared omits bus_map file.0 fill file.2
+of_file said omits bus_map fill image file = spared omits bus_map file.0 fill file.2.0
 
 of_image : (form : FileForm) (omits : Bool) (bus_map : Map) (fill : Option ℕ) (image : Cells) (assembly : Option AssemblyView)
     → IsImageOf form omits bus_map fill image assembly → MayOmit omits bus_map fill
@@ -59,7 +59,7 @@ by_second : (second : Option (List ℕ)) (asked : FileAsked) (others : Others) (
     (assembly : Option AssemblyView) → IsMachineOf second asked others symbols fill image assembly → MayOmit asked.omits_fill (map_of asked) fill
 by_second None asked others symbols fill image assembly machine = of_named asked symbols fill image assembly machine
 by_second (Some second) asked others symbols fill image assembly machine =
-    spared asked.omits_fill (map_of asked) machine.1.0 fill machine.1.2
+    spared asked.omits_fill (map_of asked) machine.1.0 fill machine.1.2.0
 
 pub omitted_or_none : (asked : FileAsked) (others : Others) (symbols : Option (List ℕ)) (fill : Option ℕ) (image : Cells) (assembly : Option AssemblyView)
     → IsMachine asked others symbols fill image assembly → (fill ≡ None) ⊎ (fill ≡ omitted_at asked)

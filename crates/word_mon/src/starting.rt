@@ -191,10 +191,11 @@ pub fn start<H: Files + AllocGlobal>(
     ensures refused { IfErr result (EndsStart (mon_view words.now).symbols
         (mon_view words.now).debug_info (file_view words.now.file)) }
 {
+    let known = known_places(rt, words, &loaded)?;
     let DebugPlaces {
         mut places,
         changed,
-    } = known_places(rt, words, &loaded)?;
+    } = known;
     let source = loaded.assembly.as_ref();
     let warning_line = warning_line_of(rt.alloc(), words, source, loaded.fill, changed.as_slice());
     let Loaded {

@@ -59,6 +59,7 @@ fn with_names(alloc: Global, places: &mut Places, names: Option<&Assembly>) -> R
 /// # Errors
 ///
 /// Those of `debug_files::load_places_of`.
+#[tactic(auto, using(crate::proofs::Debugged::debugged))]
 pub fn load_debug<H: Files + AllocGlobal>(
     rt: &H,
     file: Option<&str>,
@@ -76,10 +77,11 @@ pub fn load_debug<H: Files + AllocGlobal>(
         });
     };
     let session = &loaded.session;
+    let debug = load_places_of(rt, file, root, session, &loaded.written)?;
     let DebugPlaces {
         mut places,
         changed,
-    } = load_places_of(rt, file, root, session, &loaded.written)?;
+    } = debug;
     with_names(rt.alloc(), &mut places, loaded.assembly.as_ref())?;
     Ok(Debugged {
         places: Some(places),

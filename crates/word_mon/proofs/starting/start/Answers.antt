@@ -10,8 +10,8 @@ pub returns-clause-made : goal.returns-clause-made
 returns-clause-made g c =
     let made = c.in_ok-mon.ensures.made in
     let named = c.in_ok-names.ensures.named in (
-      c.in_ok-known_places.field-0.places,
-      c.in_ok-known_places.ensures.places,
+      c.in_ok-known.known.places,
+      c.in_ok-known.ensures.places,
       named.0,
       named.1,
       record {
