@@ -1,8 +1,9 @@
 -- Runs to a line, after some of their steps.
 use Rattle.std.proofs.Common.{◌≡◌, ℕ, ◌+◌, ◌-◌, ◌<◌, ◌≤◌, suc, Bool, true, false, cond, List, Option, Some, None, Result, Ok, Err, refl, sym, ap, subst, ◌∙◌, arith}
-use Rattle.std.specs.Prelude.{is_some, unwrap_or}
+use Rattle.std.specs.Prelude.{◌&&◌, is_some, not, unwrap_or}
 use Rattle.std.specs.Option.{option_map, option_or}
 use Rattle.model.specs.State.{State}
+use Rattle.model.specs.Session.{Session}
 use Rattle.model.specs.Step.{entry_due, step}
 use Rattle.model.specs.Run.{after_run, after_steps, run_end, stop_of}
 use Rattle.model.specs.declared.event.EventFault.{EventFault}
@@ -13,9 +14,12 @@ use Rattle.cpu_step.specs.declared.access.Access.{Access}
 use Rattle.debugger.proofs.Runs.{run_refused}
 use Rattle.law_sessions.proofs.Runs.{after_steps-zero}
 use Rattle.line_steps.specs.Forwards.{is_line_on}
+use Rattle.line_steps.specs.Lines.{begun, is_other}
 use Rattle.line_steps.specs.Numbers.{first_or_last, first_to}
 use Rattle.line_steps.specs.declared.lines.FileLine.{FileLine}
 use Rattle.line_steps.specs.declared.lines.LineStart.{LineStart}
+use Rattle.line_steps.proofs.Calling.{IsCall}
+use Rattle.line_steps.proofs.LineRuns.{line_is}
 use Rattle.line_steps.proofs.Counted.{NoneTo, first_at, first_beyond, first_none}
 use Rattle.line_steps.proofs.Steps.{made_at_most}
 use Rattle.mon_runs.specs.Ends.{is_end}
@@ -163,7 +167,7 @@ pub record IsStep (w : List Watch) (q r : Place) (d f : ℕ) (y : Option EndWhy)
   pub steps : r.0 ≡ after_steps d q.0
 
 pub one : {w : List Watch} {q r : Place} {d f : ℕ} {y : Option EndWhy} → IsStep w q r d f y → y ≡ None → d ≡ 1
-one {w} {q} is none = is.did ∙ one_made w q (sym is.why ∙ none)
+one {w} {q} {r} {d} {f} {y} is none = is.did ∙ one_made w q (sym is.why ∙ none)
 
 pub on_more : {w : List Watch} {p q r : Place} {k d f : ℕ} {y : Option EndWhy} → IsOn w p q k → IsStep w q r d f y → y ≡ None
     → IsOn w p r (k + 1)
@@ -178,6 +182,19 @@ on_more {w} {p} {q} {r} {k} {d} {f} {y} on is none =
           is.did is.from is.why is.after none
           ∙ ap (λ j. later (k + j) (looked_run w Rest None (n - (k + 1)) r)) single;
     }
+
+-- ---- whether it is at a line
+
+and_turned : (a b : Bool) → (a && b) ≡ (b && a)
+and_turned true true = refl
+and_turned true false = refl
+and_turned false true = refl
+and_turned false false = refl
+
+pub at_line : (lines : List LineStart) (line : Option FileLine) (s t : Session) (k : ℕ) (call : Option ℕ) (is : Bool) → t ≡ after_steps k s
+    → IsCall s k call → is ≡ (not (is_some call) && is_other line (begun lines t.current)) → is ≡ is_line_on lines line s k
+at_line lines line s t k call is made within h =
+    h ∙ and_turned (not (is_some call)) (is_other line (begun lines t.current)) ∙ line_is lines line s t k call made within
 
 -- ---- how it ends
 

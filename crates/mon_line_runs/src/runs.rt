@@ -17,10 +17,10 @@ fn is_at_line(
     line: Option<FileLine>,
     call: Option<u8>,
 ) -> bool
-    ensures { result ≡ (is_other line (begun lines.now session.now.current)
-        && not (is_some call)) }
+    ensures { result ≡ (not (is_some call)
+        && is_other line (begun lines.now session.now.current)) }
 {
-    call.is_none() && is_other(line, begun(session, lines))
+    !call.is_some() && is_other(line, begun(session, lines))
 }
 
 /// Makes up to `limit` steps, each of which is looked at, until one leads to where another line

@@ -2,12 +2,12 @@ use Rattle.std.proofs.Common.{◌≡◌, ◌+◌, refl, sym, ap, ◌∙◌, None
 use Rattle.line_steps.specs.Forwards.{is_line_on}
 use Rattle.line_steps.proofs.Calling.{call_none}
 use Rattle.line_steps.proofs.Counted.{none_more, none_yet}
-use Rattle.line_steps.proofs.LineRuns.{call_on, line_is}
+use Rattle.line_steps.proofs.LineRuns.{call_on}
 use Rattle.model.specs.Run.{after_steps}
 use Rattle.mon_runs.specs.Looked.{Place, why_of_step}
 use Rattle.mon_runs.specs.declared.looked.Goal.TheVariants.{Rest}
 use Rattle.mon_runs.proofs.Counts.{steps_more}
-use Rattle.mon_line_runs.proofs.Lines.{IsStep, ends_last, ends_met, ends_stopped, on_begin, on_more}
+use Rattle.mon_line_runs.proofs.Lines.{IsStep, at_line, ends_last, ends_met, ends_stopped, on_begin, on_more}
 use Rattle.mon_line_runs.proofs.runs.lead_to_line.Goals as goal
 
 pub loop-done-init : goal.loop-done-init
@@ -76,11 +76,11 @@ returns-then-is_at_line-clause-run c =
     let call = call_on c.args.session.now c.loop-done.session c.make_step-made.new.session c.loop-done.done c.loop-done.call
     c.call_begun-within.result c.call_open-call.result c.loop-done.invariant.call c.loop-done.invariant.on.made on.made
     c.call_begun-within.ensures c.call_open-call.ensures in
-    let at = line_is c.args.lines.now c.args.line c.args.session.now c.make_step-made.new.session (c.loop-done.done + 1)
-    c.call_open-call.result on.made call in
+    let at = at_line c.args.lines.now c.args.line c.args.session.now c.make_step-made.new.session (c.loop-done.done + 1)
+    c.call_open-call.result c.is_at_line.result on.made call c.is_at_line.ensures in
     ends_met c.args.lines.now c.args.line c.args.limit c.args.stops.now.watches.items
     (c.args.session.now, c.args.stops.now.breaks.items) (c.loop-done.done + 1) on c.loop-done.invariant.first
-    (omega (arith, c.loop-done-test.true)) (sym at ∙ sym c.is_at_line.ensures ∙ c.if-is_at_line.true) refl
+    (omega (arith, c.loop-done-test.true)) (sym at ∙ c.if-is_at_line.true) refl
 
 -- ---- on, and over
 
@@ -101,13 +101,13 @@ loop-done-preserved c =
     let call = call_on c.args.session.now c.loop-done.session c.make_step-made.new.session c.loop-done.done c.loop-done.call
     c.call_begun-within.result c.call_open-call.result c.loop-done.invariant.call c.loop-done.invariant.on.made on.made
     c.call_begun-within.ensures c.call_open-call.ensures in
-    let at = line_is c.args.lines.now c.args.line c.args.session.now c.make_step-made.new.session (c.loop-done.done + 1)
-    c.call_open-call.result on.made call in
+    let at = at_line c.args.lines.now c.args.line c.args.session.now c.make_step-made.new.session (c.loop-done.done + 1)
+    c.call_open-call.result c.is_at_line.result on.made call c.is_at_line.ensures in
     record {
       on = on;
       call = call;
       first = none_more (is_line_on c.args.lines.now c.args.line c.args.session.now) c.loop-done.done c.loop-done.invariant.first
-          (sym at ∙ sym c.is_at_line.ensures ∙ c.if-is_at_line.false);
+          (sym at ∙ c.if-is_at_line.false);
       watches = c.make_step-made.ensures.watches ∙ c.loop-done.invariant.watches;
       changes = c.make_step-made.ensures.changes ∙ c.loop-done.invariant.changes;
     }
