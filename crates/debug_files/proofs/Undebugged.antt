@@ -1,6 +1,5 @@
 -- What was told of a file of debug information that was not loaded.
-use Rattle.std.proofs.Common.{◌≡◌, ℕ, List, Option, None, Some, Bor, option_map, unwrap_or, arith}
-use Rattle.std.specs.Prelude.{⊥}
+use Rattle.std.proofs.Common.{◌≡◌, ℕ, List, Option, None, Some, Bor, option_map, unwrap_or}
 use Rattle.arguments.specs.FaultLines.{load_text}
 use Rattle.arguments.specs.Statuses.{status_of_load}
 use Rattle.arguments.specs.declared.load_fault.LoadFault.{LoadFault}

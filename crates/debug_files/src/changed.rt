@@ -1,7 +1,7 @@
 //! Sources that have changed since a debug file was made: their size is another one.
 
 ghost use Rattle.std.specs.Prelude.{◌≡◌, None, option_map};
-ghost use Rattle.debug_files.specs.Changed.{TellsChanged, changed_line};
+ghost use Rattle.debug_files.specs.Changed.{TellsChanged, TellsNames, changed_line};
 ghost use Rattle.model.specs.Writers.{AppendsFront};
 
 use arguments::put_named;
@@ -19,19 +19,25 @@ pub fn note_changed(changed: &mut Vec<u8>, name: &[u8]) -> Result<(), AllocError
     changed.extend_from_slice(name)
 }
 
-/// Writes which sources have changed since a debug file was made, if some have.
+/// Writes which sources have changed since a debug file was made.
 fn put_changed<E: Write>(file: &str, changed: &[u8], errors: &mut E)
     ensures { AppendsFront (E.contents errors.old) (E.contents errors.new)
         (changed_line file.now changed.now) }
 {
+    put_named(file, &[CHANGED.as_bytes(), changed, b"\n"], errors);
+}
+
+/// Writes which sources have changed since a debug file was made, if some have.
+fn tell_names<E: Write>(file: &str, changed: &[u8], errors: &mut E)
+    ensures { TellsNames file.now (E.contents errors.old) (E.contents errors.new) }
+{
     if !changed.is_empty() {
-        put_named(file, &[CHANGED.as_bytes(), changed, b"\n"], errors);
+        put_changed(file, changed, errors);
     }
 }
 
 /// Writes which sources have changed since a debug file was made, if one is named and some have, or
 /// a beginning of that line if a write fails.
-#[tactic(auto, using(crate::proofs::Told::told_changed))]
 pub fn tell_changed<E: Write>(file: Option<&str>, changed: &[u8], errors: &mut E)
     ensures told { TellsChanged (option_map (λ f. f.now) file.entry) (E.contents errors.old)
         (E.contents errors.new) }
@@ -39,6 +45,6 @@ pub fn tell_changed<E: Write>(file: Option<&str>, changed: &[u8], errors: &mut E
 {
     match file {
         None => {}
-        Some(file) => put_changed(file, changed, errors),
+        Some(file) => tell_names(file, changed, errors),
     }
 }

@@ -6,6 +6,7 @@ use Rattle.arguments.specs.declared.file_options.FileForm.{FileForm}
 use Rattle.arguments.specs.declared.file_options.FileForm.TheVariants.{Prg, Raw, Records, Source}
 use Rattle.assembler.specs.Assembly.{AssemblyView}
 use Rattle.image_files.specs.Fill.{fill_at, is_filled}
+use Rattle.image_files.specs.Options.{said_of}
 use Rattle.image_reader.specs.declared.form.Form.{Form}
 use Rattle.loading.specs.Loads.{IsImageOf, IsLoaded, IsSparedFile}
 use Rattle.loading.specs.Machine.{IsMachine, IsMachineOf}
@@ -38,11 +39,11 @@ of_image : (form : FileForm) (omits : Bool) (bus_map : Map) (fill : Option ℕ) 
     → IsImageOf form omits bus_map fill image assembly → MayOmit omits bus_map fill
 of_image Source omits bus_map fill image None is = absurd is
 of_image Source omits bus_map fill image (Some a) is = inl is.2
-of_image Records omits bus_map fill image None is = of_file _ omits bus_map fill image is
+of_image Records omits bus_map fill image None is = of_file (said_of Records) omits bus_map fill image is
 of_image Records omits bus_map fill image (Some a) is = absurd is
-of_image (Raw address) omits bus_map fill image None is = of_file _ omits bus_map fill image is
+of_image (Raw address) omits bus_map fill image None is = of_file (said_of (Raw address)) omits bus_map fill image is
 of_image (Raw address) omits bus_map fill image (Some a) is = absurd is
-of_image Prg omits bus_map fill image None is = of_file _ omits bus_map fill image is
+of_image Prg omits bus_map fill image None is = of_file (said_of Prg) omits bus_map fill image is
 of_image Prg omits bus_map fill image (Some a) is = absurd is
 
 of_loaded : (asked : FileAsked) (fill : Option ℕ) (image : Cells) (assembly : Option AssemblyView) → IsLoaded asked fill image assembly

@@ -3,7 +3,6 @@ use Rattle.std.specs.Prelude.{◌≡◌, ◌⊎◌, ℕ, Bool, List, [], ◌++�
 use Rattle.accesses.specs.Writing.{bytes_in}
 use Rattle.assembler.specs.Assembly.{AssemblyView, IsAssembled}
 use Rattle.arguments.specs.Asked.{FileAsked, map_of}
-use Rattle.arguments.specs.declared.load_fault.LoadFault.{LoadFault}
 use Rattle.arguments.specs.declared.refusal.Refusal.{Refusal}
 use Rattle.arguments.specs.declared.refusal.Refusal.TheVariants.{OutOfMemory}
 use Rattle.arguments_play.specs.Mon.{MonAsked}
@@ -16,7 +15,7 @@ use Rattle.loading.specs.Warned.{TellsWarnings}
 use Rattle.loading.specs.declared.loaded.ImageNames.{ImageNames}
 use Rattle.model.specs.Event.{start}
 use Rattle.model.specs.Session.{Session, new_session}
-use Rattle.model.specs.State.{Map, State}
+use Rattle.model.specs.State.{Map}
 use Rattle.mon_session.specs.declared.mon_state.MonState.{MonState}
 use Rattle.source_map.specs.Lines.{PlacesView, no_places, places_of}
 use Rattle.source_map.specs.Names.{names_in, other_names}

@@ -1,4 +1,4 @@
-use Rattle.std.proofs.Common.{rules, ap, ap₂, codes, ◌≡◌, ◌∙◌}
+use Rattle.std.proofs.Common.{rules, ap, ap₂, codes, ◌≡◌, ◌∙◌, Bool, true, false, ◌||◌}
 use Rattle.arguments.specs.CommandLine.{flag_rule, option_rule, unnamed, with_files}
 use Rattle.clap.specs.Words.{app_of, rule_of, with_rule}
 use Rattle.arguments_play.proofs.trace.trace_command.Goals as goal
@@ -29,3 +29,24 @@ returns-clause-shape c =
     let with_lcov = c.in_ok-arg-9.ensures.shape (search rules) ∙ ap₂ with_rule with_count lcov_is in
     let with_unwritten = c.in_ok-arg-10.ensures.shape (search rules) ∙ ap₂ with_rule with_lcov unwritten_is in
     c.in_ok-command-2.ensures.shape (search rules) ∙ ap₂ with_rule with_unwritten free_is
+
+-- An option that is none of all subcommands leaves a command without such ones.
+no_global : (old new is_global : Bool) → new ≡ (old || is_global) → old ≡ false → is_global ≡ false → new ≡ false
+no_global true new is_global is first second = is ∙ first
+no_global false new true is first second = is ∙ second
+no_global false new false is first second = is
+
+pub returns-clause-local : goal.returns-clause-local
+returns-clause-local c =
+    let filed = c.in_ok-with_files_options.ensures.local c.in_ok-command.ensures.local in
+    let with_symbols = no_global _ _ _ c.in_ok-arg.ensures.globals filed c.option.ensures.local in
+    let with_debug = no_global _ _ _ c.in_ok-arg-2.ensures.globals with_symbols c.option-2.ensures.local in
+    let with_root = no_global _ _ _ c.in_ok-arg-3.ensures.globals with_debug c.option-3.ensures.local in
+    let with_from = no_global _ _ _ c.in_ok-arg-4.ensures.globals with_root c.option-4.ensures.local in
+    let with_to = no_global _ _ _ c.in_ok-arg-5.ensures.globals with_from c.option-5.ensures.local in
+    let with_steps = no_global _ _ _ c.in_ok-arg-6.ensures.globals with_to c.option-6.ensures.local in
+    let with_stores = no_global _ _ _ c.in_ok-arg-7.ensures.globals with_steps c.flag.ensures.local in
+    let with_count = no_global _ _ _ c.in_ok-arg-8.ensures.globals with_stores c.flag-2.ensures.local in
+    let with_lcov = no_global _ _ _ c.in_ok-arg-9.ensures.globals with_count c.option-7.ensures.local in
+    let with_unwritten = no_global _ _ _ c.in_ok-arg-10.ensures.globals with_lcov c.flag-3.ensures.local in
+    no_global _ _ _ c.in_ok-command-2.ensures.globals with_unwritten c.flag-4.ensures.local

@@ -1,4 +1,4 @@
-use Rattle.std.proofs.Common.{◌≡◌, ℕ, IfOk, List, subst}
+use Rattle.std.proofs.Common.{◌≡◌, IfOk, subst}
 use Rattle.std.specs.Prelude.{string_bytes}
 use Rattle.dap_messages.specs.SeenAnswers.{look_body}
 use Rattle.dap_messages.proofs.answer.look_body.Goals as goal

@@ -1,4 +1,4 @@
-use Rattle.std.proofs.Common.{◌≡◌, ℕ, IfOk, List, subst}
+use Rattle.std.proofs.Common.{◌≡◌, IfOk, subst}
 use Rattle.std.specs.Prelude.{string_bytes}
 use Rattle.dap_messages.specs.SeenAnswers.{instruction_row}
 use Rattle.dap_messages.proofs.item.instruction_row.Goals as goal

@@ -14,7 +14,7 @@ loop-item-init c = c.new-list.ensures
 pub loop-item-preserved : goal.loop-item-preserved
 loop-item-preserved c =
     next_value written c.args.items.now c.loop-item.item-index _ _ (omega (arith, c.loop-item-test.true))
-    (c.with-list.ensures _ _ c.loop-item.invariant c.value.ensures)
+    (c.with-list.ensures _ _ c.loop-item.invariant (value_as _ _ _ (ap written c.item-item.is) c.value.ensures))
 
 pub returns : goal.returns
 returns c =

@@ -1,5 +1,5 @@
-use Rattle.std.proofs.Common.{◌≡◌, ◌∙◌, IfOk, if◌then◌else◌, subst, sym}
-use Rattle.dap_messages.specs.SeenAnswers.{SeenItem, item_view, data_unwatched, data_watched}
+use Rattle.std.proofs.Common.{◌∙◌, if◌then◌else◌, sym}
+use Rattle.dap_messages.specs.SeenAnswers.{data_unwatched, data_watched}
 use Rattle.dap_views.specs.Watches.{told_at}
 use Rattle.dap_views.specs.declared.watches.TheConstants.{NOT_WATCHED}
 use Rattle.dap_views.proofs.watches.told.Goals as goal
