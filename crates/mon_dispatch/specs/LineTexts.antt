@@ -10,6 +10,7 @@ use Rattle.mon_settings.specs.Names.{without_names}
 use Rattle.mon_settings.specs.ChangeTexts.{assembled_text, handed_text, irq_text, nmi_text, put_text, shown_event}
 use Rattle.mon_session.specs.Course.{course_of}
 use Rattle.mon_session.specs.declared.mon_state.MonState.{MonState}
+use Rattle.mon_by_line.specs.ByLine.{line_back_text, line_run_text}
 use Rattle.mon_lines.specs.Lines.{SeenSlip}
 use Rattle.mon_lines.specs.declared.command.Command.{Command}
 use Rattle.mon_lines.specs.declared.command.Command.TheVariants as line
@@ -34,6 +35,8 @@ line_text (line.Step count) mon
     = some_steps_text count (watches_of mon) mon.places (stand_of mon)
 line_text line.Over mon = over_text (watches_of mon) mon.places (stand_of mon)
 line_text line.Out mon = out_text (watches_of mon) mon.places (stand_of mon)
+line_text line.Line mon = line_run_text (watches_of mon) mon.places (stand_of mon)
+line_text line.LineBack mon = line_back_text mon.places (course_of mon)
 line_text (line.Until address) mon
     = until_text address (watches_of mon) mon.places (stand_of mon)
 line_text (line.Go count) mon

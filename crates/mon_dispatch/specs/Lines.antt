@@ -2,6 +2,7 @@
 use Rattle.std.specs.Prelude.{ℕ, ◌≡◌, Bool, true, false, if◌then◌else◌, List, [], ◌∷◌, ◌++◌, Some, Result, Ok, Err}
 use Rattle.model.specs.Breakpoints.{break_set}
 use Rattle.model.specs.declared.event.Event.TheVariants as event
+use Rattle.mon_by_line.specs.ByLine.{ran_to_line, undone_if_held}
 use Rattle.mon_lines.specs.Lines.{SeenCommand, SeenLine, SeenSlip, command_view, seen_line}
 use Rattle.mon_lines.specs.declared.command.Command.{Command}
 use Rattle.mon_lines.specs.declared.command.Command.TheVariants as line
@@ -89,6 +90,9 @@ Does (line.Step count) old new
     = Arrives (some_steps count (watches_of old) (stand_of old)) old new
 Does line.Over old new = Arrives (stepped_over (watches_of old) (stand_of old)) old new
 Does line.Out old new = Arrives (returned (watches_of old) (stand_of old)) old new
+Does line.Line old new
+    = Arrives (ran_to_line old.places (watches_of old) (stand_of old)) old new
+Does line.LineBack old new = Becomes (undone_if_held old.places (course_of old)) old new
 Does (line.Until address) old new
     = Arrives (ran_until address (watches_of old) (stand_of old)) old new
 Does (line.Go count) old new = Arrives (ran_by count (watches_of old) (stand_of old)) old new
@@ -130,6 +134,8 @@ outcome_of line.Nothing = outcome.Moved
 outcome_of (line.Step count) = outcome.Moved
 outcome_of line.Over = outcome.Moved
 outcome_of line.Out = outcome.Moved
+outcome_of line.Line = outcome.Moved
+outcome_of line.LineBack = outcome.Moved
 outcome_of (line.Until address) = outcome.Moved
 outcome_of (line.Go count) = outcome.Moved
 outcome_of (line.Back undoing) = outcome.Moved

@@ -11,6 +11,7 @@ use crate::looks::look;
 use crate::wording::{IS_DECIMAL, IS_HEX};
 use arrayvec::ArrayVec;
 use formatting::push_text;
+use mon_by_line::{run_to_line, undo_to_line};
 use mon_lines::{Command, ReadLine, Slip, Test};
 use mon_runs::{Break, Watch};
 use mon_session::MonState;
@@ -42,6 +43,7 @@ fn outcome_of(command: &Command<'_>) -> Outcome
     match command {
         Command::Quit => Outcome::Over,
         Command::Nothing | Command::Step(_) | Command::Over | Command::Out => Outcome::Moved,
+        Command::Line | Command::LineBack => Outcome::Moved,
         Command::Until(_) | Command::Go(_) | Command::Back(_) => Outcome::Moved,
         Command::Rback | Command::Redo(_) | Command::Reset => Outcome::Moved,
         _ => Outcome::Stays,
@@ -90,6 +92,8 @@ fn obey(mon: &mut MonState, alloc: Global, command: &Command<'_>) -> Result<(), 
         Command::Step(count) => steps(mon, *count),
         Command::Over => step_over(mon),
         Command::Out => step_out(mon),
+        Command::Line => run_to_line(mon, alloc),
+        Command::LineBack => undo_to_line(mon, alloc),
         Command::Until(address) => run_until(mon, *address),
         Command::Go(count) => run(mon, *count),
         Command::Back(undoing) => undo(mon, *undoing),
