@@ -25,6 +25,7 @@ use loading::{Loaded, load, load_counted_names, place_of, tell_left_out};
 use page_writer::{
     Note, Opening, Program, SendFault, Texts, facts_of, push_opening, source_of, viewer, write_page,
 };
+use source_map::Places;
 use std::alloc::{AllocError, Global};
 use std::io::Write;
 use std::rt::Files;
@@ -287,10 +288,11 @@ fn show_to<H: Files + AllocGlobal, E: Write>(
         Ok(played) => {
             let pc = loaded.session.regs().pc;
             let assembly = loaded.assembly.as_ref();
+            let debug: Option<&Places> = None;
             let known = Known {
                 file: words.file.file,
                 assembly,
-                debug: None,
+                debug,
             };
             tell_ending(rt.alloc(), known, played, pc, errors);
             status_of_ending(played.ending, 0)

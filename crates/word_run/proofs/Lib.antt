@@ -1,3 +1,3 @@
-mod Debugged
+mod WithNames
 pub mod Ran
 pub mod Sites

@@ -175,7 +175,7 @@ fn break_text(pc: u16) -> Text
 
 /// Returns what is known of the address of an ending, if the ending has a line for it.
 #[tactic(auto, using(crate::proofs::Sites::no_site))]
-fn site_of_ending(alloc: Global, known: Known<'_>, ending: Ending, pc: u16) -> Vec<u8>
+fn site_of_ending(alloc: Global, known: Known<'_, '_, '_>, ending: Ending, pc: u16) -> Vec<u8>
     ensures { IsSite (known_view known.entry) (place_of_ending ending pc) result.items }
 {
     match ending {
@@ -236,7 +236,7 @@ fn put_ending<E: Write>(played: Played, pc: u16, site: &[u8], errors: &mut E)
 /// in it. Where memory runs out they are left out.
 pub fn tell_ending<E: Write>(
     alloc: Global,
-    known: Known<'_>,
+    known: Known<'_, '_, '_>,
     played: Played,
     pc: u16,
     errors: &mut E,
@@ -322,7 +322,7 @@ fn put_interrupted<E: Write>(pc: u16, cycles: u64, site: &[u8], errors: &mut E)
 /// source says of the place is left out where memory runs out.
 pub fn tell_interrupted<E: Write>(
     alloc: Global,
-    known: Known<'_>,
+    known: Known<'_, '_, '_>,
     pc: u16,
     cycles: u64,
     errors: &mut E,

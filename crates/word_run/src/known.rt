@@ -15,11 +15,11 @@ use std::rt::Files;
 /// What is known of a program: what its source says, if it has one; or what debug information says
 /// of it, if there is some.
 #[derive(Clone, Copy)]
-pub struct Known<'a> {
+pub struct Known<'f, 'a, 'd> {
     /// The name of the source's file.
-    pub file: &'a str,
+    pub file: &'f str,
     pub assembly: Option<&'a Assembly>,
-    pub debug: Option<&'a Places>,
+    pub debug: Option<&'d Places>,
 }
 
 /// The places of debug information, if a file of it is named, and the names of its sources that
@@ -59,7 +59,7 @@ fn with_names(alloc: Global, places: &mut Places, names: Option<&Assembly>) -> R
 /// # Errors
 ///
 /// Those of `debug_files::load_places_of`.
-#[tactic(auto, using(crate::proofs::Debugged::debugged))]
+#[tactic(auto, using(crate::proofs::WithNames::debugged))]
 pub fn load_debug<H: Files + AllocGlobal>(
     rt: &H,
     file: Option<&str>,

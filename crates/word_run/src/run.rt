@@ -31,7 +31,7 @@ use std::rt::Files;
 fn tell_end<E: Write>(
     alloc: Global,
     words: &RunWords<'_>,
-    known: Known<'_>,
+    known: Known<'_, '_, '_>,
     played: Played,
     session: &Session,
     errors: &mut E,
@@ -53,7 +53,7 @@ fn tell_end<E: Write>(
 fn ended<E: Write>(
     alloc: Global,
     words: &RunWords<'_>,
-    known: Known<'_>,
+    known: Known<'_, '_, '_>,
     played: Played,
     session: &Session,
     errors: &mut E,
@@ -75,7 +75,12 @@ fn ended<E: Write>(
 }
 
 /// Tells where a run was interrupted, and returns the exit status.
-fn interrupted<E: Write>(alloc: Global, known: Known<'_>, session: &Session, errors: &mut E) -> u8
+fn interrupted<E: Write>(
+    alloc: Global,
+    known: Known<'_, '_, '_>,
+    session: &Session,
+    errors: &mut E,
+) -> u8
     ensures status { result ≡ 130 }
     ensures told { TellsInterrupted (known_view known.entry)
         (heard_of (E.contents errors.old) (E.contents errors.new))
@@ -91,7 +96,7 @@ fn interrupted<E: Write>(alloc: Global, known: Known<'_>, session: &Session, err
 fn run_to<R: Read, W: Write, S: Read, E: Write>(
     alloc: Global,
     words: &RunWords<'_>,
-    known: Known<'_>,
+    known: Known<'_, '_, '_>,
     session: &mut Session,
     written: Written,
     until: Option<u16>,
@@ -159,10 +164,12 @@ fn run_loaded<H: Files + AllocGlobal, R: Read, W: Write, S: Read, E: Write>(
         lost: _,
         fill: _,
     } = loaded;
+    let source = assembly.as_ref();
+    let places = debug.places.as_ref();
     let known = Known {
         file: words.file.file,
-        assembly: assembly.as_ref(),
-        debug: debug.places.as_ref(),
+        assembly: source,
+        debug: places,
     };
     let written = written.or_everywhere(words.is_free);
     run_to(

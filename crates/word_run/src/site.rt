@@ -72,7 +72,7 @@ fn source_text(
 ///
 /// Errors: `AllocError` if an allocation fails.
 #[tactic(auto, using(crate::proofs::Sites::debug_site, crate::proofs::Sites::none_site))]
-fn known_text(alloc: Global, known: Known<'_>, address: u16) -> Result<Vec<u8>, AllocError>
+fn known_text(alloc: Global, known: Known<'_, '_, '_>, address: u16) -> Result<Vec<u8>, AllocError>
     ensures { IfOk result (λ site. IsSite (known_view known.entry) address site.items) }
 {
     let site = match known.debug {
@@ -84,7 +84,7 @@ fn known_text(alloc: Global, known: Known<'_>, address: u16) -> Result<Vec<u8>, 
 
 /// Returns what is said of an address: nothing where nothing is known, nor where memory runs out.
 #[tactic(auto, using(crate::proofs::Sites::no_site))]
-pub fn site_of(alloc: Global, known: Known<'_>, address: u16) -> Vec<u8>
+pub fn site_of(alloc: Global, known: Known<'_, '_, '_>, address: u16) -> Vec<u8>
     ensures { IsSite (known_view known.entry) address result.items }
 {
     match known_text(alloc, known, address) {

@@ -13,6 +13,7 @@ use Rattle.t65_reports.specs.Telling.{begin_text, end_text, fault_text}
 use Rattle.t65_reports.specs.declared.telling.Telling.{Telling}
 use Rattle.word_test.specs.Asked.{TestAsked}
 use Rattle.t65_suites.specs.Ends.{EndsFile}
+use Rattle.t65_suites.specs.FaultTexts.{shown_text}
 use Rattle.t65_suites.specs.Suites.{SuiteAsked, name_of, suite_view, suites_of}
 use Rattle.word_test.specs.Tested.{fresh_tally, rows_text, sum_text, tally_after, tally_rows}
 use Rattle.t65_runner.specs.Parts.{tests_of}
@@ -119,7 +120,8 @@ record SomeOutcomes (manner : Manner) (count : ℕ) (suites : List SuiteAsked) :
 -- A suite that is not reached: its file of rows may be too large, for all that is known.
 unreached : Manner → SuiteAsked → ℕ → Outcome
 unreached manner suite count = outcome_by manner.telling suite
-    (fault_text manner.telling (tally_after false 0 (fresh_tally count)).count (name_of suite) TOO_LARGE.now []) (tally_after false 0 (fresh_tally count))
+    (fault_text manner.telling (tally_after false 0 (fresh_tally count)).count (name_of suite) TOO_LARGE.now (shown_text []))
+    (tally_after false 0 (fresh_tally count))
 
 is_unreached : (manner : Manner) (suite : SuiteAsked) (count : ℕ) → IsOutcome manner suite count (unreached manner suite count)
 unfolding unreached
@@ -128,7 +130,7 @@ is_unreached manner suite count = inr (record {
   points = 0;
   ends = refl;
   title = TOO_LARGE.now;
-  remarks = [];
+  remarks = shown_text [];
   told = record { few_words = refl; seen = ([], refl) };
   is = refl;
 })

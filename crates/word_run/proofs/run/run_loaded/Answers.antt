@@ -49,7 +49,7 @@ returns-clause-done g c =
     c.args.errors.now c.tell_changed.new.errors c.place_named.new.errors ran.errors c.run_to.result
     ((ran.input ≡ c.args.input.now) × (ran.output ≡ c.args.output.now))
     c.in-Ok.ensures.places c.tell_changed.ensures.told c.in-Ok-place_named.ensures.place c.in-Ok-place_named.ensures.quiet
-    (ap₂ (known_by c.args.words.now.file.file.now) c.as_ref.ensures.value c.as_ref-2.ensures.value) c.or_everywhere-written.ensures
+    (ap₂ (known_by c.args.words.now.file.file.now) c.as_ref-source.ensures.value c.as_ref-places.ensures.value) c.or_everywhere-written.ensures
     c.run_to.ensures.ran
 
 pub returns-clause-quiet : goal.returns-clause-quiet

@@ -1,4 +1,4 @@
-use Rattle.std.proofs.Common.{refl}
+use Rattle.std.proofs.Common.{◌≡◌}
 use Rattle.arguments.specs.Asked.{map_of}
 use Rattle.arguments_play.specs.Run.{run_view}
 use Rattle.loading.proofs.Machines.{never_made}
