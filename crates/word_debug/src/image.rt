@@ -5,9 +5,9 @@ ghost use Rattle.arguments.specs.Words.{texts};
 ghost use Rattle.word_debug.specs.Image.{EndsOnImage, RefusesImage};
 ghost use Rattle.word_debug.specs.Strict.{IsDone, without_strict};
 
-use crate::Watch;
 use crate::asked::plain_words;
 use crate::strict::status_of_replies;
+use crate::watch::Watch;
 use arguments::{Refusal, refuse};
 use std::io::{Read, Write};
 use std::rt::Files;

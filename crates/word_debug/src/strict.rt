@@ -10,8 +10,8 @@ ghost use Rattle.program.specs.Named.{IsToldOfSession};
 ghost use Rattle.word_debug.specs.Strict.{IsDone, IsToldStrict, NamesFile, RunsStrict};
 ghost use Rattle.word_debug.specs.Strict.{ServesStrict, plain_words};
 
-use crate::Watch;
 use crate::asked::plain_words;
+use crate::watch::Watch;
 use arguments::{Refusal, WordsFault, refuse, refused_words};
 use program::{DebugWords, Words, debug_named, read_words};
 use std::io::{Read, Write};
