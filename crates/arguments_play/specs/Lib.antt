@@ -1,3 +1,4 @@
+pub mod Debug
 pub mod Mon
 pub mod Run
 pub mod Size

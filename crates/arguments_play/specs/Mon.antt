@@ -5,9 +5,8 @@ use Rattle.arguments.specs.Asked.{FileAsked, file_asked, file_view, is_flag}
 use Rattle.arguments.specs.CommandLine.{flag_rule, option_rule, unnamed, with_files}
 use Rattle.arguments.specs.OtherFiles.{Others, others_by, others_view}
 use Rattle.arguments.specs.Values.{history_asked}
-use Rattle.arguments.specs.declared.file_options.FileForm.{FileForm}
-use Rattle.arguments.specs.declared.file_options.FileForm.TheVariants.{Source}
 use Rattle.arguments.specs.Words.{value_in}
+use Rattle.arguments_play.specs.Debug.{debug_for}
 use Rattle.arguments_play.specs.Size.{size_asked}
 use Rattle.arguments_play.specs.declared.mon_words.MonWords.{MonWords}
 use Rattle.clap.specs.Words.{App, Text, with_rule}
@@ -31,15 +30,6 @@ pub record MonAsked : Type 0 where
   pub prompts : Bool
   pub has_screen : Bool
   pub size : Option (ℕ × ℕ)
-
--- Debug information is that of an image.
-abbrev pub debug_asked : FileForm → Option Text → Option (Option Text)
-debug_asked Source (Some file) = None
-debug_asked form file = Some file
-
-abbrev pub debug_for : Option FileAsked → Option Text → Option (Option Text)
-debug_for None debug = None
-debug_for (Some file) debug = debug_asked file.form debug
 
 abbrev pub mon_of : Option FileAsked → Others → Option ℕ → Option Text → Option (Option Text)
     → Option Text → Bool → Bool → Option (Option (ℕ × ℕ)) → Option MonAsked

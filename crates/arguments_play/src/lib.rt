@@ -5,6 +5,7 @@
 //! (`specs/Run.antt`, `specs/Trace.antt`, `specs/Mon.antt`).
 #![tactic(auto)]
 
+mod debug;
 mod mon;
 mod mon_words;
 mod run;

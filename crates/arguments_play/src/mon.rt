@@ -1,17 +1,17 @@
 //! The words of `mon`.
 
 ghost use Rattle.std.specs.Prelude.{◌≡◌, IsOkUnless, IfErr, IfOk, None, Some, false, option_map};
-ghost use Rattle.arguments.specs.Asked.{file_view};
 ghost use Rattle.arguments.specs.Words.{Fits, IsRefusalOf, texts};
-ghost use Rattle.arguments_play.specs.Mon.{MonAsked, words_in, debug_asked, mon, mon_asked, mon_view};
+ghost use Rattle.arguments_play.specs.Mon.{MonAsked, mon, mon_asked, mon_view, words_in};
 ghost use Rattle.clap.specs.Words.{app_of, first_value, found_of, kind_of};
 ghost use Rattle.clap.specs.declared.builder.command.Command.TheViews.{out-Command};
 
+use crate::debug::{DEBUG_HELP, DEBUG_TAKES, ROOT_HELP, debug_asked};
 use crate::mon_words::MonWords;
 use crate::size::{SIZE_TAKES, size_asked};
 use arguments::{
-    FileForm, FileWords, WordsFault, begin, file_words, flag, history_asked, is_given, matched,
-    option, other_files, with_files_options, wrong_value,
+    WordsFault, begin, file_words, flag, history_asked, is_given, matched, option, other_files,
+    with_files_options, wrong_value,
 };
 use clap::error::ErrorKind;
 use clap::{ArgMatches, Command, Error};
@@ -26,9 +26,6 @@ Exit status: 0 the input has ended, or quit,
 Example:
   mos65 mon count.a65";
 
-/// What is said where debug information is given for a source.
-const DEBUG_TAKES: &str = "--debug-info is for an image; a source has its own lines";
-
 /// Returns the command line of `mon`.
 ///
 /// The only error is that an allocation failed.
@@ -40,8 +37,6 @@ pub fn mon_command<'a>(alloc: Global) -> Result<Command<'a>, Error>
     let about = "Steps through a program with a person at a terminal";
     let history = "How many events can be undone, at most 65536 [default: 65536]";
     let symbols = "A file of names, as asm --symbols writes it [default: none]";
-    let debug = "What another tool says of an image's lines: a debug file of ld65";
-    let root = "Where relative names of its sources begin [default: its own folder]";
     let prompt = "Writes a prompt where standard input is no terminal, too";
     let screen = "Draws a screen after each line, if standard input is a terminal";
     let size = "The size of the screen [default: COLUMNS and LINES, or 80x24]";
@@ -49,23 +44,12 @@ pub fn mon_command<'a>(alloc: Global) -> Result<Command<'a>, Error>
     let command = with_files_options(alloc, command)?
         .arg(option(alloc, "history", "N", history))?
         .arg(option(alloc, "symbols", "FILE", symbols))?
-        .arg(option(alloc, "debug-info", "FILE", debug))?
-        .arg(option(alloc, "source-root", "FOLDER", root))?
+        .arg(option(alloc, "debug-info", "FILE", DEBUG_HELP))?
+        .arg(option(alloc, "source-root", "FOLDER", ROOT_HELP))?
         .arg(flag(alloc, "prompt", prompt))?
         .arg(flag(alloc, "screen", screen))?
         .arg(option(alloc, "size", "COLUMNSxROWS", size))?;
     Ok(command)
-}
-
-/// Returns the file of debug information that is named, if one is; `None` if one is for a source.
-fn debug_asked<'a>(file: &FileWords<'_>, debug: Option<&'a str>) -> Option<Option<&'a str>>
-    ensures { option_map (option_map (λ s. s.now)) result
-        ≡ debug_asked (file_view file.now).form (option_map (λ s. s.now) debug.entry) }
-{
-    match (file.form, debug) {
-        (FileForm::Source, Some(_)) => None,
-        _ => Some(debug),
-    }
 }
 
 /// Returns what is wrong where no value of the file is.

@@ -6,6 +6,7 @@ ghost use Rattle.arguments_play.specs.Run.{RunAsked, words_in, run, run_asked, r
 ghost use Rattle.clap.specs.Words.{app_of, first_value, found_of, kind_of};
 ghost use Rattle.clap.specs.declared.builder.command.Command.TheViews.{out-Command};
 
+use crate::debug::{DEBUG_HELP, DEBUG_TAKES, ROOT_HELP, debug_asked};
 use arguments::{
     FileWords, OtherFiles, WordsFault, begin, file_words, flag, is_given, matched, option,
     other_files, steps_asked, with_files_options, wrong_value,
@@ -23,6 +24,10 @@ pub struct RunWords<'a> {
     pub others: OtherFiles<'a>,
     /// The file of names, if one is named.
     pub symbols: Option<&'a str>,
+    /// A file of debug information, if one is named.
+    pub debug_info: Option<&'a str>,
+    /// Where relative names of its sources begin, if that is given.
+    pub source_root: Option<&'a str>,
     /// The place that ends the run, if one is named.
     pub until: Option<&'a str>,
     /// The most steps that are made.
@@ -63,6 +68,8 @@ pub fn run_command<'a>(alloc: Global) -> Result<Command<'a>, Error>
     let command = begin(alloc, "run", "mos65 run", about, STATUSES)?;
     let command = with_files_options(alloc, command)?
         .arg(option(alloc, "symbols", "FILE", symbols))?
+        .arg(option(alloc, "debug-info", "FILE", DEBUG_HELP))?
+        .arg(option(alloc, "source-root", "FOLDER", ROOT_HELP))?
         .arg(option(alloc, "until", "WHERE", until))?
         .arg(option(alloc, "steps", "N", steps))?
         .arg(option(alloc, "status", "A", status))?
@@ -81,6 +88,15 @@ fn status_asked(word: Option<&str>) -> Option<bool>
     }
 }
 
+/// Returns what is wrong where no value of the file is.
+fn wrong_besides(matches: &ArgMatches<'_>) -> &'static str {
+    if status_asked(matches.get_str("status")).is_none() {
+        "--status takes A"
+    } else {
+        DEBUG_TAKES
+    }
+}
+
 /// Returns the words of the matched values, or `None` if one is wrong.
 fn words_in<'a>(matches: &ArgMatches<'a>) -> Option<RunWords<'a>>
     ensures { option_map run_view result ≡ run_asked (first_value (found_of matches.now)) }
@@ -88,10 +104,13 @@ fn words_in<'a>(matches: &ArgMatches<'a>) -> Option<RunWords<'a>>
     let Some(file) = file_words(matches) else {
         return None;
     };
+    let debug_info = debug_asked(&file, matches.get_str("debug-info"))?;
     Some(RunWords {
         file,
         others: other_files(matches),
         symbols: matches.get_str("symbols"),
+        debug_info,
+        source_root: matches.get_str("source-root"),
         until: matches.get_str("until"),
         steps: steps_asked(matches.get_str("steps"))?,
         is_status_of_a: status_asked(matches.get_str("status"))?,
@@ -119,6 +138,6 @@ pub fn read_run_words<'a>(alloc: Global, words: &'a [&'a str]) -> Result<RunWord
     let matches = matched(run_command(alloc)?, words)?;
     match words_in(&matches) {
         Some(words) => Ok(words),
-        None => Err(WordsFault::Wrong(wrong_value(&matches).unwrap_or("--status takes A"))),
+        None => Err(WordsFault::Wrong(wrong_value(&matches).unwrap_or(wrong_besides(&matches)))),
     }
 }

@@ -6,9 +6,10 @@ ghost use Rattle.arguments_play.specs.Trace.{TraceAsked, words_in, trace, trace_
 ghost use Rattle.clap.specs.Words.{app_of, first_value, found_of, kind_of};
 ghost use Rattle.clap.specs.declared.builder.command.Command.TheViews.{out-Command};
 
+use crate::debug::{DEBUG_HELP, DEBUG_TAKES, ROOT_HELP, debug_asked};
 use arguments::{
     FileWords, OtherFiles, WordsFault, begin, file_words, flag, is_given, matched, option,
-    other_files, steps_asked, value_fault, with_files_options,
+    other_files, steps_asked, with_files_options, wrong_value,
 };
 use clap::error::ErrorKind;
 use clap::{ArgMatches, Command, Error};
@@ -23,6 +24,10 @@ pub struct TraceWords<'a> {
     pub others: OtherFiles<'a>,
     /// The file of names, if one is named.
     pub symbols: Option<&'a str>,
+    /// A file of debug information, if one is named.
+    pub debug_info: Option<&'a str>,
+    /// Where relative names of its sources begin, if that is given.
+    pub source_root: Option<&'a str>,
     /// The place where the trace begins, if one is named.
     pub from: Option<&'a str>,
     /// The place where the trace ends, if one is named.
@@ -75,6 +80,8 @@ pub fn trace_command<'a>(alloc: Global) -> Result<Command<'a>, Error>
     let command = begin(alloc, "trace", "mos65 trace", about, STATUSES)?;
     let command = with_files_options(alloc, command)?
         .arg(option(alloc, "symbols", "FILE", symbols))?
+        .arg(option(alloc, "debug-info", "FILE", DEBUG_HELP))?
+        .arg(option(alloc, "source-root", "FOLDER", ROOT_HELP))?
         .arg(option(alloc, "from", "WHERE", from))?
         .arg(option(alloc, "to", "WHERE", to))?
         .arg(option(alloc, "steps", "N", steps))?
@@ -93,10 +100,13 @@ fn words_in<'a>(matches: &ArgMatches<'a>) -> Option<TraceWords<'a>>
     let Some(file) = file_words(matches) else {
         return None;
     };
+    let debug_info = debug_asked(&file, matches.get_str("debug-info"))?;
     Some(TraceWords {
         file,
         others: other_files(matches),
         symbols: matches.get_str("symbols"),
+        debug_info,
+        source_root: matches.get_str("source-root"),
         from: matches.get_str("from"),
         to: matches.get_str("to"),
         steps: steps_asked(matches.get_str("steps"))?,
@@ -130,6 +140,6 @@ pub fn read_trace_words<'a>(
     let matches = matched(trace_command(alloc)?, words)?;
     match words_in(&matches) {
         Some(words) => Ok(words),
-        None => Err(value_fault(&matches)),
+        None => Err(WordsFault::Wrong(wrong_value(&matches).unwrap_or(DEBUG_TAKES))),
     }
 }

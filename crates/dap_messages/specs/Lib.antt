@@ -1,7 +1,10 @@
 pub mod Answers
 pub mod Bodies
+pub mod BreakValues
 pub mod Counting
+pub mod Events
 pub mod Halts
+pub mod ItemLists
 pub mod Listed
 pub mod Members
 pub mod Messages
@@ -9,4 +12,8 @@ pub mod Names
 pub mod References
 pub mod Requests
 pub mod Seen
+pub mod SeenAnswers
 pub mod Texts
+pub mod Values
+pub mod VariableValues
+pub mod Written

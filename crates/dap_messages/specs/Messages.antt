@@ -1,25 +1,27 @@
 -- Messages to the client. Source: Debug Adapter Protocol 1.65, "Base protocol".
 use Rattle.std.specs.Prelude.{ℕ, ◌+◌, ◌==◌, true, false, if◌then◌else◌, List, [], ◌∷◌, codes, string_bytes}
 use Rattle.dap_messages.specs.Bodies.{nothing}
+use Rattle.dap_messages.specs.Events.{SeenEvent, event_body, event_view, event_word}
 use Rattle.dap_messages.specs.Names.{command_of, number_of}
+use Rattle.dap_messages.specs.SeenAnswers.{SeenAnswer, answer_view}
+use Rattle.dap_messages.specs.Written.{answer_data}
 use Rattle.dap_messages.specs.declared.message.Message.{Message}
 use Rattle.dap_messages.specs.declared.message.Message.TheVariants.{Done, Refused, Event}
 use Rattle.json_messages.specs.Values.{count, flag, object_of, word}
 use Rattle.serde_json.specs.Data.{Data, Members, no_members, put}
-use Rattle.serde_json.specs.View.{view}
 
 -- ---- what is said
 
 -- A request is done, with a body; it is refused, with words; or something has happened.
 pub data Said : Type 0 where
-  done : Data → Said
+  done : SeenAnswer → Said
   refused : List ℕ → Said
-  event : List ℕ → Data → Said
+  event : SeenEvent → Said
 
 abbrev pub said_of : Message → Said
-said_of (Done body) = done (view body)
+said_of (Done answer) = done (answer_view answer)
 said_of (Refused words) = refused (string_bytes words)
-said_of (Event name body) = event name.now (view body)
+said_of (Event told) = event (event_view told)
 
 -- ---- messages
 
@@ -49,10 +51,11 @@ event_data n name body = object_of ((codes "body", body) ∷ (codes "event", wor
 
 -- A message with its number, as an answer to a request.
 abbrev pub data_of : ℕ → Data → Said → Data
-data_of n request (done body) = response_data n (command_of request) (number_of request) body
+data_of n request (done answer)
+    = response_data n (command_of request) (number_of request) (answer_data answer)
 data_of n request (refused words)
     = refusal_data n (command_of request) (number_of request) words
-data_of n request (event name body) = event_data n name body
+data_of n request (event told) = event_data n (event_word told) (event_body told)
 
 -- Messages are numbered 1, 2, 3 and so on, up to the largest number of 64 bits.
 abbrev pub next_number : ℕ → ℕ

@@ -2,22 +2,11 @@
 
 ghost use Rattle.std.specs.Prelude.{◌≡◌, IfOk};
 ghost use Rattle.serde_json.specs.View.{view};
-ghost use Rattle.dap_messages.specs.Answers.{evaluated_body, exception_body, value_set_body};
-ghost use Rattle.dap_messages.specs.Answers.{written_body};
+ghost use Rattle.dap_messages.specs.Answers.{exception_body, value_set_body, written_body};
 
 use json_messages::Object;
 use serde_json::Value;
 use std::alloc::{AllocError, Global};
-
-/// Returns what a line of the console, or a register, is answered by.
-pub fn evaluated(alloc: Global, words: &str) -> Result<Value, AllocError>
-    ensures { IfOk result (λ v. view v ≡ evaluated_body words.now) }
-{
-    Object::new(alloc)
-        .word("result", words)
-        .count("variablesReference", 0)
-        .build()
-}
 
 /// Returns what a variable that was set is answered by.
 pub fn value_set(alloc: Global, words: &str) -> Result<Value, AllocError>

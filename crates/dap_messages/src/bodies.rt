@@ -1,8 +1,7 @@
 //! The bodies of answers that say the same whatever the session.
 
-ghost use Rattle.std.specs.Prelude.{◌≡◌, IfOk, map as each};
+ghost use Rattle.std.specs.Prelude.{◌≡◌, IfOk};
 ghost use Rattle.serde_json.specs.View.{view};
-ghost use Rattle.dap_messages.specs.Answers.{breakpoints_body};
 ghost use Rattle.dap_messages.specs.Bodies.{capabilities, continued, first_scopes, nothing};
 ghost use Rattle.dap_messages.specs.Bodies.{other_scopes, scope, scopes, threads};
 
@@ -37,15 +36,6 @@ pub fn capabilities(alloc: Global) -> Result<Value, AllocError>
         .flag("supportsSteppingGranularity", true)
         .flag("supportsTerminateRequest", true)
         .flag("supportsWriteMemoryRequest", true)
-        .build()
-}
-
-/// Returns the answer that tells of some breakpoints.
-pub fn breakpoints_body(alloc: Global, list: Vec<Value>) -> Result<Value, AllocError>
-    ensures { IfOk result (λ v. view v ≡ breakpoints_body (each view list.items)) }
-{
-    Object::new(alloc)
-        .member("breakpoints", Ok(Value::Array(list)))
         .build()
 }
 

@@ -4,22 +4,34 @@
 //! message is, by its command, `members` which values a launch can have. `listed` is what a client
 //! has listed and was told, `halt` why the machine stands. `counting` is how a client counts lines,
 //! `references` how it names an address.
-//! `message` puts a body, a refusal or an event into a message with its number, `bodies` has the
-//! bodies that say the same whatever the session. `texts` has addresses and references as they are
-//! shown, `answers` the bodies of other answers.
+//!
+//! `answer` is what is answered, with the lists of `item_list`, which have items (`item`), and
+//! `client_event` what a client is told besides: plain values. `written` has the JSON that each
+//! answer is written as, made by `bodies`, `answers`, `values` (frames, rows of a disassembly,
+//! bytes, events), `break_values` (breakpoints, lines, watches) and `variable_values`. `message`
+//! puts it, a refusal or an event into a message with its number. `texts` has addresses and
+//! references as they are shown. No crate above reads a request from JSON or makes a body.
 //!
 //! Which request each command is stands in `specs/Names.antt`, what a message asks for in
 //! `specs/Requests.antt`, with the requests of `specs/Seen.antt` and the members of
 //! `specs/Members.antt`. What a client means stands in `specs/Counting.antt` and
-//! `specs/References.antt`, which numbers breakpoints have in `specs/Listed.antt`, what messages
-//! are in `specs/Messages.antt`, the bodies in `specs/Bodies.antt`, `specs/Texts.antt` and
-//! `specs/Answers.antt`.
+//! `specs/References.antt`, which numbers breakpoints have in `specs/Listed.antt`.
+//!
+//! Answers without where their texts lie stand in `specs/SeenAnswers.antt`, events in
+//! `specs/Events.antt`; what each is written as in `specs/Written.antt`, with the values of
+//! `specs/Bodies.antt`, `specs/Answers.antt`, `specs/Values.antt`, `specs/BreakValues.antt`,
+//! `specs/VariableValues.antt` and `specs/Texts.antt`, and messages in `specs/Messages.antt`.
 #![tactic(auto)]
 
+mod answer;
 mod answers;
 mod bodies;
+mod break_values;
+mod client_event;
 mod counting;
 mod halt;
+mod item;
+mod item_list;
 mod listed;
 mod members;
 mod message;
@@ -28,11 +40,23 @@ mod reading;
 mod references;
 mod request;
 mod texts;
+mod values;
+mod variable_values;
+mod written;
 
-pub use answers::{evaluated, exception, value_set, written_body};
-pub use bodies::{breakpoints_body, capabilities, continued, nothing, scopes, threads};
+pub use answer::{
+    Answer, breakpoints_body, exception, frames_body, instructions_body, look_body, memory_body,
+    no_data, targets_body, variables_body,
+};
+pub use client_event::{Category, ClientEvent};
 pub use counting::Counting;
 pub use halt::{Halt, Reason, stand_by};
+pub use item::{
+    Item, SourcePlace, breakpoint_unset, completion_item, data_unwatched, frame_at_line,
+    frame_without_line, instruction_at_line, instruction_row, no_instruction, plain_variable,
+    variable, variable_at,
+};
+pub use item_list::ItemList;
 pub use listed::{
     AddressList, FunctionList, LineList, Listed, Placed, Told, number_addresses, number_functions,
     number_lines,

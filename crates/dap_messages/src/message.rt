@@ -5,7 +5,9 @@ ghost use Rattle.dap_messages.specs.Messages.{data_of, next_number, response_mem
 ghost use Rattle.json_messages.specs.Objects.{IsObject};
 ghost use Rattle.serde_json.specs.View.{view};
 
+use crate::answer::Answer;
 use crate::bodies::nothing;
+use crate::client_event::ClientEvent;
 use crate::names::{command_of, number_of};
 use json_messages::Object;
 use serde_json::Value;
@@ -14,12 +16,12 @@ use std::alloc::{AllocError, Global};
 /// A message to the client, but for its number.
 #[derive(Drop)]
 pub enum Message {
-    /// A request is done, with this body.
-    Done(Value),
+    /// A request is done, with this answer.
+    Done(Answer),
     /// A request is refused, with these words.
     Refused(String),
-    /// An event of this name, with this body.
-    Event(&'static str, Value),
+    /// Something has happened.
+    Event(ClientEvent),
 }
 
 /// Returns the number of the message that is sent after so many.
@@ -50,8 +52,8 @@ pub fn message_value(
         (λ v. view v ≡ data_of number (view request.now) (said_of message.now)) }
 {
     match message {
-        Message::Done(body) => response(alloc, request)
-            .member("body", body.clone())
+        Message::Done(answer) => response(alloc, request)
+            .member("body", answer.body(alloc))
             .count("seq", number)
             .flag("success", true)
             .build(),
@@ -61,9 +63,9 @@ pub fn message_value(
             .count("seq", number)
             .flag("success", false)
             .build(),
-        Message::Event(name, body) => Object::new(alloc)
-            .member("body", body.clone())
-            .word("event", name)
+        Message::Event(told) => Object::new(alloc)
+            .member("body", told.body(alloc))
+            .word("event", told.word())
             .count("seq", number)
             .word("type", "event")
             .build(),

@@ -5,12 +5,12 @@ use Rattle.std.proofs.lemmas.List.{drop_all}
 use Rattle.std.specs.List.{flat_map}
 use Rattle.std.specs.Prelude.{nat_lt, ◌&&◌}
 use Rattle.std.specs.Str.{IsAscii, IsNotAscii}
+use Rattle.dap_messages.specs.SeenAnswers.{SeenItem}
 use Rattle.dap_session.specs.Completions.{is_ascii}
-use Rattle.serde_json.specs.Data.{Data}
 
-module _ {A B : Type 0} (f : B → List Data) (seen : A → B) where
+module _ {A B : Type 0} (f : B → List SeenItem) (seen : A → B) where
   -- what is still to come
-  unfoldable pub coming : List A → ℕ → List Data
+  unfoldable pub coming : List A → ℕ → List SeenItem
   coming all i = flat_map f (map seen (drop i all))
 
   pub coming_all : (all : List A) → coming all 0 ≡ flat_map f (map seen all)
@@ -18,7 +18,7 @@ module _ {A B : Type 0} (f : B → List Data) (seen : A → B) where
   coming_all all = refl
 
   -- one more
-  pub coming_more : (all : List A) (i : ℕ) (e : A) (found whole : List Data) → i < length all → found ++ coming all i ≡ whole
+  pub coming_more : (all : List A) (i : ℕ) (e : A) (found whole : List SeenItem) → i < length all → found ++ coming all i ≡ whole
       → (found ++ f (seen (get_or all i e))) ++ coming all (i + 1) ≡ whole
   unfolding coming
   coming_more all i e found whole within so_far =
@@ -26,11 +26,11 @@ module _ {A B : Type 0} (f : B → List Data) (seen : A → B) where
       append_assoc found (f (seen (get_or all i e))) (coming all (i + 1))
       ∙ sym (ap (λ (xs : List A). found ++ flat_map f (map seen xs)) cut) ∙ so_far
 
-  pub coming_done : (all : List A) (i : ℕ) (found whole : List Data) → length all ≤ i → found ++ coming all i ≡ whole → found ≡ whole
+  pub coming_done : (all : List A) (i : ℕ) (found whole : List SeenItem) → length all ≤ i → found ++ coming all i ≡ whole → found ≡ whole
   unfolding coming
   coming_done all i found whole past so_far =
       let none : coming all i ≡ [] = ap (λ (xs : List A). flat_map f (map seen xs)) (drop_all i all past) in
-      sym (append-nil found) ∙ sym (ap (λ (ds : List Data). found ++ ds) none) ∙ so_far
+      sym (append-nil found) ∙ sym (ap (λ (ds : List SeenItem). found ++ ds) none) ∙ so_far
 
 -- ---- ASCII
 

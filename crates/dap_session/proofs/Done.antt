@@ -1,18 +1,17 @@
 -- What is said of a request that is done, with more behind it.
-use Rattle.std.proofs.Common.{◌≡◌, ◌∙◌, true, IfOk, List, [], ◌∷◌, ◌++◌, ap, refl, subst}
+use Rattle.std.proofs.Common.{◌≡◌, ◌∙◌, IfOk, List, [], ◌∷◌, ◌++◌, ap, refl, subst}
 use Rattle.std.proofs.lemmas.Result.{IfOk-weaker}
 use Rattle.std.specs.Prelude.{Err, Ok, OnOk, Result}
+use Rattle.dap_messages.specs.SeenAnswers.{SeenAnswer, answer_view, continued, nothing}
+use Rattle.dap_messages.specs.declared.answer.Answer.{Answer}
 use Rattle.dap_messages.specs.Messages.{Said, done}
 use Rattle.dap_session.specs.Told.{IsDone}
-use Rattle.serde_json.specs.Data.{Data, boolean, null}
-use Rattle.serde_json.specs.View.{view}
-use Rattle.serde_json.specs.declared.value.Value.{Value}
 
-pub done_more : (body : Data) (before after more : List Said) → after ≡ before ++ more → IsDone body before → IsDone body after
+pub done_more : (body : SeenAnswer) (before after more : List Said) → after ≡ before ++ more → IsDone body before → IsDone body after
 done_more body before after more grown d = (d.0 ++ more, grown ∙ ap (λ (s : List Said). s ++ more) d.1)
 
 -- whatever was said before
-pub done_by : {V E : Type 0} (body : Data) (m r : Result V E) (told : V → List Said) (more : List Said)
+pub done_by : {V E : Type 0} (body : SeenAnswer) (m r : Result V E) (told : V → List Said) (more : List Said)
     → ((before : List Said) → IfOk m (λ ms. told ms ≡ before) → IfOk r (λ ms. told ms ≡ before ++ more))
     → IfOk m (λ ms. IsDone body (told ms)) → IfOk r (λ ms. IsDone body (told ms))
 done_by body (Ok ms) r told more grown d = IfOk-weaker r _ _ (λ ns h. done_more body (told ms) (told ns) more h d) (grown (told ms) refl)
@@ -28,23 +27,24 @@ always (Ok v) P holds = holds v
 always (Err e) P holds = tt
 
 -- an answer with a value, and what holds of the value that was made for it
-pub answered_with : {V E F : Type 0} (made : Result Value E) (r : Result V F) (told : V → List Said) (P : Data → Type 0)
-    → IfOk made (λ v. P (view v))
-    → ((d : Data) → IfOk made (λ v. view v ≡ d) → IfOk r (λ ms. told ms ≡ done d ∷ []))
-    → IfOk r (λ ms. (d : Data) × P d × (told ms ≡ done d ∷ []))
-answered_with (Ok v) r told P holds says = IfOk-weaker r _ _ (λ ms is. (view v, holds, is)) (says (view v) refl)
+pub answered_with : {V E F : Type 0} (made : Result Answer E) (r : Result V F) (told : V → List Said) (P : SeenAnswer → Type 0)
+    → IfOk made (λ v. P (answer_view v))
+    → ((d : SeenAnswer) → IfOk made (λ v. answer_view v ≡ d) → IfOk r (λ ms. told ms ≡ done d ∷ []))
+    → IfOk r (λ ms. (d : SeenAnswer) × P d × (told ms ≡ done d ∷ []))
+answered_with (Ok v) r told P holds says = IfOk-weaker r _ _ (λ ms is. (answer_view v, holds, is)) (says (answer_view v) refl)
 answered_with (Err e) (Ok ms) told P holds says =
-    let one : told ms ≡ done null ∷ [] = says null tt in
-    let other : told ms ≡ done (boolean true) ∷ [] = says (boolean true) tt in
+    let one : told ms ≡ done nothing ∷ [] = says nothing tt in
+    let other : told ms ≡ done continued ∷ [] = says continued tt in
     absurd (cc)
 answered_with (Err e) (Err f) told P holds says = tt
 
 -- what was told of a request that is listed again
-set_where : {E : Type 0} (told : Result Value E) (v : Value) (P : Data → Type 0) → told ≡ Ok v → IfOk told (λ w. P (view w)) → (d : Data) × P d
-set_where told v P is sets = (view v, subst (λ o. IfOk o (λ (w : Value). P (view w))) is sets)
+set_where : {E : Type 0} (told : Result Answer E) (v : Answer) (P : SeenAnswer → Type 0) → told ≡ Ok v
+    → IfOk told (λ w. P (answer_view w)) → (d : SeenAnswer) × P d
+set_where told v P is sets = (answer_view v, subst (λ o. IfOk o (λ (w : Answer). P (answer_view w))) is sets)
 
-pub set_so : {U E : Type 0} (r : Result U E) (told : Result Value E) (P : Data → Type 0) → IfOk told (λ v. P (view v))
-    → OnOk r ((v : Value) × (told ≡ Ok v)) → OnOk r ((d : Data) × P d)
+pub set_so : {U E : Type 0} (r : Result U E) (told : Result Answer E) (P : SeenAnswer → Type 0) → IfOk told (λ v. P (answer_view v))
+    → OnOk r ((v : Answer) × (told ≡ Ok v)) → OnOk r ((d : SeenAnswer) × P d)
 set_so (Ok u) told P sets let_go = set_where told let_go.0 P let_go.1 sets
 set_so (Err e) told P sets let_go = tt
 

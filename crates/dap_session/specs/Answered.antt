@@ -1,11 +1,12 @@
 -- What a request does to a session, and what is answered. Source: Debug Adapter Protocol 1.65; mos65.
-use Rattle.std.specs.Prelude.{ℕ, ◌≡◌, ◌==◌, ◌&&◌, Bool, true, false, if◌then◌else◌, List, [], ◌∷◌, codes, length, string_bytes, Option, Some, None, Vec}
+use Rattle.std.specs.Prelude.{ℕ, ◌≡◌, ◌==◌, ◌&&◌, Bool, true, false, if◌then◌else◌, List, [], ◌∷◌, length, string_bytes, Option, Some, None, Vec}
 use Rattle.std.specs.declared.alloc.Global.{Global}
+use Rattle.dap_messages.specs.SeenAnswers.{SeenAnswer, breakpoints_body, continued, exception_body, nothing, scopes, threads}
 use Rattle.dap_views.specs.Breaks.{HoldsAddresses, HoldsFunctions, HoldsLines, SetsAddresses, SetsFunctions, SetsLines, SetsSource}
 use Rattle.dap_session.specs.Completions.{completions}
 use Rattle.dap_views.specs.Targets.{AreTargets}
 use Rattle.dap_views.specs.Watches.{KeepsBreaks, SetsWatches, TellsWatches, data_shown}
-use Rattle.dap_messages.specs.Bodies.{continued, nothing, scopes, threads}
+use Rattle.dap_messages.specs.Events.{terminated}
 use Rattle.dap_messages.specs.Messages.{Said, done, event}
 use Rattle.dap_messages.specs.declared.halt.Reason.{Reason}
 use Rattle.dap_messages.specs.declared.halt.Reason.TheVariants.{Entry, NoStop}
@@ -37,7 +38,6 @@ use Rattle.dap_session.specs.Stands.{KeepsProgram, NotesReason, TellsGone, Tells
 use Rattle.dap_session.specs.declared.client.Client.{Client}
 use Rattle.dap_session.specs.declared.passing.Further.TheVariants.{Again}
 use Rattle.dap_session.specs.declared.wording.TheConstants.{NOT_BEGUN}
-use Rattle.dap_messages.specs.Answers.{breakpoints_body, exception_body}
 use Rattle.dap_messages.specs.declared.counting.Counting.{Counting}
 use Rattle.dap_views.specs.Frames.{AreFrames}
 use Rattle.dap_views.specs.Locations.{AreLocations}
@@ -46,7 +46,6 @@ use Rattle.dap_views.specs.Rows.{disassembled}
 use Rattle.dap_views.specs.Scopes.{variables_shown}
 use Rattle.model.specs.declared.event.EventFault.{EventFault}
 use Rattle.mon_session.specs.declared.mon_state.MonState.{MonState}
-use Rattle.serde_json.specs.Data.{Data}
 
 -- A request is done, and nothing more is said.
 abbrev pub all_done : List Said
@@ -90,7 +89,7 @@ is_first_frame (Some id) = id == 1
 is_first_frame None = false
 
 -- The value that is answered to a question, which changes nothing.
-abbrev pub IsShown : Query → Counting → Client → Data → Type 0
+abbrev pub IsShown : Query → Counting → Client → SeenAnswer → Type 0
 IsShown query.Threads counting client v = v ≡ threads
 IsShown (query.StackTrace page) counting client v = AreFrames client.mon.session.current
     client.mon.places (program_of (launch_view client.launch)) counting page v
@@ -116,7 +115,7 @@ IsShown query.Cancel counting client v = v ≡ nothing
 
 abbrev pub Shows : Query → Counting → Client → List Said → Type 0
 Shows query counting client said
-    = (v : Data) × IsShown query counting client v × (said ≡ done v ∷ [])
+    = (v : SeenAnswer) × IsShown query counting client v × (said ≡ done v ∷ [])
 
 -- ---- breakpoints of a kind
 
@@ -128,22 +127,22 @@ HoldsBytes listed old new = (new.last_bytes ≡ Some listed)
 
 -- Those of a kind are replaced by those of a list, and each of these is told of. Of watches is told
 -- whether each byte is watched.
-abbrev pub ListsLines : Counting → LineList → Client → Client → Data → Type 0
+abbrev pub ListsLines : Counting → LineList → Client → Client → SeenAnswer → Type 0
 ListsLines counting listed old new v = SetsLines counting old.assembly listed
     old.listed.lines.items new.listed.lines.items old.mon new.mon v
     × KeepsEvents old.mon new.mon × HoldsLines listed old.listed new.listed
 
-abbrev pub ListsAddresses : Counting → AddressList → Client → Client → Data → Type 0
+abbrev pub ListsAddresses : Counting → AddressList → Client → Client → SeenAnswer → Type 0
 ListsAddresses counting listed old new v = SetsAddresses counting listed
     old.listed.addresses.items new.listed.addresses.items old.mon new.mon v
     × KeepsEvents old.mon new.mon × HoldsAddresses listed old.listed new.listed
 
-abbrev pub ListsFunctions : Counting → FunctionList → Client → Client → Data → Type 0
+abbrev pub ListsFunctions : Counting → FunctionList → Client → Client → SeenAnswer → Type 0
 ListsFunctions counting listed old new v = SetsFunctions counting listed
     old.listed.functions.items new.listed.functions.items old.mon new.mon v
     × KeepsEvents old.mon new.mon × HoldsFunctions listed old.listed new.listed
 
-abbrev pub ListsBytes : Vec DataBreakpoint Global → Client → Client → Data → Type 0
+abbrev pub ListsBytes : Vec DataBreakpoint Global → Client → Client → SeenAnswer → Type 0
 ListsBytes listed old new v = SetsWatches listed.items old.mon new.mon
     × KeepsBreaks old.mon new.mon
     × TellsWatches listed.items new.mon.stops.watches.items v
@@ -153,12 +152,12 @@ ListsBytes listed old new v = SetsWatches listed.items old.mon new.mon
 abbrev pub with_reserved : ℕ → Client → Client
 with_reserved count client = record client { listed = reserving count client.listed }
 
-abbrev pub SetsSourceOf : Counting → List ℕ → LineList → Client → Client → Data → Type 0
+abbrev pub SetsSourceOf : Counting → List ℕ → LineList → Client → Client → SeenAnswer → Type 0
 SetsSourceOf counting path listed old new v = SetsSource counting
     (program_of (launch_view old.launch)) old.assembly path listed old.listed new.listed
     old.mon new.mon v × KeepsEvents old.mon new.mon
 
-abbrev pub SetsListed : Breakpoints → Counting → Client → Client → Data → Type 0
+abbrev pub SetsListed : Breakpoints → Counting → Client → Client → SeenAnswer → Type 0
 SetsListed (kind.Source path listed) counting old new v = SetsSourceOf counting path.now
     (lines_of old.listed listed) (with_reserved (length listed.items) old) new v
 SetsListed (kind.Instruction listed) counting old new v = ListsAddresses counting
@@ -169,7 +168,7 @@ SetsListed (kind.Data listed) counting old new v = ListsBytes listed old new v
 
 abbrev pub Sets : Breakpoints → Counting → Client → Client → List Said → Type 0
 Sets listed counting old new said
-    = (v : Data) × SetsListed listed counting old new v × (said ≡ done v ∷ [])
+    = (v : SeenAnswer) × SetsListed listed counting old new v × (said ≡ done v ∷ [])
 
 -- ---- a session that begins again from its file
 
@@ -179,10 +178,10 @@ KeepsMade old new = (new.events ≡ old.events) × (new.places ≡ old.places)
     × (new.displays ≡ old.displays)
 
 -- The last list of a kind is set as it was asked for, if there was one.
-abbrev pub SetsAgain : {L : Type 0} → (L → Client → Client → Data → Type 0) → Option L → Client → Client
+abbrev pub SetsAgain : {L : Type 0} → (L → Client → Client → SeenAnswer → Type 0) → Option L → Client → Client
     → Type 0
 SetsAgain Lists None old new = new ≡ old
-SetsAgain Lists (Some listed) old new = (v : Data) × Lists listed old new v
+SetsAgain Lists (Some listed) old new = (v : SeenAnswer) × Lists listed old new v
 
 -- So are the last lists of all kinds, with the numbers that they had.
 abbrev pub with_next : ℕ → Client → Client
@@ -215,7 +214,7 @@ abbrev pub ended : Client → Client
 ended client = record client { told = record client.told { is_over = true } }
 
 abbrev pub Terminates : List Said → Type 0
-Terminates said = said ≡ done nothing ∷ event (codes "terminated") nothing ∷ []
+Terminates said = said ≡ done nothing ∷ event terminated ∷ []
 
 -- A move is made, which goes on past log points, and it is told why the machine stands.
 abbrev pub go_answer : List Said

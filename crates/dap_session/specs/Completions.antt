@@ -3,13 +3,12 @@
 use Rattle.std.specs.Prelude.{ℕ, ◌+◌, ◌-◌, nat_lt, Bool, if◌then◌else◌, List, [], ◌∷◌, length, take, drop, Option, Some, None}
 use Rattle.std.specs.List.{flat_map, list_all}
 use Rattle.std.specs.Str.Lossy.{utf8_lossy}
-use Rattle.dap_views.specs.BreakValues.{completion, targets_body}
+use Rattle.dap_messages.specs.SeenAnswers.{SeenAnswer, SeenItem, completion_item, targets_body}
 use Rattle.dap_messages.specs.Counting.{first_column}
 use Rattle.dap_messages.specs.declared.counting.Counting.{Counting}
 use Rattle.model.specs.Token.{is_blank, is_word_byte}
 use Rattle.mon_line_parts.specs.Topics.{TopicWord, begins_with, words}
 use Rattle.mon_line_parts.specs.declared.topic.Topic.TheVariants as topic
-use Rattle.serde_json.specs.Data.{Data}
 use Rattle.source_map.specs.Names.{Named}
 
 -- ---- the text before the column
@@ -37,20 +36,20 @@ typed_in front = drop (length front - typed_bytes 0 front) front
 
 -- ---- what begins with it, capitals or not
 
-abbrev pub if_begun : ℕ → List ℕ → List ℕ → List Data
+abbrev pub if_begun : ℕ → List ℕ → List ℕ → List SeenItem
 if_begun start typed name = if begins_with name typed
-    then completion (utf8_lossy name) start (length typed) ∷ [] else []
+    then completion_item (utf8_lossy name) start (length typed) ∷ [] else []
 
 -- A word of `mon`. `trace` is one of `mos65`.
-abbrev pub word_begun : ℕ → List ℕ → TopicWord → List Data
+abbrev pub word_begun : ℕ → List ℕ → TopicWord → List SeenItem
 word_begun start typed (name, topic.Trace) = []
 word_begun start typed (name, other) = if_begun start typed name
 
 -- The words in the order of their table, the names in the order of their definition.
-abbrev pub words_begun : ℕ → List ℕ → List Data
+abbrev pub words_begun : ℕ → List ℕ → List SeenItem
 words_begun start typed = flat_map (word_begun start typed) words
 
-abbrev pub names_begun : ℕ → List ℕ → List Named → List Data
+abbrev pub names_begun : ℕ → List ℕ → List Named → List SeenItem
 names_begun start typed names = flat_map (λ name. if_begun start typed name.text) names
 
 -- ---- what is offered
@@ -60,7 +59,7 @@ abbrev pub column_behind : Counting → List ℕ → ℕ
 column_behind counting text = length text + first_column counting
 
 -- The words of `mon` for the first word of a line, and names of the program behind it.
-abbrev pub begun_behind : Counting → List Named → List ℕ → List ℕ → List Data
+abbrev pub begun_behind : Counting → List Named → List ℕ → List ℕ → List SeenItem
 begun_behind counting names before typed = if list_all is_blank before
     then words_begun (column_behind counting before) typed
     else names_begun (column_behind counting before) typed names
@@ -70,11 +69,11 @@ begun_behind counting names before typed = if list_all is_blank before
 abbrev pub is_ascii : List ℕ → Bool
 is_ascii text = list_all (λ b. nat_lt b 128) text
 
-abbrev pub offered : Counting → List Named → List ℕ → List Data
+abbrev pub offered : Counting → List Named → List ℕ → List SeenItem
 offered counting names front = if is_ascii front
     then begun_behind counting names (before_typed front) (typed_in front)
     else []
 
-abbrev pub completions : Counting → List Named → List ℕ → Option ℕ → Data
+abbrev pub completions : Counting → List Named → List ℕ → Option ℕ → SeenAnswer
 completions counting names text column
     = targets_body (offered counting names (front_of counting text column))

@@ -1,8 +1,8 @@
 -- Lines of the console. Source: Debug Adapter Protocol 1.65, "Evaluate Request"; mos65.
-use Rattle.std.specs.Prelude.{ℕ, ◌≡◌, ◌&&◌, ⊤, is_ok, Bool, true, false, List, [], ◌∷◌, codes, string_bytes, Some}
+use Rattle.std.specs.Prelude.{ℕ, ◌≡◌, ◌&&◌, ⊤, is_ok, Bool, true, false, List, [], ◌∷◌, string_bytes, Some}
 use Rattle.std.specs.Str.Lossy.{utf8_lossy}
-use Rattle.dap_messages.specs.Answers.{evaluated_body}
-use Rattle.dap_messages.specs.Bodies.{nothing}
+use Rattle.dap_messages.specs.SeenAnswers.{SeenAnswer, evaluated_body}
+use Rattle.dap_messages.specs.Events.{terminated}
 use Rattle.dap_messages.specs.Messages.{Said, done, event}
 use Rattle.dap_session.specs.declared.client.Client.{Client}
 use Rattle.dap_session.specs.declared.fault.Fault.{Fault}
@@ -13,7 +13,6 @@ use Rattle.mon_dispatch.specs.Lines.{Serves, read_at}
 use Rattle.mon_lines.specs.Lines.{SeenLine}
 use Rattle.mon_session.specs.Course.{ShowsOnly}
 use Rattle.mon_session.specs.declared.mon_state.MonState.{MonState}
-use Rattle.serde_json.specs.Data.{Data}
 
 -- ---- a line of `mon`
 
@@ -30,13 +29,13 @@ is_line mon text = is_ok (read_at mon text).asked
 
 -- A line that ends the session is said to have ended it.
 abbrev pub over : Said
-over = event (codes "terminated") nothing
+over = event terminated
 
 -- ---- what is looked at
 
 -- What it shows is answered.
 abbrev pub Looks : MonState → List ℕ → List Said → Type 0
-Looks mon text said = (v : Data)
+Looks mon text said = (v : SeenAnswer)
     × (look_at mon.session.current mon.places text ≡ Some v) × (said ≡ done v ∷ [])
 
 -- ---- which of them is asked for

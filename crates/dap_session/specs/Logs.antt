@@ -1,7 +1,8 @@
 -- Log points: breakpoints of a source at which a run says something and goes on. Source: Debug Adapter
 -- Protocol 1.65, "SourceBreakpoint"; which of several counts, mos65.
-use Rattle.std.specs.Prelude.{ℕ, ◌≡◌, ◌==◌, ◌||◌, is_some, Bool, true, false, if◌then◌else◌, List, [], ◌∷◌, codes, length, string_bytes, Option, Some, None}
+use Rattle.std.specs.Prelude.{ℕ, ◌≡◌, ◌==◌, ◌||◌, is_some, Bool, true, false, if◌then◌else◌, List, [], ◌∷◌, length, string_bytes, Option, Some, None}
 use Rattle.dap_messages.specs.Messages.{Said, next_number}
+use Rattle.dap_messages.specs.declared.client_event.Category.TheVariants.{Console}
 use Rattle.dap_messages.specs.declared.halt.Reason.{Reason}
 use Rattle.dap_messages.specs.declared.halt.Reason.TheVariants.{Breakpoint}
 use Rattle.dap_messages.specs.declared.listed.LineList.{LineList}
@@ -75,5 +76,5 @@ is_log client = is_some (log_here client)
 
 -- A line of the console is said, or nothing.
 abbrev pub SaysIf : Bool → List Said → Type 0
-SaysIf true said = (text : List ℕ) × (said ≡ output_said (codes "console") text ∷ [])
+SaysIf true said = (text : List ℕ) × (said ≡ output_said Console text ∷ [])
 SaysIf false said = said ≡ []

@@ -1,7 +1,7 @@
 -- What a client is told of a halt. Source: Debug Adapter Protocol 1.65, "Stopped Event"; mos65.
 use Rattle.std.specs.Prelude.{ℕ, ◌≡◌, ◌==◌, Bool, if◌then◌else◌, List, [], ◌∷◌, ◌++◌, length, Option, None}
 use Rattle.std.specs.List.{flat_map, list_any}
-use Rattle.dap_messages.specs.Bodies.{nothing}
+use Rattle.dap_messages.specs.SeenAnswers.{SeenAnswer, nothing}
 use Rattle.dap_messages.specs.Messages.{Said, done}
 use Rattle.dap_session.specs.declared.client.Client.{Client}
 use Rattle.dap_session.specs.declared.wording.TheConstants.{GONE_TO}
@@ -13,7 +13,6 @@ use Rattle.dap_messages.specs.declared.listed.Listed.{Listed}
 use Rattle.dap_messages.specs.declared.listed.Placed.{Placed}
 use Rattle.model.specs.declared.event.EventFault.{EventFault}
 use Rattle.mon_session.specs.declared.mon_state.MonState.{MonState}
-use Rattle.serde_json.specs.Data.{Data}
 
 abbrev pub is_at : List Placed → ℕ → Bool
 is_at placed address = list_any (λ other. other.address == address) placed
@@ -86,7 +85,7 @@ TellsBehind reason words fault old mon before said = (halt : Halt) × (halt.reas
     × (said ≡ before ++ told_at old.listed mon old.told.count halt)
 
 -- A request is answered, and that is told behind it.
-abbrev pub TellsStand : Reason → List ℕ → Option EventFault → Client → MonState → Data → List Said
+abbrev pub TellsStand : Reason → List ℕ → Option EventFault → Client → MonState → SeenAnswer → List Said
     → Type 0
 TellsStand reason words fault old mon body said
     = TellsBehind reason words fault old mon (done body ∷ []) said

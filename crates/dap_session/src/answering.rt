@@ -1,7 +1,9 @@
 //! What is done with a request of a session.
 
 ghost use Rattle.std.specs.Prelude.{◌≡◌, IfErr, IfOk, Ok, OnOk, map as each, true};
+ghost use Rattle.dap_messages.specs.SeenAnswers.{answer_view};
 ghost use Rattle.dap_messages.specs.Messages.{said_of};
+ghost use Rattle.dap_messages.specs.declared.answer.Answer.{Answer};
 ghost use Rattle.dap_session.specs.Answered.{AreAnswers, AreOpenAnswers, Begins, BeginsFirst};
 ghost use Rattle.dap_session.specs.Answered.{HasChangedBy, IsShown, KeepsMade};
 ghost use Rattle.dap_session.specs.Answered.{ListsAddresses, ListsBytes, ListsFunctions, ListsLines};
@@ -16,8 +18,6 @@ ghost use Rattle.dap_session.specs.Refusals.{IfRefused, MayRefuse, MayRefuseAt, 
 ghost use Rattle.dap_session.specs.Refusals.{cannot_show, is_known};
 ghost use Rattle.dap_session.specs.Stands.{KeepsProgram};
 ghost use Rattle.dap_desk.specs.Moves.{KeepsWatches, stand_of};
-ghost use Rattle.serde_json.specs.View.{view};
-ghost use Rattle.serde_json.specs.declared.value.Value.{Value};
 
 use crate::changing::{go_to, write_memory};
 use crate::client::{Client, begin_session, source_of};
@@ -31,16 +31,15 @@ use crate::telling::answered;
 use crate::wording::NOT_BEGUN;
 use dap_desk::make_move;
 use dap_messages::{
-    AddressList, Breakpoints, Change, Counting, DataBreakpoint, FunctionList, Halt, LineList,
-    Listed, Message, Move, Query, Reason, SessionRequest, breakpoints_body, continued, exception,
-    nothing, number_addresses, number_functions, number_lines, scopes, stand_by, threads,
+    AddressList, Answer, Breakpoints, Change, Counting, DataBreakpoint, FunctionList, Halt,
+    LineList, Listed, Message, Move, Query, Reason, SessionRequest, exception, number_addresses,
+    number_functions, number_lines, stand_by,
 };
 use dap_views::{
     breakpoint_locations, data_shown, disassembled, frames_shown, goto_targets, is_frame,
     memory_shown, set_addresses, set_data, set_functions, set_lines, set_source, variables_shown,
 };
 use mon_session::MonState;
-use serde_json::Value;
 use std::alloc::{AllocError, Global};
 use std::mem;
 use std::rt::Files;
@@ -50,7 +49,7 @@ fn go_first(alloc: Global, client: &mut Client, way: Move) -> Result<Vec<Message
     ensures { IfOk result
         (λ ms. Makes way go_answer client.old client.new (each said_of ms.items)) }
 {
-    go(alloc, client, way, answered(alloc, continued(alloc)))
+    go(alloc, client, way, answered(alloc, Ok(Answer::Continued)))
 }
 
 /// Makes a move, which goes on past log points, and tells why the machine stands then.
@@ -103,9 +102,9 @@ fn set_listed<H: Files + AllocGlobal>(
     client: &mut Client,
     counting: Counting,
     listed: Breakpoints<'_>,
-) -> Result<Value, AllocError>
+) -> Result<Answer, AllocError>
     ensures { IfOk result
-        (λ v. SetsListed listed.entry counting client.old client.new (view v)) }
+        (λ v. SetsListed listed.entry counting client.old client.new (answer_view v)) }
 {
     let alloc = rt.alloc();
     match listed {
@@ -134,8 +133,8 @@ fn set_listed<H: Files + AllocGlobal>(
 }
 
 /// Lets go of what is told. The only error is that memory ran out.
-fn let_go(told: Result<Value, AllocError>) -> Result<(), AllocError>
-    ensures { OnOk result ((v : Value) × (told ≡ Ok v)) }
+fn let_go(told: Result<Answer, AllocError>) -> Result<(), AllocError>
+    ensures { OnOk result ((v : Answer) × (told ≡ Ok v)) }
 {
     match told {
         Ok(value) => {
@@ -286,16 +285,18 @@ fn shown<H: Files + AllocGlobal>(
     client: &Client,
     counting: Counting,
     query: Query<'_>,
-) -> Result<Value, AllocError>
-    ensures { IfOk result (λ v. IsShown query.entry counting client.now (view v)) }
+) -> Result<Answer, AllocError>
+    ensures { IfOk result (λ v. IsShown query.entry counting client.now (answer_view v)) }
 {
     let alloc = rt.alloc();
     let source = source_of(&client.launch, &client.assembly, counting);
     let mon = &client.mon;
     match query {
-        Query::Threads => threads(alloc),
+        Query::Threads => Ok(Answer::Threads),
         Query::StackTrace(page) => frames_shown(alloc, mon, &source, page),
-        Query::Scopes(frame) => scopes(alloc, is_first_frame(frame)),
+        Query::Scopes(frame) => Ok(Answer::Scopes {
+            is_first: is_first_frame(frame),
+        }),
         Query::Variables { scope, page } => variables_shown(alloc, mon, scope, page),
         Query::ReadMemory { address, count } => memory_shown(alloc, mon, address, count),
         Query::Disassemble {
@@ -310,9 +311,9 @@ fn shown<H: Files + AllocGlobal>(
         Query::DataBreakpointInfo { scope, name } => data_shown(alloc, mon, scope, name),
         Query::Completions { text, column } => completions(alloc, mon, counting, text, column),
         Query::ExceptionInfo => exception(alloc, client.told.words.as_str()),
-        Query::SetExceptionBreakpoints => breakpoints_body(alloc, Vec::new(alloc)),
-        Query::Pause => nothing(alloc),
-        Query::Cancel => nothing(alloc),
+        Query::SetExceptionBreakpoints => Ok(Answer::Breakpoints(Vec::new(alloc))),
+        Query::Pause => Ok(Answer::Nothing),
+        Query::Cancel => Ok(Answer::Nothing),
     }
 }
 
@@ -460,7 +461,7 @@ fn answer_open<H: Files + AllocGlobal>(
         SessionRequest::Restart => restart(rt, client, counting),
         SessionRequest::Terminate => {
             client.told.is_over = true;
-            or_memory(with_terminated(alloc, all_done(alloc)))
+            or_memory(with_terminated(all_done(alloc)))
         }
         SessionRequest::NoThread => Err(refused(alloc, "there is no thread of this threadId")),
         SessionRequest::Other => Err(refused(alloc, "this request is not served")),

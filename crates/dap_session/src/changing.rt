@@ -18,7 +18,7 @@ use crate::telling::{answered, with_unmoved};
 use crate::wording::GONE_TO;
 use base64::DecodeAllocError;
 use base64::engine::general_purpose::STANDARD;
-use dap_messages::{Counting, Message, Reason, stand_by, written_body};
+use dap_messages::{Answer, Counting, Message, Reason, stand_by};
 use model::Setting;
 use mon_runs::{Event, Session};
 use mon_settings::put;
@@ -159,6 +159,6 @@ pub fn write_memory(
     client.mon.text.clear();
     done?;
     let count = count_there(&client.mon.session, address, some);
-    let answer = answered(alloc, written_body(alloc, count));
-    or_memory(with_unmoved(alloc, answer, counting))
+    let answer = answered(alloc, Ok(Answer::Written(count)));
+    or_memory(with_unmoved(answer, counting))
 }

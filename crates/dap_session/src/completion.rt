@@ -2,21 +2,17 @@
 
 ghost use Rattle.std.specs.Prelude.{◌≡◌, ◌≤◌, ◌++◌, IfOk, List, length, map as each};
 ghost use Rattle.std.specs.List.{flat_map, list_all};
+ghost use Rattle.dap_messages.specs.SeenAnswers.{SeenItem, answer_view};
 ghost use Rattle.dap_session.specs.Completions.{completions, front_of, if_begun};
 ghost use Rattle.dap_session.specs.Completions.{names_begun, offered, typed_bytes, word_begun};
-ghost use Rattle.json_messages.specs.ValueLists.{HasValues};
+ghost use Rattle.dap_messages.specs.ItemLists.{HasItems};
 ghost use Rattle.mon_line_parts.specs.Topics.{row_view};
 ghost use Rattle.model.specs.Token.{is_blank};
-ghost use Rattle.serde_json.specs.Data.{Data};
-ghost use Rattle.serde_json.specs.View.{view};
 ghost use Rattle.source_map.specs.Names.{named};
 
-use dap_messages::Counting;
-use dap_views::list_body;
-use json_messages::{Object, ValueList};
+use dap_messages::{Answer, Counting, ItemList, completion_item, targets_body};
 use mon_line_parts::{Topic, all_words, begins_with};
 use mon_session::MonState;
-use serde_json::Value;
 use source_map::Name;
 use std::alloc::{AllocError, Global};
 
@@ -62,35 +58,29 @@ fn are_blanks(text: &[u8]) -> bool
     true
 }
 
-/// Returns a list with a name behind its values, if the name begins with what is typed from a
+/// Returns a list with a name behind its items, if the name begins with what is typed from a
 /// column on.
-fn with_begun(alloc: Global, list: ValueList, name: &[u8], start: u64, typed: &[u8]) -> ValueList
-    ensures { (ds : List Data) → HasValues ds list
-        → HasValues (ds ++ if_begun start typed.now name.now) result }
+fn with_begun(alloc: Global, list: ItemList, name: &[u8], start: u64, typed: &[u8]) -> ItemList
+    ensures { (ds : List SeenItem) → HasItems ds list
+        → HasItems (ds ++ if_begun start typed.now name.now) result }
 {
     if begins_with(name, typed) {
-        let completion = Object::new(alloc)
-            .text("label", String::from_utf8_lossy(alloc, name))
-            .count("length", typed.len() as u64)
-            .count("start", start)
-            .text("text", String::from_utf8_lossy(alloc, name))
-            .build();
-        list.with(completion)
+        list.with(completion_item(alloc, name, start, typed.len() as u64))
     } else {
         list
     }
 }
 
-/// Returns a list with a word of `mon` behind its values, if the word begins with what is typed.
+/// Returns a list with a word of `mon` behind its items, if the word begins with what is typed.
 fn with_word(
     alloc: Global,
-    list: ValueList,
+    list: ItemList,
     word: &[u8],
     topic: Topic,
     start: u64,
     typed: &[u8],
-) -> ValueList
-    ensures { (ds : List Data) → HasValues ds list → HasValues
+) -> ItemList
+    ensures { (ds : List SeenItem) → HasItems ds list → HasItems
         (ds ++ word_begun start typed.now (word.now, topic)) result }
 {
     match topic {
@@ -100,10 +90,10 @@ fn with_word(
 }
 
 /// Returns those of some words of `mon` that begin with what is typed.
-fn words_begun(alloc: Global, rows: &[(&[u8], Topic)], start: u64, typed: &[u8]) -> ValueList
-    ensures { HasValues (flat_map (word_begun start typed.now) (each row_view rows.now)) result }
+fn words_begun(alloc: Global, rows: &[(&[u8], Topic)], start: u64, typed: &[u8]) -> ItemList
+    ensures { HasItems (flat_map (word_begun start typed.now) (each row_view rows.now)) result }
 {
-    let mut list = ValueList::new(alloc);
+    let mut list = ItemList::new(alloc);
     for (word, topic) in rows {
         list = with_word(alloc, list, word, *topic, start, typed);
     }
@@ -111,10 +101,10 @@ fn words_begun(alloc: Global, rows: &[(&[u8], Topic)], start: u64, typed: &[u8])
 }
 
 /// Returns those of some names that begin with what is typed.
-fn names_begun(alloc: Global, names: &[Name], start: u64, typed: &[u8]) -> ValueList
-    ensures { HasValues (names_begun start typed.now (each named names.now)) result }
+fn names_begun(alloc: Global, names: &[Name], start: u64, typed: &[u8]) -> ItemList
+    ensures { HasItems (names_begun start typed.now (each named names.now)) result }
 {
-    let mut list = ValueList::new(alloc);
+    let mut list = ItemList::new(alloc);
     for name in names {
         list = with_begun(alloc, list, name.text.as_slice(), start, typed);
     }
@@ -123,8 +113,8 @@ fn names_begun(alloc: Global, names: &[Name], start: u64, typed: &[u8]) -> Value
 
 /// Returns what begins with the word at the end of a text: words of `mon` if nothing stands before
 /// it, otherwise names. Nothing is offered if the text is not ASCII.
-fn offered(alloc: Global, counting: Counting, names: &[Name], front: &[u8]) -> ValueList
-    ensures { HasValues (offered counting (each named names.now) front.now) result }
+fn offered(alloc: Global, counting: Counting, names: &[Name], front: &[u8]) -> ItemList
+    ensures { HasItems (offered counting (each named names.now) front.now) result }
 {
     if front.is_ascii() {
         let (before, typed) = front.split_at(front.len() - typed_bytes(front));
@@ -135,7 +125,7 @@ fn offered(alloc: Global, counting: Counting, names: &[Name], front: &[u8]) -> V
             names_begun(alloc, names, start, typed)
         }
     } else {
-        ValueList::new(alloc)
+        ItemList::new(alloc)
     }
 }
 
@@ -149,11 +139,11 @@ pub fn completions(
     counting: Counting,
     text: &str,
     column: Option<u64>,
-) -> Result<Value, AllocError>
-    ensures { IfOk result (λ v. view v
+) -> Result<Answer, AllocError>
+    ensures { IfOk result (λ v. answer_view v
         ≡ completions counting mon.now.places.names text.now column) }
 {
     let names = mon.places.names().all();
     let list = offered(alloc, counting, names, front_of(counting, text, column));
-    list_body(alloc, "targets", list)
+    targets_body(list)
 }

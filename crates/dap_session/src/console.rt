@@ -2,8 +2,8 @@
 
 ghost use Rattle.std.specs.Prelude.{◌≡◌, ◌∷◌, ◌++◌, [], ℕ, Bool, IfErr, IfOk, List, None, OnOk};
 ghost use Rattle.std.specs.Prelude.{Some, map as each, string_bytes, true};
+ghost use Rattle.dap_messages.specs.SeenAnswers.{SeenAnswer, evaluated_body};
 ghost use Rattle.dap_messages.specs.Messages.{Said, done, said_of};
-ghost use Rattle.dap_messages.specs.Answers.{evaluated_body};
 ghost use Rattle.dap_session.specs.Changes.{HasChanged, TellsValue, byte_put, change_asked};
 ghost use Rattle.dap_session.specs.Changes.{change_of, change_to, value_said};
 ghost use Rattle.dap_session.specs.Console.{Evaluates, EvaluatesAs, Looks, ServesRead};
@@ -14,13 +14,12 @@ ghost use Rattle.dap_session.specs.Refusals.{IfRefused, IsNoChange, IsNoLook, Re
 ghost use Rattle.dap_session.specs.Stands.{KeepsProgram, KeepsSession};
 ghost use Rattle.dap_session.specs.Told.{IsDone};
 ghost use Rattle.mon_session.specs.Course.{KeepsStops, course_of, happened};
-ghost use Rattle.serde_json.specs.Data.{Data};
 
 use crate::client::Client;
 use crate::fault::{Fault, or_memory, refused, refused_by};
 use crate::stands::with_halt_at;
 use crate::telling::{answered, with_event, with_unmoved};
-use dap_messages::{Counting, Message, Reason, Scope, evaluated, nothing, stand_by, value_set};
+use dap_messages::{Answer, ClientEvent, Counting, Message, Reason, Scope, stand_by};
 use dap_views::{Variable, look_at, meant, value_shown, variable_named};
 use model::Setting;
 use mon_dispatch::serve;
@@ -81,7 +80,7 @@ fn with_moved(
     is_moved: bool,
     is_change: bool,
 ) -> Result<Vec<Message>, AllocError>
-    ensures answer { (body : Data) (rest : List Said)
+    ensures answer { (body : SeenAnswer) (rest : List Said)
         → IfOk messages (λ ms. each said_of ms.items ≡ done body ∷ rest)
         → IfOk result (λ ms. IsDone body (each said_of ms.items)) }
     ensures kept { KeepsSession client.old client.new }
@@ -90,7 +89,7 @@ fn with_moved(
         let halt = stand_by(Reason::Step, "a line of the console");
         with_halt_at(alloc, messages, client, halt)
     } else if is_change {
-        with_unmoved(alloc, messages, counting)
+        with_unmoved(messages, counting)
     } else {
         messages
     }
@@ -98,26 +97,24 @@ fn with_moved(
 
 /// Returns messages and, behind them, that the session has ended.
 pub fn with_terminated(
-    alloc: Global,
     messages: Result<Vec<Message>, AllocError>,
 ) -> Result<Vec<Message>, AllocError>
     ensures { (before : List Said) → IfOk messages (λ ms. each said_of ms.items ≡ before)
         → IfOk result (λ ms. each said_of ms.items ≡ before ++ over ∷ []) }
 {
-    with_event(messages, "terminated", nothing(alloc))
+    with_event(messages, ClientEvent::Terminated)
 }
 
 /// Returns messages and, behind them, that the session has ended, if it has.
 fn with_over(
-    alloc: Global,
     messages: Result<Vec<Message>, AllocError>,
     is_over: bool,
 ) -> Result<Vec<Message>, AllocError>
-    ensures { (body : Data) → IfOk messages (λ ms. IsDone body (each said_of ms.items))
+    ensures { (body : SeenAnswer) → IfOk messages (λ ms. IsDone body (each said_of ms.items))
         → IfOk result (λ ms. IsDone body (each said_of ms.items)) }
 {
     if is_over {
-        with_terminated(alloc, messages)
+        with_terminated(messages)
     } else {
         messages
     }
@@ -140,10 +137,21 @@ fn console(
     let cycles = client.mon.session.cycles();
     let served = serve_line(alloc, &mut client.mon, read)?;
     let is_moved = client.mon.session.regs() != regs || client.mon.session.cycles() != cycles;
-    let answer = answered(alloc, evaluated(alloc, served.said.as_str()));
-    let told = with_moved(alloc, answer, client, counting, is_moved, served.is_change);
-    client.told.is_over = served.is_over;
-    with_over(alloc, told, served.is_over)
+    let Served {
+        said,
+        is_over,
+        is_change,
+    } = served;
+    let answer = answered(
+        alloc,
+        Ok(Answer::Look {
+            address: None,
+            words: said,
+        }),
+    );
+    let told = with_moved(alloc, answer, client, counting, is_moved, is_change);
+    client.told.is_over = is_over;
+    with_over(told, is_over)
 }
 
 /// Returns why a text shows nothing: what is wrong in it as a line, or that it names nothing.
@@ -330,8 +338,8 @@ fn tell_value(
     ensures { IfOk result (λ ms. each said_of ms.items ≡ value_said counting mon.now variable) }
 {
     let value = value_shown(alloc, mon, variable)?;
-    let answer = answered(alloc, value_set(alloc, value.as_str()));
-    with_unmoved(alloc, answer, counting)
+    let answer = answered(alloc, Ok(Answer::ValueSet(value)));
+    with_unmoved(answer, counting)
 }
 
 /// Sets a variable of a scope, and says which value it has then.

@@ -16,7 +16,8 @@ use crate::telling::with_output;
 use crate::wording::{MANY_LOGS, STEPPED};
 use dap_desk::make_move;
 use dap_messages::{
-    Halt, LineList, Listed, Message, Move, Placed, Reason, SourceBreakpoint, next_number, stand_by,
+    Category, Halt, LineList, Listed, Message, Move, Placed, Reason, SourceBreakpoint, next_number,
+    stand_by,
 };
 use dap_views::looked_text;
 use mon_session::MonState;
@@ -264,7 +265,7 @@ fn with_line(
         × (each said_of ms.items ≡ each said_of messages.items ++ log)) }
 {
     let line = log_line(alloc, mon, text)?;
-    with_output(alloc, Ok(messages), "console", Ok(line))
+    with_output(Ok(messages), Category::Console, Ok(line))
 }
 
 /// Returns messages but for the last.

@@ -1,23 +1,23 @@
 //! That the machine stands.
 
 ghost use Rattle.std.specs.Prelude.{◌≡◌, ◌∷◌, ◌++◌, IfOk, List, OnOk, map as each};
+ghost use Rattle.dap_messages.specs.SeenAnswers.{SeenAnswer};
 ghost use Rattle.dap_messages.specs.Messages.{Said, done, said_of};
 ghost use Rattle.dap_session.specs.Answered.{all_done};
 ghost use Rattle.dap_session.specs.Stands.{IsToldHalt, KeepsSession, break_reason, hits_at, id_if};
 ghost use Rattle.dap_session.specs.Stands.{ids_at, is_at, reason_at};
 ghost use Rattle.dap_session.specs.Told.{IsDone};
-ghost use Rattle.serde_json.specs.Data.{Data};
 
 use crate::client::Client;
 use crate::telling::{answered, with_halt};
-use dap_messages::{Halt, Listed, Message, Placed, Reason, nothing};
+use dap_messages::{Answer, Halt, Listed, Message, Placed, Reason};
 use std::alloc::{AllocError, Global};
 
 /// Returns that a request is done.
 pub fn all_done(alloc: Global) -> Result<Vec<Message>, AllocError>
     ensures { IfOk result (λ ms. each said_of ms.items ≡ all_done) }
 {
-    answered(alloc, nothing(alloc))
+    answered(alloc, Ok(Answer::Nothing))
 }
 
 /// Returns whether one of some breakpoints stands at an address.
@@ -103,7 +103,7 @@ pub fn with_halt_at(
     ensures told { (before : List Said) → IfOk messages (λ ms. each said_of ms.items ≡ before)
         → IfOk result
         (λ ms. IsToldHalt client.old halt client.new before (each said_of ms.items)) }
-    ensures answer { (body : Data) (rest : List Said)
+    ensures answer { (body : SeenAnswer) (rest : List Said)
         → IfOk messages (λ ms. each said_of ms.items ≡ done body ∷ rest)
         → IfOk result (λ ms. IsDone body (each said_of ms.items)) }
     ensures kept { KeepsSession client.old client.new }
@@ -115,5 +115,5 @@ pub fn with_halt_at(
         words: halt.words,
         fault: halt.fault,
     };
-    with_halt(alloc, messages, &client.mon, &mut client.told, halt, &hits)
+    with_halt(alloc, messages, &client.mon, &mut client.told, halt, hits)
 }

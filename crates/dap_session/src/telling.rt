@@ -2,20 +2,17 @@
 
 ghost use Rattle.std.specs.Prelude.{◌≡◌, ◌++◌, ◌∷◌, ◌≤◌, [], ℕ, IfOk, OnOk};
 ghost use Rattle.std.specs.Prelude.{List, drop, length, map as each, string_bytes};
+ghost use Rattle.dap_messages.specs.SeenAnswers.{SeenAnswer, answer_view};
+ghost use Rattle.dap_messages.specs.Events.{event_view};
 ghost use Rattle.dap_messages.specs.Messages.{Said, done, event, said_of};
 ghost use Rattle.dap_session.specs.Told.{characters, console_said, halt_shown, output_said};
 ghost use Rattle.dap_session.specs.Told.{remark_said, stopped_said, told_of, unmoved_said};
-ghost use Rattle.json_messages.specs.Values.{count, list_of};
-ghost use Rattle.serde_json.specs.Data.{Data};
-ghost use Rattle.serde_json.specs.View.{view};
 
 use crate::wording::{LESS_BEFORE, LESS_BEHIND};
-use dap_messages::{Counting, Halt, Message, Reason, Told};
+use dap_messages::{Answer, Category, ClientEvent, Counting, Halt, Message, Reason, Told};
 use dap_views::as_text;
-use json_messages::{Object, ValueList};
 use mon_runs::Session;
 use mon_session::{MonState, push_fault};
-use serde_json::Value;
 use source_map::Places;
 use std::alloc::{AllocError, Global};
 
@@ -33,41 +30,35 @@ fn output_since(alloc: Global, session: &Session, from: u32) -> Result<String, A
     Ok(text)
 }
 
-/// Returns messages with an event of a name and a body behind them, if memory did not run out for
-/// either.
+/// Returns messages with an event behind them, if memory did not run out for them.
 pub fn with_event(
     messages: Result<Vec<Message>, AllocError>,
-    name: &'static str,
-    body: Result<Value, AllocError>,
+    told: ClientEvent,
 ) -> Result<Vec<Message>, AllocError>
-    ensures { (before : List Said) (d : Data)
-        → IfOk messages (λ ms. each said_of ms.items ≡ before) → IfOk body (λ v. view v ≡ d)
-        → IfOk result (λ ms. each said_of ms.items ≡ before ++ event name.now d ∷ []) }
+    ensures { (before : List Said) → IfOk messages (λ ms. each said_of ms.items ≡ before)
+        → IfOk result
+        (λ ms. each said_of ms.items ≡ before ++ event (event_view told) ∷ []) }
 {
     let mut messages = messages?;
-    messages.push(Message::Event(name, body?))?;
+    messages.push(Message::Event(told))?;
     Ok(messages)
 }
 
 /// Returns messages with an event that has a text behind them, if memory did not run out for
 /// either.
 pub fn with_output(
-    alloc: Global,
     messages: Result<Vec<Message>, AllocError>,
-    category: &str,
+    category: Category,
     text: Result<String, AllocError>,
 ) -> Result<Vec<Message>, AllocError>
     ensures { (before : List Said) (bytes : List ℕ)
         → IfOk messages (λ ms. each said_of ms.items ≡ before)
         → IfOk text (λ s. string_bytes s ≡ bytes)
         → IfOk result
-        (λ ms. each said_of ms.items ≡ before ++ output_said category.now bytes ∷ []) }
+        (λ ms. each said_of ms.items ≡ before ++ output_said category bytes ∷ []) }
 {
-    let body = Object::new(alloc)
-        .word("category", category)
-        .text("output", text)
-        .build();
-    with_event(messages, "output", body)
+    let text = text?;
+    with_event(messages, ClientEvent::Output { category, text })
 }
 
 /// Returns messages and, behind them, what the program put out since the client was told so many
@@ -85,11 +76,11 @@ fn with_console(
     let count = session.output_len();
     if told < count {
         let text = output_since(alloc, session, told);
-        with_output(alloc, messages, "stdout", text)
+        with_output(messages, Category::Stdout, text)
     } else if count < told {
         let less = told - count;
         let text = format!(in alloc; "{LESS_BEFORE}{less}{LESS_BEHIND}");
-        with_output(alloc, messages, "console", text)
+        with_output(messages, Category::Console, text)
     } else {
         messages
     }
@@ -110,17 +101,6 @@ fn halt_shown(alloc: Global, places: &Places, halt: Halt) -> Result<String, Allo
     }
 }
 
-/// Returns a list of numbers.
-fn numbers(alloc: Global, all: &[u64]) -> Result<Value, AllocError>
-    ensures { IfOk result (λ v. view v ≡ list_of (each count all.now)) }
-{
-    let mut list = ValueList::new(alloc);
-    for number in all {
-        list = list.with(Ok(Value::from(*number)));
-    }
-    list.build()
-}
-
 /// Returns messages and, behind them, that the machine stands, in words of why, and which
 /// breakpoints have stopped it. If it is before the first instruction or at its oldest state, a
 /// remark says so first.
@@ -129,30 +109,32 @@ fn with_stop(
     messages: Result<Vec<Message>, AllocError>,
     halt: Halt,
     words: &str,
-    hits: &[u64],
+    hits: Vec<u64>,
 ) -> Result<Vec<Message>, AllocError>
     ensures { (before : List Said) → IfOk messages (λ ms. each said_of ms.items ≡ before)
         → IfOk result (λ ms. each said_of ms.items
         ≡ (before ++ remark_said halt.reason halt.words.now)
-        ++ stopped_said halt.reason words.now hits.now ∷ []) }
+        ++ stopped_said halt.reason words.now hits.items ∷ []) }
 {
     let remarked = match halt.reason {
         Reason::Entry => {
             let remark = halt.words;
-            with_output(alloc, messages, "console", format!(in alloc; "{remark}\n"))
+            with_output(messages, Category::Console, format!(in alloc; "{remark}\n"))
         }
         Reason::Step | Reason::Breakpoint | Reason::InstructionBreakpoint => messages,
         Reason::FunctionBreakpoint | Reason::DataBreakpoint | Reason::Exception => messages,
         Reason::Goto | Reason::Pause | Reason::NoStop => messages,
     };
-    let body = Object::new(alloc)
-        .flag("allThreadsStopped", true)
-        .word("description", words)
-        .member("hitBreakpointIds", numbers(alloc, hits))
-        .word("reason", halt.reason.word())
-        .count("threadId", 1)
-        .build();
-    with_event(remarked, "stopped", body)
+    let words = String::from_str(alloc, words)?;
+    let reason = halt.reason;
+    with_event(
+        remarked,
+        ClientEvent::Stopped {
+            reason,
+            words,
+            hits,
+        },
+    )
 }
 
 /// Returns messages and, behind them, what the program put out, a remark if the machine is before
@@ -163,12 +145,12 @@ pub fn with_halt(
     mon: &MonState,
     told: &mut Told,
     halt: Halt,
-    hits: &Vec<u64>,
+    hits: Vec<u64>,
 ) -> Result<Vec<Message>, AllocError>
     ensures messages { (before : List Said)
         → IfOk messages (λ ms. each said_of ms.items ≡ before)
         → IfOk result (λ ms. each said_of ms.items
-        ≡ before ++ told_of mon.now told.old.count halt hits.now.items) }
+        ≡ before ++ told_of mon.now told.old.count halt hits.items) }
     ensures count { OnOk result
         (told.new.count ≡ length mon.now.session.current.bus.out) }
     ensures reason { OnOk result (told.new.reason ≡ halt.reason) }
@@ -177,7 +159,7 @@ pub fn with_halt(
 {
     let words = halt_shown(alloc, &mon.places, halt)?;
     let console = with_console(alloc, messages, &mon.session, told.count);
-    let all = with_stop(alloc, console, halt, words.as_str(), hits.as_slice());
+    let all = with_stop(alloc, console, halt, words.as_str(), hits);
     told.count = mon.session.output_len();
     told.reason = halt.reason;
     told.words = words;
@@ -187,7 +169,6 @@ pub fn with_halt(
 /// Returns messages and, behind them, that what the client shows may have changed, if it can be
 /// told so.
 pub fn with_unmoved(
-    alloc: Global,
     messages: Result<Vec<Message>, AllocError>,
     counting: Counting,
 ) -> Result<Vec<Message>, AllocError>
@@ -197,16 +178,12 @@ pub fn with_unmoved(
     if !counting.can_invalidate {
         return messages;
     }
-    let areas = ValueList::new(alloc)
-        .with(Value::try_from_str(alloc, "all"))
-        .build();
-    let body = Object::new(alloc).member("areas", areas).build();
-    with_event(messages, "invalidated", body)
+    with_event(messages, ClientEvent::Invalidated)
 }
 
 /// Returns an answer with a body, if memory did not run out for it.
-pub fn answered(alloc: Global, body: Result<Value, AllocError>) -> Result<Vec<Message>, AllocError>
-    ensures { (d : Data) → IfOk body (λ v. view v ≡ d)
+pub fn answered(alloc: Global, body: Result<Answer, AllocError>) -> Result<Vec<Message>, AllocError>
+    ensures { (d : SeenAnswer) → IfOk body (λ v. answer_view v ≡ d)
         → IfOk result (λ ms. each said_of ms.items ≡ done d ∷ []) }
 {
     let mut messages = Vec::new(alloc);

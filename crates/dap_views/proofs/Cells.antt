@@ -1,12 +1,12 @@
 -- Bytes of memory one after another, as variables and as they are.
 use Rattle.std.proofs.Common.{◌≡◌, ◌∙◌, ℕ, zero, suc, ◌+◌, ◌-◌, ◌<◌, ◌≤◌, List, [], ◌∷◌, ◌++◌, length, get_or, sym, ap, arith, append_assoc, append-nil, subst}
 use Rattle.dap_messages.specs.declared.request.Page.{Page}
+use Rattle.dap_messages.specs.SeenAnswers.{SeenItem}
 use Rattle.dap_views.specs.Pages.{IsPage}
 use Rattle.dap_views.specs.Scopes.{cell, cells}
 use Rattle.dap_views.specs.declared.paged.Paged.{Paged}
 use Rattle.mon_texts.specs.Memory.{bytes_from}
 use Rattle.mon_texts.proofs.Bytes.{next_byte}
-use Rattle.serde_json.specs.Data.{Data}
 
 -- one behind the others
 cells_behind : (memory : List ℕ) (a n : ℕ) → cells memory a (suc n) ≡ cells memory a n ++ cell memory (a + n) ∷ []
@@ -14,7 +14,7 @@ unfolding cells
 cells_behind memory a zero = let e : a ≡ a + 0 = omega arith in ap (λ (k : ℕ). cell memory k ∷ []) e
 cells_behind memory a (suc n) =
     let e : (a + 1) + n ≡ a + suc n = omega arith in
-    ap (λ (ds : List Data). cell memory a ∷ ds) (cells_behind memory (a + 1) n)
+    ap (λ (ds : List SeenItem). cell memory a ∷ ds) (cells_behind memory (a + 1) n)
     ∙ ap (λ (k : ℕ). cell memory a ∷ (cells memory (a + 1) n ++ cell memory k ∷ [])) e
 
 pub cells_none : (memory : List ℕ) (from : ℕ) → [] ≡ cells memory from (from - from)
@@ -28,7 +28,7 @@ cells_more memory from address asked made behind is =
     let at : from + (address - from) ≡ address = omega arith in
     let one : cells memory from ((address + 1) - from) ≡ cells memory from (address - from) ++ cell memory address ∷ []
     = ap (cells memory from) n ∙ cells_behind memory from (address - from) ∙ ap (λ (k : ℕ). cells memory from (address - from) ++ cell memory k ∷ []) at in
-    subst (λ (ds : List Data). IsPage asked ds made) (sym one) is
+    subst (λ (ds : List SeenItem). IsPage asked ds made) (sym one) is
 
 pub bytes_more : (memory : List ℕ) (first offset count : ℕ) (found new : List ℕ) (whole : List ℕ) → first + offset < length memory → offset < count
     → new ≡ found ++ get_or memory (first + offset) 0 ∷ [] → found ++ bytes_from memory (first + offset) (count - offset) ≡ whole

@@ -3,10 +3,9 @@ use Rattle.std.proofs.Common.{◌≡◌, ◌∙◌, ℕ, zero, suc, ◌+◌, ◌
 use Rattle.std.proofs.lemmas.Bool.{le-ltb, lt-ltb}
 use Rattle.std.specs.Prelude.{codes, decimal, min, nat_lt}
 use Rattle.dap_messages.specs.declared.counting.Counting.{Counting}
+use Rattle.dap_messages.specs.SeenAnswers.{SeenItem, no_instruction}
 use Rattle.dap_views.specs.Rows.{behind_row, first, found, lacking_rows, next_row, row_at, row_len, row_of, row_shown, rows, rows_around, rows_on, rows_to}
-use Rattle.dap_views.specs.Values.{no_instruction}
 use Rattle.mon_session.specs.declared.mon_state.MonState.{MonState}
-use Rattle.serde_json.specs.Data.{Data}
 
 -- ---- where a row begins that is some rows on
 
@@ -48,7 +47,7 @@ to_done mon end n at count whole e so_far =
 
 -- ---- rows
 
-picked : (b : Bool) (f : ℕ → Data) (d : Data) (at len whole past : ℕ) → (if b then at + len else past) ≡ (if b then at + whole else past)
+picked : (b : Bool) (f : ℕ → SeenItem) (d : SeenItem) (at len whole past : ℕ) → (if b then at + len else past) ≡ (if b then at + whole else past)
     → (if b then f len else d) ≡ (if b then f whole else d)
 picked true f d at len whole past e = let same : len ≡ whole = omega (arith, e) in ap f same
 picked false f d at len whole past e = refl
@@ -59,7 +58,7 @@ pub row_here : (mon : MonState) (path : List ℕ) (counting : Counting) (end at 
 row_here mon path counting end at len e = picked (nat_lt at 65536) (λ (n : ℕ). row_shown mon path counting at n) (no_instruction (decimal at)) at len
     (row_len mon end at) _ e
 
-pub rows_more : (mon : MonState) (path : List ℕ) (counting : Counting) (end n m at next : ℕ) (found whole : List Data) (d : Data) → n ≡ suc m
+pub rows_more : (mon : MonState) (path : List ℕ) (counting : Counting) (end n m at next : ℕ) (found whole : List SeenItem) (d : SeenItem) → n ≡ suc m
     → next ≡ next_row mon end at → d ≡ row_at mon path counting end at
     → found ++ rows mon path counting end n at ≡ whole → (found ++ d ∷ []) ++ rows mon path counting end m next ≡ whole
 unfolding rows
@@ -67,9 +66,9 @@ rows_more mon path counting end n m at next found whole d e is shown so_far =
     let rest = rows mon path counting end m next in
     let step : rows mon path counting end n at ≡ row_at mon path counting end at ∷ rest
     = ap (λ k. rows mon path counting end k at) e ∙ ap (λ a. row_at mon path counting end at ∷ rows mon path counting end m a) (sym is) in
-    append_assoc found (d ∷ []) rest ∙ ap (λ (x : Data). found ++ x ∷ rest) shown ∙ sym (ap (λ (ds : List Data). found ++ ds) step) ∙ so_far
+    append_assoc found (d ∷ []) rest ∙ ap (λ (x : SeenItem). found ++ x ∷ rest) shown ∙ sym (ap (λ (ds : List SeenItem). found ++ ds) step) ∙ so_far
 
-pub rows_done : (mon : MonState) (path : List ℕ) (counting : Counting) (end n at : ℕ) (found whole : List Data) → n ≡ 0
+pub rows_done : (mon : MonState) (path : List ℕ) (counting : Counting) (end n at : ℕ) (found whole : List SeenItem) → n ≡ 0
     → found ++ rows mon path counting end n at ≡ whole → found ≡ whole
 unfolding rows
 rows_done mon path counting end n at found whole e so_far =
@@ -88,14 +87,15 @@ around mon path counting end back on count steps_back steps_on lacking begun les
     let many : left ≡ count - (back - found mon end back) = is_left ∙ ap (λ k. count - k) none in
     λ i. lacking_rows (few i) (none i) ++ rows mon path counting end (many i) (start i)
 
-pub lacking_more : (n m before next : ℕ) (found whole : List Data) (d : Data) → n ≡ suc m → next ≡ before - 1 → d ≡ no_instruction (codes "-" ++ decimal before)
+pub lacking_more : (n m before next : ℕ) (found whole : List SeenItem) (d : SeenItem) → n ≡ suc m → next ≡ before - 1
+    → d ≡ no_instruction (codes "-" ++ decimal before)
     → found ++ lacking_rows n before ≡ whole → (found ++ d ∷ []) ++ lacking_rows m next ≡ whole
 unfolding lacking_rows
 lacking_more n m before next found whole d e is shown so_far =
     append_assoc found (d ∷ []) (lacking_rows m next) ∙ (λ i. found ++ shown i ∷ lacking_rows m (is i))
     ∙ sym (ap (λ k. found ++ lacking_rows k before) e) ∙ so_far
 
-pub lacking_done : (n before : ℕ) (found whole : List Data) → n ≡ 0 → found ++ lacking_rows n before ≡ whole → found ≡ whole
+pub lacking_done : (n before : ℕ) (found whole : List SeenItem) → n ≡ 0 → found ++ lacking_rows n before ≡ whole → found ≡ whole
 unfolding lacking_rows
 lacking_done n before found whole e so_far =
     sym (append-nil found) ∙ sym (ap (λ k. found ++ lacking_rows k before) e) ∙ so_far

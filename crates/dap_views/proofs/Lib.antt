@@ -9,7 +9,6 @@ mod Lossy
 mod Matching
 mod Numbered
 pub mod Paging
-mod Shown
 mod Symbols
 mod Watching
 mod WhereFrames

@@ -4,8 +4,8 @@ use Rattle.std.proofs.lemmas.List.{drop_all}
 use Rattle.std.specs.Prelude.{slice_get}
 use Rattle.assembler.specs.Lines.{LineView}
 use Rattle.dap_messages.specs.declared.counting.Counting.{Counting}
+use Rattle.dap_messages.specs.SeenAnswers.{SeenItem}
 use Rattle.dap_views.specs.Locations.{location_at, locations_of}
-use Rattle.serde_json.specs.Data.{Data}
 
 pub located_all : (counting : Counting) (first last : ℕ) (rows : List LineView)
     → [] ++ locations_of counting first last (drop 0 rows) ≡ locations_of counting first last rows
@@ -20,17 +20,17 @@ one_located counting first last [] (suc i) = refl
 one_located counting first last (row ∷ rows) zero = refl
 one_located counting first last (row ∷ rows) (suc i) = one_located counting first last rows i
 
-pub located_more : (counting : Counting) (first last : ℕ) (rows : List LineView) (i : ℕ) (found whole : List Data)
+pub located_more : (counting : Counting) (first last : ℕ) (rows : List LineView) (i : ℕ) (found whole : List SeenItem)
     → found ++ locations_of counting first last (drop i rows) ≡ whole
     → (found ++ location_at counting first last (slice_get rows i)) ++ locations_of counting first last (drop (i + 1) rows) ≡ whole
 located_more counting first last rows i found whole so_far =
     let here = location_at counting first last (slice_get rows i) in
     let behind = locations_of counting first last (drop (i + 1) rows) in
     let one : locations_of counting first last (drop i rows) ≡ here ++ behind = rw add-one (one_located counting first last rows i) in
-    append_assoc found here behind ∙ sym (ap (λ (ds : List Data). found ++ ds) one) ∙ so_far
+    append_assoc found here behind ∙ sym (ap (λ (ds : List SeenItem). found ++ ds) one) ∙ so_far
 
-pub located_done : (counting : Counting) (first last : ℕ) (rows : List LineView) (i : ℕ) (found whole : List Data) → length rows ≤ i
+pub located_done : (counting : Counting) (first last : ℕ) (rows : List LineView) (i : ℕ) (found whole : List SeenItem) → length rows ≤ i
     → found ++ locations_of counting first last (drop i rows) ≡ whole → found ≡ whole
 located_done counting first last rows i found whole past so_far =
     let none : locations_of counting first last (drop i rows) ≡ [] = ap (locations_of counting first last) (drop_all i rows past) in
-    sym (append-nil found) ∙ sym (ap (λ (ds : List Data). found ++ ds) none) ∙ so_far
+    sym (append-nil found) ∙ sym (ap (λ (ds : List SeenItem). found ++ ds) none) ∙ so_far

@@ -4,15 +4,15 @@ use Rattle.std.proofs.lemmas.List.{drop_all}
 use Rattle.dap_messages.specs.Messages.{next_number}
 use Rattle.dap_messages.specs.declared.counting.Counting.{Counting}
 use Rattle.dap_messages.specs.declared.listed.Placed.{Placed}
+use Rattle.dap_messages.specs.SeenAnswers.{SeenItem}
 use Rattle.dap_views.specs.Answered.{answer_of, answers_of, placed_at, placed_of}
 use Rattle.dap_views.specs.declared.wanted.Wanted.{Wanted}
 use Rattle.model.specs.Session.{Session}
-use Rattle.serde_json.specs.Data.{Data}
 
 cut : (all : List Wanted) (i : ℕ) (e : Wanted) → i < length all → drop i all ≡ get_or all i e ∷ drop (i + 1) all
 cut all i e within = rw (add-one, drop-cons all i e within) refl
 
-pub answers_more : (session : Session) (counting : Counting) (all : List Wanted) (i id next : ℕ) (e : Wanted) (found whole : List Data)
+pub answers_more : (session : Session) (counting : Counting) (all : List Wanted) (i id next : ℕ) (e : Wanted) (found whole : List SeenItem)
     → i < length all → e ≡ get_or all i e → next ≡ next_number id
     → found ++ answers_of session counting id (drop i all) ≡ whole
     → (found ++ answer_of session counting id e ∷ []) ++ answers_of session counting next (drop (i + 1) all) ≡ whole
@@ -24,7 +24,7 @@ answers_more session counting all i id next e found whole within is number so_fa
     ∙ ap (λ n. found ++ answer_of session counting id e ∷ answers_of session counting n rest) number
     ∙ sym (ap (λ (ws : List Wanted). found ++ answers_of session counting id ws) here) ∙ so_far
 
-pub answers_done : (session : Session) (counting : Counting) (all : List Wanted) (i id : ℕ) (found whole : List Data) → length all ≤ i
+pub answers_done : (session : Session) (counting : Counting) (all : List Wanted) (i id : ℕ) (found whole : List SeenItem) → length all ≤ i
     → found ++ answers_of session counting id (drop i all) ≡ whole → found ≡ whole
 unfolding answers_of
 answers_done session counting all i id found whole past so_far =

@@ -3,35 +3,34 @@ use Rattle.std.specs.Prelude.{ℕ, nat_eq, if◌then◌else◌, List, [], ◌∷
 use Rattle.std.specs.List.{list_any}
 use Rattle.dap_views.specs.declared.listed.TheConstants.{NO_ROOM, OTHER_SOURCE}
 use Rattle.dap_views.specs.declared.wanted.Wanted.{Wanted}
-use Rattle.dap_views.specs.BreakValues.{breakpoint_set, breakpoint_unset, data_unwatched}
+use Rattle.dap_messages.specs.SeenAnswers.{SeenItem, breakpoint_set, breakpoint_unset, data_unwatched}
 use Rattle.dap_messages.specs.Counting.{shown_line}
 use Rattle.dap_messages.specs.Messages.{next_number}
 use Rattle.dap_messages.specs.declared.counting.Counting.{Counting}
 use Rattle.dap_messages.specs.declared.listed.Placed.{Placed}
 use Rattle.dap_messages.specs.declared.request.SourceBreakpoint.{SourceBreakpoint}
 use Rattle.model.specs.Session.{Session}
-use Rattle.serde_json.specs.Data.{Data}
 
 -- ---- one breakpoint, of a number
 
 -- A breakpoint at an address is set if the session has one there. One that can stand nowhere is not
 -- set.
-abbrev pub answer_by : Session → ℕ → Option ℕ → List ℕ → Option ℕ → Data
+abbrev pub answer_by : Session → ℕ → Option ℕ → List ℕ → Option ℕ → SeenItem
 answer_by session id line words (Some address) = if list_any (nat_eq address) session.breaks
     then breakpoint_set id address line else breakpoint_unset id line NO_ROOM.now
 answer_by session id line words None = breakpoint_unset id line words
 
-abbrev pub answer_of : Session → Counting → ℕ → Wanted → Data
+abbrev pub answer_of : Session → Counting → ℕ → Wanted → SeenItem
 answer_of session counting id wanted = answer_by session id
     (option_map (shown_line counting) wanted.line) (string_bytes wanted.words) wanted.address
 
 -- One of another source is not set.
-abbrev pub answer_elsewhere : SourceBreakpoint → Data
+abbrev pub answer_elsewhere : SourceBreakpoint → SeenItem
 answer_elsewhere wanted = data_unwatched OTHER_SOURCE.now
 
 -- ---- a list, of which the first has this number
 
-unfoldable pub answers_of : Session → Counting → ℕ → List Wanted → List Data
+unfoldable pub answers_of : Session → Counting → ℕ → List Wanted → List SeenItem
 answers_of session counting id [] = []
 answers_of session counting id (wanted ∷ rest) = answer_of session counting id wanted
     ∷ answers_of session counting (next_number id) rest

@@ -5,7 +5,7 @@ use Rattle.std.specs.Prelude.{ℕ, ◌≡◌, ◌⊎◌, false, List, map, Optio
 use Rattle.std.specs.Str.{bytes_eq}
 use Rattle.assembler.specs.Assembly.{AssemblyView}
 use Rattle.dap_desk.specs.Breaks.{all_cleared, all_set, place_of}
-use Rattle.dap_messages.specs.Answers.{breakpoints_body}
+use Rattle.dap_messages.specs.SeenAnswers.{SeenAnswer, breakpoints_body}
 use Rattle.dap_messages.specs.declared.counting.Counting.{Counting}
 use Rattle.dap_messages.specs.declared.listed.AddressList.{AddressList}
 use Rattle.dap_messages.specs.declared.listed.FunctionList.{FunctionList}
@@ -19,7 +19,6 @@ use Rattle.dap_views.specs.declared.wanted.List.{List as WantedList}
 use Rattle.dap_views.specs.declared.wanted.Wanted.{Wanted}
 use Rattle.mon_session.specs.declared.mon_state.MonState.{MonState}
 use Rattle.mon_runs.specs.declared.breaks.Break.{Break}
-use Rattle.serde_json.specs.Data.{Data}
 
 -- ---- a list
 
@@ -31,7 +30,7 @@ Finds find listed list = AreTold find listed list.told.items
 -- The breakpoints that stood somewhere are replaced by those that can be set of a list, of which the
 -- first has this number; each is told of, and it is held where they stand.
 abbrev pub SetsList : {W : Type 0} → (W → Found) → Counting → ℕ → List W → List Placed → List Placed
-    → MonState → MonState → Data → Type 0
+    → MonState → MonState → SeenAnswer → Type 0
 SetsList find counting first listed before after old new v = (told : List Wanted)
     × (stops : List Break) × AreTold find listed told × AreStops find listed stops
     × (place_of new ≡ all_set stops (all_cleared before (place_of old)))
@@ -41,25 +40,25 @@ SetsList find counting first listed before after old new v = (told : List Wanted
 -- ---- breakpoints at lines, at addresses, and at names
 
 abbrev pub SetsLines : Counting → Option AssemblyView → LineList → List Placed → List Placed
-    → MonState → MonState → Data → Type 0
+    → MonState → MonState → SeenAnswer → Type 0
 SetsLines counting assembly listed before after old new v
     = SetsList (found_line old.places old.session.current.regs.pc counting assembly) counting
     listed.first listed.list.items before after old new v
 
 abbrev pub SetsAddresses : Counting → AddressList → List Placed → List Placed → MonState → MonState
-    → Data → Type 0
+    → SeenAnswer → Type 0
 SetsAddresses counting listed before after old new v
     = SetsList (found_address old.places old.session.current.regs.pc) counting listed.first
     listed.list.items before after old new v
 
 abbrev pub SetsFunctions : Counting → FunctionList → List Placed → List Placed → MonState → MonState
-    → Data → Type 0
+    → SeenAnswer → Type 0
 SetsFunctions counting listed before after old new v
     = SetsList (found_name old.places old.session.current.regs.pc) counting listed.first
     listed.list.items before after old new v
 
 -- Nothing is changed, and each breakpoint of a list is said not to be set.
-abbrev pub SetsNone : List SourceBreakpoint → Listed → Listed → MonState → MonState → Data → Type 0
+abbrev pub SetsNone : List SourceBreakpoint → Listed → Listed → MonState → MonState → SeenAnswer → Type 0
 SetsNone listed before after old new v = (after ≡ before) × (place_of new ≡ place_of old)
     × (v ≡ breakpoints_body (map answer_elsewhere listed))
 
@@ -84,7 +83,7 @@ HoldsFunctions listed old new = (new.last_functions ≡ Some listed)
 -- for addresses, names and watches. None is set if the source is another: the path that is named
 -- is another, and which other paths name the same file, no definition can say.
 abbrev pub SetsSource : Counting → List ℕ → Option AssemblyView → List ℕ → LineList → Listed
-    → Listed → MonState → MonState → Data → Type 0
+    → Listed → MonState → MonState → SeenAnswer → Type 0
 SetsSource counting path assembly named listed before after old new v
     = (SetsLines counting assembly listed before.lines.items after.lines.items old new v
     × HoldsLines listed before after)

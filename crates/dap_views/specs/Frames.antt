@@ -8,7 +8,7 @@ use Rattle.dap_messages.specs.Counting.{first_column, shown_line}
 use Rattle.dap_messages.specs.declared.counting.Counting.{Counting}
 use Rattle.dap_messages.specs.declared.request.Page.{Page}
 use Rattle.dap_views.specs.Pages.{page_of}
-use Rattle.dap_views.specs.Values.{frame_at_line, frame_without_line, frames_body}
+use Rattle.dap_messages.specs.SeenAnswers.{SeenAnswer, SeenItem, frame_at_line, frame_without_line, frames_body}
 use Rattle.dap_views.specs.declared.stack.Frame.{Frame}
 use Rattle.model.specs.State.{State}
 use Rattle.mon_instructions.specs.Places.{place_text}
@@ -17,7 +17,6 @@ use Rattle.mon_texts.specs.Pushed.{entry_len, pushed_at}
 use Rattle.mon_texts.specs.declared.pushed.Pushed.{Pushed}
 use Rattle.mon_texts.specs.declared.pushed.Pushed.TheVariants.{Call, Break, Interrupt, Byte}
 use Rattle.mon_texts.specs.declared.wording.TheConstants.{CALLED_FROM, INTERRUPTED_AT}
-use Rattle.serde_json.specs.Data.{Data}
 use Rattle.source_map.specs.Lines.{PlacesView, line_at}
 use Rattle.source_map.specs.Names.{Named}
 use Rattle.source_map.specs.declared.rows.Row.{Row}
@@ -77,17 +76,17 @@ frame_words names frame = if frame.is_interrupted
     else place_text names frame.address
 
 -- A frame with these words, which may stand in a line. The source has a short name.
-abbrev pub frame_on : List ℕ → Counting → List ℕ → Frame → List ℕ → Option ℕ → Data
+abbrev pub frame_on : List ℕ → Counting → List ℕ → Frame → List ℕ → Option ℕ → SeenItem
 frame_on path counting name frame words (Some line) = frame_at_line frame.id frame.address words
     (shown_line counting line) (first_column counting) name path
 frame_on path counting name frame words None = frame_without_line frame.id frame.address words
 
-abbrev pub frame_shown : PlacesView → List ℕ → Counting → List ℕ → Frame → Data
+abbrev pub frame_shown : PlacesView → List ℕ → Counting → List ℕ → Frame → SeenItem
 frame_shown places path counting name frame = frame_on path counting name frame
     (utf8_lossy (frame_words places.names frame)) (line_at places.lines frame.address)
 
 -- Those that are asked for, and how many there are. The source has some short name.
-abbrev pub AreFrames : State → PlacesView → List ℕ → Counting → Page → Data → Type 0
+abbrev pub AreFrames : State → PlacesView → List ℕ → Counting → Page → SeenAnswer → Type 0
 AreFrames s places path counting asked v = (name : List ℕ) × (v ≡ frames_body
     (page_of asked (map (frame_shown places path counting name) (stack_frames s places.lines)))
     (length (stack_frames s places.lines)))

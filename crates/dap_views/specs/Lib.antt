@@ -1,5 +1,4 @@
 pub mod Answered
-pub mod BreakValues
 pub mod Breaks
 pub mod Found
 pub mod Frames
@@ -11,7 +10,6 @@ pub mod Pages
 pub mod Rows
 pub mod Scopes
 pub mod Targets
-pub mod Values
 pub mod Variables
 pub mod Wanted
 pub mod Watches

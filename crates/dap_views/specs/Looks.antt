@@ -2,9 +2,8 @@
 -- one. Source: mos65.
 use Rattle.std.specs.Prelude.{ℕ, Bool, false, if◌then◌else◌, List, codes, decimal, Option, Some, None, option_map, Result, Ok, Err}
 use Rattle.std.specs.Str.{bytes_eq, str_eq_ignore_ascii_case}
-use Rattle.dap_messages.specs.Answers.{evaluated_body}
+use Rattle.dap_messages.specs.SeenAnswers.{SeenAnswer, look_body}
 use Rattle.dap_views.specs.Named.{flag_or_register, value_byte, value_shown}
-use Rattle.dap_views.specs.Values.{looked_at_body}
 use Rattle.dap_views.specs.Variables.{byte_text}
 use Rattle.dap_views.specs.declared.looks.Look.{Look}
 use Rattle.dap_views.specs.declared.looks.Look.TheVariants as look
@@ -16,7 +15,6 @@ use Rattle.mon_lines.specs.Parts.{flag_of, register_of}
 use Rattle.mon_lines.specs.Wholes.{place_in}
 use Rattle.mon_lines.specs.declared.command.Register.{Register}
 use Rattle.mon_lines.specs.declared.command.Register.TheVariants as register
-use Rattle.serde_json.specs.Data.{Data}
 use Rattle.source_map.specs.Lines.{PlacesView}
 use Rattle.source_map.specs.Names.{address_of}
 
@@ -84,15 +82,10 @@ abbrev pub look_words : State → Look → List ℕ
 look_words s (look.Variable variable) = value_shown s variable
 look_words s look.Cycles = decimal s.cycles
 
--- A byte of memory has a reference to its address.
-abbrev pub look_body : Option ℕ → List ℕ → Data
-look_body (Some address) words = looked_at_body address words
-look_body None words = evaluated_body words
-
-abbrev pub look_shown : State → Look → Data
+abbrev pub look_shown : State → Look → SeenAnswer
 look_shown s look = look_body (look_address look) (look_words s look)
 
-abbrev pub look_at : State → PlacesView → List ℕ → Option Data
+abbrev pub look_at : State → PlacesView → List ℕ → Option SeenAnswer
 look_at s places text = option_map (look_shown s) (look_named places s.regs.pc text)
 
 -- ---- the value alone

@@ -3,8 +3,8 @@
 use Rattle.std.specs.Prelude.{ℕ, ◌-◌, ◌==◌, ◌≡◌, if◌then◌else◌, List, drop, length, take, Option, Some, None}
 use Rattle.dap_messages.specs.declared.request.Page.{Page}
 use Rattle.dap_views.specs.declared.paged.Paged.{Paged}
-use Rattle.json_messages.specs.ValueLists.{HasValues}
-use Rattle.serde_json.specs.Data.{Data}
+use Rattle.dap_messages.specs.ItemLists.{HasItems}
+use Rattle.dap_messages.specs.SeenAnswers.{SeenItem}
 
 abbrev pub at_most : {A : Type 0} → ℕ → List A → List A
 at_most count xs = if count == 0 then xs else take count xs
@@ -26,6 +26,6 @@ left_of asked n = if asked.count == 0 then None
 
 -- The page has what it is to have of these values, and knows how many are to be left out, and how
 -- many it takes.
-abbrev pub IsPage : Page → List Data → Paged → Type 0
-IsPage asked ds made = HasValues (page_of asked ds) made.list
+abbrev pub IsPage : Page → List SeenItem → Paged → Type 0
+IsPage asked ds made = HasItems (page_of asked ds) made.list
     × (made.skip ≡ asked.first - length ds) × (made.left ≡ left_of asked (length ds))

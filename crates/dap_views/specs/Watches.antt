@@ -4,8 +4,7 @@
 use Rattle.std.specs.Prelude.{ℕ, ◌≡◌, ◌&&◌, Bool, true, false, if◌then◌else◌, List, [], ◌∷◌, ◌++◌, map, Option, Some, None}
 use Rattle.std.specs.List.{flat_map}
 use Rattle.dap_views.specs.declared.watches.TheConstants.{NO_DATA, NOT_WATCHED}
-use Rattle.dap_views.specs.BreakValues.{data_at, data_unwatched, data_watched, no_data}
-use Rattle.dap_messages.specs.Answers.{breakpoints_body}
+use Rattle.dap_messages.specs.SeenAnswers.{SeenAnswer, SeenItem, breakpoints_body, data_at, data_unwatched, data_watched, no_data}
 use Rattle.dap_messages.specs.declared.request.Access.{Access}
 use Rattle.dap_messages.specs.declared.request.Access.TheVariants as access
 use Rattle.dap_messages.specs.declared.request.DataBreakpoint.{DataBreakpoint}
@@ -21,7 +20,6 @@ use Rattle.mon_settings.specs.StopLines.{can_watch, or_same, with_watch}
 use Rattle.mon_runs.specs.Stops.{has_access, new_changes}
 use Rattle.mon_runs.specs.declared.watches.Watch.{Watch}
 use Rattle.mon_runs.specs.declared.watches.Watch.TheVariants.{Bytes}
-use Rattle.serde_json.specs.Data.{Data}
 
 -- ---- what can be watched
 
@@ -37,11 +35,11 @@ abbrev pub place_if : Bool → MonState → List ℕ → Option ℕ
 place_if is_byte mon name = if is_byte
     then place_named mon.places mon.session.current.regs.pc name else None
 
-abbrev pub data_by : Option ℕ → Data
+abbrev pub data_by : Option ℕ → SeenAnswer
 data_by (Some address) = data_at address
 data_by None = no_data NO_DATA.now
 
-abbrev pub data_shown : MonState → Option Scope → List ℕ → Data
+abbrev pub data_shown : MonState → Option Scope → List ℕ → SeenAnswer
 data_shown mon scope name = data_by (place_if (has_bytes scope) mon name)
 
 -- ---- watches that are listed
@@ -110,16 +108,16 @@ is_watched watches address access.ReadWrite
 is_watched watches address access.Write = has_access Change address watches
 
 -- A byte that a client wants watched is told to be watched, or why it is not.
-abbrev pub told_at : List Watch → Option ℕ → Access → Data
+abbrev pub told_at : List Watch → Option ℕ → Access → SeenItem
 told_at watches (Some address) access = if is_watched watches address access then data_watched
     else data_unwatched NOT_WATCHED.now
 told_at watches None access = data_unwatched NO_DATA.now
 
-abbrev pub told_of : List Watch → DataBreakpoint → Data
+abbrev pub told_of : List Watch → DataBreakpoint → SeenItem
 told_of watches wanted = told_at watches wanted.address wanted.access
 
 -- Each byte of the list is told of, in the order of the list.
-abbrev pub TellsWatches : List DataBreakpoint → List Watch → Data → Type 0
+abbrev pub TellsWatches : List DataBreakpoint → List Watch → SeenAnswer → Type 0
 TellsWatches listed watches v = v ≡ breakpoints_body (map (told_of watches) listed)
 
 -- ---- what stays

@@ -3,20 +3,19 @@
 ghost use Rattle.std.specs.Prelude.{◌≡◌, ◌++◌, ℕ, IfOk, List, OnOk, map as each, string_bytes};
 ghost use Rattle.dap_views.specs.Frames.{AreFrames, frame_on, frame_shown, frame_words};
 ghost use Rattle.dap_views.specs.Pages.{page_of};
-ghost use Rattle.json_messages.specs.Values.{list_of};
-ghost use Rattle.serde_json.specs.View.{view};
+ghost use Rattle.dap_messages.specs.SeenAnswers.{answer_view, item_view};
 
 use crate::paged::Paged;
 use crate::source::Source;
 use crate::stack::{Frame, stack_frames};
 use crate::texts::as_text;
-use dap_messages::{Page, reference};
+use dap_messages::{
+    Answer, Item, Page, SourcePlace, frame_at_line, frame_without_line, frames_body,
+};
 use formatting::push_text;
-use json_messages::Object;
 use mon_instructions::push_place;
 use mon_session::MonState;
 use mon_texts::wording::INTERRUPTED_AT;
-use serde_json::Value;
 use source_map::Places;
 use std::alloc::{AllocError, Global};
 
@@ -37,39 +36,24 @@ fn frame_on(
     frame: Frame,
     words: Result<String, AllocError>,
     line: Option<u32>,
-) -> Result<Value, AllocError>
+) -> Result<Item, AllocError>
     ensures { (w : List ℕ) → IfOk words (λ s. string_bytes s ≡ w)
-        → IfOk result (λ v. view v
+        → IfOk result (λ v. item_view v
         ≡ frame_on file.now.path.now file.now.counting name.now frame w line) }
 {
-    let Some(line) = line else {
-        return Object::new(alloc)
-            .count("column", 0)
-            .count("id", u64::from(frame.id))
-            .text(
-                "instructionPointerReference",
-                reference(alloc, frame.address),
-            )
-            .count("line", 0)
-            .text("name", words)
-            .word("presentationHint", "subtle")
-            .build();
-    };
-    let source = Object::new(alloc)
-        .word("name", name)
-        .word("path", file.path)
-        .build();
-    Object::new(alloc)
-        .count("column", file.counting.first_column())
-        .count("id", u64::from(frame.id))
-        .text(
-            "instructionPointerReference",
-            reference(alloc, frame.address),
-        )
-        .count("line", file.counting.shown_line(line))
-        .text("name", words)
-        .member("source", source)
-        .build()
+    let id = u64::from(frame.id);
+    match line {
+        Some(line) => {
+            let place = SourcePlace {
+                name,
+                path: file.path,
+                line: file.counting.shown_line(line),
+                column: file.counting.first_column(),
+            };
+            frame_at_line(alloc, id, frame.address, words, place)
+        }
+        None => frame_without_line(id, frame.address, words),
+    }
 }
 
 /// Appends where a frame stands, and whether it was interrupted there.
@@ -91,8 +75,8 @@ fn frame_shown(
     file: &Source<'_>,
     name: &str,
     frame: Frame,
-) -> Result<Value, AllocError>
-    ensures { IfOk result (λ v. view v ≡ frame_shown places.now file.now.path.now
+) -> Result<Item, AllocError>
+    ensures { IfOk result (λ v. item_view v ≡ frame_shown places.now file.now.path.now
         file.now.counting name.now frame) }
 {
     let mut text = Vec::new(alloc);
@@ -116,10 +100,10 @@ fn frames_listed(
     name: &str,
     asked: Page,
     frames: &[Frame],
-) -> Result<Value, AllocError>
-    ensures { IfOk result (λ v. view v ≡ list_of (page_of asked
+) -> Result<Vec<Item>, AllocError>
+    ensures { IfOk result (λ items. each item_view items.items ≡ page_of asked
         (each (frame_shown places.now file.now.path.now file.now.counting name.now)
-        frames.now))) }
+        frames.now)) }
 {
     let mut page = Paged::new(alloc, asked);
     for frame in frames {
@@ -135,16 +119,13 @@ pub fn frames_shown(
     mon: &MonState,
     source: &Source<'_>,
     asked: Page,
-) -> Result<Value, AllocError>
+) -> Result<Answer, AllocError>
     ensures { IfOk result (λ v. AreFrames mon.now.session.current mon.now.places
-        source.now.path.now source.now.counting asked (view v)) }
+        source.now.path.now source.now.counting asked (answer_view v)) }
 {
     let frames = stack_frames(alloc, &mon.session, &mon.places)?;
     let all = frames.as_slice();
     let name = last_part(source.path);
     let shown = frames_listed(alloc, &mon.places, source, name, asked, all);
-    Object::new(alloc)
-        .member("stackFrames", shown)
-        .count("totalFrames", all.len() as u64)
-        .build()
+    frames_body(shown, all.len() as u64)
 }

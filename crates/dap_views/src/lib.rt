@@ -1,22 +1,22 @@
 //! What an editor's views show of a session, and the breakpoints and watches that it lists.
 //!
-//! `stack` finds the frames of the stack, by what `mon_texts` takes to have pushed something; `frames`
-//! shows them. `variables` shows the variables of a scope, `memory` bytes, `rows` instructions,
-//! `looks` what a text names. `named` finds the variable that a client names. `paged` is a page
-//! of a list. `texts` makes texts of bytes, `source` is the source that a client sees. These change
-//! nothing. `laws` has what holds of all frames.
+//! `stack` finds the frames of the stack, by what `mon_texts` takes to have pushed something;
+//! `frames` shows them. `variables` shows the variables of a scope, `memory` bytes, `rows`
+//! instructions, `looks` what a text names. `named` finds the variable that a client names. `paged`
+//! is a page of a list. `texts` makes texts of bytes, `source` is the source that a client sees.
+//! These change nothing. `laws` has what holds of all frames.
 //!
 //! Each list of breakpoints replaces the one before: `wanted` reads the breakpoints of a list,
 //! `listed` sets them and answers, `watches` watches bytes. `locations` has the lines at which they
-//! can stand, `targets` the addresses at which a line can be gone to. `values` makes the values of
-//! answers.
+//! can stand, `targets` the addresses at which a line can be gone to.
+//!
+//! What is shown and answered are values of `dap_messages`, which alone writes them as JSON.
 //!
 //! What is shown stands in `specs/Frames.antt`, `specs/Scopes.antt`, `specs/Pages.antt`,
 //! `specs/Memory.antt`, `specs/Rows.antt`, `specs/Looks.antt` and `specs/Named.antt`, with the
-//! values of `specs/Values.antt` and `specs/Variables.antt`. What a list does stands in
-//! `specs/Breaks.antt` and `specs/Watches.antt`, what is answered in `specs/Answered.antt`, what
-//! can be chosen in `specs/Locations.antt` and `specs/Targets.antt`, with the values of
-//! `specs/BreakValues.antt`.
+//! variables of `specs/Variables.antt`. What a list does stands in `specs/Breaks.antt` and
+//! `specs/Watches.antt`, what is answered in `specs/Answered.antt`, what can be chosen in
+//! `specs/Locations.antt` and `specs/Targets.antt`.
 #![tactic(auto)]
 
 mod frames;
@@ -32,7 +32,6 @@ mod source;
 mod stack;
 mod targets;
 mod texts;
-mod values;
 mod variables;
 mod wanted;
 mod watches;
@@ -49,6 +48,5 @@ pub use source::Source;
 pub use stack::is_frame;
 pub use targets::goto_targets;
 pub use texts::as_text;
-pub use values::list_body;
 pub use variables::variables_shown;
 pub use watches::{data_shown, set_data};

@@ -4,28 +4,25 @@ ghost use Rattle.std.specs.Prelude.{◌≡◌, ◌++◌, [], IfOk, OnOk, map as 
 ghost use Rattle.dap_messages.specs.Counting.{shown_line};
 ghost use Rattle.dap_views.specs.Answered.{answer_elsewhere, answer_of, answers_of, placed_at};
 ghost use Rattle.dap_views.specs.Answered.{placed_of};
-ghost use Rattle.dap_views.specs.BreakValues.{breakpoint_set, breakpoint_unset};
 ghost use Rattle.dap_views.specs.Breaks.{Finds, HoldsAddresses, HoldsFunctions, HoldsLines};
 ghost use Rattle.dap_views.specs.Breaks.{SetsAddresses, SetsFunctions, SetsLines, SetsSource};
 ghost use Rattle.dap_views.specs.Found.{HasFound, found_address, found_line, found_name};
 ghost use Rattle.dap_desk.specs.Breaks.{KeepsEvents, all_cleared, all_set, place_of};
-ghost use Rattle.dap_messages.specs.Answers.{breakpoints_body};
-ghost use Rattle.serde_json.specs.View.{view};
+ghost use Rattle.dap_messages.specs.SeenAnswers.{breakpoints_body};
+ghost use Rattle.dap_messages.specs.SeenAnswers.{answer_view, item_view};
 
 use crate::looks::place_named;
 use crate::source::Source;
-use crate::values::{data_unwatched, list_body};
 use crate::wanted::{List, Wanted, push_at, push_unset, row_in};
 use arguments::is_one_file;
 use dap_desk::{is_break, replace};
 use dap_messages::{
-    AddressList, Counting, FunctionBreakpoint, FunctionList, InstructionBreakpoint, LineList,
-    Listed, Placed, SourceBreakpoint, next_number, reference,
+    AddressList, Answer, Counting, FunctionBreakpoint, FunctionList, InstructionBreakpoint, Item,
+    ItemList, LineList, Listed, Placed, SourceBreakpoint, breakpoint_unset, breakpoints_body,
+    data_unwatched, next_number,
 };
-use json_messages::{Object, ValueList};
 use mon_runs::Session;
 use mon_session::MonState;
-use serde_json::Value;
 use std::alloc::{AllocError, Global};
 use std::rt::Files;
 
@@ -171,34 +168,6 @@ fn shown(counting: Counting, line: Option<u32>) -> Option<u64>
     }
 }
 
-/// Returns what is answered of a breakpoint that is set.
-fn told_set(alloc: Global, id: u64, address: u16, line: Option<u64>) -> Result<Value, AllocError>
-    ensures { IfOk result (λ v. view v ≡ breakpoint_set id address line) }
-{
-    let told = Object::new(alloc)
-        .count("id", id)
-        .text("instructionReference", reference(alloc, address))
-        .flag("verified", true);
-    match line {
-        Some(line) => told.count("line", line).build(),
-        None => told.build(),
-    }
-}
-
-/// Returns what is answered of a breakpoint that is not set, with words of why.
-fn told_unset(alloc: Global, id: u64, line: Option<u64>, words: &str) -> Result<Value, AllocError>
-    ensures { IfOk result (λ v. view v ≡ breakpoint_unset id line words.now) }
-{
-    let told = Object::new(alloc)
-        .count("id", id)
-        .word("message", words)
-        .flag("verified", false);
-    match line {
-        Some(line) => told.count("line", line).build(),
-        None => told.build(),
-    }
-}
-
 /// Returns what is answered of a breakpoint of a number: whether it is set, if it stands at an
 /// address.
 fn answer(
@@ -207,19 +176,19 @@ fn answer(
     counting: Counting,
     id: u64,
     wanted: &Wanted,
-) -> Result<Value, AllocError>
-    ensures { IfOk result (λ v. view v ≡ answer_of session.now counting id wanted.now) }
+) -> Result<Item, AllocError>
+    ensures { IfOk result (λ v. item_view v ≡ answer_of session.now counting id wanted.now) }
 {
     let line = shown(counting, wanted.line);
     match wanted.address {
         Some(address) => {
             if is_break(session, address) {
-                told_set(alloc, id, address, line)
+                Ok(Item::BreakpointSet { id, address, line })
             } else {
-                told_unset(alloc, id, line, NO_ROOM)
+                breakpoint_unset(alloc, id, line, NO_ROOM)
             }
         }
-        None => told_unset(alloc, id, line, wanted.words.as_str()),
+        None => breakpoint_unset(alloc, id, line, wanted.words.as_str()),
     }
 }
 
@@ -230,17 +199,17 @@ fn answers(
     counting: Counting,
     first: u64,
     told: &[Wanted],
-) -> Result<Value, AllocError>
-    ensures { IfOk result (λ v. view v
+) -> Result<Answer, AllocError>
+    ensures { IfOk result (λ v. answer_view v
         ≡ breakpoints_body (answers_of session.now counting first told.now)) }
 {
-    let mut list = ValueList::new(alloc);
+    let mut list = ItemList::new(alloc);
     let mut id = first;
     for wanted in told {
         list = list.with(answer(alloc, session, counting, id, wanted));
         id = next_number(id);
     }
-    list_body(alloc, "breakpoints", list)
+    breakpoints_body(list)
 }
 
 /// Appends where a breakpoint stands, if it stands somewhere.
@@ -278,12 +247,12 @@ fn set_list(
     counting: Counting,
     first: u64,
     list: List,
-) -> Result<Value, AllocError>
+) -> Result<Answer, AllocError>
     ensures place { OnOk result (place_of mon.new
         ≡ all_set list.stops.items (all_cleared held.old.items (place_of mon.old))) }
     ensures held { OnOk result (held.new.items ≡ placed_of first list.told.items) }
     ensures kept { KeepsEvents mon.old mon.new }
-    ensures answer { IfOk result (λ v. view v
+    ensures answer { IfOk result (λ v. answer_view v
         ≡ breakpoints_body (answers_of mon.new.session counting first list.told.items)) }
 {
     let List { told, stops } = list;
@@ -304,10 +273,10 @@ pub fn set_lines(
     listed: &mut Listed,
     source: &Source<'_>,
     wanted: LineList,
-) -> Result<Value, AllocError>
+) -> Result<Answer, AllocError>
     ensures sets { IfOk result (λ v. SetsLines source.now.counting
         (option_map (λ a. a.now) source.now.assembly) wanted listed.old.lines.items
-        listed.new.lines.items mon.old mon.new (view v)) }
+        listed.new.lines.items mon.old mon.new (answer_view v)) }
     ensures kept { KeepsEvents mon.old mon.new }
     ensures addresses { listed.new.addresses ≡ listed.old.addresses }
     ensures functions { listed.new.functions ≡ listed.old.functions }
@@ -330,9 +299,9 @@ pub fn set_addresses(
     listed: &mut Listed,
     counting: Counting,
     wanted: AddressList,
-) -> Result<Value, AllocError>
+) -> Result<Answer, AllocError>
     ensures sets { IfOk result (λ v. SetsAddresses counting wanted
-        listed.old.addresses.items listed.new.addresses.items mon.old mon.new (view v)) }
+        listed.old.addresses.items listed.new.addresses.items mon.old mon.new (answer_view v)) }
     ensures kept { KeepsEvents mon.old mon.new }
     ensures lines { listed.new.lines ≡ listed.old.lines }
     ensures functions { listed.new.functions ≡ listed.old.functions }
@@ -355,9 +324,9 @@ pub fn set_functions(
     listed: &mut Listed,
     counting: Counting,
     wanted: FunctionList,
-) -> Result<Value, AllocError>
+) -> Result<Answer, AllocError>
     ensures sets { IfOk result (λ v. SetsFunctions counting wanted
-        listed.old.functions.items listed.new.functions.items mon.old mon.new (view v)) }
+        listed.old.functions.items listed.new.functions.items mon.old mon.new (answer_view v)) }
     ensures kept { KeepsEvents mon.old mon.new }
     ensures lines { listed.new.lines ≡ listed.old.lines }
     ensures addresses { listed.new.addresses ≡ listed.old.addresses }
@@ -370,14 +339,15 @@ pub fn set_functions(
 }
 
 /// Returns what is answered of breakpoints of another source than that of the session.
-fn none_set(alloc: Global, listed: &[SourceBreakpoint]) -> Result<Value, AllocError>
-    ensures { IfOk result (λ v. view v ≡ breakpoints_body (each answer_elsewhere listed.now)) }
+fn none_set(alloc: Global, listed: &[SourceBreakpoint]) -> Result<Answer, AllocError>
+    ensures { IfOk result
+        (λ v. answer_view v ≡ breakpoints_body (each answer_elsewhere listed.now)) }
 {
-    let mut list = ValueList::new(alloc);
+    let mut list = ItemList::new(alloc);
     for _ in listed {
         list = list.with(data_unwatched(alloc, OTHER_SOURCE));
     }
-    list_body(alloc, "breakpoints", list)
+    breakpoints_body(list)
 }
 
 /// Sets the breakpoints that a client wants in the source with a path, in place of those before, if
@@ -391,10 +361,10 @@ pub fn set_source<H: Files + AllocGlobal>(
     source: &Source<'_>,
     path: &str,
     wanted: LineList,
-) -> Result<Value, AllocError>
+) -> Result<Answer, AllocError>
     ensures sets { IfOk result (λ v. SetsSource source.now.counting source.now.path.now
         (option_map (λ a. a.now) source.now.assembly) path.now wanted listed.old listed.new
-        mon.old mon.new (view v)) }
+        mon.old mon.new (answer_view v)) }
     ensures kept { KeepsEvents mon.old mon.new }
     ensures addresses { listed.new.addresses ≡ listed.old.addresses }
     ensures functions { listed.new.functions ≡ listed.old.functions }

@@ -1,21 +1,19 @@
 //! A register, a flag, the cycles, or the byte at a place.
 
-ghost use Rattle.std.specs.Prelude.{◌≡◌, ℕ, IfOk, List, option_map, string_bytes};
+ghost use Rattle.std.specs.Prelude.{◌≡◌, IfOk, option_map, string_bytes};
 ghost use Rattle.dap_views.specs.Looks.{address_looked, byte_or_shown, capital_register, look_address};
-ghost use Rattle.dap_views.specs.Looks.{look_at, look_body, look_named, look_shown, look_text};
+ghost use Rattle.dap_views.specs.Looks.{look_at, look_named, look_shown, look_text};
 ghost use Rattle.dap_views.specs.Looks.{look_words, looked_text, named_otherwise, own_variable};
 ghost use Rattle.dap_views.specs.Looks.{place_named};
 ghost use Rattle.dap_views.specs.Named.{value_byte, value_shown};
-ghost use Rattle.serde_json.specs.View.{view};
+ghost use Rattle.dap_messages.specs.SeenAnswers.{answer_view};
 
 use crate::named::{Variable, flag_or_register, value_byte, value_shown};
 use crate::texts::{byte_text, number_text};
-use dap_messages::reference;
-use json_messages::Object;
+use dap_messages::{Answer, look_body};
 use mon_line_parts::is_same_word;
 use mon_lines::{Register, read_place};
 use mon_session::MonState;
-use serde_json::Value;
 use std::alloc::{AllocError, Global};
 
 /// What is looked at.
@@ -135,40 +133,17 @@ fn look_words(alloc: Global, mon: &MonState, look: Look) -> Result<String, Alloc
     }
 }
 
-/// Returns what a look is answered by, if memory did not run out for its value. A byte of memory
-/// has a reference to its address.
-fn look_body(
-    alloc: Global,
-    address: Option<u16>,
-    words: Result<String, AllocError>,
-) -> Result<Value, AllocError>
-    ensures { (bytes : List ℕ) → IfOk words (λ s. string_bytes s ≡ bytes)
-        → IfOk result (λ v. view v ≡ look_body address bytes) }
-{
-    match address {
-        Some(address) => Object::new(alloc)
-            .text("memoryReference", reference(alloc, address))
-            .text("result", words)
-            .count("variablesReference", 0)
-            .build(),
-        None => Object::new(alloc)
-            .text("result", words)
-            .count("variablesReference", 0)
-            .build(),
-    }
-}
-
 /// Returns what a look is answered by.
-fn look_shown(alloc: Global, mon: &MonState, look: Look) -> Result<Value, AllocError>
-    ensures { IfOk result (λ v. view v ≡ look_shown mon.now.session.current look) }
+fn look_shown(alloc: Global, mon: &MonState, look: Look) -> Result<Answer, AllocError>
+    ensures { IfOk result (λ v. answer_view v ≡ look_shown mon.now.session.current look) }
 {
-    look_body(alloc, look_address(look), look_words(alloc, mon, look))
+    look_body(look_address(look), look_words(alloc, mon, look))
 }
 
 /// Returns what a text names, as it is shown where a client looks at it: `None` if it names
 /// nothing. The status register has B clear.
-pub fn look_at(alloc: Global, mon: &MonState, text: &str) -> Result<Option<Value>, AllocError>
-    ensures { IfOk result (λ found. option_map view found
+pub fn look_at(alloc: Global, mon: &MonState, text: &str) -> Result<Option<Answer>, AllocError>
+    ensures { IfOk result (λ found. option_map answer_view found
         ≡ look_at mon.now.session.current mon.now.places text.now) }
 {
     let Some(look) = look_named(mon, text) else {

@@ -2,14 +2,12 @@
 
 ghost use Rattle.std.specs.Prelude.{◌≡◌, ◌+◌, ◌≤◌, IfOk, string_bytes};
 ghost use Rattle.dap_views.specs.Memory.{bytes_text, memory_shown};
-ghost use Rattle.serde_json.specs.View.{view};
+ghost use Rattle.dap_messages.specs.SeenAnswers.{answer_view};
 
 use base64::engine::general_purpose::STANDARD;
-use dap_messages::reference;
-use json_messages::Object;
+use dap_messages::{Answer, memory_body};
 use mon_runs::Session;
 use mon_session::MonState;
-use serde_json::Value;
 use std::alloc::{AllocError, Global};
 
 /// Returns so many bytes from an address on, in Base64.
@@ -37,17 +35,14 @@ pub fn memory_shown(
     mon: &MonState,
     address: Option<u16>,
     count: u32,
-) -> Result<Value, AllocError>
-    ensures { IfOk result (λ v. view v
+) -> Result<Answer, AllocError>
+    ensures { IfOk result (λ v. answer_view v
         ≡ memory_shown mon.now.session.current.bus.memory address count) }
 {
     let (first, most) = match address {
         Some(first) => (first, count.min(65536 - u32::from(first))),
         None => (0, 0),
     };
-    Object::new(alloc)
-        .text("address", reference(alloc, first))
-        .text("data", bytes_text(alloc, &mon.session, first, most))
-        .count("unreadableBytes", u64::from(count - most))
-        .build()
+    let text = bytes_text(alloc, &mon.session, first, most);
+    memory_body(first, text, u64::from(count - most))
 }

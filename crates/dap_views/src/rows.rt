@@ -5,20 +5,18 @@ ghost use Rattle.std.specs.Prelude.{string_bytes};
 ghost use Rattle.dap_views.specs.Rows.{ahead, behind, behind_row, disassembled, joined};
 ghost use Rattle.dap_views.specs.Rows.{lacking_rows, next_row, row_bytes, row_of, row_on, row_text};
 ghost use Rattle.dap_views.specs.Rows.{rows, rows_around, rows_on, rows_to};
-ghost use Rattle.dap_views.specs.Values.{no_instruction};
-ghost use Rattle.json_messages.specs.ValueLists.{HasValues};
-ghost use Rattle.serde_json.specs.Data.{Data};
-ghost use Rattle.serde_json.specs.View.{view};
+ghost use Rattle.dap_messages.specs.ItemLists.{HasItems};
+ghost use Rattle.dap_messages.specs.SeenAnswers.{SeenItem, answer_view, item_view};
 
 use crate::source::Source;
 use crate::texts::as_text;
-use dap_messages::reference;
+use dap_messages::{
+    Answer, Item, ItemList, instruction_at_line, instruction_row, instructions_body, no_instruction,
+};
 use disasm::line_in;
 use formatting::{push_byte, push_text};
-use json_messages::{Object, ValueList};
 use mon_instructions::{push_instruction, push_listed};
 use mon_session::MonState;
-use serde_json::Value;
 use std::alloc::{AllocError, Global};
 
 /// Behind the memory.
@@ -148,37 +146,19 @@ fn row_on(
     bytes: Result<String, AllocError>,
     text: Result<String, AllocError>,
     line: Option<u32>,
-) -> Result<Value, AllocError>
+) -> Result<Item, AllocError>
     ensures { (b t : List ℕ) → IfOk bytes (λ s. string_bytes s ≡ b)
         → IfOk text (λ s. string_bytes s ≡ t)
-        → IfOk result (λ v. view v
+        → IfOk result (λ v. item_view v
         ≡ row_on source.now.path.now source.now.counting address b t line) }
 {
-    let row = Object::new(alloc)
-        .text("address", reference(alloc, address))
-        .text("instruction", text)
-        .text("instructionBytes", bytes);
     match line {
         Some(line) => {
-            let place = Object::new(alloc).word("path", source.path).build();
-            row.count("line", source.counting.shown_line(line))
-                .member("location", place)
-                .build()
+            let line = source.counting.shown_line(line);
+            instruction_at_line(alloc, address, bytes, text, line, source.path)
         }
-        None => row.build(),
+        None => instruction_row(address, bytes, text),
     }
-}
-
-/// Returns a row where no memory is, if memory did not run out for its address.
-fn no_row(alloc: Global, address: Result<String, AllocError>) -> Result<Value, AllocError>
-    ensures { (a : List ℕ) → IfOk address (λ s. string_bytes s ≡ a)
-        → IfOk result (λ v. view v ≡ no_instruction a) }
-{
-    Object::new(alloc)
-        .text("address", address)
-        .word("instruction", "")
-        .word("presentationHint", "invalid")
-        .build()
 }
 
 /// Returns the row of some bytes at an address, an instruction or data, which may begin a line of
@@ -189,12 +169,12 @@ fn row_of(
     source: &Source<'_>,
     address: u32,
     len: u8,
-) -> Result<Value, AllocError>
-    ensures { IfOk result (λ v. view v ≡ row_of mon.now source.now.path.now
+) -> Result<Item, AllocError>
+    ensures { IfOk result (λ v. item_view v ≡ row_of mon.now source.now.path.now
         source.now.counting address len) }
 {
     if address >= BEHIND {
-        return no_row(alloc, format!(in alloc; "{address}"));
+        return no_instruction(format!(in alloc; "{address}"));
     }
     let address = address as u16;
     let mut column = Vec::new(alloc);
@@ -206,20 +186,20 @@ fn row_of(
     row_on(alloc, source, address, bytes, text, line)
 }
 
-/// Returns a list with so many rows from an address on behind its values.
+/// Returns a list with so many rows from an address on behind its items.
 fn with_rows(
     alloc: Global,
-    values: ValueList,
+    front: ItemList,
     mon: &MonState,
     source: &Source<'_>,
     until: u32,
     count: u32,
     from: u32,
-) -> Result<ValueList, AllocError>
-    ensures { (ds : List Data) → HasValues ds values → IfOk result (HasValues (ds
+) -> Result<ItemList, AllocError>
+    ensures { (ds : List SeenItem) → HasItems ds front → IfOk result (HasItems (ds
         ++ rows mon.now source.now.path.now source.now.counting until count from)) }
 {
-    let mut list = values;
+    let mut list = front;
     let mut address = from;
     for _ in 0..count {
         let len = row_len(alloc, mon, until, address)?;
@@ -231,13 +211,13 @@ fn with_rows(
 
 /// Returns rows in front of the memory, at most so many, of which the first is so many bytes before
 /// it.
-fn lacking_rows(alloc: Global, count: u32, lacking: u32) -> ValueList
-    ensures { HasValues (lacking_rows count lacking) result }
+fn lacking_rows(alloc: Global, count: u32, lacking: u32) -> ItemList
+    ensures { HasItems (lacking_rows count lacking) result }
 {
-    let mut list = ValueList::new(alloc);
+    let mut list = ItemList::new(alloc);
     let mut before = lacking;
     for _ in 0..count {
-        list = list.with(no_row(alloc, format!(in alloc; "-{before}")));
+        list = list.with(no_instruction(format!(in alloc; "-{before}")));
         before = before.saturating_sub(1);
     }
     list
@@ -269,8 +249,8 @@ fn rows_around(
     until: u16,
     offset: i64,
     count: u32,
-) -> Result<ValueList, AllocError>
-    ensures { IfOk result (HasValues (rows_around mon.now source.now.path.now
+) -> Result<ItemList, AllocError>
+    ensures { IfOk result (HasItems (rows_around mon.now source.now.path.now
         source.now.counting until (behind offset) (ahead offset) count)) }
 {
     let until = u32::from(until);
@@ -295,16 +275,14 @@ pub fn disassembled(
     address: Option<u16>,
     offset: i64,
     count: u32,
-) -> Result<Value, AllocError>
-    ensures { IfOk result (λ v. view v ≡ disassembled mon.now source.now.path.now
+) -> Result<Answer, AllocError>
+    ensures { IfOk result (λ v. answer_view v ≡ disassembled mon.now source.now.path.now
         source.now.counting address offset count) }
 {
     let rows = match address {
         Some(until) => rows_around(alloc, mon, source, until, offset, count),
-        None => with_rows(alloc, ValueList::new(alloc), mon, source, 0, count, BEHIND),
+        None => with_rows(alloc, ItemList::new(alloc), mon, source, 0, count, BEHIND),
     };
     let list = rows?;
-    Object::new(alloc)
-        .member("instructions", list.build())
-        .build()
+    instructions_body(list)
 }

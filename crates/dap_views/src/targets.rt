@@ -2,36 +2,28 @@
 
 ghost use Rattle.std.specs.Prelude.{IfOk, option_map};
 ghost use Rattle.dap_views.specs.Targets.{AreTargets, own_targets};
-ghost use Rattle.json_messages.specs.ValueLists.{HasValues};
-ghost use Rattle.serde_json.specs.View.{view};
+ghost use Rattle.dap_messages.specs.ItemLists.{HasItems};
+ghost use Rattle.dap_messages.specs.SeenAnswers.{answer_view};
 
 use crate::source::Source;
-use crate::values::list_body;
 use crate::wanted::row_in;
 use arguments::is_one_file;
-use dap_messages::{address_text, reference};
-use json_messages::{Object, ValueList};
-use serde_json::Value;
+use dap_messages::{Answer, Item, ItemList, targets_body};
 use std::alloc::{AllocError, Global};
 use std::rt::Files;
 
 /// Returns the first line with bytes at the line of a number or behind it, with its address, as
 /// what can be gone to. There is none if no such line has bytes, or no line is named.
-fn own_targets(alloc: Global, source: &Source<'_>, line: Option<u64>) -> ValueList
-    ensures { HasValues (own_targets source.now.counting
+fn own_targets(alloc: Global, source: &Source<'_>, line: Option<u64>) -> ItemList
+    ensures { HasItems (own_targets source.now.counting
         (option_map (λ a. a.now) source.now.assembly) line) result }
 {
     match row_in(source, source.counting.own_line(line)) {
         Some((line, address)) => {
-            let target = Object::new(alloc)
-                .count("id", address as u64)
-                .text("instructionPointerReference", reference(alloc, address))
-                .text("label", address_text(alloc, address))
-                .count("line", source.counting.shown_line(line))
-                .build();
-            ValueList::new(alloc).with(target)
+            let line = source.counting.shown_line(line);
+            ItemList::new(alloc).with(Ok(Item::GotoTarget { address, line }))
         }
-        None => ValueList::new(alloc),
+        None => ItemList::new(alloc),
     }
 }
 
@@ -42,13 +34,13 @@ pub fn goto_targets<H: Files + AllocGlobal>(
     source: &Source<'_>,
     path: &str,
     line: Option<u64>,
-) -> Result<Value, AllocError>
+) -> Result<Answer, AllocError>
     ensures { IfOk result (λ v. AreTargets source.now.counting source.now.path.now
-        (option_map (λ a. a.now) source.now.assembly) path.now line (view v)) }
+        (option_map (λ a. a.now) source.now.assembly) path.now line (answer_view v)) }
 {
     let alloc = rt.alloc();
     if is_one_file(rt, path, source.path) {
-        return list_body(alloc, "targets", own_targets(alloc, source, line));
+        return targets_body(own_targets(alloc, source, line));
     }
-    list_body(alloc, "targets", ValueList::new(alloc))
+    targets_body(ItemList::new(alloc))
 }

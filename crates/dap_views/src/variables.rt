@@ -6,22 +6,21 @@ ghost use Rattle.dap_messages.specs.declared.request.Page.{Page};
 ghost use Rattle.dap_views.specs.Pages.{IsPage};
 ghost use Rattle.dap_views.specs.Scopes.{cell, cells, listed, machine_shown, scope_shown};
 ghost use Rattle.dap_views.specs.Scopes.{symbols_shown, variables_shown, word_at, word_shown};
-ghost use Rattle.dap_views.specs.Variables.{bit_text, byte_variable, byte_with, flag_variable};
-ghost use Rattle.dap_views.specs.Variables.{flags_shown, number_variable, plain_variable};
-ghost use Rattle.dap_views.specs.Variables.{register_text, register_variable, registers_shown};
-ghost use Rattle.dap_views.specs.Variables.{variable, word_number};
-ghost use Rattle.serde_json.specs.View.{view};
+ghost use Rattle.dap_views.specs.Variables.{bit_text, byte_variable, flag_variable, flags_shown};
+ghost use Rattle.dap_views.specs.Variables.{number_variable, register_text, register_variable};
+ghost use Rattle.dap_views.specs.Variables.{registers_shown};
+ghost use Rattle.dap_messages.specs.SeenAnswers.{answer_view, item_view};
 ghost use Rattle.source_map.specs.Names.{named};
 
 use crate::paged::Paged;
 use crate::texts::{number_text, value_text};
-use dap_messages::{Page, Scope, address_text, reference};
-use json_messages::Object;
+use dap_messages::{
+    Answer, Item, Page, Scope, address_text, plain_variable, variable, variable_at, variables_body,
+};
 use model::{Flags, Regs};
 use mon_lines::Register;
 use mon_runs::Session;
 use mon_session::MonState;
-use serde_json::Value;
 use source_map::Name;
 use std::alloc::{AllocError, Global};
 
@@ -50,76 +49,11 @@ pub fn bit_text(alloc: Global, is_set: bool) -> Result<String, AllocError>
     }
 }
 
-/// Returns a variable of a name, with its value, if memory did not run out for that.
-fn variable(
-    alloc: Global,
-    name: &str,
-    value: Result<String, AllocError>,
-) -> Result<Value, AllocError>
-    ensures { (bytes : List ℕ) → IfOk value (λ s. string_bytes s ≡ bytes)
-        → IfOk result (λ v. view v ≡ variable name.now bytes) }
-{
-    Object::new(alloc)
-        .word("evaluateName", name)
-        .word("name", name)
-        .text("value", value)
-        .count("variablesReference", 0)
-        .build()
-}
-
-/// Returns a variable that no expression stands for, with its value, if memory did not run out for
-/// that.
-fn plain_variable(
-    alloc: Global,
-    name: &str,
-    value: Result<String, AllocError>,
-) -> Result<Value, AllocError>
-    ensures { (bytes : List ℕ) → IfOk value (λ s. string_bytes s ≡ bytes)
-        → IfOk result (λ v. view v ≡ plain_variable name.now bytes) }
-{
-    Object::new(alloc)
-        .word("name", name)
-        .text("value", value)
-        .count("variablesReference", 0)
-        .build()
-}
-
-/// Returns the number by which the word at an address is asked for, if it lies in the zero page:
-/// else 0.
-fn word_number(address: u16) -> u64
-    ensures { result ≡ word_number address }
-{
-    if address < 255 {
-        65536 + u64::from(address)
-    } else {
-        0
-    }
-}
-
-/// Returns the byte at an address as a variable, with the number by which its own are asked for.
-fn byte_with(
-    alloc: Global,
-    name: &str,
-    address: u16,
-    byte: u8,
-    number: u64,
-) -> Result<Value, AllocError>
-    ensures { IfOk result (λ v. view v ≡ byte_with name.now address byte number) }
-{
-    Object::new(alloc)
-        .word("evaluateName", name)
-        .text("memoryReference", reference(alloc, address))
-        .word("name", name)
-        .text("value", value_text(alloc, byte))
-        .count("variablesReference", number)
-        .build()
-}
-
 /// Returns the byte at an address as a variable.
-fn byte_variable(alloc: Global, name: &str, address: u16, byte: u8) -> Result<Value, AllocError>
-    ensures { IfOk result (λ v. view v ≡ byte_variable name.now address byte) }
+fn byte_variable(alloc: Global, name: &str, address: u16, byte: u8) -> Result<Item, AllocError>
+    ensures { IfOk result (λ v. item_view v ≡ byte_variable name.now address byte) }
 {
-    byte_with(alloc, name, address, byte, word_number(address))
+    variable_at(alloc, name, address, value_text(alloc, byte))
 }
 
 /// Returns a register as a variable.
@@ -128,22 +62,22 @@ fn register_variable(
     name: &str,
     regs: Regs,
     register: Register,
-) -> Result<Value, AllocError>
-    ensures { IfOk result (λ v. view v ≡ register_variable name.now regs register) }
+) -> Result<Item, AllocError>
+    ensures { IfOk result (λ v. item_view v ≡ register_variable name.now regs register) }
 {
     variable(alloc, name, register_text(alloc, regs, register))
 }
 
 /// Returns a flag as a variable.
-fn flag_variable(alloc: Global, name: &str, is_set: bool) -> Result<Value, AllocError>
-    ensures { IfOk result (λ v. view v ≡ flag_variable name.now is_set) }
+fn flag_variable(alloc: Global, name: &str, is_set: bool) -> Result<Item, AllocError>
+    ensures { IfOk result (λ v. item_view v ≡ flag_variable name.now is_set) }
 {
     plain_variable(alloc, name, bit_text(alloc, is_set))
 }
 
 /// Returns a number in decimal as a variable.
-fn number_variable(alloc: Global, name: &str, number: u64) -> Result<Value, AllocError>
-    ensures { IfOk result (λ v. view v ≡ number_variable name.now number) }
+fn number_variable(alloc: Global, name: &str, number: u64) -> Result<Item, AllocError>
+    ensures { IfOk result (λ v. item_view v ≡ number_variable name.now number) }
 {
     plain_variable(alloc, name, number_text(alloc, number))
 }
@@ -179,9 +113,9 @@ fn byte_named(
     name: Result<String, AllocError>,
     address: u16,
     byte: u8,
-) -> Result<Value, AllocError>
+) -> Result<Item, AllocError>
     ensures { (bytes : List ℕ) → IfOk name (λ s. string_bytes s ≡ bytes)
-        → IfOk result (λ v. view v ≡ byte_variable bytes address byte) }
+        → IfOk result (λ v. item_view v ≡ byte_variable bytes address byte) }
 {
     let name = name?;
     byte_variable(alloc, name.as_str(), address, byte)
@@ -235,8 +169,8 @@ fn word_at(session: &Session, address: u16) -> u16
 }
 
 /// Returns the byte at an address as a variable under its address.
-fn cell(alloc: Global, session: &Session, address: u16) -> Result<Value, AllocError>
-    ensures { IfOk result (λ v. view v ≡ cell session.now.current.bus.memory address) }
+fn cell(alloc: Global, session: &Session, address: u16) -> Result<Item, AllocError>
+    ensures { IfOk result (λ v. item_view v ≡ cell session.now.current.bus.memory address) }
 {
     let name = address_text(alloc, address);
     byte_named(alloc, name, address, session.peek(address))
@@ -287,10 +221,10 @@ pub fn variables_shown(
     mon: &MonState,
     scope: Option<Scope>,
     asked: Page,
-) -> Result<Value, AllocError>
-    ensures { IfOk result (λ v. view v
+) -> Result<Answer, AllocError>
+    ensures { IfOk result (λ v. answer_view v
         ≡ variables_shown mon.now.session mon.now.places.names scope asked) }
 {
     let page = listed(alloc, Paged::new(alloc, asked), mon, scope);
-    Object::new(alloc).member("variables", page.build()).build()
+    variables_body(page.build())
 }

@@ -1,21 +1,21 @@
 //! Bytes that are watched: each list of them replaces the one before.
 
 ghost use Rattle.std.specs.Prelude.{◌≡◌, IfOk, OnOk, Some, map as each};
-ghost use Rattle.dap_messages.specs.Answers.{breakpoints_body};
+ghost use Rattle.dap_messages.specs.SeenAnswers.{breakpoints_body};
 ghost use Rattle.dap_views.specs.Watches.{KeepsBreaks, SetsWatches, TellsWatches, all_unset};
 ghost use Rattle.dap_views.specs.Watches.{data_shown, has_bytes, is_watched, told_of};
 ghost use Rattle.dap_views.specs.Watches.{watched_of, watches_of, with_all};
-ghost use Rattle.serde_json.specs.View.{view};
+ghost use Rattle.dap_messages.specs.SeenAnswers.{answer_view, item_view};
 
 use crate::looks::place_named;
-use crate::values::{data_at, data_unwatched, list_body};
-use dap_messages::{Access, DataBreakpoint, Listed, Scope};
-use json_messages::{Object, ValueList};
+use dap_messages::{
+    Access, Answer, DataBreakpoint, Item, ItemList, Listed, Scope, breakpoints_body,
+    data_unwatched, no_data,
+};
 use mon_lines::{Stretch, WatchKind};
 use mon_runs::{Session, Stops, Watch};
 use mon_session::MonState;
 use mon_settings::set_watch;
-use serde_json::Value;
 use std::alloc::{AllocError, Global};
 
 /// What is said of a name that stands for no byte.
@@ -40,8 +40,8 @@ pub fn data_shown(
     mon: &MonState,
     scope: Option<Scope>,
     name: &str,
-) -> Result<Value, AllocError>
-    ensures { IfOk result (λ v. view v ≡ data_shown mon.now scope name.now) }
+) -> Result<Answer, AllocError>
+    ensures { IfOk result (λ v. answer_view v ≡ data_shown mon.now scope name.now) }
 {
     let found = if has_bytes(scope) {
         place_named(mon, name)
@@ -49,11 +49,8 @@ pub fn data_shown(
         None
     };
     match found {
-        Some(address) => data_at(alloc, address),
-        None => Object::new(alloc)
-            .member("dataId", Ok(Value::Null))
-            .word("description", NO_DATA)
-            .build(),
+        Some(address) => Ok(Answer::DataAt(address)),
+        None => no_data(alloc, NO_DATA),
     }
 }
 
@@ -110,13 +107,13 @@ fn is_watched(stops: &Stops, address: u16, access: Access) -> bool
 }
 
 /// Returns what is answered of a byte that a client wants watched.
-fn told(alloc: Global, stops: &Stops, wanted: &DataBreakpoint) -> Result<Value, AllocError>
-    ensures { IfOk result (λ v. view v ≡ told_of stops.now.watches.items wanted.now) }
+fn told(alloc: Global, stops: &Stops, wanted: &DataBreakpoint) -> Result<Item, AllocError>
+    ensures { IfOk result (λ v. item_view v ≡ told_of stops.now.watches.items wanted.now) }
 {
     match wanted.address {
         Some(address) => {
             if is_watched(stops, address, wanted.access) {
-                Object::new(alloc).flag("verified", true).build()
+                Ok(Item::Watched)
             } else {
                 data_unwatched(alloc, NOT_WATCHED)
             }
@@ -126,15 +123,15 @@ fn told(alloc: Global, stops: &Stops, wanted: &DataBreakpoint) -> Result<Value, 
 }
 
 /// Returns what is answered of bytes that a client wants watched.
-fn all_told(alloc: Global, stops: &Stops, listed: &[DataBreakpoint]) -> Result<Value, AllocError>
-    ensures { IfOk result
-        (λ v. view v ≡ breakpoints_body (each (told_of stops.now.watches.items) listed.now)) }
+fn all_told(alloc: Global, stops: &Stops, listed: &[DataBreakpoint]) -> Result<Answer, AllocError>
+    ensures { IfOk result (λ v. answer_view v
+        ≡ breakpoints_body (each (told_of stops.now.watches.items) listed.now)) }
 {
-    let mut list = ValueList::new(alloc);
+    let mut list = ItemList::new(alloc);
     for wanted in listed {
         list = list.with(told(alloc, stops, wanted));
     }
-    list_body(alloc, "breakpoints", list)
+    breakpoints_body(list)
 }
 
 /// Watches the bytes that a client wants watched, in place of all that were watched, and returns
@@ -147,14 +144,14 @@ pub fn set_data(
     mon: &mut MonState,
     listed: &mut Listed,
     wanted: Vec<DataBreakpoint>,
-) -> Result<Value, AllocError>
+) -> Result<Answer, AllocError>
     ensures sets { OnOk result (SetsWatches wanted.items mon.old mon.new) }
     ensures kept { KeepsBreaks mon.old mon.new }
     ensures lines { listed.new.lines ≡ listed.old.lines }
     ensures addresses { listed.new.addresses ≡ listed.old.addresses }
     ensures functions { listed.new.functions ≡ listed.old.functions }
     ensures answer { IfOk result
-        (λ v. TellsWatches wanted.items mon.new.stops.watches.items (view v)) }
+        (λ v. TellsWatches wanted.items mon.new.stops.watches.items (answer_view v)) }
     ensures held { OnOk result (listed.new.last_bytes ≡ Some wanted) }
     ensures others { (listed.new.last_lines ≡ listed.old.last_lines)
         × (listed.new.last_addresses ≡ listed.old.last_addresses)

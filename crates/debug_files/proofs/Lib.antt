@@ -1,1 +1,4 @@
+pub mod Bytes
 pub mod NameStarts
+pub mod Told
+pub mod Undebugged

@@ -1,3 +1,5 @@
 pub mod Loads
 pub mod Paths
 pub mod Told
+pub mod Changed
+pub mod Loaded

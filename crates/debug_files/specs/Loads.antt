@@ -1,6 +1,6 @@
 -- What stands where in a program by the debug information of a file. No clause can say whether memory
 -- is there, nor what is in a file. Source: mos65.
-use Rattle.std.specs.Prelude.{◌≡◌, ℕ, ⊤, List, [], map, Option, None, Some, Ok, Err}
+use Rattle.std.specs.Prelude.{◌≡◌, ℕ, List, [], map, Option, None, Some, Ok, Err}
 use Rattle.arguments.specs.Files.{EndsReading}
 use Rattle.arguments.specs.declared.load_fault.LoadFault.{LoadFault}
 use Rattle.arguments.specs.declared.load_fault.LoadFault.TheVariants.{Refused}

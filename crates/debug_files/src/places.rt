@@ -4,7 +4,7 @@ ghost use Rattle.std.specs.Prelude.{◌≡◌, IfErr, IfOk};
 ghost use Rattle.debug_files.specs.Loads.{AreDebugPlaces, EndsDebug};
 
 use crate::faults::load_fault;
-use crate::sources::{of_memory, sources_of};
+use crate::sources::{Sources, of_memory, sources_of};
 use arguments::{LoadFault, read_most};
 use debug_records::read_debug_info;
 use memory_map::Image;
@@ -14,6 +14,14 @@ use std::rt::Files;
 
 /// One byte more than the longest debug file.
 const MOST: u64 = 16_777_217;
+
+/// What stands where in a program by a debug file, and the names of its sources that have changed
+/// since it was made.
+#[derive(Drop)]
+pub struct DebugPlaces {
+    pub places: Places,
+    pub changed: Vec<u8>,
+}
 
 /// Reads a debug file and the sources that it names, and returns what stands where in a program,
 /// without names. The image has the bytes of the program where it runs. Relative names of sources
@@ -29,9 +37,9 @@ pub fn load_places<H: Files + AllocGlobal>(
     root: Option<&str>,
     profile: Profile,
     image: &Image,
-) -> Result<Places, LoadFault>
-    ensures places { IfOk result
-        (AreDebugPlaces (record { profile = profile; image = image.now })) }
+) -> Result<DebugPlaces, LoadFault>
+    ensures places { IfOk result (λ debug.
+        AreDebugPlaces (record { profile = profile; image = image.now }) debug.places) }
     ensures refused { IfErr result EndsDebug }
 {
     let text = read_most(rt, file, MOST)?;
@@ -39,7 +47,7 @@ pub fn load_places<H: Files + AllocGlobal>(
         Ok(info) => info,
         Err(error) => return Err(load_fault(error)),
     };
-    let sources = sources_of(rt, file, root, info.files.as_slice())?;
-    let places = of_memory(Places::of_debug(rt.alloc(), profile, image, &info, sources))?;
-    Ok(places)
+    let Sources { files, changed } = sources_of(rt, file, root, info.files.as_slice())?;
+    let places = of_memory(Places::of_debug(rt.alloc(), profile, image, &info, files))?;
+    Ok(DebugPlaces { places, changed })
 }

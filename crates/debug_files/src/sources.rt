@@ -5,11 +5,12 @@ ghost use Rattle.debug_files.specs.Loads.{named, names_in};
 ghost use Rattle.debug_records.specs.Views.{file_view};
 ghost use Rattle.source_map.specs.Lines.{source_view};
 
+use crate::changed::note_changed;
 use crate::paths::source_path;
 use arguments::{Refusal, read_most};
 use debug_records::File;
 use source_map::SourceFile;
-use std::alloc::{AllocError, Global};
+use std::alloc::AllocError;
 use std::rt::Files;
 
 /// The most bytes of a source that is shown.
@@ -23,15 +24,23 @@ pub fn of_memory<T>(made: Result<T, AllocError>) -> Result<T, Refusal>
     made.map_err(|_| Refusal::OutOfMemory)
 }
 
-/// Returns the text of a source, or none if it cannot be read.
+/// Sources with their texts, and the names of those that have changed since the debug file was
+/// made.
+#[derive(Drop)]
+pub struct Sources {
+    pub files: Vec<SourceFile>,
+    pub changed: Vec<u8>,
+}
+
+/// Returns the bytes of a source, or none if it cannot be read.
 ///
 /// Errors: `OutOfMemory` if an allocation fails.
-fn text_of<H: Files + AllocGlobal>(
+fn bytes_of<H: Files + AllocGlobal>(
     rt: &H,
     file: &str,
     root: Option<&str>,
     name: &[u8],
-) -> Result<Vec<u8>, Refusal>
+) -> Result<Option<Vec<u8>>, Refusal>
     ensures { IfErr result (λ fault. fault ≡ Refusal.OutOfMemory) }
 {
     let root = match root {
@@ -40,13 +49,35 @@ fn text_of<H: Files + AllocGlobal>(
     };
     let path = of_memory(source_path(rt.alloc(), file.as_bytes(), root, name))?;
     let Ok(path) = String::from_utf8(path) else {
-        return Ok(Vec::new(rt.alloc()));
+        return Ok(None);
     };
     match read_most(rt, path.as_str(), LONGEST) {
-        Ok(text) => Ok(text),
+        Ok(text) => Ok(Some(text)),
         Err(Refusal::OutOfMemory) => Err(Refusal::OutOfMemory),
-        Err(_) => Ok(Vec::new(rt.alloc())),
+        Err(_) => Ok(None),
     }
+}
+
+/// Returns the text of a source: none if it cannot be read, or has changed, which is noted.
+///
+/// Errors: `OutOfMemory` if an allocation fails.
+fn text_of<H: Files + AllocGlobal>(
+    rt: &H,
+    file: &str,
+    root: Option<&str>,
+    source: File<'_>,
+    changed: &mut Vec<u8>,
+) -> Result<Vec<u8>, Refusal>
+    ensures { IfErr result (λ fault. fault ≡ Refusal.OutOfMemory) }
+{
+    let Some(text) = bytes_of(rt, file, root, source.name)? else {
+        return Ok(Vec::new(rt.alloc()));
+    };
+    if text.len() == source.size as usize {
+        return Ok(text);
+    }
+    of_memory(note_changed(changed, source.name))?;
+    Ok(Vec::new(rt.alloc()))
 }
 
 /// Returns a source with its text: no name and no text if there is no file of the number.
@@ -57,6 +88,7 @@ fn source_of<H: Files + AllocGlobal>(
     file: &str,
     root: Option<&str>,
     source: Option<File<'_>>,
+    changed: &mut Vec<u8>,
 ) -> Result<SourceFile, Refusal>
     ensures named { IfOk result
         (λ made. (source_view made).name ≡ named (option_map file_view source.entry)) }
@@ -65,14 +97,14 @@ fn source_of<H: Files + AllocGlobal>(
     match source {
         None => of_memory(SourceFile::of_text(rt.alloc(), b"", b"")),
         Some(source) => {
-            let text = text_of(rt, file, root, source.name)?;
+            let text = text_of(rt, file, root, source, changed)?;
             of_memory(SourceFile::of_text(rt.alloc(), source.name, text.as_slice()))
         }
     }
 }
 
 /// Returns the sources that a debug file names, by their numbers, each with its text, as far as it
-/// can be read.
+/// can be read and has the size of which the file tells.
 ///
 /// Errors: `OutOfMemory` if an allocation fails.
 pub fn sources_of<H: Files + AllocGlobal>(
@@ -80,17 +112,21 @@ pub fn sources_of<H: Files + AllocGlobal>(
     file: &str,
     root: Option<&str>,
     files: &[Option<File<'_>>],
-) -> Result<Vec<SourceFile>, Refusal>
-    ensures named { IfOk result (λ sources. names_in (map source_view sources.items)
+) -> Result<Sources, Refusal>
+    ensures named { IfOk result (λ sources. names_in (map source_view sources.files.items)
         ≡ map named (map (option_map file_view) files.now)) }
     ensures refused { IfErr result (λ fault. fault ≡ Refusal.OutOfMemory) }
 {
     let mut sources = Vec::new(rt.alloc());
+    let mut changed = Vec::new(rt.alloc());
     for source in files {
-        let made = source_of(rt, file, root, *source)?;
+        let made = source_of(rt, file, root, *source, &mut changed)?;
         of_memory(pushed(&mut sources, made))?;
     }
-    Ok(sources)
+    Ok(Sources {
+        files: sources,
+        changed,
+    })
 }
 
 /// Appends a source.

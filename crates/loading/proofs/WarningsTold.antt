@@ -1,5 +1,5 @@
 -- What is told of warnings, if there is a source.
-use Rattle.std.proofs.Common.{◌≡◌, ◌++◌, ℕ, Bool, false, List, [], Option, None, Some, refl, subst, sym}
+use Rattle.std.proofs.Common.{◌≡◌, ◌⊎◌, ◌++◌, ℕ, List, [], Option, None, Some, inl, refl, subst, sym}
 use Rattle.std.specs.Borrow.{Bor}
 use Rattle.std.specs.Prelude.{option_map}
 use Rattle.assembler.specs.Assembly.{AssemblyView}
@@ -23,27 +23,21 @@ unfolding warned_text
 nothing = refl
 
 -- Nothing else was told.
-only_by : (omits : Bool) (bus_map : Map) (assembly : Option AssemblyView) (lost : ℕ) (fill : Option ℕ) (heard : Heard) → (omits ≡ false → fill ≡ None)
-    → TellsWarnings bus_map assembly lost fill heard
-    → OnlyWarned omits heard.held heard.now
-only_by omits bus_map None lost fill heard none told = (
-  0,
-  lost,
-  fill,
-  none,
-  subst (λ (text : List ℕ). Tells heard (text ++ left_text lost fill))
-      (sym nothing) told,
-)
-only_by omits bus_map (Some a) lost fill heard none told = (told.0, lost, fill, none, told.2)
+only_by : (base : Option ℕ) (bus_map : Map) (assembly : Option AssemblyView) (lost : ℕ) (fill : Option ℕ) (heard : Heard) → (fill ≡ None) ⊎ (fill ≡ base)
+    → TellsWarnings bus_map assembly lost fill heard → OnlyWarned base heard.held heard.now
+only_by base bus_map None lost fill heard left told =
+    (0, lost, fill, left, subst (λ (text : List ℕ). Tells heard (text ++ left_text lost fill)) (sym nothing) told)
+only_by base bus_map (Some a) lost fill heard left told = (told.0, lost, fill, left, told.2)
 
-pub only_warned : {E : Type 0} (contents : E → Option (List ℕ)) (omits : Bool) (bus_map : Map) (assembly : Option AssemblyView) (lost : ℕ)
-    (fill : Option ℕ) (first told last : E) → last ≡ told
-    → (omits ≡ false → fill ≡ None) → TellsWarnings bus_map assembly lost fill (record { held = contents first; now = contents told })
-    → OnlyWarned omits (contents first) (contents last)
-only_warned contents omits bus_map assembly lost fill first told last same none warned =
-    subst (λ e. OnlyWarned omits (contents first) (contents e)) (sym same)
-    (only_by omits bus_map assembly lost fill (record { held = contents first; now = contents told }) none warned)
+pub only_warned : {E : Type 0} (contents : E → Option (List ℕ)) (base : Option ℕ) (bus_map : Map) (assembly : Option AssemblyView) (lost : ℕ)
+    (fill : Option ℕ) (first told last : E) → last ≡ told → (fill ≡ None) ⊎ (fill ≡ base)
+    → TellsWarnings bus_map assembly lost fill (record { held = contents first; now = contents told })
+    → OnlyWarned base (contents first) (contents last)
+only_warned contents base bus_map assembly lost fill first told last same left warned =
+    subst (λ e. OnlyWarned base (contents first) (contents e)) (sym same)
+    (only_by base bus_map assembly lost fill (record { held = contents first; now = contents told }) left warned)
 
-pub untold : {E : Type 0} (contents : E → Option (List ℕ)) (omits : Bool) (first last : E) → last ≡ first → OnlyWarned omits (contents first) (contents last)
-untold contents omits first last same = subst (λ e. OnlyWarned omits (contents first) (contents e)) (sym same)
-    (0, 0, None, (λ no. refl), front_none (contents first) (warned_text 0 ++ left_text 0 None))
+pub untold : {E : Type 0} (contents : E → Option (List ℕ)) (base : Option ℕ) (first last : E) → last ≡ first
+    → OnlyWarned base (contents first) (contents last)
+untold contents base first last same = subst (λ e. OnlyWarned base (contents first) (contents e)) (sym same)
+    (0, 0, None, inl refl, front_none (contents first) (warned_text 0 ++ left_text 0 None))

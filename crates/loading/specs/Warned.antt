@@ -1,6 +1,7 @@
 -- What is told of the warnings of a source that is loaded, of names that were left out, and of fill
 -- at the port. Source: mos65.
-use Rattle.std.specs.Prelude.{◌≡◌, ◌⊎◌, ℕ, Bool, false, ◌==◌, if◌then◌else◌, List, [], ◌∷◌, ◌++◌, decimal, length, Option, Some, None}
+use Rattle.std.specs.Prelude.{◌≡◌, ◌⊎◌, ℕ, ◌==◌, if◌then◌else◌, List, [], ◌∷◌, ◌++◌, decimal, length, Option, Some, None}
+use Rattle.arguments.specs.Asked.{FileAsked}
 use Rattle.assembler.specs.Assembly.{AssemblyView}
 use Rattle.loading.specs.Told.{Heard, Tells}
 use Rattle.loading.specs.declared.warned.TheConstants.{ARE_LEFT_OUT, FILL, LEFT_OUT, MANY_WARNINGS, ONE_WARNING, PROGRAM}
@@ -40,9 +41,13 @@ TellsWarnings bus_map None lost fill heard = Tells heard (left_text lost fill)
 TellsWarnings bus_map (Some a) lost fill heard = (count : ℕ) × IsCount bus_map a.source count
     × Tells heard (warned_text count ++ left_text lost fill)
 
+-- The base of the port whose fill is left out of an image that has some, where words leave it out.
+abbrev pub omitted_at : FileAsked → Option ℕ
+omitted_at asked = if asked.omits_fill then Some asked.port else None
+
 -- The error stream got nothing, or how many warnings there are, how many lines gave no name, and
--- that fill was left out, where words leave it out.
-abbrev pub OnlyWarned : Bool → Option (List ℕ) → Option (List ℕ) → Type 0
-OnlyWarned omits held now = (count : ℕ) × (lost : ℕ) × (fill : Option ℕ)
-    × (omits ≡ false → fill ≡ None)
+-- that the fill at the port of this base was left out.
+abbrev pub OnlyWarned : Option ℕ → Option (List ℕ) → Option (List ℕ) → Type 0
+OnlyWarned base held now = (count : ℕ) × (lost : ℕ) × (fill : Option ℕ)
+    × ((fill ≡ None) ⊎ (fill ≡ base))
     × Tells (record { held = held; now = now }) (warned_text count ++ left_text lost fill)

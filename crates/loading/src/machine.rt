@@ -266,9 +266,35 @@ fn at_port(map: &MapSpec, words: &FileWords<'_>, others: OtherFiles<'_>, image: 
     }
 }
 
+/// Returns the image of all files without its fill at the port of the map. The only error is that
+/// memory ran out.
+#[tactic(auto, using(crate::proofs::Spared::join_left))]
+fn joined_without<'a>(
+    alloc: Global,
+    map: &MapSpec,
+    words: &FileWords<'a>,
+    others: OtherFiles<'a>,
+    image: &Image,
+    base: u32,
+) -> Result<Spared, FileFault<'a>>
+    requires map { map.now ≡ map_of (file_view words.now) }
+    requires joined { IsJoined (file_view words.now) (others_view others) image.now }
+    requires filled { Some base ≡ fill_at words.now.omits_fill map.now image.now }
+    ensures joined { IfOk result
+        (λ s. IsSparedJoin (file_view words.now) (others_view others.entry) s.fill s.image) }
+    ensures spared { IfOk result (λ s. has_port_byte map.now s.image ≡ false) }
+    ensures refused { IfErr result
+        (λ why. EndsSeveral (file_view words.now) (others_view others.entry) why.fault) }
+{
+    match without_fill(alloc, map, image, base) {
+        Ok(spared) => Ok(spared),
+        Err(refusal) => Err(of_words(words, refusal)),
+    }
+}
+
 /// Returns the image of all files, if it has no byte at the port of the map but fill that is left
 /// out.
-#[tactic(auto, using(crate::proofs::Joins::joining_ends, crate::proofs::Joins::memory_runs_out, crate::proofs::Spared::join_kept, crate::proofs::Spared::join_left))]
+#[tactic(auto, using(crate::proofs::Joins::joining_ends, crate::proofs::Spared::join_kept))]
 fn image_on<'a, H: Files + AllocGlobal>(
     rt: &H,
     map: &MapSpec,
@@ -287,10 +313,7 @@ fn image_on<'a, H: Files + AllocGlobal>(
         Err(why) => return Err(why),
     };
     if let Some(base) = fill_at(words.omits_fill, map, &joined.image) {
-        return match without_fill(rt.alloc(), map, &joined.image, base) {
-            Ok(spared) => Ok(spared),
-            Err(refusal) => Err(of_words(words, refusal)),
-        };
+        return joined_without(rt.alloc(), map, words, others, &joined.image, base);
     }
     if map.meets(&joined.image) {
         let file = joined.at_port.unwrap_or(words.file);

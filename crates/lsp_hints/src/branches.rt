@@ -1,9 +1,8 @@
 //! Branches that do not reach their targets, turned round jumps.
 
-ghost use Rattle.std.specs.Prelude.{◌≡◌, ◌++◌, IfOk, take};
-ghost use Rattle.std.specs.List.{list_any};
+ghost use Rattle.std.specs.Prelude.{◌≡◌, ◌++◌, IfOk};
 ghost use Rattle.lsp_hints.specs.Branches.{far_of, far_title, far_words, has_here, indent_of};
-ghost use Rattle.lsp_hints.specs.Branches.{is_star, operand_in, opposite, turned};
+ghost use Rattle.lsp_hints.specs.Branches.{operand_in, opposite, turned};
 
 use crate::operation::{start_of, word_size};
 use crate::wording::AND_JUMP;

@@ -1,6 +1,6 @@
 //! What a line does.
 
-ghost use Rattle.std.specs.Prelude.{◌≡◌, ◌≤◌, ◌++◌, IfOk, OnOk, Some, codes, length};
+ghost use Rattle.std.specs.Prelude.{◌≡◌, ◌≤◌, ◌++◌, IfOk, OnOk, Some, length};
 ghost use Rattle.std.specs.Option.{option_copied};
 ghost use Rattle.mon_dispatch.specs.Lines.{Does, Follows, Says, Serves, is_over, outcome_of};
 ghost use Rattle.mon_dispatch.specs.LineTexts.{behind_text, if_decimal, line_text, moved_text};

@@ -234,7 +234,7 @@ fn end_of(session: &Session, stops: &Stops, goal: Goal, before: Sight) -> Option
 }
 
 /// Makes a step that is looked at.
-fn make_step(session: &mut Session, stops: &mut Stops, goal: Goal, until: Option<u16>) -> Made
+pub fn make_step(session: &mut Session, stops: &mut Stops, goal: Goal, until: Option<u16>) -> Made
     ensures steps { session.new ≡ after_steps result.did session.old }
     ensures did { result.did ≡ (run_end 1 session.old).did }
     ensures why { result.why ≡ why_of_step stops.old.watches.items goal until

@@ -21,7 +21,7 @@ use debugger::{Session, SessionFault, Why};
 const JSR: u8 = 0x20;
 
 /// The most steps of a run that nobody gave a number of steps.
-const MOST_STEPS: u32 = 5_000_000;
+pub const MOST_STEPS: u32 = 5_000_000;
 
 /// The most steps of a run of so many where reads, writes or registers are watched.
 const MOST_LOOKED: u32 = 10_000_000;

@@ -1,6 +1,6 @@
 //! Rows of cells, made of the lines of texts.
 
-ghost use Rattle.std.specs.Prelude.{◌≡◌, ◌≤◌, ◌++◌, OnOk, drop, length, take};
+ghost use Rattle.std.specs.Prelude.{◌≡◌, ◌≤◌, ◌++◌, OnOk, length, take};
 ghost use Rattle.std.specs.List.{flat_map, prefix_len};
 ghost use Rattle.mon_screen.specs.Cells.{behind_line, behind_lines, beside, block, cell, cells};
 ghost use Rattle.mon_screen.specs.Cells.{ended, ending, first_line, is_no_lf, last_lines};
@@ -8,6 +8,7 @@ ghost use Rattle.mon_screen.specs.Cells.{line_count, row, titled, written};
 
 use crate::wording::ROW_END;
 use formatting::{push_blanks, push_text};
+use mon_line_parts::without_first;
 use std::alloc::AllocError;
 
 /// Counts the bytes before the first LF.
@@ -23,16 +24,6 @@ fn first_line(text: &[u8]) -> &[u8]
     ensures { result.now ≡ first_line text.now }
 {
     &text[..line_len(text)]
-}
-
-/// Returns a text without its first byte.
-fn without_first(text: &[u8]) -> &[u8]
-    ensures { result.now ≡ drop 1 text.now }
-{
-    match text {
-        [] => text,
-        [_, rest @ ..] => rest,
-    }
 }
 
 /// Returns what is behind the first LF of a text.

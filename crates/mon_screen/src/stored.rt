@@ -1,8 +1,6 @@
 //! The memory that a screen shows at first.
 
-ghost use Rattle.std.specs.Prelude.{◌≡◌, ◌+◌, ◌*◌, find, slice_index};
-ghost use Rattle.model.specs.Effect.{operation_of};
-ghost use Rattle.model.specs.OpcodeTable.{row_at};
+ghost use Rattle.std.specs.Prelude.{◌≡◌, ◌+◌, ◌*◌, find};
 ghost use Rattle.mon_screen.specs.Stored.{address_in, first_stretch, is_apart, is_store};
 ghost use Rattle.mon_screen.specs.Stored.{names_address, page_of, stores_apart, stores_by};
 

@@ -181,7 +181,7 @@ fn say_way(mon: &mut MonState, count: u32, held: u32) -> Result<(), AllocError>
 }
 
 /// Says behind other words how many events were undone, and shows the state before them.
-fn tell_also_undone(mon: &mut MonState, count: u32) -> Result<(), AllocError>
+pub fn tell_also_undone(mon: &mut MonState, count: u32) -> Result<(), AllocError>
     ensures shows { ShowsOnly mon.old mon.new }
     ensures text { OnOk result (mon.new.text.items ≡ mon.old.text.items
         ++ (codes ", " ++ undone_text count mon.old.session.current mon.old.places)) }

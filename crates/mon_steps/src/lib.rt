@@ -18,6 +18,8 @@ mod strays;
 pub mod wording;
 
 pub use again::{redo, show_history};
-pub use back::{undo, undo_to_stop};
+pub use back::{tell_also_undone, undo, undo_to_stop};
+pub use endings::{Begun, show_end, show_since, tell_ended};
+pub use reasons::push_after;
 pub use runs::{run, run_until, step_out};
 pub use stepping::{step_over, steps};

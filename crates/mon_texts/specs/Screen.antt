@@ -1,5 +1,5 @@
 -- The console's output as text. Source: mos65.
-use Rattle.std.specs.Prelude.{ℕ, ◌-◌, ◌==◌, not, false, if◌then◌else◌, nat_lt, Bool, List, [], ◌∷◌, ◌++◌, Option, None, Some, codes, drop, length, slice_get}
+use Rattle.std.specs.Prelude.{ℕ, ◌-◌, ◌==◌, not, false, if◌then◌else◌, nat_lt, Bool, List, [], ◌∷◌, ◌++◌, Option, None, Some, drop, length, slice_get}
 use Rattle.std.specs.List.{flat_map}
 use Rattle.mon_texts.specs.Memory.{character_text}
 use Rattle.mon_texts.specs.declared.wording.TheConstants.{NOTHING_WRITTEN, OUTPUT}

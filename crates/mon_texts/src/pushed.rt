@@ -1,6 +1,6 @@
 //! What has pushed the bytes on the stack.
 
-ghost use Rattle.std.specs.Prelude.{◌≡◌, ◌+◌, ◌<◌, ◌≤◌, slice_index};
+ghost use Rattle.std.specs.Prelude.{◌≡◌, ◌+◌, ◌<◌, ◌≤◌};
 ghost use Rattle.mon_texts.specs.Pushed.{begins_instruction, is_break, is_return, jsr_at};
 ghost use Rattle.mon_texts.specs.Pushed.{pushed_at, pushed_by_entry, pushed_len, word_at};
 

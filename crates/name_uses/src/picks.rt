@@ -1,7 +1,6 @@
 //! The uses of one name.
 
 ghost use Rattle.std.specs.Prelude.{◌≡◌, IfOk};
-ghost use Rattle.std.specs.List.{filter};
 ghost use Rattle.name_uses.specs.Picked.{is_picked, picked};
 ghost use Rattle.name_uses.specs.Views.{use_view, use_views};
 

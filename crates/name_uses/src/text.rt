@@ -9,7 +9,7 @@ use std::alloc::{AllocError, Global};
 
 /// A place in a text: a line, counted from 1, and a column, counted from 0.
 #[derive(Clone, Copy)]
-struct Place {
+struct LineColumn {
     line: u32,
     column: usize,
 }
@@ -20,7 +20,7 @@ struct Place {
 fn push_piece(
     text: &mut Vec<u8>,
     word: &[u8],
-    place: Place,
+    place: LineColumn,
     left: usize,
     uses: &[NameUse<'_>],
     byte: u8,
@@ -62,7 +62,7 @@ pub fn replaced(
 {
     let mut text = Vec::new(alloc);
     let mut next = 0usize;
-    let mut place = Place { line: 1, column: 0 };
+    let mut place = LineColumn { line: 1, column: 0 };
     let mut left = 0usize;
     for byte in source {
         let (more, met) = push_piece(&mut text, word, place, left, &uses[next..], *byte)?;

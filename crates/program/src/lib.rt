@@ -14,7 +14,7 @@
 
 pub use asked::{AsmWords, DebugWords, DisWords, Words};
 pub use assembling::{AsmTexts, asm_texts};
-pub use command::{asm_command, debug_command, dis_command};
+pub use command::debug_command;
 pub use disassembling::dis_text;
 pub use named::debug_named;
 pub use process::{process_words, words_of};

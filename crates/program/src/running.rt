@@ -63,8 +63,9 @@ pub fn program<H: Files + AllocGlobal, R: Read, O: Write, E: Write>(
     ensures untouched { 1 ≤ result → result ≤ 2
         → (input.new ≡ input.old) × (output.new ≡ output.old) }
     // Words that fit nothing, or one of whose values is wrong, are refused.
-    ensures refuses { Refuses mos65 (texts words.entry.now) (words_in (texts words.entry.now) ≡ None)
-        result (input.new ≡ input.old) (output.new ≡ output.old) }
+    ensures refuses { Refuses mos65 (texts words.entry.now)
+        (words_in (texts words.entry.now) ≡ None) result
+        (input.new ≡ input.old) (output.new ≡ output.old) }
     // Words that are right do what they ask for.
     ensures asm { (a : AsmAsked) → words_in (texts words.entry.now) ≡ Some (asm a)
         → IsTaken (texts words.entry.now)

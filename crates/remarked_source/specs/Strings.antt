@@ -1,5 +1,5 @@
 -- A source whose strings have the numbers that end them on their lines. Source: mos65.
-use Rattle.std.specs.Prelude.{ℕ, zero, suc, ◌+◌, ◌-◌, ◌*◌, ◌==◌, ◌&&◌, nat_lt, Bool, true, false, if◌then◌else◌, List, [], ◌∷◌, ◌++◌, codes, drop, take, length, Option, Some, None}
+use Rattle.std.specs.Prelude.{ℕ, zero, suc, ◌+◌, ◌-◌, ◌*◌, ◌==◌, ◌&&◌, nat_lt, Bool, if◌then◌else◌, List, [], ◌∷◌, ◌++◌, codes, drop, take, length, Option, Some, None}
 use Rattle.std.specs.List.{starts_with}
 use Rattle.assembler.specs.Lines.{LineView}
 use Rattle.source_forms.specs.Rows.{is_kind, mark_at}

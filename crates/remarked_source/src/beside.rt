@@ -1,6 +1,6 @@
 //! What stands beside the lines of a source.
 
-ghost use Rattle.std.specs.Prelude.{◌≡◌, ◌++◌, ℕ, List, ◌∷◌, IfOk, OnOk, true};
+ghost use Rattle.std.specs.Prelude.{◌≡◌, ◌++◌, List, ◌∷◌, IfOk, OnOk, true};
 ghost use Rattle.marks_files.specs.Marks.{text_of};
 ghost use Rattle.marks_files.specs.declared.marks.Remark.{Remark};
 ghost use Rattle.remarked_source.specs.Rows.{block_of, blocks, is_note, lies_in, note_front, notes};

@@ -19,7 +19,7 @@ use std::alloc::{AllocError, Global};
 
 /// Where the writer is: how many names are left, the address, and whether a line ends there.
 #[derive(Clone, Copy)]
-struct Place {
+struct Progress {
     names: u32,
     address: usize,
     ends: bool,
@@ -35,8 +35,8 @@ fn push_at(
     marks: &[Mark],
     flags: &[bool],
     table: &[u8],
-    place: Place,
-) -> Result<Place, AllocError>
+    place: Progress,
+) -> Result<Progress, AllocError>
     requires size { length cells.now ≡ 65536 }
     requires near { place.address ≤ 131071 }
     ensures text { IfOk result (λ next. (n : ℕ) → out.new.items ++ flat_map ended
@@ -46,7 +46,7 @@ fn push_at(
     ensures within { IfOk result (λ next. next.address ≤ max (place.address + 1) 65536) }
 {
     let Some(byte) = cell_at(cells, place.address) else {
-        return Ok(Place {
+        return Ok(Progress {
             names: place.names,
             address: place.address + 1,
             ends: false,
@@ -58,7 +58,7 @@ fn push_at(
     push_opening(out, address, place.ends)?;
     push_label_line(out, named, address)?;
     push_piece(out, profile, table, address, &piece)?;
-    Ok(Place {
+    Ok(Progress {
         names: left_after(named, place.names),
         address: place.address + piece.len(),
         ends: true,
@@ -79,7 +79,7 @@ fn push_lines(
     ensures { OnOk result (out.new.items ≡ out.old.items ++ flat_map ended (labelled_lines
         profile cells.now marks.now flags.now table.now 65536 most_names 0 false)) }
 {
-    let mut place = Place {
+    let mut place = Progress {
         names: MOST_NAMES,
         address: 0,
         ends: false,

@@ -1,4 +1,5 @@
 mod Appended
 pub mod Joined
+mod NearNames
 mod StepByStep
 mod Told

@@ -25,10 +25,11 @@ fn near_name<'a>(names: &'a Assembly, word: &[u8]) -> Option<&'a [u8]>
     ensures { option_map (λ name. name.now) result ≡ near_name names.now.names word.now }
 {
     for index in 0..names.symbol_count() {
-        if let Some((name, _)) = names.symbol(index) {
-            if is_near(name, word) {
-                return Some(name);
-            }
+        let Some((name, _)) = names.symbol(index) else {
+            return None;
+        };
+        if is_near(name, word) {
+            return Some(name);
         }
     }
     None

@@ -15,4 +15,3 @@ mod wording;
 
 pub use detail::{Bench, detail_of};
 pub use faulty::faulty_text;
-pub use steps::push_blanks;

@@ -3,19 +3,15 @@
 use Rattle.std.specs.Prelude.{◌≡◌, ◌⊎◌, ◌||◌, Bool, false, List, Option, None, Some, Contains}
 use Rattle.std.specs.List.{list_any}
 use Rattle.std.specs.Str.{bytes_eq}
+use Rattle.arguments.specs.Outputs.{is_named}
 use Rattle.clap.specs.Words.{Text}
 use Rattle.t65_suites.specs.Prepared.{path_of}
 use Rattle.t65_suites.specs.Suites.{SuiteAsked}
 
--- A report has the name of a file, if there is one.
-abbrev pub replaces_one : Text → Option Text → Bool
-replaces_one report None = false
-replaces_one report (Some file) = bytes_eq file report
-
 -- A report has the name of a suite's file of rows, or of a file that the words name for it.
 abbrev pub is_read : Text → SuiteAsked → Bool
-is_read report suite = bytes_eq suite.rows report || replaces_one report suite.source
-    || replaces_one report suite.reading.symbols
+is_read report suite = bytes_eq suite.rows report || is_named report suite.source
+    || is_named report suite.reading.symbols
 
 -- A report, if there is one, has the name of a file that is read for some suites.
 abbrev pub replaces_any : Option Text → List SuiteAsked → Bool

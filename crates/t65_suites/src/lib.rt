@@ -21,6 +21,7 @@ mod wording;
 pub use fault::{FileFault, TestFault, Unprepared, is_memory, line_of};
 pub use fault_words::{remarks_of, title_of};
 pub use head::{Head, Opened};
+pub use names::text_of;
 pub use prepared::{Prepared, prepare};
 pub use replaced::replaced_by;
 pub use suites::{Reading, Suite, suites_of};

@@ -4,8 +4,9 @@ ghost use Rattle.std.specs.List.{list_any};
 ghost use Rattle.std.specs.Prelude.{◌≡◌, ◌||◌, None, Some, IfOk, IfSome, false, map, option_map};
 ghost use Rattle.std.specs.Prelude.{string_bytes};
 ghost use Rattle.std.specs.Str.{bytes_eq};
+ghost use Rattle.arguments.specs.Outputs.{is_named};
 ghost use Rattle.t65_suites.specs.Replaced.{IsReadFor, IsReadForOne, IsSourceOf, is_read};
-ghost use Rattle.t65_suites.specs.Replaced.{replaces_any, replaces_one};
+ghost use Rattle.t65_suites.specs.Replaced.{replaces_any};
 ghost use Rattle.t65_suites.specs.Suites.{reading_view, suite_view, suites_of};
 
 use crate::fault::TestFault;
@@ -100,7 +101,7 @@ fn replaced_source<H: Files + AllocGlobal>(
     report: &str,
 ) -> Result<Option<String>, TestFault>
     ensures spared { IfOk result (λ found. found ≡ None
-        → replaces_one report.now (option_map (λ s. s.now) suite.entry.source) ≡ false) }
+        → is_named report.now (option_map (λ s. s.now) suite.entry.source) ≡ false) }
     ensures found { IfOk result (λ found. IfSome found
         (λ path. IsSourceOf (suite_view suite.entry) (string_bytes path))) }
 {
@@ -123,7 +124,7 @@ fn replaced_names<H: Files + AllocGlobal>(
     report: &str,
 ) -> Result<Option<String>, TestFault>
     ensures spared { IfOk result (λ found. found ≡ None
-        → replaces_one report.now (suite_view suite.entry).reading.symbols ≡ false) }
+        → is_named report.now (suite_view suite.entry).reading.symbols ≡ false) }
     ensures found { IfOk result (λ found. IfSome found
         (λ path. (suite_view suite.entry).reading.symbols ≡ Some (string_bytes path))) }
 {
@@ -146,8 +147,8 @@ fn replaced_program<H: Files + AllocGlobal>(
     report: &str,
 ) -> Result<Option<String>, TestFault>
     ensures spared { IfOk result (λ found. found ≡ None
-        → (replaces_one report.now (suite_view suite.entry).source
-        || replaces_one report.now (suite_view suite.entry).reading.symbols) ≡ false) }
+        → (is_named report.now (suite_view suite.entry).source
+        || is_named report.now (suite_view suite.entry).reading.symbols) ≡ false) }
     ensures found { IfOk result (λ found. IfSome found
         (λ path. IsReadForOne (suite_view suite.entry) (string_bytes path))) }
 {

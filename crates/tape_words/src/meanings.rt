@@ -1,9 +1,8 @@
 //! What a fault of a tape means where it shows.
 
-ghost use Rattle.std.specs.Prelude.{◌≡◌, ◌-◌, ◌++◌, OnOk, codes, length, slice_index, string_bytes, take};
-ghost use Rattle.std.specs.List.{count_by, suffix_len};
-ghost use Rattle.tape_words.specs.Meanings.{count_text, end_sum_text, is_no_record, known_count_text};
-ghost use Rattle.tape_words.specs.Meanings.{is_record, known_sum_text, last_record, meaning_text, named_hex};
+ghost use Rattle.std.specs.Prelude.{◌≡◌, ◌-◌, ◌++◌, OnOk, codes, length, string_bytes};
+ghost use Rattle.tape_words.specs.Meanings.{count_text, end_sum_text, known_count_text};
+ghost use Rattle.tape_words.specs.Meanings.{known_sum_text, last_record, meaning_text, named_hex};
 ghost use Rattle.tape_words.specs.Meanings.{records_before, sum_text, sums_text, there_text};
 ghost use Rattle.tape_words.specs.Meanings.{truncated_text, within_text};
 

@@ -14,8 +14,8 @@ use Rattle.assembler.specs.Assembly.{AssemblyView}
 use Rattle.assembler.specs.Lines.{LineView}
 use Rattle.trace_rows.specs.declared.lines.SourceLine.{SourceLine}
 use Rattle.trace_rows.specs.declared.sites.Label.{Label}
-use Rattle.trace_rows.specs.SourceLines.{line_of, lines_of, listed}
-use Rattle.trace_rows.specs.Sites.{IsTable, Labelled, Numbered, addresses_of, first_at, index_at, index_of, is_wanted, label_for, label_place, labelled, labels_in, line_addresses, name_if_free, name_of, names_in, names_of, nowhere, or_below, put_if_none}
+use Rattle.trace_rows.specs.SourceLines.{Listed, line_of, lines_of, listed}
+use Rattle.trace_rows.specs.Sites.{AreLabels, IsTable, Labelled, Numbered, addresses_of, first_at, index_at, index_of, is_wanted, label_for, label_place, labelled, labels_in, line_addresses, name_if_free, name_of, names_in, names_of, nowhere, or_below, put_if_none}
 
 -- ---- options
 
@@ -221,16 +221,16 @@ label_row labels i label h e =
     ∙ ap (λ (l : Label). l.address) (sym e)))
 
 pub line_rows : (lines : List SourceLine) (i : ℕ) → length lines ≤ i → length (line_addresses (map listed lines)) ≤ i
-line_rows lines i h = omega (arith, h, length-map lines listed, length-map (map listed lines) (λ (l : LineView). l.address))
+line_rows lines i h = omega (arith, h, length-map lines listed, length-map (map listed lines) (λ (l : Listed). l.address))
 
 pub line_size : (lines : List SourceLine) (i : ℕ) → i < length lines → i < length (line_addresses (map listed lines))
-line_size lines i h = omega (arith, h, length-map lines listed, length-map (map listed lines) (λ (l : LineView). l.address))
+line_size lines i h = omega (arith, h, length-map lines listed, length-map (map listed lines) (λ (l : Listed). l.address))
 
 pub line_row : (lines : List SourceLine) (i : ℕ) (line : SourceLine) → i < length lines → line ≡ get_or lines i line
     → line.address ≡ get_or (line_addresses (map listed lines)) i 0
 line_row lines i line h e =
-    sym (get_or-map (λ (l : LineView). l.address) (map listed lines) i (listed line) 0 (omega (arith, h, length-map lines listed))
-    ∙ (ap (λ (l : LineView). l.address) (get_or-map listed lines i line (listed line) h)
+    sym (get_or-map (λ (l : Listed). l.address) (map listed lines) i (listed line) 0 (omega (arith, h, length-map lines listed))
+    ∙ (ap (λ (l : Listed). l.address) (get_or-map listed lines i line (listed line) h)
     ∙ ap (λ (l : SourceLine). l.address) (sym e)))
 
 -- ---- what the address below has
@@ -460,10 +460,15 @@ unfolding lines_of
 lines_suc [] zero = refl
 lines_suc [] (suc i) = refl
 lines_suc (l ∷ ls) zero = refl
-lines_suc (l ∷ ls) (suc i) = ap (λ (more : List LineView). line_of l ++ more) (lines_suc ls i)
+lines_suc (l ∷ ls) (suc i) = ap (λ (more : List Listed). line_of l ++ more) (lines_suc ls i)
     ∙ sym (append_assoc (line_of l) (lines_of (take i ls)) (lines_of (option_to_list (slice_get ls i))))
 
-pub lines_more : (lines : List LineView) (i : ℕ) (old new : List LineView) → old ≡ lines_of (take i lines)
+pub lines_more : (lines : List LineView) (i : ℕ) (old new : List Listed) → old ≡ lines_of (take i lines)
     → new ≡ old ++ lines_of (option_to_list (slice_get lines i)) → new ≡ lines_of (take (i + 1) lines)
 lines_more lines i old new e n =
     n ∙ (ap (λ ls. ls ++ lines_of (option_to_list (slice_get lines i))) e ∙ sym (ap (λ k. lines_of (take k lines)) (add-one i) ∙ lines_suc lines i))
+
+-- The names of an assembly that is there.
+pub labels_are : (assembly : Option AssemblyView) (a : AssemblyView) (labels : List Labelled) (table : List ℕ) → assembly ≡ Some a
+    → labels ≡ names_in a → IsTable table (label_for a) → AreLabels assembly labels table
+labels_are assembly a labels table is named places = subst (λ (x : Option AssemblyView). AreLabels x labels table) (sym is) (named, places)

@@ -1,5 +1,5 @@
 -- What was counted, as tables of text. Source: mos65.
-use Rattle.std.specs.Prelude.{ℕ, zero, suc, ◌+◌, ◌-◌, ◌%◌, ◌==◌, nat_lt, Bool, false, ◌&&◌, ◌||◌, if◌then◌else◌, List, [], ◌∷◌, ◌++◌, Option, None, Some, codes, map, slice_index, slice_index_or, slice_set, is_none}
+use Rattle.std.specs.Prelude.{ℕ, zero, suc, ◌+◌, ◌-◌, ◌%◌, ◌==◌, nat_lt, Bool, false, ◌&&◌, ◌||◌, if◌then◌else◌, List, [], ◌∷◌, ◌++◌, Option, None, Some, codes, decimal, length, map, slice_index, slice_index_or, slice_set, is_none}
 use Rattle.std.specs.List.{flat_map}
 use Rattle.model.specs.Text.{hex_address}
 use Rattle.accesses.specs.Tallies.{Counts, count_at, saturated}
@@ -91,9 +91,14 @@ count_of_line counts line = record {
   cycles = cycles_from counts line.address (line.len - 1);
 }
 
+-- A line's number, after the name of its file if that is shown.
+abbrev pub number_text : List ℕ → ℕ → List ℕ
+number_text file number = if length file == 0 then count_text 4 number
+    else file ++ codes ":" ++ decimal number
+
 -- A line's number and text.
 unfoldable pub line_text : SourceLine → List ℕ
-line_text line = count_text 4 line.number ++ codes ": " ++ line.text.items ++ codes "\n"
+line_text line = number_text line.file.items line.number ++ codes ": " ++ line.text.items ++ codes "\n"
 
 abbrev pub reached_row : SourceLine → Count → List ℕ
 reached_row line count = if was_reached count then columns_text count ++ line_text line else []

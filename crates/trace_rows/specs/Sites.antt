@@ -5,9 +5,9 @@ use Rattle.std.specs.List.{flat_map}
 use Rattle.std.specs.Option.{option_map, option_or}
 use Rattle.source_map.specs.Names.{named_numbers}
 use Rattle.assembler.specs.Assembly.{AssemblyView}
-use Rattle.assembler.specs.Lines.{LineView}
 use Rattle.model.specs.Image.{cell_at}
-use Rattle.trace_rows.specs.SourceLines.{lines_in}
+use Rattle.source_map.specs.Lines.{PlacesView}
+use Rattle.trace_rows.specs.SourceLines.{Listed, lines_by, lines_in}
 use Rattle.trace_rows.specs.declared.lines.SourceLine.{SourceLine}
 use Rattle.trace_rows.specs.declared.sites.Label.{Label}
 use Rattle.trace_rows.specs.declared.sites.Sites.{Sites}
@@ -98,7 +98,7 @@ or_below image place (suc address) = option_or (place (suc address))
 abbrev pub addresses_of : List Labelled → List ℕ
 addresses_of names = map (λ name. name.address) names
 
-abbrev pub line_addresses : List LineView → List ℕ
+abbrev pub line_addresses : List Listed → List ℕ
 line_addresses lines = map (λ line. line.address) lines
 
 -- ---- names by their address
@@ -128,6 +128,16 @@ label_for assembly = or_below assembly.image
     (λ address. option_or (label_place assembly address)
     (first_at (addresses_of (names_in assembly)) address))
 
+-- The names of an assembly and a table of those that addresses belong to; none without an assembly.
+abbrev pub AreLabels : Option AssemblyView → List Labelled → List ℕ → Type 0
+AreLabels None labels table = (labels ≡ []) × (table ≡ [])
+AreLabels (Some assembly) labels table
+    = (labels ≡ names_in assembly) × IsTable table (label_for assembly)
+
 -- The index of the first line that begins at an address.
 abbrev pub line_for : AssemblyView → ℕ → Option ℕ
 line_for assembly = first_at (line_addresses (lines_in assembly))
+
+-- The index of the first line that is shown for bytes that begin at an address.
+abbrev pub line_by_places : PlacesView → ℕ → Option ℕ
+line_by_places places = first_at (line_addresses (lines_by places))

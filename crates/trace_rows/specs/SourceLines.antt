@@ -1,13 +1,24 @@
--- The lines of a source that have bytes. Source: mos65.
-use Rattle.std.specs.Prelude.{◌&&◌, min, nat_le, nat_lt, if◌then◌else◌, List, [], ◌∷◌}
+-- The lines that are shown for the bytes of a program: of its source, or by places. Source: mos65.
+use Rattle.std.specs.Prelude.{ℕ, ◌&&◌, min, nat_le, nat_lt, Bool, if◌then◌else◌, List, [], ◌∷◌, map, unwrap_or}
 use Rattle.std.specs.List.{flat_map}
 use Rattle.assembler.specs.Assembly.{AssemblyView, source_lines}
 use Rattle.assembler.specs.Lines.{LineView}
+use Rattle.source_map.specs.Lines.{PlacesView, SourceView, file_name, text_of, texts_at}
+use Rattle.source_map.specs.declared.rows.Row.{Row}
 use Rattle.trace_rows.specs.declared.lines.SourceLine.{SourceLine}
 
--- A line as it is kept.
-abbrev pub listed : SourceLine → LineView
+-- A line as it is kept: with the name of its file, if that is shown.
+pub record Listed : Type 0 where
+  pub file : List ℕ
+  pub number : ℕ
+  pub address : ℕ
+  pub count : ℕ
+  pub text : List ℕ
+  pub is_instruction : Bool
+
+abbrev pub listed : SourceLine → Listed
 listed line = record {
+  file = line.file.items;
   number = line.number;
   address = line.address;
   count = line.len;
@@ -15,14 +26,39 @@ listed line = record {
   is_instruction = line.is_instruction;
 }
 
+-- ---- of a source, which is one file
+
 -- A line, if it has bytes, with three of them at most.
-abbrev pub line_of : LineView → List LineView
-line_of line = if nat_lt 0 line.count && nat_le line.address 65535
-    then record line { count = min line.count 3 } ∷ [] else []
+abbrev pub line_of : LineView → List Listed
+line_of line = if nat_lt 0 line.count && nat_le line.address 65535 then record {
+  file = [];
+  number = line.number;
+  address = line.address;
+  count = min line.count 3;
+  text = line.text;
+  is_instruction = line.is_instruction;
+} ∷ [] else []
 
 -- The lines of an assembled source that have bytes, in their order.
-unfoldable pub lines_of : List LineView → List LineView
+unfoldable pub lines_of : List LineView → List Listed
 lines_of lines = flat_map line_of lines
 
-abbrev pub lines_in : AssemblyView → List LineView
+abbrev pub lines_in : AssemblyView → List Listed
 lines_in assembly = lines_of (source_lines assembly)
+
+-- ---- by places
+
+-- The line that is shown for bytes, with three of them at most, and the text that its file has there.
+abbrev pub line_by : List SourceView → Row → Listed
+line_by sources row = record {
+  file = file_name sources row.file;
+  number = row.line;
+  address = row.address;
+  count = min row.count 3;
+  text = unwrap_or (text_of (texts_at sources row.file) row.line) [];
+  is_instruction = row.is_instruction;
+}
+
+-- The lines of all rows, in their order.
+abbrev pub lines_by : PlacesView → List Listed
+lines_by places = map (line_by places.sources) places.lines

@@ -20,11 +20,11 @@ with_label column None row = row
 with_label column (Some near) row
     = padded column (row ++ codes "  ") ++ near.0 ++ distance_text near.1
 
--- A row with the number of a line after a colon, likewise.
+-- A row with the number of a line after the name of its file, if that is shown, and a colon, likewise.
 unfoldable pub with_line : ℕ → Option SourceLine → List ℕ → List ℕ
 with_line column None row = row
 with_line column (Some line) row
-    = padded column (row ++ codes "  ") ++ codes ":" ++ decimal line.number
+    = padded column (row ++ codes "  ") ++ line.file.items ++ codes ":" ++ decimal line.number
 
 -- A row with the label and the line of an address, as far as the source has them.
 unfoldable pub with_site : SiteColumns → Sites → ℕ → List ℕ → List ℕ

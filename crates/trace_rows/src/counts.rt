@@ -5,6 +5,7 @@ ghost use Rattle.trace_rows.specs.Counts.{columns_text, count_of_line, counts_be
 ghost use Rattle.trace_rows.specs.Counts.{nothing_counted};
 ghost use Rattle.trace_rows.specs.Counts.{add_cycles, address_row, is_elsewhere, is_shown};
 ghost use Rattle.trace_rows.specs.Counts.{is_unreached, label_row, label_rows, line_row, line_text};
+ghost use Rattle.trace_rows.specs.Counts.{number_text};
 ghost use Rattle.trace_rows.specs.Counts.{with_counts, with_elsewhere, with_head};
 ghost use Rattle.trace_rows.specs.Counts.{with_labels, with_lines, with_sums};
 ghost use Rattle.trace_rows.specs.Counts.{with_unreached};
@@ -13,7 +14,7 @@ use crate::lines::SourceLine;
 use crate::sites::{Label, Sites};
 use crate::words::push_padded;
 use accesses::{Count, Tally};
-use formatting::push_address;
+use formatting::{push_address, push_count};
 use std::alloc::{AllocError, Global};
 
 /// The columns of visits.
@@ -166,12 +167,25 @@ fn push_label_rows(text: &mut Vec<u8>, sites: &Sites, counts: &[Count]) -> Resul
     Ok(())
 }
 
+/// Appends a line's number, after the name of its file if that is shown.
+fn push_number(text: &mut Vec<u8>, file: &[u8], number: u32) -> Result<(), AllocError>
+    ensures { OnOk result (text.new.items ≡ text.old.items ++ number_text file.now number) }
+{
+    if file.is_empty() {
+        push_padded(text, number as u64, NUMBER)
+    } else {
+        text.extend_from_slice(file)?;
+        text.extend_from_slice(b":")?;
+        push_count(text, number as u64)
+    }
+}
+
 /// Appends a line's number and text.
 #[tactic(auto, unfolding(crate::specs::Counts::line_text))]
 fn push_line(text: &mut Vec<u8>, line: &SourceLine) -> Result<(), AllocError>
     ensures { OnOk result (text.new.items ≡ text.old.items ++ line_text line.now) }
 {
-    push_padded(text, line.number as u64, NUMBER)?;
+    push_number(text, line.file.as_slice(), line.number)?;
     text.extend_from_slice(b": ")?;
     text.extend_from_slice(line.text.as_slice())?;
     text.push(b'\n')?;

@@ -1,17 +1,22 @@
-//! The lines of a source that have bytes, from its assembly.
+//! The lines that are shown for bytes: from an assembly, or from places.
 
-ghost use Rattle.std.specs.Prelude.{◌≡◌, ◌++◌, IfOk, OnOk, map, slice_get};
-ghost use Rattle.std.specs.Option.{option_to_list};
+ghost use Rattle.std.specs.Prelude.{◌≡◌, ◌++◌, [], IfOk, OnOk, map, slice_get};
+ghost use Rattle.std.specs.Option.{option_to_list, unwrap_or};
+ghost use Rattle.source_map.specs.Lines.{text_of, texts_at};
 ghost use Rattle.assembler.specs.Assembly.{source_lines};
 ghost use Rattle.assembler.specs.Lines.{line_view};
-ghost use Rattle.trace_rows.specs.SourceLines.{line_of, lines_in, lines_of, listed};
+ghost use Rattle.trace_rows.specs.SourceLines.{line_by, line_of, lines_by, lines_in, lines_of};
+ghost use Rattle.trace_rows.specs.SourceLines.{listed};
 
 use assembler::Assembly;
+use source_map::{Places, Row};
 use std::alloc::{AllocError, Global};
 
-/// A line of a source that has bytes.
+/// A line of a source that is shown for bytes.
 #[derive(Drop)]
 pub struct SourceLine {
+    /// The name of its file, where that is shown: not in a source of one file.
+    pub file: Vec<u8>,
     /// Its number, counted from 1.
     pub number: u32,
     /// The address of its first byte.
@@ -36,6 +41,7 @@ fn push_line(
     if line.count > 0 && line.address <= 65535 {
         let text = Vec::from_slice(alloc, line.text)?;
         lines.push(SourceLine {
+            file: Vec::new(alloc),
             number: line.number,
             address: line.address as u16,
             len: line.count.min(3) as u16,
@@ -72,6 +78,45 @@ pub fn lines_of(alloc: Global, assembly: &Assembly) -> Result<Vec<SourceLine>, A
     let mut lines = Vec::new(alloc);
     for index in 0..assembly.line_count() {
         push_line_at(alloc, &mut lines, assembly, index)?;
+    }
+    Ok(lines)
+}
+
+/// Returns the text of the line of a row: no byte where its file has none.
+fn text_of_row(places: &Places, row: Row) -> &[u8]
+    ensures { result.now
+        ≡ unwrap_or (text_of (texts_at places.now.sources row.file) row.line) [] }
+{
+    match places.text_of(row.file, row.line) {
+        Some(text) => text,
+        None => &[],
+    }
+}
+
+/// Returns the line that is shown for the bytes of a row.
+fn line_of_row(alloc: Global, places: &Places, row: Row) -> Result<SourceLine, AllocError>
+    ensures { IfOk result (λ line. listed line ≡ line_by places.now.sources row) }
+{
+    Ok(SourceLine {
+        file: Vec::from_slice(alloc, places.file_name(row.file))?,
+        number: row.line,
+        address: row.address,
+        len: row.count.min(3) as u16,
+        is_instruction: row.is_instruction,
+        text: Vec::from_slice(alloc, text_of_row(places, row))?,
+    })
+}
+
+/// Returns the lines that are shown for the bytes of all rows.
+///
+/// Errors: `AllocError` if an allocation fails.
+pub fn lines_by(alloc: Global, places: &Places) -> Result<Vec<SourceLine>, AllocError>
+    ensures { IfOk result (λ lines. map listed lines.items ≡ lines_by places.now) }
+{
+    let mut lines = Vec::new(alloc);
+    for row in places.rows() {
+        let line = line_of_row(alloc, places, *row)?;
+        lines.push(line)?;
     }
     Ok(lines)
 }

@@ -1,18 +1,20 @@
 //! Which label and which line of the source an address belongs to.
 
 ghost use Rattle.std.specs.Prelude.{◌≡◌, ◌+◌, ◌++◌, ◌==◌, [], None, IfOk, OnOk, is_some};
-ghost use Rattle.std.specs.Prelude.{if◌then◌else◌, length, map, nat_lt, slice_get, slice_index};
+ghost use Rattle.std.specs.Prelude.{if◌then◌else◌, length, map, nat_lt, option_map, slice_get};
+ghost use Rattle.std.specs.Prelude.{slice_index};
 ghost use Rattle.std.specs.Option.{option_copied, option_or, option_to_list};
 ghost use Rattle.source_map.specs.Names.{near_view, named_numbers};
 ghost use Rattle.model.specs.Image.{cell_at};
-ghost use Rattle.trace_rows.specs.Sites.{IsTable, addresses_of, first_at, index_at, is_wanted};
+ghost use Rattle.trace_rows.specs.Sites.{AreLabels, IsTable, addresses_of, first_at, index_at, is_wanted};
 ghost use Rattle.trace_rows.specs.Sites.{label_for, label_near, labelled, line_addresses, line_at};
-ghost use Rattle.trace_rows.specs.Sites.{line_for, name_if_free, names_in, names_of};
+ghost use Rattle.trace_rows.specs.Sites.{line_by_places, line_for, name_if_free, names_in, names_of};
 ghost use Rattle.trace_rows.specs.Sites.{or_below, put_if_none};
-ghost use Rattle.trace_rows.specs.SourceLines.{lines_in, listed};
+ghost use Rattle.trace_rows.specs.SourceLines.{lines_by, lines_in, listed};
 
-use crate::lines::{SourceLine, lines_of};
+use crate::lines::{SourceLine, lines_by, lines_of};
 use assembler::Assembly;
+use source_map::Places;
 use std::alloc::{AllocError, Global};
 
 /// A name of the source for an address at which it puts a byte: a label, which stands before `:`,
@@ -172,7 +174,8 @@ fn push_names(
     labels: bool,
 ) -> Result<(), AllocError>
     ensures { OnOk result (map labelled names.new.items ≡ map labelled names.old.items
-        ++ names_of assembly.now.image (index_at table.now.items) labels (named_numbers assembly.now)) }
+        ++ names_of assembly.now.image (index_at table.now.items) labels
+        (named_numbers assembly.now)) }
 {
     for index in 0..assembly.symbol_count() {
         push_name_at(alloc, names, table, assembly, labels, index)?;
@@ -216,7 +219,8 @@ fn spread_names(
 ) -> Result<(), AllocError>
     requires { length table.old.items ≡ 65536 }
     ensures names { OnOk result (map labelled names.new.items ≡ map labelled names.old.items
-        ++ names_of assembly.now.image (index_at table.old.items) labels (named_numbers assembly.now)) }
+        ++ names_of assembly.now.image (index_at table.old.items) labels
+        (named_numbers assembly.now)) }
     ensures table { OnOk result (IsTable table.new.items (or_below assembly.now.image
         (λ address. option_or (index_at table.old.items address)
         (first_at (addresses_of (map labelled names.new.items)) address)))) }
@@ -225,6 +229,34 @@ fn spread_names(
     put_names(table, names.as_slice());
     spread(table, assembly);
     Ok(())
+}
+
+/// Returns the names of an assembly that stand for an address, and a table of those that addresses
+/// belong to.
+fn names_of_source(alloc: Global, assembly: &Assembly) -> Result<(Vec<Label>, Vec<u32>), AllocError>
+    ensures labels { IfOk result (λ p. map labelled p.0.items ≡ names_in assembly.now) }
+    ensures label_of { IfOk result (λ p. IsTable p.1.items (label_for assembly.now)) }
+{
+    let mut labels = Vec::new(alloc);
+    let mut label_of = empty_table(alloc)?;
+    spread_names(alloc, &mut labels, &mut label_of, assembly, true)?;
+    spread_names(alloc, &mut labels, &mut label_of, assembly, false)?;
+    Ok((labels, label_of))
+}
+
+/// Returns the same of an assembly that may be missing: then there is no name.
+#[tactic(auto, using(crate::proofs::Places::labels_are))]
+fn labels_of(alloc: Global, names: Option<&Assembly>) -> Result<(Vec<Label>, Vec<u32>), AllocError>
+    ensures { IfOk result (λ p. AreLabels (option_map (λ a. a.now) names.entry)
+        (map labelled p.0.items) p.1.items) }
+{
+    match names {
+        None => Ok((Vec::new(alloc), Vec::new(alloc))),
+        Some(names) => {
+            let (labels, label_of) = names_of_source(alloc, names)?;
+            Ok((labels, label_of))
+        }
+    }
 }
 
 impl Sites {
@@ -256,11 +288,34 @@ impl Sites {
         ensures line_of { IfOk result
             (λ sites. IsTable sites.line_of.items (line_for assembly.now)) }
     {
-        let mut labels = Vec::new(alloc);
-        let mut label_of = empty_table(alloc)?;
-        spread_names(alloc, &mut labels, &mut label_of, assembly, true)?;
-        spread_names(alloc, &mut labels, &mut label_of, assembly, false)?;
+        let (labels, label_of) = names_of_source(alloc, assembly)?;
         let lines = lines_of(alloc, assembly)?;
+        let line_of = table_of_lines(alloc, lines.as_slice())?;
+        Ok(Sites {
+            labels,
+            lines,
+            label_of,
+            line_of,
+        })
+    }
+
+    /// Makes the sites of a program by its places, with the names of an assembly, if there is one.
+    ///
+    /// Errors: `AllocError` if an allocation fails.
+    pub fn of_places(
+        alloc: Global,
+        names: Option<&Assembly>,
+        places: &Places,
+    ) -> Result<Sites, AllocError>
+        ensures labels { IfOk result (λ sites. AreLabels (option_map (λ a. a.now) names.entry)
+            (map labelled sites.labels.items) sites.label_of.items) }
+        ensures lines { IfOk result
+            (λ sites. map listed sites.lines.items ≡ lines_by places.now) }
+        ensures line_of { IfOk result
+            (λ sites. IsTable sites.line_of.items (line_by_places places.now)) }
+    {
+        let (labels, label_of) = labels_of(alloc, names)?;
+        let lines = lines_by(alloc, places)?;
         let line_of = table_of_lines(alloc, lines.as_slice())?;
         Ok(Sites {
             labels,

@@ -54,7 +54,8 @@ fn push_label(
     Ok(())
 }
 
-/// Appends the number of a line after a colon, likewise.
+/// Appends the number of a line after the name of its file, if that is shown, and a colon,
+/// likewise.
 #[tactic(auto, using(formatting::proofs::Padding::grown), unfolding(crate::specs::Words::with_line))]
 fn push_line_number(
     text: &mut Vec<u8>,
@@ -68,12 +69,13 @@ fn push_line_number(
 {
     text.extend_from_slice(b"  ")?;
     push_blanks(text, from, column)?;
+    text.extend_from_slice(line.file.as_slice())?;
     text.extend_from_slice(b":")?;
     push_count(text, line.number as u64)
 }
 
 /// Appends the label of an address and the number of its line, as far as the source has them, each
-/// after two blanks and no further left than its column: `again+4  :6`.
+/// after two blanks and no further left than its column: `again+4  :6`, or `again+4  count.s:6`.
 #[tactic(auto, using(formatting::proofs::Padding::grown), unfolding(crate::specs::Words::with_site, crate::specs::Words::with_label, crate::specs::Words::with_line))]
 pub fn push_site(
     text: &mut Vec<u8>,

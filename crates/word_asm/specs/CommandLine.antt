@@ -2,7 +2,7 @@
 -- plain|vice] [--map FILE] [--port HHHH] [--profile N|C] [--bin FILE] [--hex FILE] [--srec FILE]
 -- [--fill HH] [--utf8]`, as clap's definitions describe one. How words are matched with it is clap's to say.
 -- Source: mos65.
-use Rattle.std.specs.Prelude.{◌≡◌, ⊤, ℕ, false, List, Option, Some, None, codes}
+use Rattle.std.specs.Prelude.{◌≡◌, ℕ, false, List, Option, Some, None, codes}
 use Rattle.arguments.specs.CommandLine.{file_rule, flag_rule, option_rule, unnamed}
 use Rattle.arguments.specs.Words.{Fits, value_in}
 use Rattle.arguments.specs.declared.load_fault.LoadFault.{LoadFault}

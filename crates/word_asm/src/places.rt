@@ -1,6 +1,6 @@
 //! The places of a source's lines as a text.
 
-ghost use Rattle.std.specs.Prelude.{◌≡◌, ◌++◌, ◌≤◌, IfOk, OnOk, length, map};
+ghost use Rattle.std.specs.Prelude.{◌≡◌, ◌++◌, ◌≤◌, IfOk, OnOk, length};
 ghost use Rattle.word_asm.specs.Texts.{map_row, map_text};
 ghost use Rattle.word_asm.specs.Found.{extent_found, extents_found};
 ghost use Rattle.source_faults.specs.Views.{found_all, found_view};

@@ -1,5 +1,5 @@
 -- What `check` finds of a source, and what it writes of it. Source: mos65.
-use Rattle.std.specs.Prelude.{◌≡◌, ⊤, ℕ, ◌==◌, ◌&&◌, ◌||◌, Bool, not, true, false, List, None, length}
+use Rattle.std.specs.Prelude.{◌≡◌, ⊤, ℕ, ◌==◌, ◌&&◌, ◌||◌, Bool, not, true, List, None, length}
 use Rattle.arguments.specs.Shown.{shown_name}
 use Rattle.arguments.specs.declared.load_fault.LoadFault.{LoadFault}
 use Rattle.arguments.specs.declared.load_fault.LoadFault.TheVariants.{LooksLikeHex, LooksLikeRaw, LooksLikeSRecords, LooksLikeTape, Refused}

@@ -24,4 +24,3 @@ pub use alignment::{Row, alignment_of};
 pub use compare::tape_cmp;
 pub use comparing::differences;
 pub use parts::{Content, Part};
-pub use sides::Side;

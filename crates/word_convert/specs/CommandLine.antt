@@ -1,14 +1,9 @@
 -- The command line of `convert IN OUT [LO] [HI]` or `convert IN OTHER OUT`, with `[--from FORM] [--bin
 -- HHHH] [--to FORM] [--fill HH] [--sum8 HHHH] [--prg] [--image] [--tape]`, as clap's definitions
 -- describe one. How words are matched with it is clap's to say. Source: mos65.
-use Rattle.std.specs.Prelude.{Some, codes}
-use Rattle.clap.specs.Words.{App, Rule, Text, new_rule, with_rule}
-use Rattle.clap.specs.declared.builder.action.ArgAction.TheVariants.{Set}
-use Rattle.arguments.specs.CommandLine.{file_rule, flag_rule, option_rule, unnamed}
-
--- A word that may be there.
-abbrev pub word_rule : Text → Rule
-word_rule name = record (new_rule name) { action = Some Set }
+use Rattle.std.specs.Prelude.{codes}
+use Rattle.clap.specs.Words.{App, with_rule}
+use Rattle.arguments.specs.CommandLine.{file_rule, flag_rule, option_rule, unnamed, word_rule}
 
 abbrev pub convert : App
 convert = with_rule (with_rule (with_rule (with_rule (with_rule (with_rule (with_rule (with_rule

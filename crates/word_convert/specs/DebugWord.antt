@@ -1,5 +1,5 @@
 -- What `debug` has done with an image. Source: mos65. No clause can say what a file has.
-use Rattle.std.specs.Prelude.{⊤, ◌≡◌, ◌⊎◌, ℕ, true, List, Option, Result, Ok, Err, Some, IfSome}
+use Rattle.std.specs.Prelude.{⊤, ◌≡◌, ◌⊎◌, ℕ, true, List, Option, Result, Err, Some, IfSome}
 use Rattle.std.specs.Io.KnownBytes.{Appends}
 use Rattle.arguments.specs.Words.{Fits}
 use Rattle.clap.specs.Words.{Text}

@@ -1,9 +1,10 @@
 //! The command line of `convert`, as `clap` is told of it.
 
 ghost use Rattle.std.specs.Prelude.{◌≡◌, IfErr, IfOk, false};
+ghost use Rattle.arguments.specs.CommandLine.{word_rule};
 ghost use Rattle.clap.specs.Words.{app_of, kind_of, rule_of};
 ghost use Rattle.clap.specs.declared.builder.command.Command.TheViews.{out-Command};
-ghost use Rattle.word_convert.specs.CommandLine.{convert, word_rule};
+ghost use Rattle.word_convert.specs.CommandLine.{convert};
 
 use arguments::{begin, file, flag, option};
 use clap::error::ErrorKind;

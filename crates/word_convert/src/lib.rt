@@ -20,8 +20,6 @@ mod words;
 
 pub use command::convert_command;
 pub use converting::converted;
-pub use debugging::{debug_image, debug_image_command};
-pub use dis_rows::{dis_image, dis_image_command};
-pub use fault::ConvertFault;
+pub use debugging::debug_image;
+pub use dis_rows::dis_image;
 pub use run::convert;
-pub use words::{ConvertWords, read_convert_words};

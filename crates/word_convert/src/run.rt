@@ -2,7 +2,7 @@
 
 ghost use Rattle.std.specs.Prelude.{◌≡◌, ◌≤◌, ◌⊎◌, IfErr, None};
 ghost use Rattle.arguments.specs.Files.{EndsWriting};
-ghost use Rattle.arguments.specs.Words.{AsksForHelp, Fits, Misfits, texts};
+ghost use Rattle.arguments.specs.Words.{Fits, Misfits, texts};
 ghost use Rattle.word_convert.specs.Asked.{convert_asked};
 ghost use Rattle.word_convert.specs.CommandLine.{convert};
 ghost use Rattle.word_convert.specs.Statuses.{EndsConvert, status_of};

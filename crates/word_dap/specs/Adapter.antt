@@ -1,7 +1,8 @@
 -- What a request does to an adapter, and what is said. Source: Debug Adapter Protocol 1.65; in which
 -- order requests come, mos65.
-use Rattle.std.specs.Prelude.{ℕ, ◌≡◌, ◌⊎◌, ◌&&◌, ⊤, Bool, true, false, is_none, List, [], ◌∷◌, codes, Option, Some, None}
-use Rattle.dap_messages.specs.Bodies.{capabilities, nothing}
+use Rattle.std.specs.Prelude.{ℕ, ◌≡◌, ◌⊎◌, ◌&&◌, ⊤, Bool, true, false, is_none, List, [], ◌∷◌, Option, Some, None}
+use Rattle.dap_messages.specs.SeenAnswers.{capabilities, nothing}
+use Rattle.dap_messages.specs.Events.{initialized}
 use Rattle.dap_messages.specs.Messages.{Said, done, event, refused}
 use Rattle.dap_messages.specs.Seen.{SeenLaunch, launch_view}
 use Rattle.dap_messages.specs.declared.request.Request.{Request}
@@ -29,7 +30,7 @@ ObeysLaunched asked counting old new said = ⊥
 
 -- After a launch breakpoints may be set.
 abbrev pub launched : List Said
-launched = done nothing ∷ event (codes "initialized") nothing ∷ []
+launched = done nothing ∷ event initialized ∷ []
 
 abbrev pub Begins : SeenLaunch → Client → List Said → Type 0
 Begins launch new said = IsLaunched launch new × (said ≡ launched)

@@ -11,7 +11,7 @@ ghost use Rattle.word_dap.specs.Adapter.{ObeysFirst, RestsIfRefused, Serves, Sta
 ghost use Rattle.word_dap.specs.Adapter.{launched};
 ghost use Rattle.dap_session.specs.Refusals.{IfRefused};
 
-use dap_messages::{Counting, Launch, Message, Request, capabilities, nothing};
+use dap_messages::{Answer, ClientEvent, Counting, Launch, Message, Request};
 use dap_session::{
     Client, Fault, all_done, answer, answered, begin_session, or_memory, put_client, refused,
     with_event, with_terminated,
@@ -33,7 +33,7 @@ pub struct Adapter {
 fn launched(alloc: Global) -> Result<Vec<Message>, AllocError>
     ensures { IfOk result (λ ms. each said_of ms.items ≡ launched) }
 {
-    with_event(all_done(alloc), "initialized", nothing(alloc))
+    with_event(all_done(alloc), ClientEvent::Initialized)
 }
 
 /// Returns nothing, as the answer to what is no request.
@@ -122,7 +122,7 @@ fn serve_first(
     match asked {
         Request::Initialize(said) => {
             *counting = Some(said);
-            or_memory(answered(alloc, capabilities(alloc)))
+            or_memory(answered(alloc, Ok(Answer::Capabilities)))
         }
         Request::NoRequest => or_memory(unanswered(alloc)),
         other => {
@@ -179,7 +179,7 @@ fn ended_by(alloc: Global, words: String, is_end: bool) -> Result<Vec<Message>, 
     ensures { IfOk result (λ ms. IsRefused is_end (each said_of ms.items)) }
 {
     if is_end {
-        with_terminated(alloc, refusal(alloc, words))
+        with_terminated(refusal(alloc, words))
     } else {
         refusal(alloc, words)
     }

@@ -17,9 +17,5 @@ mod watch;
 
 pub use asked::is_strict;
 pub use command::strict_debug_command;
-pub use heard::Heard;
 pub use image::strict_debug_image;
-pub use log::Log;
-pub use seen::{Place, Seen};
 pub use strict::strict_debug;
-pub use watch::Watch;

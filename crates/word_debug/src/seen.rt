@@ -2,11 +2,11 @@
 
 ghost use Rattle.std.specs.Prelude.{◌≡◌, false};
 ghost use Rattle.word_debug.specs.Seen.{next, place_after, tells_fault};
-ghost use Rattle.word_debug.specs.declared.seen.Place.TheVariants.{Start};
+ghost use Rattle.word_debug.specs.declared.seen.LineState.TheVariants.{Start};
 
 /// How far a reply's line is known, as far as it matters for what comes next.
 #[derive(Clone, Copy, Debug, PartialEq, Eq)]
-pub enum Place {
+pub enum LineState {
     /// Nothing of the line is written.
     Start,
     /// `D` is.
@@ -25,34 +25,34 @@ pub enum Place {
 #[derive(Clone, Copy, Debug, PartialEq, Eq)]
 pub struct Seen {
     /// How far the last line is known.
-    pub place: Place,
+    pub place: LineState,
     /// Whether a line began with `?` or `!`, or told that a run ended in a fault.
     pub has_fault: bool,
 }
 
 /// Returns the place after a byte.
-fn place_after(place: Place, byte: u8) -> Place
+fn place_after(place: LineState, byte: u8) -> LineState
     ensures { result ≡ place_after place byte }
 {
     match (place, byte) {
-        (_, b'\n') => Place::Start,
-        (Place::Start, b'D') => Place::Letter,
-        (Place::Letter, b'I') => Place::Run,
-        (Place::Run, b' ') => Place::Steps,
-        (Place::Run, _) => Place::Run,
-        (Place::Steps, b' ') => Place::Why,
-        (Place::Steps, _) => Place::Steps,
-        _ => Place::Rest,
+        (_, b'\n') => LineState::Start,
+        (LineState::Start, b'D') => LineState::Letter,
+        (LineState::Letter, b'I') => LineState::Run,
+        (LineState::Run, b' ') => LineState::Steps,
+        (LineState::Run, _) => LineState::Run,
+        (LineState::Steps, b' ') => LineState::Why,
+        (LineState::Steps, _) => LineState::Steps,
+        _ => LineState::Rest,
     }
 }
 
 /// Returns whether a byte at a place tells of a fault.
-fn tells_fault(place: Place, byte: u8) -> bool
+fn tells_fault(place: LineState, byte: u8) -> bool
     ensures { result ≡ tells_fault place byte }
 {
     match place {
-        Place::Start => byte == b'?' || byte == b'!',
-        Place::Why => byte == b'F' || byte == b'C',
+        LineState::Start => byte == b'?' || byte == b'!',
+        LineState::Why => byte == b'F' || byte == b'C',
         _ => false,
     }
 }
@@ -64,7 +64,7 @@ impl Seen {
         ensures fault { result.has_fault ≡ false }
     {
         Seen {
-            place: Place::Start,
+            place: LineState::Start,
             has_fault: false,
         }
     }

@@ -4,21 +4,16 @@
 -- [--profile N|C] [--bin HHHH] [--prg] [--image] [--tape]`, as clap's definitions describe one. How
 -- words are matched with it is clap's to say. Source: mos65.
 use Rattle.std.specs.Prelude.{◌≡◌, List, Option, Some, codes}
-use Rattle.arguments.specs.CommandLine.{file_rule, flag_rule, list_rule, option_rule, unnamed}
+use Rattle.arguments.specs.CommandLine.{file_rule, flag_rule, list_rule, option_rule, unnamed, word_rule}
 use Rattle.arguments.specs.Words.{Fits, value_in, values_in}
-use Rattle.clap.specs.Words.{App, Rule, Text, new_rule, with_rule}
-use Rattle.clap.specs.declared.builder.action.ArgAction.TheVariants.{Set}
+use Rattle.clap.specs.Words.{App, Text, with_rule}
 use Rattle.word_dis.specs.Asked.{SourceAsked, source_asked}
 use Rattle.image_files.specs.Options.{with_image}
-
--- a word that may be left out
-abbrev pub bound_rule : Text → Rule
-bound_rule name = record (new_rule name) { action = Some Set }
 
 -- the tape, the part of it, and the flags
 abbrev pub dis_part : App
 dis_part = with_rule (with_rule (with_rule (with_rule (with_rule (unnamed (codes "dis"))
-    (file_rule (codes "TAPE"))) (bound_rule (codes "LO"))) (bound_rule (codes "HI")))
+    (file_rule (codes "TAPE"))) (word_rule (codes "LO"))) (word_rule (codes "HI")))
     (flag_rule (codes "source"))) (flag_rule (codes "labels"))
 
 -- a command line with the ranges of what is no code

@@ -1,9 +1,10 @@
 //! The command line as `clap` is told of it.
 
 ghost use Rattle.std.specs.Prelude.{◌≡◌, IfErr, IfOk, false};
+ghost use Rattle.arguments.specs.CommandLine.{word_rule};
 ghost use Rattle.clap.specs.Words.{app_of, kind_of, rule_of};
 ghost use Rattle.clap.specs.declared.builder.command.Command.TheViews.{out-Command};
-ghost use Rattle.word_dis.specs.CommandLine.{bound_rule, dis, dis_part, with_following, with_marks};
+ghost use Rattle.word_dis.specs.CommandLine.{dis, dis_part, with_following, with_marks};
 ghost use Rattle.word_dis.specs.CommandLine.{with_ranges};
 
 use arguments::{begin, file, flag, list, option, profile};
@@ -14,7 +15,7 @@ use std::alloc::Global;
 
 /// Returns a word that may be left out.
 fn bound<'a>(alloc: Global, name: &'a str, help: &'a str) -> Arg<'a>
-    ensures rule { rule_of result ≡ bound_rule name.entry.now }
+    ensures rule { rule_of result ≡ word_rule name.entry.now }
     ensures local { result.global ≡ false }
 {
     Arg::new(alloc, name)

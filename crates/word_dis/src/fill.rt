@@ -1,7 +1,6 @@
 //! What is left out of a source: runs of the byte with which an image is padded.
 
-ghost use Rattle.std.specs.Prelude.{◌≡◌, ℕ, ◌-◌, ◌<◌, ◌≤◌, IfOk, None, Some, false, true};
-ghost use Rattle.image_writer.specs.Window.{with_cell};
+ghost use Rattle.std.specs.Prelude.{◌≡◌, ◌-◌, ◌<◌, ◌≤◌, IfOk, None, Some, false, true};
 ghost use Rattle.model.specs.Image.{cell_at};
 ghost use Rattle.word_dis.specs.Fill.{AreKept, IsInRun, IsKept, IsRun, bytes_in, bytes_left_out};
 

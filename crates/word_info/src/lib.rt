@@ -19,11 +19,6 @@ mod ranges;
 mod run;
 mod wording;
 
-pub use behind::records_behind;
-pub use checksum::crc_32;
 pub use fact_list::{Facts, data_records, facts_of};
-pub use gaps::Gap;
 pub use law::right_tapes_are_read_as_they_stand;
-pub use overlaps::{overlaps_of, text_overlaps_of};
-pub use ranges::Range;
 pub use run::tape_info;

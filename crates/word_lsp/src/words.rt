@@ -10,7 +10,7 @@ use arguments::{
     WordsFault, begin, let_go, matched, port, port_asked, profile, profile_asked, value_fault,
 };
 use clap::error::ErrorKind;
-use clap::{ArgMatches, Command, Error};
+use clap::{Command, Error};
 use memory_map::Port;
 use model::Profile;
 use std::alloc::Global;

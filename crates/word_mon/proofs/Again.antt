@@ -9,7 +9,8 @@ use Rattle.arguments.specs.declared.refusal.Refusal.TheVariants.{OutOfMemory}
 use Rattle.arguments_play.specs.Mon.{MonAsked, mon_view}
 use Rattle.word_mon.specs.Files.{EndsReload, IsReloaded, Repeats, ServesAgain, is_memory}
 use Rattle.word_mon.specs.Notes.{SeenNote, notes_after, placed_in}
-use Rattle.word_mon.specs.Starts.{EndsDebugInfo, EndsNamed, StartsMon}
+use Rattle.debug_files.specs.Loaded.{EndsDebugInfo}
+use Rattle.word_mon.specs.Starts.{EndsNamed, StartsMon}
 use Rattle.word_mon.specs.declared.terminal.Terminal.{Terminal}
 use Rattle.mon_dispatch.specs.Lines.{Follows}
 use Rattle.mon_dispatch.specs.declared.lines.Outcome.{Outcome}

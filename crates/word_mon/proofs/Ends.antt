@@ -3,9 +3,8 @@ use Rattle.std.proofs.Common.{◌≡◌, ◌⊎◌, ℕ, Bool, ◌++◌, inl, in
 use Rattle.std.specs.Prelude.{⊤}
 use Rattle.std.specs.Io.KnownBytes.{Appends}
 use Rattle.arguments.specs.FaultLines.{file_line, load_text}
-use Rattle.arguments.specs.Statuses.{status_of, status_of_load}
+use Rattle.arguments.specs.Statuses.{status_of}
 use Rattle.arguments.specs.Asked.{FileAsked}
-use Rattle.arguments.specs.declared.load_fault.LoadFault.{LoadFault}
 use Rattle.arguments.specs.declared.load_fault.LoadFault.TheVariants.{Refused}
 use Rattle.arguments.specs.declared.refusal.Refusal.{Refusal}
 use Rattle.arguments.specs.declared.refusal.ReadFault.TheVariants.{Other}
@@ -15,9 +14,9 @@ use Rattle.loading.proofs.Machines.{memory_files, one_of}
 use Rattle.loading.specs.Machine.{AreUnloaded}
 use Rattle.loading.specs.Told.{Heard, Tells}
 use Rattle.word_mon.specs.Attended.{AttendsInPart, IsAttendedSoFar}
-use Rattle.word_mon.specs.Done.{Attends, EndsSession, IsUndebugged, IsUnnamed}
+use Rattle.word_mon.specs.Done.{Attends, EndsSession, IsUnnamed}
 use Rattle.word_mon.specs.declared.terminal.Terminal.{Terminal}
-use Rattle.word_mon.specs.Starts.{EndsDebugInfo, EndsNamed}
+use Rattle.word_mon.specs.Starts.{EndsNamed}
 
 -- Memory ran out: the line names no file.
 memory_unloads : (file : FileAsked) (others : Others) (heard : Heard) (path : List ℕ) (fault : Refusal) (status : ℕ) (Alone : Type 0) → fault ≡ OutOfMemory
@@ -50,13 +49,6 @@ ends_named symbols other file others heard fault status A U B (inl memory) is to
     inl (memory_unloads file others heard (unwrap_or symbols other).now fault status A memory is told alone)
 ends_named symbols other file others heard fault status A U B (inr ends) is told alone =
     inr (inl (inl (unnamed_ends symbols other file heard fault status A ends is told alone)))
-
--- What was told of the file of debug information.
-pub ends_debug : (debug : Option (Bor (List ℕ))) (other : Bor (List ℕ)) (heard : Heard) (fault : LoadFault) (status : ℕ) (Alone : Type 0)
-    → EndsDebugInfo (option_map (λ s. s.now) debug) fault → status ≡ status_of_load fault → Tells heard (load_text fault (unwrap_or debug other).now) → Alone
-    → IsUndebugged (option_map (λ s. s.now) debug) heard status Alone
-ends_debug None other heard fault status A ends is told alone = absurd ends
-ends_debug (Some path) other heard fault status A ends is told alone = (fault, ends, is, told, alone)
 
 -- How a session ended with a fault.
 pub attends_err : (prompts : Bool) (shown : List ℕ) (first last : Terminal)

@@ -1,5 +1,4 @@
 pub mod Again
-pub mod Bytes
 pub mod Filed
 pub mod LinesServed
 pub mod Pieces

@@ -25,7 +25,7 @@ pub named_starts : (asked : MonAsked) (session : Session) (assembly : Option Ass
     × (session ≡ new_session asked.history (start (map_of asked.file) image)) × (written ≡ bytes_in image)
     → (places : PlacesView) × ArePlaces asked.debug_info asked.file.file session assembly written places
     × (names : Option ImageNames) × AreNamed asked.symbols asked.file names × IsNewState session asked.history (with_names names places) mon
-    → loaded ≡ written → IsWarningLine (map_of asked.file) assembly fill warning_line → StartsMon asked mon loaded warning_line
+    → loaded ≡ written → IsWarningLine (map_of asked.file) assembly fill asked.debug_info warning_line → StartsMon asked mon loaded warning_line
 named_starts asked session assembly fill written loaded mon warning_line given new same warned =
     let begun = new_session asked.history (start (map_of asked.file) given.0) in (
       given.0,

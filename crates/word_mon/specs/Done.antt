@@ -2,15 +2,14 @@
 use Rattle.std.specs.Prelude.{◌≡◌, ◌⊎◌, ⊤, ℕ, Bool, true, List, [], ◌++◌, Option, Some, None, Result, Ok, Err}
 use Rattle.std.specs.Io.KnownBytes.{Appends}
 use Rattle.arguments.specs.Asked.{FileAsked}
-use Rattle.arguments.specs.FaultLines.{fault_line, file_line, load_text}
-use Rattle.arguments.specs.Statuses.{status_of, status_of_load}
-use Rattle.arguments.specs.declared.load_fault.LoadFault.{LoadFault}
+use Rattle.arguments.specs.FaultLines.{fault_line, file_line}
+use Rattle.arguments.specs.Statuses.{status_of}
 use Rattle.arguments.specs.declared.refusal.ReadFault.TheVariants.{Other}
 use Rattle.arguments.specs.declared.refusal.Refusal.{Refusal}
 use Rattle.arguments.specs.declared.refusal.Refusal.TheVariants.{OutOfMemory, Read, Write}
 use Rattle.arguments_play.specs.Mon.{MonAsked, mon_view}
 use Rattle.clap.specs.Words.{Text}
-use Rattle.debug_files.specs.Loads.{EndsDebug}
+use Rattle.debug_files.specs.Loaded.{IsUndebugged}
 use Rattle.loading.specs.Loads.{EndsNames}
 use Rattle.loading.specs.Machine.{AreUnloaded}
 use Rattle.loading.specs.Told.{Heard, Tells}
@@ -32,16 +31,9 @@ IsUnnamed None file heard status Alone = ⊥
 IsUnnamed (Some path) file heard status Alone = (fault : Refusal) × EndsNames file fault
     × (status ≡ status_of fault) × Tells heard (file_line path fault) × Alone
 
--- The file of debug information was not loaded, the error stream got why, and the others were left
--- alone, `Alone`.
-abbrev pub IsUndebugged : Option Text → Heard → ℕ → Type 0 → Type 0
-IsUndebugged None heard status Alone = ⊥
-IsUndebugged (Some path) heard status Alone = (fault : LoadFault) × EndsDebug fault
-    × (status ≡ status_of_load fault) × Tells heard (load_text fault path) × Alone
-
 abbrev pub IsUnstarted : MonAsked → Heard → ℕ → Type 0 → Type 0
 IsUnstarted asked heard status Alone = IsUnnamed asked.symbols asked.file heard status Alone
-    ⊎ IsUndebugged asked.debug_info heard status Alone
+    ⊎ IsUndebugged asked.debug_info heard.held heard.now status Alone
 
 -- Why a session ends before its input does.
 abbrev pub EndsSession : Refusal → Type 0

@@ -1,22 +1,21 @@
 -- How a session begins: the state, and what is known of its file. Source: mos65.
-use Rattle.std.specs.Prelude.{◌≡◌, ◌⊎◌, ◌<◌, ℕ, Bool, true, false, List, [], ◌++◌, Option, Some, None, slice_index}
-use Rattle.accesses.specs.Writing.{bytes_in, is_written}
+use Rattle.std.specs.Prelude.{◌≡◌, ◌⊎◌, ℕ, Bool, List, [], ◌++◌, Option, Some, None}
+use Rattle.accesses.specs.Writing.{bytes_in}
 use Rattle.assembler.specs.Assembly.{AssemblyView, IsAssembled}
 use Rattle.arguments.specs.Asked.{FileAsked, map_of}
-use Rattle.arguments.specs.declared.load_fault.LoadFault.{LoadFault}
 use Rattle.arguments.specs.declared.refusal.Refusal.{Refusal}
 use Rattle.arguments.specs.declared.refusal.Refusal.TheVariants.{OutOfMemory}
 use Rattle.arguments_play.specs.Mon.{MonAsked}
 use Rattle.clap.specs.Words.{Text}
-use Rattle.debug_files.specs.Loads.{AreDebugPlaces, EndsDebug}
+use Rattle.debug_files.specs.Changed.{TellsChanged}
+use Rattle.debug_files.specs.Loaded.{ArePlacesOf, EndsDebugInfo}
 use Rattle.loading.specs.Loads.{AreOfFile, EndsNames}
 use Rattle.loading.specs.Machine.{AreLoaded}
 use Rattle.loading.specs.Warned.{TellsWarnings}
 use Rattle.loading.specs.declared.loaded.ImageNames.{ImageNames}
 use Rattle.model.specs.Event.{start}
-use Rattle.model.specs.Image.{cell_at}
 use Rattle.model.specs.Session.{Session, new_session}
-use Rattle.model.specs.State.{Map, State}
+use Rattle.model.specs.State.{Map}
 use Rattle.mon_session.specs.declared.mon_state.MonState.{MonState}
 use Rattle.source_map.specs.Lines.{PlacesView, no_places, places_of}
 use Rattle.source_map.specs.Names.{names_in, other_names}
@@ -48,36 +47,24 @@ AreNamed (Some path) file None = ⊥
 AreNamed (Some path) file (Some names) = IsAssembled (map_of file) names.assembly
     × AreOfFile file.profile names.assembly names.others
 
--- The bytes of an image are those of a state's memory at the addresses that are marked.
-abbrev pub byte_where : Bool → ℕ → Option ℕ
-byte_where true byte = Some byte
-byte_where false byte = None
-
-pub record HasBytesOf (state : State) (marks : List Bool) (image : List (Option ℕ)) : Type 0 where
-  pub bytes : (address : ℕ) → address < 65536 → cell_at image address
-      ≡ byte_where (is_written marks address) (slice_index state.bus.memory address)
-
 -- What stands where: by the file of debug information that is named, with the bytes that were
 -- loaded; otherwise the names and the lines of a source.
 abbrev pub ArePlaces : Option Text → Text → Session → Option AssemblyView → List Bool → PlacesView
     → Type 0
 ArePlaces None file session assembly loaded places = places ≡ places_in file assembly
-ArePlaces (Some path) file session assembly loaded places = (image : List (Option ℕ))
-    × HasBytesOf session.current loaded image
-    × AreDebugPlaces (record { profile = session.current.bus.map.profile; image = image }) places
+ArePlaces (Some path) file session assembly loaded places
+    = ArePlacesOf session.current loaded places
 
 -- The line that tells how many warnings a source has on a map, or that fill at the port was left
--- out of an image, as `run` writes them; nothing without a warning and fill, and nothing or a
--- beginning where memory runs out.
-abbrev pub IsWarningLine : Map → Option AssemblyView → Option ℕ → List ℕ → Type 0
-IsWarningLine bus_map assembly fill line
-    = TellsWarnings bus_map assembly 0 fill (record { held = Some []; now = Some line })
+-- out of an image, and the one that tells which sources have changed since debug information was made,
+-- as `run` writes them; nothing where there is none of these, and nothing or a beginning where memory
+-- runs out.
+abbrev pub IsWarningLine : Map → Option AssemblyView → Option ℕ → Option Text → List ℕ → Type 0
+IsWarningLine bus_map assembly fill debug line = (first : List ℕ)
+    × TellsWarnings bus_map assembly 0 fill (record { held = Some []; now = Some first })
+    × TellsChanged debug (Some first) (Some line)
 
 -- Why a session does not begin on what was loaded.
-abbrev pub EndsDebugInfo : Option Text → LoadFault → Type 0
-EndsDebugInfo None fault = ⊥
-EndsDebugInfo (Some path) fault = EndsDebug fault
-
 abbrev pub EndsStart : Option Text → Option Text → FileAsked → StartFault → Type 0
 EndsStart symbols debug file (OfNames refusal)
     = (refusal ≡ OutOfMemory) ⊎ EndsNamed symbols file refusal
@@ -111,4 +98,4 @@ StartsMon asked mon loaded warning_line = (image : List (Option ℕ))
     × (names : Option ImageNames) × AreNamed asked.symbols asked.file names
     × IsNewState (new_session asked.history (start (map_of asked.file) image)) asked.history
     (with_names names places) mon
-    × IsWarningLine (map_of asked.file) assembly fill warning_line
+    × IsWarningLine (map_of asked.file) assembly fill asked.debug_info warning_line

@@ -1,12 +1,12 @@
 //! The lines of the input, and the loop that serves them.
 
-ghost use Rattle.std.specs.Prelude.{◌≡◌, ◌∷◌, ◌++◌, [], ℕ, List, Bool, Ok, Err, IfErr, IfOk, OnOk};
+ghost use Rattle.std.specs.Prelude.{◌≡◌, ◌∷◌, ◌++◌, [], ℕ, List, Bool, Ok, Err, IfErr, IfOk};
 ghost use Rattle.std.specs.Io.BufRead.{strip_last};
 ghost use Rattle.std.specs.Io.KnownBytes.{Appends};
 ghost use Rattle.word_mon.specs.Attended.{AttendsInPart, EndsLines, IsAttended, IsAttendedSoFar};
 ghost use Rattle.word_mon.specs.Attended.{ServesLine, line_end_of, prompt_of};
 ghost use Rattle.word_mon.specs.Done.{EndsAnswer, EndsSession};
-ghost use Rattle.word_mon.specs.Pieces.{BreaksBytes, BreaksEnd, BreaksLine, GoesOn, Piece, ServesPiece};
+ghost use Rattle.word_mon.specs.Pieces.{BreaksBytes, BreaksEnd, BreaksLine, GoesOn, ServesPiece};
 ghost use Rattle.word_mon.specs.Screens.{answer_text};
 ghost use Rattle.word_mon.specs.declared.terminal.Terminal.{Terminal};
 

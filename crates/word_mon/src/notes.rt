@@ -2,7 +2,7 @@
 
 ghost use Rattle.std.specs.Prelude.{◌≡◌, ◌++◌, ◌∷◌, [], OnOk, filter, not};
 ghost use Rattle.word_mon.specs.Notes.{note_of, notes_after, placed_by, placed_in};
-ghost use Rattle.word_mon.specs.Notes.{placed_seen, placed_shown, replaces, stands, with_note};
+ghost use Rattle.word_mon.specs.Notes.{placed_shown, replaces, stands};
 ghost use Rattle.mon_lines.specs.Lines.{asked_view};
 ghost use Rattle.mon_runs.specs.Stops.{has, is_at, is_of};
 ghost use Rattle.std.specs.List.{list_any};

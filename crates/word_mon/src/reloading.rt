@@ -13,7 +13,7 @@ ghost use Rattle.model.specs.Session.{new_session};
 ghost use Rattle.word_mon.specs.Done.{EndsAnswer};
 ghost use Rattle.word_mon.specs.Files.{EndsReload, IsReloaded, KeepsSession, Reloads, Repeats};
 ghost use Rattle.word_mon.specs.Files.{SaysFront, ServesAgain, is_memory};
-ghost use Rattle.word_mon.specs.Notes.{SeenNote, notes_after, placed_in};
+ghost use Rattle.word_mon.specs.Notes.{notes_after, placed_in};
 ghost use Rattle.word_mon.specs.Starts.{StartsMon};
 ghost use Rattle.mon_dispatch.specs.Lines.{Follows};
 ghost use Rattle.mon_dispatch.specs.declared.lines.Outcome.{Outcome};

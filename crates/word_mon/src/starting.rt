@@ -1,27 +1,21 @@
 //! How a session begins on what was loaded.
 
-ghost use Rattle.std.specs.Prelude.{◌≡◌, ◌⊎◌, IfErr, IfOk, Option, OnOk, Some, if◌then◌else◌};
-ghost use Rattle.std.specs.Prelude.{option_map, slice_index, slice_set};
-ghost use Rattle.accesses.specs.Writing.{is_written};
-ghost use Rattle.model.specs.Image.{empty_image};
+ghost use Rattle.std.specs.Prelude.{◌≡◌, ◌⊎◌, IfErr, IfOk, Option, OnOk, Some, option_map};
 ghost use Rattle.source_map.specs.Lines.{PlacesView};
 ghost use Rattle.arguments.specs.Asked.{file_view, map_of};
 ghost use Rattle.arguments_play.specs.Mon.{mon_view};
 ghost use Rattle.loading.specs.declared.loaded.ImageNames.{ImageNames};
-ghost use Rattle.word_mon.specs.Starts.{AreNamed, ArePlaces, EndsNamed, EndsStart, HasBytesOf};
+ghost use Rattle.word_mon.specs.Starts.{AreNamed, ArePlaces, EndsNamed, EndsStart};
 ghost use Rattle.word_mon.specs.Starts.{IsNewState, IsWarningLine, places_in, with_names};
 ghost use Rattle.word_mon.specs.declared.starting.StartFault.TheVariants.{OfDebug, OfNames};
 
 use crate::terminal::of_memory;
-use accesses::Written;
 use arguments::{LoadFault, Refusal};
 use arguments_play::MonWords;
 use assembler::Assembly;
-use debug_files::load_places;
+use debug_files::{DebugPlaces, load_places_of, tell_changed};
 use loading::{ImageNames, Loaded, load_names, tell_warnings};
-use memory_map::Image;
 use mon_files::Known;
-use mon_runs::Session;
 use mon_session::MonState;
 use source_map::Places;
 use std::alloc::{AllocError, Global};
@@ -115,87 +109,61 @@ fn of_source(names: Option<ImageNames>) -> Option<Assembly> {
     }
 }
 
-/// Makes an image without bytes.
-fn no_bytes(alloc: Global) -> Result<Image, Refusal>
-    ensures image { IfOk result (λ image. image ≡ empty_image) }
-    ensures refused { IfErr result (λ fault. fault ≡ Refusal.OutOfMemory) }
-{
-    Image::new(alloc).map_err(|_| Refusal::OutOfMemory)
-}
-
-/// Puts the byte of a session at an address, if the file has one there.
-fn put_byte(image: &mut Image, session: &Session, loaded: &Written, address: u16)
-    ensures { image.new ≡ if is_written loaded.now address
-        then slice_set image.old address
-        (Some (slice_index session.now.current.bus.memory address))
-        else image.old }
-{
-    if loaded.contains(address) {
-        image.put(address, session.peek(address));
-    }
-}
-
-/// Returns the bytes of a session at the addresses where its file has one.
-fn bytes_of(alloc: Global, session: &Session, loaded: &Written) -> Result<Image, Refusal>
-    ensures image { IfOk result (λ image. HasBytesOf session.now.current loaded.now image) }
-    ensures refused { IfErr result (λ fault. fault ≡ Refusal.OutOfMemory) }
-{
-    let mut image = no_bytes(alloc)?;
-    for place in 0..65536u32 {
-        put_byte(&mut image, session, loaded, place as u16);
-    }
-    Ok(image)
-}
-
 /// Returns the places of an image by the file of its debug information.
 fn debug_places<H: Files + AllocGlobal>(
     rt: &H,
     words: &MonWords<'_>,
     path: &str,
     loaded: &Loaded,
-) -> Result<Places, StartFault>
-    ensures places { IfOk result (λ places. ArePlaces (Some path.now) words.now.file.file.now
-        loaded.now.session loaded.now.assembly loaded.now.written places) }
+) -> Result<DebugPlaces, StartFault>
+    ensures places { IfOk result (λ debug. ArePlaces (Some path.now) words.now.file.file.now
+        loaded.now.session loaded.now.assembly loaded.now.written debug.places) }
     ensures refused { IfErr result (EndsStart (mon_view words.now).symbols (Some path.now)
         (file_view words.now.file)) }
 {
     let session = &loaded.session;
-    let image = bytes_of(rt.alloc(), session, &loaded.written)?;
-    let profile = session.profile();
-    Ok(load_places(rt, path, words.source_root, profile, &image)?)
+    Ok(load_places_of(rt, path, words.source_root, session, &loaded.written)?)
 }
 
-/// Returns the places of what was loaded: by its debug information, if such a file is named.
+/// Returns the places of what was loaded: by its debug information, if such a file is named, with
+/// the names of the sources that have changed since.
 fn known_places<H: Files + AllocGlobal>(
     rt: &H,
     words: &MonWords<'_>,
     loaded: &Loaded,
-) -> Result<Places, StartFault>
-    ensures places { IfOk result (λ places. ArePlaces (mon_view words.now).debug_info
+) -> Result<DebugPlaces, StartFault>
+    ensures places { IfOk result (λ debug. ArePlaces (mon_view words.now).debug_info
         words.now.file.file.now loaded.now.session loaded.now.assembly loaded.now.written
-        places) }
+        debug.places) }
     ensures refused { IfErr result (EndsStart (mon_view words.now).symbols
         (mon_view words.now).debug_info (file_view words.now.file)) }
 {
     match words.debug_info {
-        None => Ok(places_of(rt.alloc(), words.file.file, &loaded.assembly)?),
+        None => Ok(DebugPlaces {
+            places: places_of(rt.alloc(), words.file.file, &loaded.assembly)?,
+            changed: Vec::new(rt.alloc()),
+        }),
         Some(path) => debug_places(rt, words, path, loaded),
     }
 }
 
 /// Returns the line that tells how many warnings a source has, if there is a source and it has
-/// some, or that fill at the port was left out; or a beginning of it where memory runs out.
+/// some, or that fill at the port was left out, and the one that tells which sources have changed
+/// since debug information was made; or a beginning of them where memory runs out.
 fn warning_line_of(
     alloc: Global,
     words: &MonWords<'_>,
     assembly: Option<&Assembly>,
     fill: Option<u32>,
+    changed: &[u8],
 ) -> Vec<u8>
     ensures { IsWarningLine (map_of (file_view words.now.file))
-        (option_map (λ a. a.now) assembly.entry) fill result.items }
+        (option_map (λ a. a.now) assembly.entry) fill (mon_view words.now).debug_info
+        result.items }
 {
     let mut line: Vec<u8> = Vec::new(alloc);
     tell_warnings(alloc, &words.file, assembly, 0, fill, &mut line);
+    tell_changed(words.debug_info, changed, &mut line);
     line
 }
 
@@ -204,7 +172,7 @@ fn warning_line_of(
 ///
 /// # Errors
 ///
-/// `OfDebug` with the fault of `debug_files::load_places`; `OfNames` with that of
+/// `OfDebug` with the fault of `debug_files::load_places_of`; `OfNames` with that of
 /// `loading::load_names`, or with `OutOfMemory` if an allocation fails.
 pub fn start<H: Files + AllocGlobal>(
     rt: &H,
@@ -219,12 +187,17 @@ pub fn start<H: Files + AllocGlobal>(
         × IsNewState loaded.session words.now.history (with_names names places) started.mon) }
     ensures loaded { IfOk result (λ started. started.loaded ≡ loaded.written) }
     ensures warned { IfOk result (λ started. IsWarningLine (map_of (file_view words.now.file))
-        loaded.assembly loaded.fill started.warning_line.items) }
+        loaded.assembly loaded.fill (mon_view words.now).debug_info started.warning_line.items) }
     ensures refused { IfErr result (EndsStart (mon_view words.now).symbols
         (mon_view words.now).debug_info (file_view words.now.file)) }
 {
-    let mut places = known_places(rt, words, &loaded)?;
-    let warning_line = warning_line_of(rt.alloc(), words, loaded.assembly.as_ref(), loaded.fill);
+    let known = known_places(rt, words, &loaded)?;
+    let DebugPlaces {
+        mut places,
+        changed,
+    } = known;
+    let source = loaded.assembly.as_ref();
+    let warning_line = warning_line_of(rt.alloc(), words, source, loaded.fill, changed.as_slice());
     let Loaded {
         session,
         assembly,

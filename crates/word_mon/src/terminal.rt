@@ -9,7 +9,6 @@ ghost use Rattle.word_mon.specs.Attended.{prompt_of};
 ghost use Rattle.word_mon.specs.Done.{EndsAnswer};
 ghost use Rattle.word_mon.specs.Screens.{Rests, answer_text, answered_after, drawn, meant};
 ghost use Rattle.word_mon.specs.Screens.{said_again};
-ghost use Rattle.word_mon.specs.Views.{IsViewAfter};
 ghost use Rattle.mon_dispatch.specs.Lines.{Says, Serves};
 ghost use Rattle.mon_lines.specs.Lines.{asked_view, command_view, line_view};
 

@@ -1,5 +1,5 @@
 -- What is known of a run that a page shows, and of a file that was loaded.
-use Rattle.std.proofs.Common.{◌≡◌, ◌∙◌, ℕ, Bool, List, Option, Result, Ok, Err, refl, sym, ap, subst, inl, inr}
+use Rattle.std.proofs.Common.{◌≡◌, ◌∙◌, ℕ, Bool, List, Option, None, Result, Ok, Err, refl, sym, ap, subst, inl, inr}
 use Rattle.accesses.specs.Writing.{bytes_in}
 use Rattle.arguments.specs.Asked.{map_of}
 use Rattle.assembler.specs.Assembly.{AssemblyView}
@@ -15,27 +15,29 @@ use Rattle.model.specs.Event.{start}
 use Rattle.model.specs.Session.{Session, new_session}
 use Rattle.word_page.specs.Asked.{PageAsked}
 use Rattle.word_page.specs.Done.{AreNamed, IsDone, IsInput, IsRefused, IsShown, Ran, ShownIfFound, ShownIfNamed, place_in, start_in, start_of}
+use Rattle.word_run.specs.Known.{known_by}
 use Rattle.word_run.specs.Runs.{Start, TellsEnding}
 use Rattle.word_run.specs.Statuses.{status_of_ending}
 use Rattle.word_run.specs.Told.{unplaced_line}
 
 -- What was told of an assembly and an address, said otherwise.
 pub told_at : (file : List ℕ) (x y : Option AssemblyView) (heard : Heard) (why : Ending) (steps pc at : ℕ) → x ≡ y → pc ≡ at
-    → TellsEnding file x heard why steps pc → TellsEnding file y heard why steps at
+    → TellsEnding (known_by file x None) heard why steps pc → TellsEnding (known_by file y None) heard why steps at
 told_at file x y heard why steps pc at same there told =
-    subst (λ (n : ℕ). TellsEnding file y heard why steps n) there (subst (λ (a : Option AssemblyView). TellsEnding file a heard why steps pc) same told)
+    subst (λ (n : ℕ). TellsEnding (known_by file y None) heard why steps n) there
+    (subst (λ (a : Option AssemblyView). TellsEnding (known_by file a None) heard why steps pc) same told)
 
 -- What was told of a run is told of the definition's.
 pub shown : (a : PageAsked) (assembly : Option AssemblyView) (until : Option ℕ) (s : Start) (t : Session) (heard : Heard) (end : Played) (status : ℕ)
     (input : List ℕ) → IsInput a.input input → Ran until a.steps s input end t
-    → status ≡ status_of_ending end.ending 0 → TellsEnding a.file.file assembly heard end.ending end.steps t.current.regs.pc
+    → status ≡ status_of_ending end.ending 0 → TellsEnding (known_by a.file.file assembly None) heard end.ending end.steps t.current.regs.pc
     → IsShown a assembly until s heard status
 shown a assembly until s t heard end status input is ran ended told =
     let outcome : Outcome = played until a.steps (begun s.session s.written input) in
     let same = ran.1 in
-    let E : Ending → Type 0 = λ x. TellsEnding a.file.file assembly heard x end.steps t.current.regs.pc in
-    let N : ℕ → Type 0 = λ x. TellsEnding a.file.file assembly heard outcome.ending x t.current.regs.pc in
-    let S : Session → Type 0 = λ x. TellsEnding a.file.file assembly heard outcome.ending outcome.steps x.current.regs.pc in
+    let E : Ending → Type 0 = λ x. TellsEnding (known_by a.file.file assembly None) heard x end.steps t.current.regs.pc in
+    let N : ℕ → Type 0 = λ x. TellsEnding (known_by a.file.file assembly None) heard outcome.ending x t.current.regs.pc in
+    let S : Session → Type 0 = λ x. TellsEnding (known_by a.file.file assembly None) heard outcome.ending outcome.steps x.current.regs.pc in
     inr (input, is, (ended ∙ ap (λ (why : Ending). status_of_ending why 0) same.ending, subst S same.session (subst N same.steps (subst E same.ending told))))
 
 -- A file that was loaded.

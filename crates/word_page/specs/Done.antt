@@ -25,6 +25,7 @@ use Rattle.word_page.specs.Notes.{IsFaultOf, notes_line, notes_status}
 use Rattle.word_page.specs.declared.fault.PageFault.{PageFault}
 use Rattle.word_page.specs.declared.fault.PageFault.TheVariants.{File, Notes}
 use Rattle.word_page.specs.declared.notes.NotesFault.{NotesFault}
+use Rattle.word_run.specs.Known.{known_by}
 use Rattle.word_run.specs.Places.{place_asked}
 use Rattle.word_run.specs.Runs.{Start, TellsEnding}
 use Rattle.word_run.specs.Statuses.{status_of_ending}
@@ -80,7 +81,7 @@ IsRefused heard status = IsUnread heard status ⊎ IsUnnoted heard status
 -- A session ran over some input by the definition of a run, and the error stream got how it ended.
 abbrev pub IsRun : PageAsked → Option AssemblyView → Heard → ℕ → Outcome → Type 0
 IsRun a assembly heard status end = (status ≡ status_of_ending end.ending 0)
-    × TellsEnding a.file.file assembly heard end.ending end.steps end.play.session.current.regs.pc
+    × TellsEnding (known_by a.file.file assembly None) heard end.ending end.steps end.play.session.current.regs.pc
 
 -- A session ran up to a place, or there is no whole page.
 abbrev pub IsShown : PageAsked → Option AssemblyView → Option ℕ → Start → Heard → ℕ → Type 0

@@ -14,7 +14,4 @@ mod wording;
 mod words;
 
 pub use command::page_command;
-pub use fault::PageFault;
-pub use notes::{NotesFault, read_notes};
 pub use run::page;
-pub use words::{OpeningWords, PageWords};

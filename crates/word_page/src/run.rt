@@ -28,7 +28,7 @@ use page_writer::{
 use std::alloc::{AllocError, Global};
 use std::io::Write;
 use std::rt::Files;
-use word_run::{place_named, status_of_ending, tell_ending};
+use word_run::{Known, place_named, status_of_ending, tell_ending};
 
 /// The most bytes of input that a program can be given.
 const MOST_INPUT: u64 = 65_536;
@@ -287,7 +287,12 @@ fn show_to<H: Files + AllocGlobal, E: Write>(
         Ok(played) => {
             let pc = loaded.session.regs().pc;
             let assembly = loaded.assembly.as_ref();
-            tell_ending(rt.alloc(), words.file.file, assembly, played, pc, errors);
+            let known = Known {
+                file: words.file.file,
+                assembly,
+                debug: None,
+            };
+            tell_ending(rt.alloc(), known, played, pc, errors);
             status_of_ending(played.ending, 0)
         }
         Err(why) => why.tell(errors),

@@ -88,8 +88,7 @@ fn screen_asked(word: Option<&str>) -> Option<Option<u16>>
     }
 }
 
-/// Returns the words that the values that were found are of a page when it is opened, or `None` if one is
-/// wrong.
+/// Returns what the matched values ask for of a page when it is opened, or `None` if one is wrong.
 fn opening_asked<'a>(matches: &ArgMatches<'a>) -> Option<OpeningWords<'a>>
     ensures { option_map opening_view result ≡ opening_asked (first_value (found_of matches.now)) }
 {

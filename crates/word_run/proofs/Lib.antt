@@ -1,2 +1,3 @@
+mod Debugged
 pub mod Ran
 pub mod Sites

@@ -1,3 +1,4 @@
+pub mod Known
 pub mod Places
 pub mod Requests
 pub mod Runs

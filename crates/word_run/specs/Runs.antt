@@ -9,6 +9,8 @@ use Rattle.console.specs.declared.ending.Ending.{Ending}
 use Rattle.console.specs.declared.ending.PlayFault.{PlayFault}
 use Rattle.assembler.specs.Assembly.{AssemblyView}
 use Rattle.arguments.specs.Asked.{map_of}
+use Rattle.debug_files.specs.Changed.{TellsChanged}
+use Rattle.debug_files.specs.Loaded.{IsUndebugged}
 use Rattle.loading.specs.Machine.{IsMachine, IsUnmade}
 use Rattle.loading.specs.Named.{MayLose}
 use Rattle.loading.specs.Place.{names_of}
@@ -21,6 +23,8 @@ use Rattle.model.specs.Session.{Session, new_session}
 use Rattle.model.specs.State.{State}
 use Rattle.model.specs.Writers.{AppendsFront}
 use Rattle.arguments_play.specs.Run.{RunAsked}
+use Rattle.source_map.specs.Lines.{PlacesView}
+use Rattle.word_run.specs.Known.{AreDebugged, known_by}
 use Rattle.word_run.specs.Places.{place_asked}
 use Rattle.word_run.specs.Statuses.{refusal_of, status_of_ending}
 use Rattle.word_run.specs.Told.{IsSite, cycles_line, ending_line, interrupted_line, place_of_ending, unplaced_line}
@@ -56,28 +60,26 @@ Ran s until limit streams (Err fault) = (input : List ℕ) × AreBytesOf streams
     × AppendsFront streams.held streams.now
     (played until limit (begun s.session s.written input)).play.session.current.bus.out
 
--- A writer got why a run did not come to its end, with what the source says of the address.
-abbrev pub TellsEnding : List ℕ → Option AssemblyView → Heard → Ending → ℕ → ℕ → Type 0
-TellsEnding file assembly heard ending steps pc = (site : List ℕ)
-    × IsSite file assembly (place_of_ending ending pc) site
+-- A writer got why a run did not come to its end, with what is known of the address.
+abbrev pub TellsEnding : Option PlacesView → Heard → Ending → ℕ → ℕ → Type 0
+TellsEnding known heard ending steps pc = (site : List ℕ)
+    × IsSite known (place_of_ending ending pc) site
     × Tells heard (ending_line site ending steps pc)
 
 -- The error stream got why a run did not come to its end, and then its cycles if they are asked
 -- for.
-abbrev pub TellsEnd : Bool → List ℕ → Option AssemblyView → Heard → Ending → ℕ → State → Type 0
-TellsEnd false file assembly heard ending steps state
-    = TellsEnding file assembly heard ending steps state.regs.pc
-TellsEnd true file assembly heard ending steps state = (between : Option (List ℕ))
-    × TellsEnding file assembly (record { held = heard.held; now = between })
-    ending steps state.regs.pc
+abbrev pub TellsEnd : Bool → Option PlacesView → Heard → Ending → ℕ → State → Type 0
+TellsEnd false known heard ending steps state
+    = TellsEnding known heard ending steps state.regs.pc
+TellsEnd true known heard ending steps state = (between : Option (List ℕ))
+    × TellsEnding known (record { held = heard.held; now = between }) ending steps state.regs.pc
     × AppendsFront between heard.now (cycles_line state.cycles steps)
 
 -- The error stream got how a run ended, or that a stream failed.
-abbrev pub TellsRun : RunAsked → Option AssemblyView → Heard → Result Outcome PlayFault → Type 0
-TellsRun a assembly heard (Ok end)
-    = TellsEnd a.tells_cycles a.file.file assembly heard end.ending end.steps
-    end.play.session.current
-TellsRun a assembly heard (Err fault) = Tells heard (fault_line (refusal_of fault))
+abbrev pub TellsRun : RunAsked → Option PlacesView → Heard → Result Outcome PlayFault → Type 0
+TellsRun a known heard (Ok end)
+    = TellsEnd a.tells_cycles known heard end.ending end.steps end.play.session.current
+TellsRun a known heard (Err fault) = Tells heard (fault_line (refusal_of fault))
 
 -- The exit status of a run: 0 at its end, or the value of A there if that is asked for.
 abbrev pub status_of_run : Bool → Result Outcome PlayFault → ℕ
@@ -86,45 +88,58 @@ status_of_run is_of_a (Ok end) = status_of_ending end.ending
 status_of_run is_of_a (Err fault) = status_of (refusal_of fault)
 
 -- A session ran up to a place.
-abbrev pub RanTo : RunAsked → Option AssemblyView → Option ℕ → Start → Streams → Heard → ℕ → Type 0
-RanTo a assembly until s streams heard status = (outcome : Result Outcome PlayFault)
+abbrev pub RanTo : RunAsked → Option PlacesView → Option ℕ → Start → Streams → Heard → ℕ → Type 0
+RanTo a known until s streams heard status = (outcome : Result Outcome PlayFault)
     × Ran s until a.steps streams outcome × (status ≡ status_of_run a.is_status_of_a outcome)
-    × TellsRun a assembly heard outcome
+    × TellsRun a known heard outcome
 
 -- The error stream got where a run stood when it was interrupted.
-abbrev pub TellsInterrupted : List ℕ → Option AssemblyView → Heard → ℕ → ℕ → Type 0
-TellsInterrupted file assembly heard pc cycles = (site : List ℕ) × IsSite file assembly pc site
+abbrev pub TellsInterrupted : Option PlacesView → Heard → ℕ → ℕ → Type 0
+TellsInterrupted known heard pc cycles = (site : List ℕ) × IsSite known pc site
     × Tells heard (interrupted_line site pc cycles)
 
 -- A run broke off in a session, over some input, which is the reader's if its bytes are known. What
 -- was written is a beginning of what that session has put out, and of the output of the whole run.
 -- The error stream got where the session stands.
-abbrev pub Interrupted : RunAsked → Option AssemblyView → Option ℕ → Start → Streams → Heard → ℕ
+abbrev pub Interrupted : RunAsked → Option PlacesView → Option ℕ → Start → Streams → Heard → ℕ
     → Type 0
-Interrupted a assembly until s streams heard status = (status ≡ 130)
+Interrupted a known until s streams heard status = (status ≡ 130)
     × ((input : List ℕ) × (now : Session) × (left : List ℕ) × AreBytesOf streams.given input
     × AreBytesOf streams.left left
     × BrokeOff until a.steps (begun s.session s.written input) now left
     × AppendsFront streams.held streams.now now.current.bus.out
     × AppendsFront streams.held streams.now
     (played until a.steps (begun s.session s.written input)).play.session.current.bus.out
-    × TellsInterrupted a.file.file assembly heard now.current.regs.pc now.current.cycles)
+    × TellsInterrupted known heard now.current.regs.pc now.current.cycles)
 
 -- A session ran up to a place, or was interrupted; the latter only if the writer was.
-unfoldable pub RanOrInterrupted : RunAsked → Option AssemblyView → Option ℕ → Start → Streams → Bool
+unfoldable pub RanOrInterrupted : RunAsked → Option PlacesView → Option ℕ → Start → Streams → Bool
     → Heard → ℕ → Type 0
-RanOrInterrupted a assembly until s streams interrupted heard status
-    = RanTo a assembly until s streams heard status
-    ⊎ ((interrupted ≡ true) × Interrupted a assembly until s streams heard status)
+RanOrInterrupted a known until s streams interrupted heard status
+    = RanTo a known until s streams heard status
+    ⊎ ((interrupted ≡ true) × Interrupted a known until s streams heard status)
 
 -- A session ran up to the place of the words, if it is found; otherwise the streams were left
 -- alone, `Alone`, and the error stream got that it is no place.
-abbrev pub RanIfFound : RunAsked → Option AssemblyView → Result (Option ℕ) ℕ → Start → Streams
+abbrev pub RanIfFound : RunAsked → Option PlacesView → Result (Option ℕ) ℕ → Start → Streams
     → Bool → Heard → ℕ → Type 0 → Type 0
-RanIfFound a assembly (Ok until) s streams interrupted heard status Alone
-    = RanOrInterrupted a assembly until s streams interrupted heard status
-RanIfFound a assembly (Err refused) s streams interrupted heard status Alone = (status ≡ refused)
+RanIfFound a known (Ok until) s streams interrupted heard status Alone
+    = RanOrInterrupted a known until s streams interrupted heard status
+RanIfFound a known (Err refused) s streams interrupted heard status Alone = (status ≡ refused)
     × Tells heard (unplaced_line a.until) × Alone
+
+-- The debug information that is named was read, the error stream got which of its sources have
+-- changed, and a session ran, of which that is known; or it was not read, and the error stream got
+-- why.
+abbrev pub RanDebugged : RunAsked → Option AssemblyView → List Bool → Start → Streams → Bool → Heard
+    → ℕ → Type 0 → Type 0
+RanDebugged a assembly loaded s streams interrupted heard status Alone
+    = IsUndebugged a.debug_info heard.held heard.now status Alone
+    ⊎ ((debug : Option PlacesView)
+    × AreDebugged a.debug_info s.session.current loaded assembly debug
+    × (between : Option (List ℕ)) × TellsChanged a.debug_info heard.held between
+    × RanIfFound a (known_by a.file.file assembly debug) (place_asked (names_of assembly) a.until)
+    s streams interrupted (heard_of between heard.now) status Alone)
 
 -- A session at the start of an image, with the image's bytes written, or all if a run goes on where
 -- nothing was.
@@ -135,17 +150,17 @@ start_of a image = record {
 }
 
 -- A file was loaded: from the start of an image that it can have, on the map of the words and with
--- the names of the image's source, or of the file of names, a session ran. Before that the error
--- stream got how many warnings the source has, how many lines of the file of names gave none,
--- and that fill at the port was left out.
+-- the names of the image's source, or of the file of names, a session ran, unless debug information
+-- was not read. Before that the error stream got how many warnings the source has, how many lines of
+-- the file of names gave none, and that fill at the port was left out.
 abbrev pub RanFile : RunAsked → Streams → Bool → Heard → ℕ → Type 0 → Type 0
 RanFile a streams interrupted heard status Alone = (image : List (Option ℕ))
     × (assembly : Option AssemblyView) × (fill : Option ℕ)
     × IsMachine a.file a.others a.symbols fill image assembly
     × (between : Option (List ℕ)) × (lost : ℕ) × MayLose a.file.profile a.symbols lost
     × TellsWarnings (map_of a.file) assembly lost fill (heard_of heard.held between)
-    × RanIfFound a assembly (place_asked (names_of assembly) a.until) (start_of a image)
-    streams interrupted (heard_of between heard.now) status Alone
+    × RanDebugged a assembly (bytes_in image) (start_of a image) streams interrupted
+    (heard_of between heard.now) status Alone
 
 -- What was done for words. `interrupted` says whether the writer was interrupted.
 abbrev pub IsDone : RunAsked → Streams → Bool → Heard → ℕ → Type 0 → Type 0

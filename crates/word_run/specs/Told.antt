@@ -1,7 +1,6 @@
 -- What the error stream gets of a run: why it did not come to its end, and its cycles and steps.
 -- Source: mos65.
 use Rattle.std.specs.Prelude.{◌≡◌, ◌⊎◌, ℕ, ◌==◌, List, [], ◌++◌, codes, decimal, if◌then◌else◌, Option, Some, None}
-use Rattle.assembler.specs.Assembly.{AssemblyView}
 use Rattle.console.specs.declared.ending.Ending.{Ending}
 use Rattle.console.specs.declared.ending.Ending.TheVariants.{Limit, Unwritten, NoReset, NoVector, Refused}
 use Rattle.model.specs.FaultTexts.{event_fault_text}
@@ -9,7 +8,7 @@ use Rattle.model.specs.Text.{hex_address, hex_byte}
 use Rattle.model.specs.declared.event.EventFault.{EventFault}
 use Rattle.model.specs.declared.event.EventFault.TheVariants.{ConsoleFull, Undocumented}
 use Rattle.word_run.specs.declared.wording.TheConstants.{AFTER, AFTER_CYCLES, BREAK_AT, CONSOLE_FULL, CYCLES, CYCLES_END, FROM, INTERRUPTED, NO_INSTRUCTION, NO_PLACE, NO_RESET, NO_VECTOR, PROGRAM, RAN_INTO, STEP, STEPS, STOPPED, UNWRITTEN}
-use Rattle.source_map.specs.Lines.{PlacesView, line_words, places_of, row_at}
+use Rattle.source_map.specs.Lines.{PlacesView, line_words, row_at}
 use Rattle.source_map.specs.Names.{Near, name_near}
 
 abbrev pub step_word : ℕ → List ℕ
@@ -35,7 +34,7 @@ unfoldable pub refused_line : List ℕ → EventFault → ℕ → List ℕ
 refused_line site fault pc
     = stop_text (refused_address fault pc) ++ (site ++ refused_text fault)
 
--- ---- an address in its source
+-- ---- an address by its name and its line
 
 -- How far behind a name an address is.
 abbrev pub distance_text : ℕ → List ℕ
@@ -46,16 +45,15 @@ abbrev pub name_words : Near → List ℕ
 name_words None = []
 name_words (Some (name, distance)) = codes " " ++ (name ++ distance_text distance)
 
--- What the source says of an address, as ` next+4, first.a65:6`.
+-- What is known of an address, as ` next+4, first.a65:6`.
 abbrev pub site_text : PlacesView → ℕ → List ℕ
 site_text places address = name_words (name_near places.names address)
     ++ line_words places.sources (row_at places.lines address)
 
--- What is said of an address: nothing without a source, nor where memory runs out.
-abbrev pub IsSite : List ℕ → Option AssemblyView → ℕ → List ℕ → Type 0
-IsSite file None address site = site ≡ []
-IsSite file (Some assembly) address site
-    = (site ≡ site_text (places_of file assembly) address) ⊎ (site ≡ [])
+-- What is said of an address: nothing where nothing is known, nor where memory runs out.
+abbrev pub IsSite : Option PlacesView → ℕ → List ℕ → Type 0
+IsSite None address site = site ≡ []
+IsSite (Some places) address site = (site ≡ site_text places address) ⊎ (site ≡ [])
 
 -- ---- the end
 

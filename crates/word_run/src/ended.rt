@@ -1,10 +1,10 @@
 //! What is told of a run's end, and its exit status.
 
 ghost use Rattle.std.specs.Prelude.{◌≡◌, ◌+◌, ◌≤◌, ◌++◌, codes, decimal, if◌then◌else◌, length};
-ghost use Rattle.std.specs.Prelude.{option_map};
 ghost use Rattle.model.specs.FaultTexts.{event_fault_text};
 ghost use Rattle.model.specs.Text.{hex_byte};
 ghost use Rattle.model.specs.Writers.{AppendsFront};
+ghost use Rattle.word_run.specs.Known.{known_view};
 ghost use Rattle.word_run.specs.Runs.{TellsEnding, TellsInterrupted, heard_of};
 ghost use Rattle.word_run.specs.Statuses.{status_of_ending};
 ghost use Rattle.word_run.specs.Told.{IsSite, break_text, came_text, cycles_line, ending_line};
@@ -13,13 +13,13 @@ ghost use Rattle.word_run.specs.Told.{refused_address, refused_line, refused_tex
 ghost use Rattle.word_run.specs.Told.{stop_text, stray_line, stray_text};
 ghost use Rattle.word_run.specs.declared.wording.TheConstants as the_text;
 
+use crate::known::Known;
 use crate::site::site_of;
 use crate::wording::{
     AFTER, AFTER_CYCLES, BREAK_AT, CONSOLE_FULL, CYCLES, CYCLES_END, FROM, INTERRUPTED,
     NO_INSTRUCTION, NO_RESET, NO_VECTOR, PROGRAM, RAN_INTO, STEP, STEPS, STOPPED, UNWRITTEN,
 };
 use arguments::{put_three, put_two};
-use assembler::Assembly;
 use console::{Ending, Played};
 use debugger::Session;
 use formatting::{Text, push_bytes, push_decimal, push_hex_address, push_hex_byte};
@@ -124,7 +124,7 @@ fn refused_text(fault: EventFault) -> Text
     }
 }
 
-/// Writes where and why a run was rejected, with what the source says of the address.
+/// Writes where and why a run was rejected, with what is known of the address.
 #[tactic(auto, unfolding(crate::specs::Told::refused_line))]
 fn tell_refusal<E: Write>(fault: EventFault, pc: u16, site: &[u8], errors: &mut E)
     ensures { AppendsFront (E.contents errors.old) (E.contents errors.new)
@@ -173,23 +173,14 @@ fn break_text(pc: u16) -> Text
     text
 }
 
-/// Returns what the source says of the address of an ending, if the ending has a line for it.
+/// Returns what is known of the address of an ending, if the ending has a line for it.
 #[tactic(auto, using(crate::proofs::Sites::no_site))]
-fn site_of_ending(
-    alloc: Global,
-    file: &str,
-    assembly: Option<&Assembly>,
-    ending: Ending,
-    pc: u16,
-) -> Vec<u8>
-    ensures { IsSite file.now (option_map (λ a. a.now) assembly.entry)
-        (place_of_ending ending pc) result.items }
+fn site_of_ending(alloc: Global, known: Known<'_>, ending: Ending, pc: u16) -> Vec<u8>
+    ensures { IsSite (known_view known.entry) (place_of_ending ending pc) result.items }
 {
     match ending {
-        Ending::Unwritten { from: Some(from) } => site_of(alloc, file, assembly, from),
-        Ending::NoVector | Ending::Limit | Ending::Refused(_) => {
-            site_of(alloc, file, assembly, pc)
-        }
+        Ending::Unwritten { from: Some(from) } => site_of(alloc, known, from),
+        Ending::NoVector | Ending::Limit | Ending::Refused(_) => site_of(alloc, known, pc),
         _ => Vec::new(alloc),
     }
 }
@@ -206,7 +197,7 @@ fn put_stray<E: Write>(pc: u16, from: Option<u16>, site: &[u8], errors: &mut E)
     }
 }
 
-/// Writes a line that says why a run did not come to its end, with what the source says of the
+/// Writes a line that says why a run did not come to its end, with what is known of the
 /// address.
 #[tactic(auto, unfolding(crate::specs::Told::ending_line))]
 fn put_ending<E: Write>(played: Played, pc: u16, site: &[u8], errors: &mut E)
@@ -241,21 +232,20 @@ fn put_ending<E: Write>(played: Played, pc: u16, site: &[u8], errors: &mut E)
 /// Writes a line that says why a run did not come to its end, or a beginning of it if a write
 /// fails.
 ///
-/// The line has the name and the line of the source where the ending has a place in it: `assembly`
-/// is that of the source in `file`, if the file is one. Where memory runs out they are left out.
+/// The line has the name and the line of what is known of the program, where the ending has a place
+/// in it. Where memory runs out they are left out.
 pub fn tell_ending<E: Write>(
     alloc: Global,
-    file: &str,
-    assembly: Option<&Assembly>,
+    known: Known<'_>,
     played: Played,
     pc: u16,
     errors: &mut E,
 )
     ensures quiet { status_of_ending played.ending 0 ≡ 0 → errors.new ≡ errors.old }
-    ensures told { TellsEnding file.now (option_map (λ a. a.now) assembly.entry)
+    ensures told { TellsEnding (known_view known.entry)
         (heard_of (E.contents errors.old) (E.contents errors.new)) played.ending played.steps pc }
 {
-    let site = site_of_ending(alloc, file, assembly, played.ending, pc);
+    let site = site_of_ending(alloc, known, played.ending, pc);
     put_ending(played, pc, site.as_slice(), errors);
 }
 
@@ -314,7 +304,7 @@ fn at_cycle_text(cycles: u64) -> Text
     text
 }
 
-/// Writes where a run was interrupted, with what the source says of the address.
+/// Writes where a run was interrupted, with what is known of the address.
 #[tactic(auto, unfolding(crate::specs::Told::interrupted_line))]
 fn put_interrupted<E: Write>(pc: u16, cycles: u64, site: &[u8], errors: &mut E)
     ensures { AppendsFront (E.contents errors.old) (E.contents errors.new)
@@ -332,15 +322,14 @@ fn put_interrupted<E: Write>(pc: u16, cycles: u64, site: &[u8], errors: &mut E)
 /// source says of the place is left out where memory runs out.
 pub fn tell_interrupted<E: Write>(
     alloc: Global,
-    file: &str,
-    assembly: Option<&Assembly>,
+    known: Known<'_>,
     pc: u16,
     cycles: u64,
     errors: &mut E,
 )
-    ensures { TellsInterrupted file.now (option_map (λ a. a.now) assembly.entry)
+    ensures { TellsInterrupted (known_view known.entry)
         (heard_of (E.contents errors.old) (E.contents errors.new)) pc cycles }
 {
-    let site = site_of(alloc, file, assembly, pc);
+    let site = site_of(alloc, known, pc);
     put_interrupted(pc, cycles, site.as_slice(), errors);
 }

@@ -2,12 +2,14 @@
 //!
 //! `run_program` serves the word. `specs/Runs.antt` says what it does by the status: the run is
 //! that of `console`, from the start of an image that the file can have. `specs/Told.antt` says
-//! what the error stream gets of a run's end; other words tell it by the same calls. A run can be
-//! interrupted by its writer, `Interruptible`.
+//! what the error stream gets of a run's end; other words tell it by the same calls. `Known` is
+//! what is known of a program's names and lines: by its source, or by debug information
+//! (`specs/Known.antt`). A run can be interrupted by its writer, `Interruptible`.
 #![tactic(auto)]
 
 mod ended;
 mod interruptible;
+mod known;
 mod run;
 mod site;
 mod started;
@@ -15,5 +17,6 @@ mod wording;
 
 pub use ended::{status_of_ending, tell_ending};
 pub use interruptible::{Interruptible, open_requests};
+pub use known::{Debugged, Known, load_debug};
 pub use run::run_program;
 pub use started::{place_named, refusal_of};

@@ -1,23 +1,26 @@
 //! What the word `run` does.
 
-ghost use Rattle.std.specs.Prelude.{◌≡◌, ◌⊎◌, [], None, Some, false, if◌then◌else◌, option_map};
+ghost use Rattle.std.specs.Prelude.{◌≡◌, ◌⊎◌, ℕ, [], Option, None, Some, false};
+ghost use Rattle.std.specs.Prelude.{if◌then◌else◌};
+ghost use Rattle.accesses.specs.Writing.{or_everywhere};
 ghost use Rattle.arguments.specs.Words.{Fits, Refuses, texts};
 ghost use Rattle.arguments_play.specs.Run.{RunAsked, words_in, run, run_view};
-ghost use Rattle.loading.specs.Warned.{OnlyWarned};
-ghost use Rattle.std.specs.Prelude.{Bool};
+ghost use Rattle.loading.specs.Warned.{OnlyWarned, omitted_at};
 ghost use Rattle.model.specs.State.{input_waits, is_map};
-ghost use Rattle.word_run.specs.Runs.{IsDone, RanOrInterrupted, Start, TellsEnd};
+ghost use Rattle.word_run.specs.Known.{known_view};
+ghost use Rattle.word_run.specs.Runs.{IsDone, RanDebugged, RanOrInterrupted, Start, TellsEnd};
 ghost use Rattle.word_run.specs.Runs.{TellsInterrupted, heard_of, streams_of};
 ghost use Rattle.word_run.specs.Statuses.{status_of_ending};
 
 use crate::ended::{status_of_ending, tell_cycles, tell_ending, tell_interrupted};
 use crate::interruptible::Interruptible;
+use crate::known::{Known, load_debug};
 use crate::started::{place_named, refusal_of};
 use accesses::Written;
 use arguments::{refuse, refused_words};
 use arguments_play::{RunWords, read_run_words};
-use assembler::Assembly;
 use console::{Played, play};
+use debug_files::tell_changed;
 use debugger::Session;
 use loading::{Loaded, load_machine, tell_warnings};
 use std::alloc::Global;
@@ -28,20 +31,19 @@ use std::rt::Files;
 fn tell_end<E: Write>(
     alloc: Global,
     words: &RunWords<'_>,
-    assembly: Option<&Assembly>,
+    known: Known<'_>,
     played: Played,
     session: &Session,
     errors: &mut E,
 )
-    ensures told { TellsEnd words.now.tells_cycles words.now.file.file.now
-        (option_map (λ a. a.now) assembly.entry)
+    ensures told { TellsEnd words.now.tells_cycles (known_view known.entry)
         (heard_of (E.contents errors.old) (E.contents errors.new))
         played.ending played.steps session.now.current }
     ensures quiet { words.now.tells_cycles ≡ false → status_of_ending played.ending 0 ≡ 0
         → errors.new ≡ errors.old }
 {
     let pc = session.regs().pc;
-    tell_ending(alloc, words.file.file, assembly, played, pc, errors);
+    tell_ending(alloc, known, played, pc, errors);
     if words.tells_cycles {
         tell_cycles(played, session, errors);
     }
@@ -51,20 +53,19 @@ fn tell_end<E: Write>(
 fn ended<E: Write>(
     alloc: Global,
     words: &RunWords<'_>,
-    assembly: Option<&Assembly>,
+    known: Known<'_>,
     played: Played,
     session: &Session,
     errors: &mut E,
 ) -> u8
     ensures status { result ≡ status_of_ending played.ending
         (if words.now.is_status_of_a then session.now.current.regs.a else 0) }
-    ensures told { TellsEnd words.now.tells_cycles words.now.file.file.now
-        (option_map (λ a. a.now) assembly.entry)
+    ensures told { TellsEnd words.now.tells_cycles (known_view known.entry)
         (heard_of (E.contents errors.old) (E.contents errors.new))
         played.ending played.steps session.now.current }
     ensures quiet { words.now.tells_cycles ≡ false → result ≡ 0 → errors.new ≡ errors.old }
 {
-    tell_end(alloc, words, assembly, played, session, errors);
+    tell_end(alloc, words, known, played, session, errors);
     let status = if words.is_status_of_a {
         session.regs().a
     } else {
@@ -74,22 +75,15 @@ fn ended<E: Write>(
 }
 
 /// Tells where a run was interrupted, and returns the exit status.
-fn interrupted<E: Write>(
-    alloc: Global,
-    words: &RunWords<'_>,
-    assembly: Option<&Assembly>,
-    session: &Session,
-    errors: &mut E,
-) -> u8
+fn interrupted<E: Write>(alloc: Global, known: Known<'_>, session: &Session, errors: &mut E) -> u8
     ensures status { result ≡ 130 }
-    ensures told { TellsInterrupted words.now.file.file.now
-        (option_map (λ a. a.now) assembly.entry)
+    ensures told { TellsInterrupted (known_view known.entry)
         (heard_of (E.contents errors.old) (E.contents errors.new))
         session.now.current.regs.pc session.now.current.cycles }
 {
     let pc = session.regs().pc;
     let cycles = session.cycles();
-    tell_interrupted(alloc, words.file.file, assembly, pc, cycles, errors);
+    tell_interrupted(alloc, known, pc, cycles, errors);
     130
 }
 
@@ -97,7 +91,7 @@ fn interrupted<E: Write>(
 fn run_to<R: Read, W: Write, S: Read, E: Write>(
     alloc: Global,
     words: &RunWords<'_>,
-    assembly: Option<&Assembly>,
+    known: Known<'_>,
     session: &mut Session,
     written: Written,
     until: Option<u16>,
@@ -107,8 +101,7 @@ fn run_to<R: Read, W: Write, S: Read, E: Write>(
 ) -> u8
     requires idle { input_waits session.old.current.bus ≡ false }
     requires silent { session.old.current.bus.out ≡ [] }
-    ensures ran { RanOrInterrupted (run_view words.now)
-        (option_map (λ a. a.now) assembly.entry) until
+    ensures ran { RanOrInterrupted (run_view words.now) (known_view known.entry) until
         (record { session = session.old; written = written })
         (streams_of (R.remaining input.old) (R.remaining input.new)
         (W.contents output.old.inner) (W.contents output.new.inner)) output.new.interrupted
@@ -116,15 +109,73 @@ fn run_to<R: Read, W: Write, S: Read, E: Write>(
     ensures quiet { words.now.tells_cycles ≡ false → result ≡ 0 → errors.new ≡ errors.old }
 {
     match play(session, written, until, words.steps, input, output) {
-        Ok(played) => ended(alloc, words, assembly, played, session, errors),
+        Ok(played) => ended(alloc, words, known, played, session, errors),
         Err(fault) => {
             if output.was_interrupted() {
-                interrupted(alloc, words, assembly, session, errors)
+                interrupted(alloc, known, session, errors)
             } else {
                 refuse(refusal_of(fault), errors)
             }
         }
     }
+}
+
+/// Runs what was loaded up to the place of the words, with the debug information that they name,
+/// and returns the exit status.
+fn run_loaded<H: Files + AllocGlobal, R: Read, W: Write, S: Read, E: Write>(
+    rt: &H,
+    words: &RunWords<'_>,
+    loaded: Loaded,
+    input: &mut R,
+    output: &mut Interruptible<W, S>,
+    errors: &mut E,
+) -> u8
+    requires idle { input_waits loaded.session.current.bus ≡ false }
+    requires silent { loaded.session.current.bus.out ≡ [] }
+    ensures done { RanDebugged (run_view words.now) loaded.assembly loaded.written (record {
+      session = loaded.session;
+      written = or_everywhere words.now.is_free loaded.written;
+    })
+        (streams_of (R.remaining input.old) (R.remaining input.new)
+        (W.contents output.old.inner) (W.contents output.new.inner)) output.new.interrupted
+        (heard_of (E.contents errors.old) (E.contents errors.new)) result
+        ((input.new ≡ input.old) × (output.new ≡ output.old)) }
+    ensures quiet { words.now.tells_cycles ≡ false → (run_view words.now).debug_info ≡ None
+        → result ≡ 0 → errors.new ≡ errors.old }
+{
+    let debug = match load_debug(rt, words.debug_info, words.source_root, &loaded) {
+        Ok(debug) => debug,
+        Err(fault) => return fault.tell(words.debug_info.unwrap_or(words.file.file), errors),
+    };
+    tell_changed(words.debug_info, debug.changed.as_slice(), errors);
+    let until = match place_named(&loaded, words.until, errors) {
+        Ok(until) => until,
+        Err(status) => return status,
+    };
+    let Loaded {
+        mut session,
+        assembly,
+        written,
+        lost: _,
+        fill: _,
+    } = loaded;
+    let known = Known {
+        file: words.file.file,
+        assembly: assembly.as_ref(),
+        debug: debug.places.as_ref(),
+    };
+    let written = written.or_everywhere(words.is_free);
+    run_to(
+        rt.alloc(),
+        words,
+        known,
+        &mut session,
+        written,
+        until,
+        input,
+        output,
+        errors,
+    )
 }
 
 /// Loads the file of the words, runs it up to their place, and returns the exit status.
@@ -141,8 +192,9 @@ fn run_words<H: Files + AllocGlobal, R: Read, W: Write, S: Read, E: Write>(
         (heard_of (E.contents errors.old) (E.contents errors.new)) result
         ((input.new ≡ input.old) × (output.new ≡ output.old)) }
     ensures bad_map { is_map words.now.file.rom words.now.file.port ≡ false → result ≡ 2 }
-    ensures quiet { words.now.tells_cycles ≡ false → result ≡ 0
-        → OnlyWarned words.now.file.omits_fill (E.contents errors.old) (E.contents errors.new) }
+    ensures quiet { words.now.tells_cycles ≡ false → (run_view words.now).debug_info ≡ None
+        → result ≡ 0 → OnlyWarned (omitted_at (run_view words.now).file) (E.contents errors.old)
+        (E.contents errors.new) }
 {
     let loaded = match load_machine(rt, &words.file, words.others, words.symbols) {
         Ok(loaded) => loaded,
@@ -157,29 +209,7 @@ fn run_words<H: Files + AllocGlobal, R: Read, W: Write, S: Read, E: Write>(
         loaded.fill,
         errors,
     );
-    let until = match place_named(&loaded, words.until, errors) {
-        Ok(until) => until,
-        Err(status) => return status,
-    };
-    let Loaded {
-        mut session,
-        assembly,
-        written,
-        lost: _,
-        fill: _,
-    } = loaded;
-    let written = written.or_everywhere(words.is_free);
-    run_to(
-        rt.alloc(),
-        words,
-        assembly.as_ref(),
-        &mut session,
-        written,
-        until,
-        input,
-        output,
-        errors,
-    )
+    run_loaded(rt, words, loaded, input, output, errors)
 }
 
 /// Does what the words of `run` ask for, its own name left out, and returns the exit status.
@@ -189,13 +219,15 @@ fn run_words<H: Files + AllocGlobal, R: Read, W: Write, S: Read, E: Write>(
 /// - 10: the limit of steps. 11: a fault of the program. 12: the console is full.
 /// - 13: nothing stands where the program runs, or at the vector of its BRK. With `--free` a run
 ///   does not end there.
-/// - 1: the source, the tape or the file of names is rejected. 2: the words, the place or the map
-///   are wrong. 3: memory ran out. 4: reading or writing failed. 130: the run was interrupted.
+/// - 1: the source, the tape, the file of names or that of debug information is rejected. 2: the
+///   words, the place or the map are wrong. 3: memory ran out. 4: reading or writing failed. 130:
+///   the run was interrupted.
 ///
 /// The program's output goes to `output`. Before it runs, a line on `errors` says how many warnings
-/// its source has, if it has some, one how many lines of a file of names gave no name, and one that
-/// fill at the port was left out. For each status but those of the first line a line on `errors`
-/// says why; that a line cannot be written changes no status.
+/// its source has, if it has some, one how many lines of a file of names gave no name, one that
+/// fill at the port was left out, and one which sources have changed since the debug information
+/// was made. For each status but those of the first line a line on `errors` says why; that a line
+/// cannot be written changes no status.
 pub fn run_program<H: Files + AllocGlobal, R: Read, W: Write, S: Read, E: Write>(
     rt: &H,
     words: &[&str],
@@ -220,12 +252,13 @@ pub fn run_program<H: Files + AllocGlobal, R: Read, W: Write, S: Read, E: Write>
     ensures bad_map { (a : RunAsked) → words_in (texts words.entry.now) ≡ Some a
         → Fits run (texts words.entry.now)
         → is_map a.file.rom a.file.port ≡ false → (result ≡ 2) ⊎ (result ≡ 3) }
-    // Nothing but how many warnings there are, and how many names were left out, is written on the
-    // error stream with the status 0, unless cycles are asked for; and where a port is given, that
-    // fill was left out.
-    ensures quiet { (omits : Bool) → ((a : RunAsked) → words_in (texts words.entry.now) ≡ Some a
-        → (a.tells_cycles ≡ false) × (a.file.omits_fill ≡ omits)) → result ≡ 0
-        → OnlyWarned omits (E.contents errors.old) (E.contents errors.new) }
+    // Nothing but how many warnings there are, how many names were left out, and, where a port is
+    // given, that the fill at it was left out, is written on the error stream with the status 0,
+    // unless cycles are asked for or debug information is named.
+    ensures quiet { (base : Option ℕ) → ((a : RunAsked) → words_in (texts words.entry.now) ≡ Some a
+        → (a.tells_cycles ≡ false) × (a.debug_info ≡ None) × (omitted_at a.file ≡ base))
+        → result ≡ 0
+        → OnlyWarned base (E.contents errors.old) (E.contents errors.new) }
 {
     match read_run_words(rt.alloc(), words) {
         Ok(words) => run_words(rt, &words, input, output, errors),

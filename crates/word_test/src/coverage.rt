@@ -10,7 +10,6 @@ ghost use Rattle.t65_runner.specs.Counting.{test_counted};
 ghost use Rattle.t65_runner.specs.Passes.{rows_seen};
 ghost use Rattle.t65_runner.specs.Start.{fresh};
 
-use crate::report::path_of;
 use crate::stop::Stop;
 use accesses::Tally;
 use arguments::{FileForm, write_file};
@@ -19,7 +18,7 @@ use std::alloc::{AllocError, Global};
 use std::rt::Files;
 use t65_reader::Row;
 use t65_runner::{Values, count_test};
-use t65_suites::Prepared;
+use t65_suites::{Prepared, text_of};
 use trace_rows::push_record;
 
 /// What is written for lcov: a record for each suite that was tested; nothing is counted where no
@@ -45,7 +44,7 @@ pub fn begin_coverage(alloc: Global, path: Option<&str>) -> Result<Coverage, All
 {
     let path = match path {
         None => None,
-        Some(path) => Some(path_of(alloc, path)?),
+        Some(path) => Some(text_of(alloc, path)?),
     };
     Ok(Coverage {
         path,

@@ -15,6 +15,7 @@ use arguments::write_file;
 use std::alloc::{AllocError, Global};
 use std::rt::Files;
 use t65_reports::Junit;
+use t65_suites::text_of;
 
 /// A report for JUnit, and how much of it is in its file.
 #[derive(Drop)]
@@ -40,21 +41,12 @@ pub struct Reports {
     pub coverage: Coverage,
 }
 
-/// Returns a path that is there already, as one of its own.
-///
-/// Errors: `AllocError` if an allocation fails.
-pub fn path_of(alloc: Global, path: &str) -> Result<String, AllocError> {
-    let mut copy = String::new(alloc);
-    copy.push_str(path)?;
-    Ok(copy)
-}
-
 /// Begins a report for the file of that name. The file stays as it is.
 fn begin_file(alloc: Global, path: &str) -> Result<ReportFile, AllocError>
     ensures { IfOk result (λ file. report_told file.junit ≡ no_suite) }
 {
     Ok(ReportFile {
-        path: path_of(alloc, path)?,
+        path: text_of(alloc, path)?,
         junit: Junit::new(alloc),
         told: 0,
         unwritten: 0,

@@ -1,6 +1,6 @@
 //! The rows of a suite, run and told of one after another.
 
-ghost use Rattle.std.specs.Prelude.{◌≡◌, ◌+◌, IfOk, OnOk, Some, false, is_none, is_some, map};
+ghost use Rattle.std.specs.Prelude.{◌≡◌, ◌+◌, IfOk, OnOk, Some, false, is_none, map};
 ghost use Rattle.std.specs.Prelude.{string_bytes};
 ghost use Rattle.std.specs.Option.{option_map};
 ghost use Rattle.model.specs.TextLines.{lines_of};
@@ -14,7 +14,7 @@ ghost use Rattle.t65_reports.specs.Telling.{case_text};
 ghost use Rattle.t65_runner.specs.Start.{fresh};
 ghost use Rattle.word_test.specs.Covered.{told_in};
 ghost use Rattle.word_test.specs.Tested.{IsAround, failure_of, hidden_line, hidden_why, passes};
-ghost use Rattle.word_test.specs.Tested.{plus, rows_reported, rows_text, run_of, told_case};
+ghost use Rattle.word_test.specs.Tested.{rows_reported, rows_text, run_of, told_case};
 ghost use Rattle.word_test.specs.Tested.{told_junit};
 ghost use Rattle.t65_suites.specs.Prepared.{ground_in};
 ghost use Rattle.t65_suites.specs.Suites.{suite_view};

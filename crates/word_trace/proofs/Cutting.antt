@@ -346,7 +346,7 @@ none_traced a b from to limit given held =
 -- A trace that failed.
 pub wrote_front : (a : TraceAsked) (b : Begin) (from to : Option ℕ) (limit : ℕ) (u : Session) (written : List Bool) (given held now : Option (List ℕ))
     (g : Gathered)
-    → ((sites : Sites) × AreSites b.assembly sites × (g ≡ none_gathered a sites (first_written a.finds_unwritten b.written)))
+    → ((sites : Sites) × AreSites b.assembly b.debug sites × (g ≡ none_gathered a sites (first_written a.finds_unwritten b.written)))
     → written ≡ or_everywhere a.is_free b.written
     → (input : List ℕ) × AreBytesOf given input × CutIn (traced from to limit (begun b.session written input)) u
     × GotFront (trace_noted from to limit g (begun b.session written input)) held now

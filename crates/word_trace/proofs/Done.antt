@@ -10,7 +10,6 @@ use Rattle.console.specs.declared.ending.Played.{Played}
 use Rattle.arguments.specs.Asked.{map_of}
 use Rattle.loading.specs.Machine.{IsMachine}
 use Rattle.loading.specs.Named.{MayLose}
-use Rattle.loading.specs.Place.{names_of}
 use Rattle.loading.specs.Warned.{left_text}
 use Rattle.model.specs.Event.{start}
 use Rattle.model.specs.Session.{Session, new_session}
@@ -18,13 +17,14 @@ use Rattle.model.proofs.Written.{front_more}
 use Rattle.model.specs.Writers.{AppendsFront}
 use Rattle.arguments.specs.Statuses.{status_of}
 use Rattle.arguments.specs.declared.refusal.Refusal.{Refusal}
-use Rattle.word_run.specs.Places.{place_asked}
+use Rattle.word_run.specs.Known.{known_by}
 use Rattle.loading.specs.Told.{Heard, Tells}
 use Rattle.word_run.specs.Runs.{Streams, TellsEnding}
 use Rattle.word_run.specs.Statuses.{status_of_ending}
 use Rattle.word_run.specs.Told.{unplaced_line}
 use Rattle.arguments_play.specs.Trace.{TraceAsked}
-use Rattle.word_trace.specs.Traces.{Begin, CutIn, IsApart, IsDone, IsOfStreams, TracedIfFound, TracedTo, WroteFront, WroteNotes, begin_of, cut_line, has_begun, play_of, reached, trace_noted, traced, unbegun_text}
+use Rattle.source_map.specs.Lines.{PlacesView}
+use Rattle.word_trace.specs.Traces.{Begin, CutIn, IsApart, IsDone, IsOfStreams, TracedDebugged, TracedIfFound, TracedTo, WroteFront, WroteNotes, cut_line, has_begun, play_of, reached, trace_noted, traced, unbegun_text}
 
 abbrev TracedAs : TraceAsked → Begin → Option ℕ → Option ℕ → ℕ → Streams → Session → Played → Bool → Type 0
 TracedAs a b from to limit streams now end flag = (input : List ℕ) × (rest : List ℕ) × AreBytesOf streams.given input × AreBytesOf streams.left rest
@@ -33,13 +33,12 @@ TracedAs a b from to limit streams now end flag = (input : List ℕ) × (rest : 
     × (flag ≡ has_begun (reached from (play_of a b input)).ending)
 
 -- What was told of a run is told of its outcome.
-told_of : (file : List ℕ) (assembly : Option AssemblyView) (heard : Heard) (ending why : Ending) (steps count pc at : ℕ) → ending ≡ why
-    → steps ≡ count → pc ≡ at
-    → TellsEnding file assembly heard ending steps pc → TellsEnding file assembly heard why count at
-told_of file assembly heard ending why steps count pc at e n p told =
-    let E : Ending → Type 0 = λ x. TellsEnding file assembly heard x count at in
-    let N : ℕ → Type 0 = λ x. TellsEnding file assembly heard ending x at in
-    let P : ℕ → Type 0 = λ x. TellsEnding file assembly heard ending steps x in
+told_of : (known : Option PlacesView) (heard : Heard) (ending why : Ending) (steps count pc at : ℕ) → ending ≡ why
+    → steps ≡ count → pc ≡ at → TellsEnding known heard ending steps pc → TellsEnding known heard why count at
+told_of known heard ending why steps count pc at e n p told =
+    let E : Ending → Type 0 = λ x. TellsEnding known heard x count at in
+    let N : ℕ → Type 0 = λ x. TellsEnding known heard ending x at in
+    let P : ℕ → Type 0 = λ x. TellsEnding known heard ending steps x in
     subst E e (subst N n (subst P p told))
 
 -- A trace that came to an end, what its program has put out, and what was told of it.
@@ -49,7 +48,7 @@ pub traced_to : (a : TraceAsked) (b : Begin) (from to : Option ℕ) (limit : ℕ
     → TracedAs a b from to limit streams t end flag
     → ((text : List ℕ) × (t.current.bus.out ≡ b.session.current.bus.out ++ text) × Appends heard.held out text)
     → AppendsFront out said (unbegun_text flag)
-    → TellsEnding a.file.file b.assembly (record { held = said; now = heard.now }) end.ending end.steps t.current.regs.pc
+    → TellsEnding (known_by a.file.file b.assembly b.debug) (record { held = said; now = heard.now }) end.ending end.steps t.current.regs.pc
     → status ≡ status_of_ending end.ending 0 → TracedTo a b from to streams heard status
 traced_to a b from to limit t streams heard out said end flag status long silent apart run put unbegun told is =
     let made = subst (λ n. TracedAs a b from to n streams t end flag) long run in
@@ -61,7 +60,8 @@ traced_to a b from to limit t streams heard out said end flag status long silent
     = sym (ap (λ (xs : List ℕ). xs ++ put.0) silent) ∙ sym put.1 ∙ ap (λ (now : Session). now.current.bus.out) same.session in
     let begins = subst (λ (b : Bool). AppendsFront out said (unbegun_text b)) made.6 unbegun in
     let tells =
-    told_of a.file.file b.assembly (record { held = said; now = heard.now }) end.ending outcome.ending end.steps outcome.steps t.current.regs.pc
+    told_of (known_by a.file.file b.assembly b.debug) (record { held = said; now = heard.now }) end.ending outcome.ending
+    end.steps outcome.steps t.current.regs.pc
     outcome.play.session.current.regs.pc same.ending same.steps
     (ap (λ (now : Session). now.current.regs.pc) same.session) told in (
       Ok outcome,
@@ -127,16 +127,22 @@ traced_quiet contents a b from to streams first middle now status same done =
     subst (λ e. TracedTo a b from to streams (record { held = contents e; now = now }) status) same done
 
 -- A file that was loaded.
-pub traced_file : (a : TraceAsked) (b : Begin) (fill : Option ℕ) (image : List (Option ℕ)) (lost : ℕ) (streams : Streams) (heard : Heard)
-    (between : Option (List ℕ)) (status : ℕ) (Alone : Type 0)
-    → IsMachine a.file a.others a.symbols fill image b.assembly → b.session ≡ new_session 0 (start (map_of a.file) image) → b.written ≡ bytes_in image
+pub traced_file : (a : TraceAsked) (assembly : Option AssemblyView) (session : Session) (written : List Bool) (fill : Option ℕ)
+    (image : List (Option ℕ)) (lost : ℕ) (streams : Streams) (heard : Heard) (between : Option (List ℕ)) (status : ℕ) (Alone : Type 0)
+    → IsMachine a.file a.others a.symbols fill image assembly → session ≡ new_session 0 (start (map_of a.file) image) → written ≡ bytes_in image
     → MayLose a.file.profile a.symbols lost → Tells (record { held = heard.held; now = between }) (left_text lost fill)
-    → TracedIfFound a b (place_asked (names_of b.assembly) a.from) (place_asked (names_of b.assembly) a.to) streams
-    (record { held = between; now = heard.now }) status Alone → IsDone a streams heard status Alone
-traced_file a b fill image lost streams heard between status A loaded begins written may told done =
-    let T : Begin → Type 0 = λ x. TracedIfFound a x (place_asked (names_of b.assembly) a.from) (place_asked (names_of b.assembly) a.to) streams
-    (record { held = between; now = heard.now }) status A in
-    let at : b ≡ begin_of a image b.assembly =
-    ap (λ (s : Session). record { assembly = b.assembly; session = s; written = b.written }) begins
-    ∙ ap (λ (w : List Bool). record { assembly = b.assembly; session = new_session 0 (start (map_of a.file) image); written = w }) written in
-    inr (image, b.assembly, fill, loaded, lost, may, between, told, subst T at done)
+    → TracedDebugged a assembly session written streams (record { held = between; now = heard.now }) status Alone → IsDone a streams heard status Alone
+traced_file a assembly session written fill image lost streams heard between status A loaded begins bytes may told done =
+    let H : Heard = record { held = between; now = heard.now } in
+    let begun = subst (λ (s : Session). TracedDebugged a assembly s written streams H status A) begins done in
+    inr (
+      image,
+      assembly,
+      fill,
+      loaded,
+      lost,
+      may,
+      between,
+      told,
+      subst (λ (w : List Bool). TracedDebugged a assembly (new_session 0 (start (map_of a.file) image)) w streams H status A) bytes begun,
+    )

@@ -196,7 +196,7 @@ got_text held mid now before sheet text g none gathers ended = (
 -- Nothing was gathered before the trace of a file.
 pub wrote_notes : (a : TraceAsked) (b : Begin) (from to : Option ℕ) (limit : ℕ) (t : Session) (written : List Bool)
     (given left held now : Option (List ℕ)) (g : Gathered) (end : Played) (flag : Bool)
-    → ((sites : Sites) × AreSites b.assembly sites × (g ≡ none_gathered a sites (first_written a.finds_unwritten b.written)))
+    → ((sites : Sites) × AreSites b.assembly b.debug sites × (g ≡ none_gathered a sites (first_written a.finds_unwritten b.written)))
     → written ≡ or_everywhere a.is_free b.written
     → ((input : List ℕ) × (rest : List ℕ) × AreBytesOf given input × AreBytesOf left rest
     × RanAs (traced from to limit (begun b.session written input)) end t rest

@@ -8,3 +8,4 @@ mod Refusing
 mod Making
 mod Noting
 mod Telling
+mod Sites

@@ -1,6 +1,8 @@
 -- Where a trace leads, what it writes, and how its exit status tells of it. No clause can say which
 -- image and names a file stands for. Source: mos65.
 use Rattle.std.specs.Prelude.{◌≡◌, ◌⊎◌, ⊤, ℕ, true, false, Bool, codes, if◌then◌else◌, List, [], ◌∷◌, ◌++◌, Option, Some, None, Result, Ok, Err}
+use Rattle.std.specs.Borrow.{Bor}
+use Rattle.std.specs.Option.{option_map}
 use Rattle.std.specs.Io.KnownBytes.{Appends, Consumes, IsAtEnd}
 use Rattle.accesses.specs.Writing.{bytes_in, or_everywhere}
 use Rattle.assembler.specs.Assembly.{AssemblyView}
@@ -12,6 +14,8 @@ use Rattle.console.specs.declared.ending.Ending.TheVariants.{Until}
 use Rattle.console.specs.declared.ending.Played.{Played}
 use Rattle.console.specs.declared.turn.Player.{Player}
 use Rattle.arguments.specs.Asked.{map_of}
+use Rattle.debug_files.specs.Changed.{TellsChanged}
+use Rattle.debug_files.specs.Loaded.{IsUndebugged}
 use Rattle.loading.specs.Machine.{IsMachine, IsUnmade}
 use Rattle.loading.specs.Named.{MayLose}
 use Rattle.loading.specs.Place.{names_of}
@@ -27,11 +31,13 @@ use Rattle.arguments.specs.Statuses.{status_of}
 use Rattle.arguments.specs.declared.refusal.ReadFault.TheVariants.{Other}
 use Rattle.arguments.specs.declared.refusal.Refusal.{Refusal}
 use Rattle.arguments.specs.declared.refusal.Refusal.TheVariants.{OutOfMemory, Read, Write, WriteFile}
+use Rattle.word_run.specs.Known.{AreDebugged, known_by}
 use Rattle.word_run.specs.Places.{place_asked}
 use Rattle.loading.specs.Told.{Heard, Tells}
 use Rattle.word_run.specs.Runs.{Streams, TellsEnding}
 use Rattle.word_run.specs.Statuses.{status_of_ending}
 use Rattle.word_run.specs.Told.{unplaced_line}
+use Rattle.source_map.specs.Lines.{PlacesView}
 use Rattle.trace_rows.specs.declared.sites.Sites.{Sites}
 use Rattle.arguments_play.specs.Trace.{TraceAsked}
 use Rattle.word_trace.specs.Beginnings.{AreSites, first_written}
@@ -181,15 +187,20 @@ NotedCut s before a streams t after b = (told : List ℕ) × (text : List ℕ)
 -- has a byte.
 pub record Begin : Type 0 where
   pub assembly : Option AssemblyView
+  pub debug : Option PlacesView
   pub session : Session
   pub written : List Bool
 
-abbrev pub begin_view : Loaded → Begin
-begin_view loaded = record {
+abbrev pub begin_with : Loaded → Option PlacesView → Begin
+begin_with loaded debug = record {
   assembly = loaded.assembly;
+  debug = debug;
   session = loaded.session;
   written = loaded.written;
 }
+
+abbrev pub begin_view : Loaded → Option (Bor PlacesView) → Begin
+begin_view loaded debug = begin_with loaded (option_map (λ p. p.now) debug)
 
 -- The run that is traced, over some input. Each address counts as written where a run goes on where
 -- nothing was.
@@ -200,18 +211,19 @@ play_of a b input = begun b.session (or_everywhere a.is_free b.written) input
 -- count as written.
 abbrev pub WroteNotes : TraceAsked → Begin → (Gathered → Option Noted)
     → Option (List ℕ) → Option (List ℕ) → Type 0
-WroteNotes a b notes held now = (sites : Sites) × AreSites b.assembly sites
+WroteNotes a b notes held now = (sites : Sites) × AreSites b.assembly b.debug sites
     × GotText (notes (none_gathered a sites (first_written a.finds_unwritten b.written))) held now
 
 -- A writer got nothing, or a beginning of that text.
 abbrev pub WroteFront : TraceAsked → Begin → (Gathered → Option Noted)
     → Option (List ℕ) → Option (List ℕ) → Type 0
-WroteFront a b notes held now = Appends held now [] ⊎ ((sites : Sites) × AreSites b.assembly sites
+WroteFront a b notes held now = Appends held now [] ⊎ ((sites : Sites) × AreSites b.assembly b.debug sites
     × GotFront (notes (none_gathered a sites (first_written a.finds_unwritten b.written))) held now)
 
--- The file for lcov has not the name of the file that is run, or of the file of names.
+-- The file for lcov has not the name of the file that is run, or of a file of names or of debug
+-- information.
 abbrev pub IsApart : TraceAsked → Type 0
-IsApart a = clash (Some a.file.file ∷ a.symbols ∷ []) (a.lcov ∷ []) ≡ false
+IsApart a = clash (Some a.file.file ∷ a.symbols ∷ a.debug_info ∷ []) (a.lcov ∷ []) ≡ false
 
 -- Memory ran out, a stream failed, or the file for lcov cannot be written.
 abbrev pub IsOfStreams : Refusal → Type 0
@@ -233,11 +245,11 @@ unbegun_text false = NOT_BEGUN.now ++ codes "\n"
 
 -- The error stream got what the program puts out; that the trace did not begin, if it did not; and
 -- why the run did not come to its end.
-abbrev pub TellsTrace : TraceAsked → Option AssemblyView → Heard → Ending → Outcome → Type 0
-TellsTrace a assembly heard begun end = (out : Option (List ℕ)) × (said : Option (List ℕ))
+abbrev pub TellsTrace : Option PlacesView → Heard → Ending → Outcome → Type 0
+TellsTrace known heard begun end = (out : Option (List ℕ)) × (said : Option (List ℕ))
     × Appends heard.held out end.play.session.current.bus.out
     × AppendsFront out said (unbegun_text (has_begun begun))
-    × TellsEnding a.file.file assembly (record { held = said; now = heard.now })
+    × TellsEnding known (record { held = said; now = heard.now })
     end.ending end.steps end.play.session.current.regs.pc
 
 -- Why a trace was cut short: the file for lcov is named.
@@ -264,7 +276,7 @@ IsTraced a b from to streams heard (Ok end) = (input : List ℕ)
     × AreBytesOf streams.given input × AreBytesOf streams.left end.play.input
     × WroteNotes a b (λ g. trace_noted from to a.steps g (play_of a b input))
     streams.held streams.now
-    × TellsTrace a b.assembly heard (reached from (play_of a b input)).ending end × IsApart a
+    × TellsTrace (known_by a.file.file b.assembly b.debug) heard (reached from (play_of a b input)).ending end × IsApart a
 IsTraced a b from to streams heard (Err refusal) = IsOfStreams refusal
     × ((input : List ℕ) × AreBytesOf streams.given input
     × WroteFront a b (λ g. trace_noted from to a.steps g (play_of a b input))
@@ -292,25 +304,29 @@ TracedIfFound a b (Ok from) (Err refused) streams heard status Alone
 TracedIfFound a b (Err refused) to streams heard status Alone
     = (status ≡ refused) × Tells heard (unplaced_line a.from) × Alone
 
--- The session at the start of an image, with the names of its source, or of a file of names.
-abbrev pub begin_of : TraceAsked → List (Option ℕ) → Option AssemblyView → Begin
-begin_of a image assembly = record {
-  assembly = assembly;
-  session = new_session 0 (start (map_of a.file) image);
-  written = bytes_in image;
-}
+-- A trace between the places of the words, with the debug information that they name; before it the
+-- error stream got which of its sources have changed. Or that was not read, and the error stream got
+-- why.
+abbrev pub TracedDebugged : TraceAsked → Option AssemblyView → Session → List Bool → Streams → Heard → ℕ
+    → Type 0 → Type 0
+TracedDebugged a assembly session loaded streams heard status Alone
+    = IsUndebugged a.debug_info heard.held heard.now status Alone
+    ⊎ ((debug : Option PlacesView) × AreDebugged a.debug_info session.current loaded assembly debug
+    × (between : Option (List ℕ)) × TellsChanged a.debug_info heard.held between
+    × TracedIfFound a (record { assembly = assembly; debug = debug; session = session; written = loaded })
+    (place_asked (names_of assembly) a.from) (place_asked (names_of assembly) a.to) streams
+    (record { held = between; now = heard.now }) status Alone)
 
 -- What was done for words: nothing was loaded, the error stream got why, and the others were left
 -- alone; or from the start of an image that the file can have, on the map of the words and with the
--- names of the image's source, or of the file of names, a session was traced. Before that the error
--- stream got how many lines of the file of names gave none, and that fill at the port was left
--- out.
+-- names of the image's source, or of the file of names, a session was traced, unless debug information
+-- was not read. Before that the error stream got how many lines of the file of names gave none, and
+-- that fill at the port was left out.
 abbrev pub IsDone : TraceAsked → Streams → Heard → ℕ → Type 0 → Type 0
 IsDone a streams heard status Alone = IsUnmade a.file a.others a.symbols heard status Alone
     ⊎ ((image : List (Option ℕ)) × (assembly : Option AssemblyView)
     × (fill : Option ℕ) × IsMachine a.file a.others a.symbols fill image assembly
     × (lost : ℕ) × MayLose a.file.profile a.symbols lost × (between : Option (List ℕ))
     × Tells (record { held = heard.held; now = between }) (left_text lost fill)
-    × TracedIfFound a (begin_of a image assembly) (place_asked (names_of assembly) a.from)
-    (place_asked (names_of assembly) a.to) streams
+    × TracedDebugged a assembly (new_session 0 (start (map_of a.file) image)) (bytes_in image) streams
     (record { held = between; now = heard.now }) status Alone)

@@ -20,8 +20,8 @@ fn name_in(word: Option<&str>) -> Option<&str> {
     }
 }
 
-/// Checks that the file for lcov, if one is asked for, is neither a file to run nor the file of
-/// names.
+/// Checks that the file for lcov, if one is asked for, is neither a file to run nor one of names or
+/// of debug information.
 ///
 /// Errors: `WriteFile` with `SameFile` where it is one of them, `OutOfMemory` if an allocation
 /// fails.
@@ -30,7 +30,11 @@ pub fn check_lines<H: Files + AllocGlobal>(rt: &H, words: &TraceWords<'_>) -> Re
     ensures apart { IfOk result (λ _. IsApart (trace_view words.now)) }
     ensures fault { IfErr result IsOfStreams }
 {
-    check_outputs(rt, &[Some(words.file.file), words.symbols], &[words.lcov])?;
+    check_outputs(
+        rt,
+        &[Some(words.file.file), words.symbols, words.debug_info],
+        &[words.lcov],
+    )?;
     let others = words.others;
     check_outputs(
         rt,

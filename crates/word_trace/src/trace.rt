@@ -14,14 +14,14 @@ ghost use Rattle.model.specs.Writers.{AppendsFront, Writes};
 ghost use Rattle.word_run.specs.Places.{place_asked};
 ghost use Rattle.word_run.specs.Runs.{heard_of, streams_of};
 ghost use Rattle.trace_rows.specs.declared.sites.Sites.{Sites};
-ghost use Rattle.arguments_play.specs.Trace.{TraceAsked, words_in, trace, trace_view};
-ghost use Rattle.word_trace.specs.Beginnings.{AreSites, first_written};
+ghost use Rattle.arguments_play.specs.Trace.{TraceAsked, trace, trace_view, words_in};
+ghost use Rattle.word_trace.specs.Beginnings.{AreSites, HasPlaces, first_written};
 ghost use Rattle.word_trace.specs.Gathered.{Gathers, gathered, none_gathered};
 ghost use Rattle.word_trace.specs.Texts.{GotFront, GotText, Noted, by_steps, no_text, note_step};
 ghost use Rattle.word_trace.specs.Texts.{noted_in, pass_step};
 ghost use Rattle.word_trace.specs.Traces.{CutIn, EndsAt, GathersFront, IsApart, IsDone, IsOfStreams};
 ghost use Rattle.word_trace.specs.Traces.{TracedIfFound, TracedTo, WasCut, WentOn, WroteFront};
-ghost use Rattle.word_trace.specs.Traces.{WroteNotes};
+ghost use Rattle.word_trace.specs.Traces.{TracedDebugged, WroteNotes};
 ghost use Rattle.word_trace.specs.Traces.{begin_view, cut_line, gathered_at, has_begun, is_begun};
 ghost use Rattle.word_trace.specs.Traces.{play_of, reached, trace_noted, traced, unbegun_text};
 
@@ -33,13 +33,15 @@ use accesses::Written;
 use arguments::{Refusal, put_two, refuse, refuse_file, refused_words};
 use arguments_play::{TraceWords, read_trace_words};
 use console::{Ending, Played, Player, begin, ending_after, is_at};
+use debug_files::tell_changed;
 use debugger::Session;
 use loading::{Loaded, load_machine, tell_left_out};
+use source_map::Places;
 use std::alloc::Global;
 use std::io::{Read, Write};
 use std::rt::Files;
 use trace_rows::Sites;
-use word_run::{place_named, status_of_ending, tell_ending};
+use word_run::{Known, load_debug, place_named, status_of_ending, tell_ending};
 
 /// Where a trace begins and ends, if such places are named, and the most steps that it has.
 #[derive(Clone, Copy)]
@@ -220,16 +222,46 @@ fn first_written(
     Ok(Some(copied(alloc, written)?))
 }
 
-/// Returns the labels and the lines of what was loaded.
+/// Returns the labels and the lines of the source of what was loaded, if it has one.
 ///
 /// Errors: `OutOfMemory` if an allocation fails.
-fn sites_of(alloc: Global, loaded: &Loaded) -> Result<Sites, Refusal>
-    ensures sites { IfOk result (AreSites loaded.now.assembly) }
+fn source_sites(alloc: Global, loaded: &Loaded) -> Result<Sites, Refusal>
+    ensures sites { IfOk result (AreSites loaded.now.assembly None) }
     ensures fault { IfErr result (λ refusal. refusal ≡ Refusal.OutOfMemory) }
 {
     match &loaded.assembly {
         None => Ok(Sites::new(alloc)),
         Some(assembly) => Sites::of_source(alloc, assembly).map_err(|_| Refusal::OutOfMemory),
+    }
+}
+
+/// Returns the labels of what was loaded, and the lines of debug information.
+///
+/// Errors: `OutOfMemory` if an allocation fails.
+#[tactic(auto, using(crate::proofs::Sites::has_places))]
+fn debug_sites(alloc: Global, loaded: &Loaded, debug: &Places) -> Result<Sites, Refusal>
+    ensures sites { IfOk result (HasPlaces loaded.now.assembly debug.now) }
+    ensures fault { IfErr result (λ refusal. refusal ≡ Refusal.OutOfMemory) }
+{
+    let names = loaded.assembly.as_ref();
+    match Sites::of_places(alloc, names, debug) {
+        Ok(sites) => Ok(sites),
+        Err(_) => Err(Refusal::OutOfMemory),
+    }
+}
+
+/// Returns the labels of what was loaded, and its lines: those of debug information, if there is
+/// some, and otherwise those of its source.
+///
+/// Errors: `OutOfMemory` if an allocation fails.
+fn sites_of(alloc: Global, loaded: &Loaded, debug: Option<&Places>) -> Result<Sites, Refusal>
+    ensures sites { IfOk result
+        (AreSites loaded.now.assembly (option_map (λ p. p.now) debug.entry)) }
+    ensures fault { IfErr result (λ refusal. refusal ≡ Refusal.OutOfMemory) }
+{
+    match debug {
+        Some(debug) => debug_sites(alloc, loaded, debug),
+        None => source_sites(alloc, loaded),
     }
 }
 
@@ -240,14 +272,16 @@ fn make_tracer<'a>(
     alloc: Global,
     words: &'a TraceWords<'a>,
     loaded: &Loaded,
+    debug: Option<&Places>,
 ) -> Result<Tracer<'a>, Refusal>
-    ensures nothing { IfOk result (λ t. (sites : Sites) × AreSites loaded.now.assembly sites
+    ensures nothing { IfOk result (λ t. (sites : Sites)
+        × AreSites loaded.now.assembly (option_map (λ p. p.now) debug.entry) sites
         × (gathered t ≡ none_gathered (trace_view words.now) sites
         (first_written words.now.finds_unwritten loaded.now.written))) }
     ensures sheet { IfOk result (λ t. t.sheet.text.items ≡ []) }
     ensures fault { IfErr result (λ refusal. refusal ≡ Refusal.OutOfMemory) }
 {
-    let sites = sites_of(alloc, loaded)?;
+    let sites = sites_of(alloc, loaded, debug)?;
     let written = first_written(alloc, words, &loaded.written)?;
     Ok(Tracer::new(alloc, words, sites, written)?)
 }
@@ -371,6 +405,7 @@ fn trace_span<H: Files + AllocGlobal, R: Read, O: Write, E: Write>(
     rt: &H,
     words: &TraceWords<'_>,
     loaded: &mut Loaded,
+    debug: Option<&Places>,
     span: Span,
     input: &mut R,
     output: &mut O,
@@ -380,20 +415,21 @@ fn trace_span<H: Files + AllocGlobal, R: Read, O: Write, E: Write>(
     ensures ok { IfOk result (λ end. (told : List ℕ) × (left : List ℕ)
         × AreBytesOf (R.remaining input.old) told × AreBytesOf (R.remaining input.new) left
         × RanAs (traced span.from span.to span.limit
-        (play_of (trace_view words.now) (begin_view loaded.old) told)) end.played
+        (play_of (trace_view words.now) (begin_view loaded.old debug.entry) told)) end.played
         loaded.new.session left
-        × WroteNotes (trace_view words.now) (begin_view loaded.old)
+        × WroteNotes (trace_view words.now) (begin_view loaded.old debug.entry)
         (λ g. trace_noted span.from span.to span.limit g
-        (play_of (trace_view words.now) (begin_view loaded.old) told))
+        (play_of (trace_view words.now) (begin_view loaded.old debug.entry) told))
         (O.contents output.old) (O.contents output.new)
         × (end.has_begun ≡ has_begun (reached span.from
-        (play_of (trace_view words.now) (begin_view loaded.old) told)).ending)) }
+        (play_of (trace_view words.now) (begin_view loaded.old debug.entry) told)).ending)) }
     ensures err { OnErr result ((told : List ℕ) × AreBytesOf (R.remaining input.old) told
         × CutIn (traced span.from span.to span.limit
-        (play_of (trace_view words.now) (begin_view loaded.old) told)) loaded.new.session
-        × WroteFront (trace_view words.now) (begin_view loaded.old)
+        (play_of (trace_view words.now) (begin_view loaded.old debug.entry) told))
+        loaded.new.session
+        × WroteFront (trace_view words.now) (begin_view loaded.old debug.entry)
         (λ g. trace_noted span.from span.to span.limit g
-        (play_of (trace_view words.now) (begin_view loaded.old) told))
+        (play_of (trace_view words.now) (begin_view loaded.old debug.entry) told))
         (O.contents output.old) (O.contents output.new)) }
     ensures apart { IfOk result (λ _. IsApart (trace_view words.now)) }
     ensures fault { IfErr result IsOfStreams }
@@ -404,7 +440,7 @@ fn trace_span<H: Files + AllocGlobal, R: Read, O: Write, E: Write>(
 {
     let alloc = rt.alloc();
     check_lines(rt, words)?;
-    let mut tracer = make_tracer(alloc, words, loaded)?;
+    let mut tracer = make_tracer(alloc, words, loaded, debug)?;
     let written = copied(alloc, &loaded.written)?.or_everywhere(words.is_free);
     let session = &mut loaded.session;
     let traced = trace_between(
@@ -458,6 +494,7 @@ fn trace_told<H: Files + AllocGlobal, R: Read, O: Write, E: Write>(
     rt: &H,
     words: &TraceWords<'_>,
     loaded: &mut Loaded,
+    debug: Option<&Places>,
     span: Span,
     input: &mut R,
     output: &mut O,
@@ -466,18 +503,23 @@ fn trace_told<H: Files + AllocGlobal, R: Read, O: Write, E: Write>(
     requires idle { input_waits loaded.old.session.current.bus ≡ false }
     requires silent { loaded.old.session.current.bus.out ≡ [] }
     requires limit { span.limit ≡ words.now.steps }
-    ensures { TracedTo (trace_view words.now) (begin_view loaded.old) span.from span.to
+    ensures { TracedTo (trace_view words.now) (begin_view loaded.old debug.entry) span.from span.to
         (streams_of (R.remaining input.old) (R.remaining input.new) (O.contents output.old)
         (O.contents output.new)) (heard_of (E.contents errors.old) (E.contents errors.new))
         result }
 {
-    match trace_span(rt, words, loaded, span, input, output, errors) {
+    match trace_span(rt, words, loaded, debug, span, input, output, errors) {
         Ok(traced) => {
             tell_unbegun(traced.has_begun, errors);
             let alloc = rt.alloc();
             let pc = loaded.session.regs().pc;
             let assembly = loaded.assembly.as_ref();
-            tell_ending(alloc, words.file.file, assembly, traced.played, pc, errors);
+            let known = Known {
+                file: words.file.file,
+                assembly,
+                debug,
+            };
+            tell_ending(alloc, known, traced.played, pc, errors);
             status_of_ending(traced.played.ending, 0)
         }
         Err(refusal) => tell_cut(refusal, words.lcov, errors),
@@ -489,13 +531,14 @@ fn trace_loaded<H: Files + AllocGlobal, R: Read, O: Write, E: Write>(
     rt: &H,
     words: &TraceWords<'_>,
     loaded: &mut Loaded,
+    debug: Option<&Places>,
     input: &mut R,
     output: &mut O,
     errors: &mut E,
 ) -> u8
     requires idle { input_waits loaded.old.session.current.bus ≡ false }
     requires silent { loaded.old.session.current.bus.out ≡ [] }
-    ensures { TracedIfFound (trace_view words.now) (begin_view loaded.old)
+    ensures { TracedIfFound (trace_view words.now) (begin_view loaded.old debug.entry)
         (place_asked (names_of loaded.old.assembly) (trace_view words.now).from)
         (place_asked (names_of loaded.old.assembly) (trace_view words.now).to)
         (streams_of (R.remaining input.old) (R.remaining input.new) (O.contents output.old)
@@ -515,7 +558,35 @@ fn trace_loaded<H: Files + AllocGlobal, R: Read, O: Write, E: Write>(
         to,
         limit: words.steps,
     };
-    trace_told(rt, words, loaded, span, input, output, errors)
+    trace_told(rt, words, loaded, debug, span, input, output, errors)
+}
+
+/// Traces what was loaded between the places of the words, with the debug information that they
+/// name, and returns the exit status.
+fn trace_debugged<H: Files + AllocGlobal, R: Read, O: Write, E: Write>(
+    rt: &H,
+    words: &TraceWords<'_>,
+    loaded: &mut Loaded,
+    input: &mut R,
+    output: &mut O,
+    errors: &mut E,
+) -> u8
+    requires idle { input_waits loaded.old.session.current.bus ≡ false }
+    requires silent { loaded.old.session.current.bus.out ≡ [] }
+    ensures { TracedDebugged (trace_view words.now) loaded.old.assembly loaded.old.session
+        loaded.old.written
+        (streams_of (R.remaining input.old) (R.remaining input.new) (O.contents output.old)
+        (O.contents output.new)) (heard_of (E.contents errors.old) (E.contents errors.new))
+        result ((input.new ≡ input.old) × (output.new ≡ output.old)) }
+{
+    match load_debug(rt, words.debug_info, words.source_root, loaded) {
+        Ok(debug) => {
+            tell_changed(words.debug_info, debug.changed.as_slice(), errors);
+            let places = debug.places.as_ref();
+            trace_loaded(rt, words, loaded, places, input, output, errors)
+        }
+        Err(fault) => fault.tell(words.debug_info.unwrap_or(words.file.file), errors),
+    }
 }
 
 /// Loads the file of the words, tells what was left out of it and of its names, traces it, and
@@ -536,7 +607,7 @@ fn trace_words<H: Files + AllocGlobal, R: Read, O: Write, E: Write>(
     match load_machine(rt, &words.file, words.others, words.symbols) {
         Ok(mut loaded) => {
             tell_left_out(loaded.lost, loaded.fill, errors);
-            trace_loaded(rt, words, &mut loaded, input, output, errors)
+            trace_debugged(rt, words, &mut loaded, input, output, errors)
         }
         Err(fault) => fault.tell(words.file.file, words.symbols, errors),
     }
@@ -566,8 +637,9 @@ pub fn trace_program<H: Files + AllocGlobal, R: Read, O: Write, E: Write>(
         (O.contents output.new)) (heard_of (E.contents errors.old) (E.contents errors.new))
         result ((input.new ≡ input.old) × (output.new ≡ output.old)) }
     // Other words read nothing, and write nothing on the output but help.
-    ensures refused { Refuses trace (texts words.entry.now) (words_in (texts words.entry.now) ≡ None)
-        result (input.new ≡ input.old) (output.new ≡ output.old) }
+    ensures refused { Refuses trace (texts words.entry.now)
+        (words_in (texts words.entry.now) ≡ None) result (input.new ≡ input.old)
+        (output.new ≡ output.old) }
     // A port and a ROM that make no map have the status 2, unless memory runs out.
     ensures bad_map { (a : TraceAsked) → words_in (texts words.entry.now) ≡ Some a
         → Fits trace (texts words.entry.now)

@@ -1,10 +1,10 @@
 //! A session on the image of a file.
 
-ghost use Rattle.std.specs.Prelude.{◌≡◌, ◌≢◌, ◌≤◌, ◌⊎◌, None, false, true};
+ghost use Rattle.std.specs.Prelude.{◌≡◌, ◌≢◌, ◌≤◌, ◌⊎◌, None, false};
 ghost use Rattle.arguments.specs.Words.{AsksForHelp, Fits, Misfits, texts};
 ghost use Rattle.word_convert.specs.DebugAsked.{debug_view, map_asked};
 ghost use Rattle.word_convert.specs.DebugCommandLine.{debug, words_asked};
-ghost use Rattle.word_convert.specs.DebugWord.{Asks, HasBegun, HasEnded, IsRefused, Streams};
+ghost use Rattle.word_convert.specs.DebugWord.{Asks, HasBegun, HasEnded, IsRefused};
 ghost use Rattle.image_files.specs.Files.{IsOfFile};
 ghost use Rattle.model.specs.State.{has_port_byte, is_map};
 

@@ -1,5 +1,5 @@
 use Rattle.std.proofs.Common.{sym, ◌∙◌, ◌≡◌, None}
-use Rattle.arguments.proofs.Parsed.{asked_by, fits_by, not_both, refused_by, served_by, value_refused}
+use Rattle.arguments.proofs.Parsed.{asked_by, fits_by, not_both, refused_by, served_by}
 use Rattle.arguments.specs.Words.{texts}
 use Rattle.arguments_play.specs.Trace.{words_in, trace, trace_asked}
 use Rattle.clap.specs.Words.{app_of, first_value, found_of}
@@ -33,8 +33,8 @@ returns-clause-served c a fits h =
     c.in_ok-trace_command.ensures.shape c.in_ok-matches.ensures.values)))
 
 pub returns-clause-refused : goal.returns-clause-refused
-returns-clause-refused c =
-    value_refused trace (texts c.args.words.now) (words_in (texts c.args.words.now) ≡ None) _ _ c.value_fault.ensures
-    (fits_by (app_of c.in_ok-trace_command.field-0) trace (texts c.args.words.now) c.in_ok-trace_command.ensures.shape c.in_ok-matches.ensures.fits)
-    (sym (c.in-None.ensures ∙ asked_by trace_asked (app_of c.in_ok-trace_command.field-0) trace (texts c.args.words.now)
-    (first_value (found_of c.in_ok-matches.matches)) c.in_ok-trace_command.ensures.shape c.in_ok-matches.ensures.values))
+returns-clause-refused c = (
+  fits_by (app_of c.in_ok-trace_command.field-0) trace (texts c.args.words.now) c.in_ok-trace_command.ensures.shape c.in_ok-matches.ensures.fits,
+  sym (c.in-None.ensures ∙ asked_by trace_asked (app_of c.in_ok-trace_command.field-0) trace (texts c.args.words.now)
+      (first_value (found_of c.in_ok-matches.matches)) c.in_ok-trace_command.ensures.shape c.in_ok-matches.ensures.values),
+)

@@ -1,10 +1,8 @@
-use Rattle.std.proofs.Common.{rules}
-use Rattle.serde_json.specs.View.{view}
 use Rattle.dap_messages.proofs.message.message_value.Goals as goal
 
 pub returns-in-Done : goal.returns-in-Done
 returns-in-Done c = rw c.in-Done.is (c.build.ensures _ (c.flag.ensures _
-    (c.count.ensures _ (c.member.ensures _ (view c.in-Done.body) c.response.ensures (search rules)))))
+    (c.count.ensures _ (c.member.ensures _ _ c.response.ensures c.body.ensures))))
 
 pub returns-in-Refused : goal.returns-in-Refused
 returns-in-Refused c = rw (c.in-Refused.is, ← c.as_str.ensures.value)
@@ -13,5 +11,6 @@ returns-in-Refused c = rw (c.in-Refused.is, ← c.as_str.ensures.value)
 
 pub returns-in-Event : goal.returns-in-Event
 returns-in-Event c =
-    rw c.in-Event.is (c.build-in-Event.ensures _ (c.word-in-Event-2.ensures _
-    (c.count-in-Event.ensures _ (c.word-in-Event.ensures _ (c.member-in-Event.ensures _ (view c.in-Event.body) c.new.ensures (search rules))))))
+    rw (c.in-Event.is, ← c.word-in-Event.ensures)
+    (c.build-in-Event.ensures _ (c.word-in-Event-3.ensures _ (c.count-in-Event.ensures _
+    (c.word-in-Event-2.ensures _ (c.member-in-Event.ensures _ _ c.new.ensures c.body-in-Event.ensures)))))

@@ -1,15 +1,15 @@
 use Rattle.std.proofs.Common.{map, refl}
 use Rattle.std.proofs.lemmas.Result.{IfOk-weaker}
+use Rattle.dap_messages.specs.SeenAnswers.{SeenAnswer}
 use Rattle.dap_messages.specs.Messages.{said_of}
 use Rattle.dap_session.proofs.Done.{answered_with, kept}
 use Rattle.dap_session.specs.Answered.{AreAnswers, SetsListed}
-use Rattle.serde_json.specs.Data.{Data}
 use Rattle.dap_session.proofs.answering.answer_open.Goals as goal
 
 pub returns-in-Sets-clause-done : goal.returns-in-Sets-clause-done
 unfolding AreAnswers
 returns-in-Sets-clause-done g c =
-    let sets = λ (v : Data). SetsListed c.in-Sets.listed c.args.counting c.args.client.now c.set_listed-told.new.client v in
+    let sets = λ (v : SeenAnswer). SetsListed c.in-Sets.listed c.args.counting c.args.client.now c.set_listed-told.new.client v in
     rw c.in-Sets.is (kept c.answered.result c.or_memory-in-Sets.result _ c.or_memory-in-Sets.ensures.made
     (answered_with c.set_listed-told.result c.answered.result (λ ms. map said_of ms.items) sets c.set_listed-told.ensures c.answered.ensures))
 

@@ -1,7 +1,7 @@
 use Rattle.std.proofs.Common.{◌≡◌, ◌∙◌, ◌∷◌, ap, map, subst, sym}
 use Rattle.std.proofs.lemmas.Result.{IfOk-weaker}
 use Rattle.dap_desk.specs.Moves.{KeepsWatches, stand_of}
-use Rattle.dap_messages.specs.Bodies.{nothing}
+use Rattle.dap_messages.specs.SeenAnswers.{nothing}
 use Rattle.dap_messages.specs.Messages.{done, said_of}
 use Rattle.dap_messages.specs.declared.listed.Told.{Told}
 use Rattle.dap_messages.specs.declared.listed.Listed.{Listed}

@@ -1,5 +1,6 @@
 use Rattle.std.proofs.Common.{◌≡◌, IfOk, subst}
 use Rattle.std.proofs.lemmas.Result.{IfOk-weaker}
+use Rattle.dap_messages.specs.SeenAnswers.{answer_view}
 use Rattle.dap_messages.specs.Listed.{addresses_of, functions_of, lines_of}
 use Rattle.dap_messages.specs.declared.listed.AddressList.{AddressList}
 use Rattle.dap_messages.specs.declared.listed.FunctionList.{FunctionList}
@@ -7,7 +8,6 @@ use Rattle.dap_messages.specs.declared.listed.LineList.{LineList}
 use Rattle.dap_messages.specs.declared.listed.Listed.{Listed}
 use Rattle.dap_session.proofs.Done.{with_both, with_held}
 use Rattle.dap_session.specs.Answered.{ListsAddresses, ListsFunctions, SetsSourceOf}
-use Rattle.serde_json.specs.View.{view}
 use Rattle.dap_session.proofs.answering.set_listed.Goals as goal
 
 pub returns-in-Source : goal.returns-in-Source
@@ -17,14 +17,14 @@ returns-in-Source g c =
     let new = record old { mon = c.set_source.new.mon; listed = c.set_source.new.listed } in
     let path = c.in-Source.path.now in
     let sets : IfOk c.set_source.result (λ v. SetsSourceOf c.args.counting path c.number_lines-wanted.result
-    (record old { listed = c.number_lines-wanted.new.listed }) new (view v))
+    (record old { listed = c.number_lines-wanted.new.listed }) new (answer_view v))
     = rw (← source.path, ← source.assembly, ← source.counting)
     (IfOk-weaker c.set_source.result _ _ (λ v h. (h, c.set_source.ensures.kept)) c.set_source.ensures.sets) in
     let numbered = c.number_lines-wanted.ensures in
     rw c.in-Source.is (subst (λ (held : Listed). IfOk c.set_source.result
-    (λ v. SetsSourceOf c.args.counting path (lines_of old.listed c.in-Source.listed) (record old { listed = held }) new (view v))) numbered.next
+    (λ v. SetsSourceOf c.args.counting path (lines_of old.listed c.in-Source.listed) (record old { listed = held }) new (answer_view v))) numbered.next
     (subst (λ (l : LineList). IfOk c.set_source.result (λ v.
-    SetsSourceOf c.args.counting path l (record old { listed = c.number_lines-wanted.new.listed }) new (view v))) numbered.list sets))
+    SetsSourceOf c.args.counting path l (record old { listed = c.number_lines-wanted.new.listed }) new (answer_view v))) numbered.list sets))
 
 pub returns-in-Instruction : goal.returns-in-Instruction
 returns-in-Instruction g c =
@@ -34,9 +34,9 @@ returns-in-Instruction g c =
     let sets = with_held c.set_addresses.result _ _ (λ v h held. (h, set.kept, held)) set.sets set.held in
     let numbered = c.number_addresses-wanted.ensures in
     rw c.in-Instruction.is (subst (λ (held : Listed). IfOk c.set_addresses.result
-    (λ v. ListsAddresses c.args.counting (addresses_of old.listed c.in-Instruction.listed) (record old { listed = held }) new (view v))) numbered.next
+    (λ v. ListsAddresses c.args.counting (addresses_of old.listed c.in-Instruction.listed) (record old { listed = held }) new (answer_view v))) numbered.next
     (subst (λ (l : AddressList). IfOk c.set_addresses.result
-    (λ v. ListsAddresses c.args.counting l (record old { listed = c.number_addresses-wanted.new.listed }) new (view v))) numbered.list sets))
+    (λ v. ListsAddresses c.args.counting l (record old { listed = c.number_addresses-wanted.new.listed }) new (answer_view v))) numbered.list sets))
 
 pub returns-in-Function : goal.returns-in-Function
 returns-in-Function g c =
@@ -46,9 +46,9 @@ returns-in-Function g c =
     let sets = with_held c.set_functions.result _ _ (λ v h held. (h, set.kept, held)) set.sets set.held in
     let numbered = c.number_functions-wanted.ensures in
     rw c.in-Function.is (subst (λ (held : Listed). IfOk c.set_functions.result
-    (λ v. ListsFunctions c.args.counting (functions_of old.listed c.in-Function.listed) (record old { listed = held }) new (view v))) numbered.next
+    (λ v. ListsFunctions c.args.counting (functions_of old.listed c.in-Function.listed) (record old { listed = held }) new (answer_view v))) numbered.next
     (subst (λ (l : FunctionList). IfOk c.set_functions.result
-    (λ v. ListsFunctions c.args.counting l (record old { listed = c.number_functions-wanted.new.listed }) new (view v))) numbered.list sets))
+    (λ v. ListsFunctions c.args.counting l (record old { listed = c.number_functions-wanted.new.listed }) new (answer_view v))) numbered.list sets))
 
 pub returns-in-Data : goal.returns-in-Data
 returns-in-Data g c =

@@ -1,20 +1,19 @@
-use Rattle.std.proofs.Common.{◌≡◌, ℕ, ℤ, List, map, rules, subst, w64}
+use Rattle.std.proofs.Common.{◌≡◌, ℕ, ℤ, List, ap, map, refl, rules, subst, w64}
 use Rattle.std.proofs.lemmas.Int.{to_z-of_z}
 use mir.Val.{SFits}
+use Rattle.dap_messages.specs.SeenAnswers.{answer_view, breakpoints_body, item_view, scopes}
+use Rattle.dap_messages.specs.declared.item.Item.{Item}
 use Rattle.dap_messages.specs.declared.counting.Counting.{Counting}
 use Rattle.dap_views.specs.Frames.{AreFrames}
 use Rattle.dap_views.specs.Rows.{disassembled}
 use Rattle.std.specs.Result.{IfOk}
-use Rattle.dap_messages.specs.Answers.{breakpoints_body}
-use Rattle.serde_json.specs.View.{view}
-use Rattle.serde_json.specs.declared.value.Value.{Value}
 use Rattle.dap_session.proofs.answering.shown.Goals as goal
 
 pub returns-in-Threads : goal.returns-in-Threads
-returns-in-Threads g c = rw c.in-Threads.is c.threads.ensures
+returns-in-Threads g c = rw c.in-Threads.is refl
 
 pub returns-in-Scopes : goal.returns-in-Scopes
-returns-in-Scopes g c = rw (c.in-Scopes.is, ← c.is_first_frame.ensures) c.scopes.ensures
+returns-in-Scopes g c = rw c.in-Scopes.is (ap scopes c.is_first_frame.ensures)
 
 pub returns-in-Variables : goal.returns-in-Variables
 returns-in-Variables g c = rw c.in-Variables.is c.variables_shown.ensures
@@ -29,10 +28,10 @@ pub returns-in-Completions : goal.returns-in-Completions
 returns-in-Completions g c = rw c.in-Completions.is c.completions.ensures
 
 pub returns-in-Pause : goal.returns-in-Pause
-returns-in-Pause g c = rw c.in-Pause.is c.nothing.ensures
+returns-in-Pause g c = rw c.in-Pause.is refl
 
 pub returns-in-Cancel : goal.returns-in-Cancel
-returns-in-Cancel g c = rw c.in-Cancel.is c.nothing-in-Cancel.ensures
+returns-in-Cancel g c = rw c.in-Cancel.is refl
 
 pub returns-in-StackTrace : goal.returns-in-StackTrace
 returns-in-StackTrace g c =
@@ -40,9 +39,9 @@ returns-in-StackTrace g c =
     let mon = c.args.client.now.mon in
     let page = c.in-StackTrace.page in
     rw c.in-StackTrace.is (subst (λ (path : List ℕ). IfOk c.frames_shown.result
-    (λ v. AreFrames mon.session.current mon.places path c.args.counting page (view v))) source.path
+    (λ v. AreFrames mon.session.current mon.places path c.args.counting page (answer_view v))) source.path
     (subst (λ (n : Counting). IfOk c.frames_shown.result (λ v.
-    AreFrames mon.session.current mon.places c.source_of-source.result.path.now n page (view v))) source.counting c.frames_shown.ensures))
+    AreFrames mon.session.current mon.places c.source_of-source.result.path.now n page (answer_view v))) source.counting c.frames_shown.ensures))
 
 pub returns-in-Disassemble : goal.returns-in-Disassemble
 returns-in-Disassemble g c =
@@ -52,7 +51,7 @@ returns-in-Disassemble g c =
     let fits : SFits w64 asked.offset = search rules in
     let same = to_z-of_z w64 asked.offset fits in
     rw (c.in-Disassemble.is, ← source.path, ← source.counting)
-    (subst (λ (z : ℤ). IfOk c.disassembled.result (λ v. view v
+    (subst (λ (z : ℤ). IfOk c.disassembled.result (λ v. answer_view v
     ≡ disassembled c.args.client.now.mon from.path.now from.counting asked.address z asked.count)) same c.disassembled.ensures)
 
 pub returns-in-GotoTargets : goal.returns-in-GotoTargets
@@ -70,5 +69,4 @@ returns-in-ExceptionInfo g c = rw (c.in-ExceptionInfo.is, ← c.as_str.ensures.v
 
 pub returns-in-SetExceptionBreakpoints : goal.returns-in-SetExceptionBreakpoints
 returns-in-SetExceptionBreakpoints g c = rw c.in-SetExceptionBreakpoints.is
-    (subst (λ (list : List Value). IfOk c.breakpoints_body.result (λ v. view v ≡ breakpoints_body (map view list))) c.new.ensures.items
-    c.breakpoints_body.ensures)
+    (ap (λ (list : List Item). breakpoints_body (map item_view list)) c.new.ensures.items)

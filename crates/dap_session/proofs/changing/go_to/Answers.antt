@@ -1,6 +1,6 @@
 use Rattle.std.proofs.Common.{◌≡◌, ◌∷◌, inr, map, subst, sym}
 use Rattle.std.proofs.lemmas.Result.{IfOk-weaker}
-use Rattle.dap_messages.specs.Bodies.{nothing}
+use Rattle.dap_messages.specs.SeenAnswers.{nothing}
 use Rattle.dap_messages.specs.Messages.{done, said_of}
 use Rattle.dap_session.proofs.Done.{always, kept}
 use Rattle.dap_session.proofs.Stays.{refused_by_more}

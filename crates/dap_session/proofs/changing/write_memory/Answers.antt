@@ -1,4 +1,4 @@
-use Rattle.std.proofs.Common.{◌≡◌, ◌∙◌, ℕ, Bool, List, ap, false, inl, inr, sym}
+use Rattle.std.proofs.Common.{◌≡◌, ◌∙◌, ℕ, Bool, List, ap, false, inl, inr, refl, sym}
 use Rattle.std.specs.Prelude.{is_ok}
 use Rattle.std.proofs.lemmas.Result.{IfOk-weaker}
 use Rattle.dap_session.proofs.Done.{kept}
@@ -32,7 +32,7 @@ returns-clause-done c =
         said ∙ ap (written_said c.args.counting) (c.count_there-count.ensures ∙ ap (count_there memory c.in-Some.address) some),
       ),
     ))
-    (kept c.with_unmoved.result c.or_memory.result _ c.or_memory.ensures.made (c.with_unmoved.ensures _ (c.answered-answer.ensures _ c.written_body.ensures)))
+    (kept c.with_unmoved.result c.or_memory.result _ c.or_memory.ensures.made (c.with_unmoved.ensures _ (c.answered-answer.ensures _ refl)))
 
 pub returns-in-Err-clause-why : goal.returns-in-Err-clause-why
 returns-in-Err-clause-why c =

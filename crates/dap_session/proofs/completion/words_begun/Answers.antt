@@ -1,9 +1,9 @@
 use Rattle.std.proofs.Common.{[], List, arith, subst}
+use Rattle.dap_messages.specs.SeenAnswers.{SeenItem}
 use Rattle.dap_session.proofs.Begun.{coming_all, coming_done, coming_more}
 use Rattle.dap_session.specs.Completions.{word_begun}
-use Rattle.json_messages.specs.ValueLists.{HasValues}
+use Rattle.dap_messages.specs.ItemLists.{HasItems}
 use Rattle.mon_line_parts.specs.Topics.{row_view}
-use Rattle.serde_json.specs.Data.{Data}
 use Rattle.dap_session.proofs.completion.words_begun.Goals as goal
 
 pub loop-word-init : goal.loop-word-init
@@ -21,6 +21,6 @@ loop-word-preserved c =
 pub returns : goal.returns
 returns c =
     let so_far = c.loop-word.invariant in
-    subst (λ (ds : List Data). HasValues ds c.loop-word.list)
+    subst (λ (ds : List SeenItem). HasItems ds c.loop-word.list)
     (coming_done (word_begun c.args.start c.args.typed.now) row_view c.args.rows.now c.loop-word.word-index so_far.0 _
     (omega (arith, c.loop-word-test.false)) so_far.2) so_far.1

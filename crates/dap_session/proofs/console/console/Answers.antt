@@ -1,7 +1,7 @@
 use Rattle.std.proofs.Common.{[], refl, subst, sym}
 use Rattle.std.proofs.lemmas.Result.{IfOk-weaker}
 use Rattle.std.specs.Prelude.{string_bytes}
-use Rattle.dap_messages.specs.Answers.{evaluated_body}
+use Rattle.dap_messages.specs.SeenAnswers.{evaluated_body}
 use Rattle.dap_session.specs.Console.{ServesRead}
 use Rattle.mon_lines.specs.Lines.{line_view}
 use Rattle.mon_session.specs.declared.mon_state.MonState.{MonState}
@@ -22,4 +22,4 @@ returns-clause-served c =
     ))
     (c.with_over.ensures (evaluated_body said)
     (c.with_moved-told.ensures.answer (evaluated_body said) []
-    (c.answered-answer.ensures (evaluated_body said) (rw (← c.as_str.ensures.value) c.evaluated.ensures))))
+    (c.answered-answer.ensures (evaluated_body said) refl)))

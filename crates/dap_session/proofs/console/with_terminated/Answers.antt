@@ -1,4 +1,4 @@
 use Rattle.dap_session.proofs.console.with_terminated.Goals as goal
 
 pub returns : goal.returns
-returns c = λ before is. c.with_event.ensures before _ is c.nothing.ensures
+returns c = λ before is. c.with_event.ensures before is

@@ -9,18 +9,18 @@ three : (m a b c : List Said) → ((m ++ a) ++ b) ++ c ≡ m ++ (a ++ b ++ c)
 three m a b c = ap (λ (t : List Said). t ++ c) (append_assoc m a b) ∙ append_assoc m (a ++ b) c
 
 -- what is told of a halt, behind other messages
-told : (mon : MonState) (count : ℕ) (halt : Halt) (hits shown_hits : List ℕ) (before : List Said) (text : List ℕ) → shown_hits ≡ hits
+told : (mon : MonState) (count : ℕ) (halt : Halt) (hits : List ℕ) (before : List Said) (text : List ℕ)
     → text ≡ halt_shown mon.places.names halt.words.now halt.fault
     → ((before ++ console_said count mon.session.current.bus.out) ++ remark_said halt.reason halt.words.now)
-    ++ stopped_said halt.reason text shown_hits ∷ [] ≡ before ++ told_of mon count halt hits
-told mon count halt hits shown_hits before text same is =
+    ++ stopped_said halt.reason text hits ∷ [] ≡ before ++ told_of mon count halt hits
+told mon count halt hits before text is =
     (λ i. ((before ++ console_said count mon.session.current.bus.out) ++ remark_said halt.reason halt.words.now)
-    ++ stopped_said halt.reason (is i) (same i) ∷ [])
+    ++ stopped_said halt.reason (is i) hits ∷ [])
     ∙ three before _ _ _
 
 pub returns-clause-messages : goal.returns-clause-messages
 returns-clause-messages c = λ before is.
     subst (λ (ss : List Said). IfOk c.with_stop-all.result (λ ms. map said_of ms.items ≡ ss))
-    (told c.args.mon.now c.args.told.now.count c.args.halt c.args.hits.now.items c.as_slice.result.now before c.as_str.result.now
-    c.as_slice.ensures.value (c.as_str.ensures.value ∙ c.in_ok-words.ensures))
+    (told c.args.mon.now c.args.told.now.count c.args.halt c.args.hits.items before c.as_str.result.now
+    (c.as_str.ensures.value ∙ c.in_ok-words.ensures))
     (c.with_stop-all.ensures _ (c.with_console-console.ensures before is))

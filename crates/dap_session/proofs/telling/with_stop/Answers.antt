@@ -1,9 +1,8 @@
-use Rattle.std.proofs.Common.{◌≡◌, ◌∙◌, ◌⊎◌, ◌∷◌, ◌++◌, ℕ, [], IfOk, List, append-nil, codes, inl, inr, map, subst, sym}
+use Rattle.std.proofs.Common.{◌≡◌, ◌∙◌, ◌⊎◌, ◌∷◌, ◌++◌, ℕ, [], IfOk, List, append-nil, inl, inr, map, subst, sym}
 use Rattle.std.proofs.lemmas.Result.{IfOk-weaker}
-use Rattle.dap_messages.specs.Messages.{event, said_of}
+use Rattle.dap_messages.specs.Messages.{said_of}
 use Rattle.dap_messages.specs.declared.halt.Reason.{Reason}
-use Rattle.dap_session.specs.Told.{remark_said}
-use Rattle.dap_views.specs.Values.{stopped_body}
+use Rattle.dap_session.specs.Told.{remark_said, stopped_said}
 use Rattle.dap_session.proofs.telling.with_stop.Goals as goal
 use Rattle.dap_session.proofs.telling.with_stop.Goals.{in-Entry, in-Step, in-FunctionBreakpoint, in-Goto}
 
@@ -15,11 +14,7 @@ three P reason a b d is_a is_b is_d (inr (inr e)) = subst P (sym e) is_d
 
 pub returns : goal.returns
 returns c = λ before is.
-    let words = c.args.words.now in
     let behind = before ++ remark_said c.args.halt.reason c.args.halt.words.now in
-    let hits = c.args.hits.now in
-    let body = c.build-body.ensures _ (c.count.ensures _ (c.word-3.ensures _
-    (c.member.ensures _ _ (c.word.ensures _ (c.flag.ensures _ c.new.ensures)) c.numbers.ensures))) in
     let P : Reason → Type 0 = λ reason. IfOk c.args.messages (λ ms. map said_of ms.items ≡ before ++ remark_said reason c.args.halt.words.now) in
     let same = IfOk-weaker c.args.messages _ _ (λ ms h. h ∙ sym (append-nil before)) is in
     let remarked : IfOk c.match-halt.remarked (λ ms. map said_of ms.items ≡ behind) = elim c.match-halt.branch [
@@ -28,5 +23,6 @@ returns c = λ before is.
       | in-FunctionBreakpoint w ↦ rw w.remarked-is (three P _ _ _ _ same same same w.in-FunctionBreakpoint.is)
       | in-Goto w ↦ rw w.remarked-is (three P _ _ _ _ same same same w.in-Goto.is)
     ] in
-    subst (λ (r : List ℕ). IfOk c.with_event.result (λ ms. map said_of ms.items ≡ behind ++ event (codes "stopped") (stopped_body r words hits) ∷ []))
-    c.word-2.ensures (c.with_event.ensures _ _ remarked body)
+    subst (λ (w : List ℕ). IfOk c.with_event.result (λ ms. map said_of ms.items
+    ≡ behind ++ stopped_said c.args.halt.reason w c.args.hits.items ∷ []))
+    c.in_ok-words.ensures.ok (c.with_event.ensures behind remarked)

@@ -1,7 +1,7 @@
-use Rattle.std.proofs.Common.{◌≡◌, ◌∙◌, ◌∷◌, ◌++◌, [], Bool, IfOk, append-nil, codes, false, if◌then◌else◌, map, not, refl, subst, sym, true}
+use Rattle.std.proofs.Common.{◌≡◌, ◌∙◌, ◌∷◌, ◌++◌, [], Bool, IfOk, append-nil, false, if◌then◌else◌, map, not, refl, subst, sym, true}
 use Rattle.std.proofs.lemmas.Result.{IfOk-weaker}
 use Rattle.dap_messages.specs.Messages.{event, said_of}
-use Rattle.dap_views.specs.Values.{invalidated_body}
+use Rattle.dap_messages.specs.Events.{invalidated}
 use Rattle.dap_session.proofs.telling.with_unmoved.Goals as goal
 
 is_off : (b : Bool) → not b ≡ true → b ≡ false
@@ -15,12 +15,11 @@ is_on false e = absurd cc
 pub returns-then-not-counting : goal.returns-then-not-counting
 returns-then-not-counting c = λ before is.
     subst (λ (b : Bool). IfOk c.args.messages (λ ms. map said_of ms.items ≡ before
-    ++ (if b then event (codes "invalidated") invalidated_body ∷ [] else []))) (sym (is_off _ c.if-not-counting.true))
+    ++ (if b then event invalidated ∷ [] else []))) (sym (is_off _ c.if-not-counting.true))
     (IfOk-weaker c.args.messages _ _ (λ ms h. h ∙ sym (append-nil before)) is)
 
 pub returns : goal.returns
 returns c = λ before is.
-    let areas = c.build-areas.ensures _ (c.with.ensures _ _ c.new.ensures c.try_from_str.ensures) in
     subst (λ (b : Bool). IfOk c.with_event.result (λ ms. map said_of ms.items ≡ before
-    ++ (if b then event (codes "invalidated") invalidated_body ∷ [] else []))) (sym (is_on _ c.if-not-counting.false))
-    (c.with_event.ensures before _ is (c.build-body.ensures _ (c.member.ensures _ _ c.new-2.ensures areas)))
+    ++ (if b then event invalidated ∷ [] else []))) (sym (is_on _ c.if-not-counting.false))
+    (c.with_event.ensures before is)

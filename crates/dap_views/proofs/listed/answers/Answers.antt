@@ -1,7 +1,7 @@
 use Rattle.std.proofs.Common.{[], List, arith, refl, subst}
+use Rattle.dap_messages.specs.SeenAnswers.{SeenItem}
 use Rattle.dap_views.proofs.Numbered.{answers_done, answers_more}
-use Rattle.json_messages.specs.ValueLists.{HasValues}
-use Rattle.serde_json.specs.Data.{Data}
+use Rattle.dap_messages.specs.ItemLists.{HasItems}
 use Rattle.dap_views.proofs.listed.answers.Goals as goal
 
 pub loop-wanted-init : goal.loop-wanted-init
@@ -21,4 +21,4 @@ returns c =
     let so_far = c.loop-wanted.invariant in
     let all = answers_done c.args.session.now c.args.counting c.args.told.now c.loop-wanted.wanted-index c.loop-wanted.id so_far.0 _
     (omega (arith, c.loop-wanted-test.false)) so_far.2 in
-    c.list_body.ensures _ (subst (λ (ds : List Data). HasValues ds c.loop-wanted.list) all so_far.1)
+    c.breakpoints_body.ensures _ (subst (λ (ds : List SeenItem). HasItems ds c.loop-wanted.list) all so_far.1)

@@ -1,8 +1,8 @@
 use Rattle.std.proofs.Common.{◌∙◌, List, ap}
 use Rattle.std.proofs.lemmas.Result.{IfOk-weaker}
-use Rattle.dap_messages.specs.Answers.{breakpoints_body}
 use Rattle.dap_messages.specs.declared.listed.Placed.{Placed}
 use Rattle.dap_desk.specs.Breaks.{all_cleared, all_set, place_of}
+use Rattle.dap_messages.specs.SeenAnswers.{breakpoints_body}
 use Rattle.dap_views.specs.Answered.{answers_of, placed_of}
 use Rattle.dap_views.specs.declared.wanted.Wanted.{Wanted}
 use Rattle.dap_views.proofs.listed.set_list.Goals as goal

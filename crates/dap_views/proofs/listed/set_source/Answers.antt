@@ -1,9 +1,8 @@
 use Rattle.std.proofs.Common.{◌≡◌, IfOk, List, map, option_map, subst}
-use Rattle.dap_messages.specs.Answers.{breakpoints_body}
 use Rattle.dap_messages.specs.declared.request.SourceBreakpoint.{SourceBreakpoint}
+use Rattle.dap_messages.specs.SeenAnswers.{answer_view, breakpoints_body}
 use Rattle.dap_views.specs.Answered.{answer_elsewhere}
 use Rattle.dap_views.proofs.Listing.{sets_none, sets_source}
-use Rattle.serde_json.specs.View.{view}
 use Rattle.dap_views.proofs.listed.set_source.Goals as goal
 
 pub returns-then-is_one_file : goal.returns-then-is_one_file
@@ -18,7 +17,7 @@ returns-then-is_one_file g c = record {
 
 pub returns-clause-sets : goal.returns-clause-sets
 returns-clause-sets g c =
-    let told = subst (λ (all : List SourceBreakpoint). IfOk c.none_set.result (λ v. view v ≡ breakpoints_body (map answer_elsewhere all)))
+    let told = subst (λ (all : List SourceBreakpoint). IfOk c.none_set.result (λ v. answer_view v ≡ breakpoints_body (map answer_elsewhere all)))
     c.as_slice.ensures.value c.none_set.ensures in
     sets_none c.args.source.now.counting c.args.source.now.path.now (option_map (λ a. a.now) c.args.source.now.assembly) c.args.path.now c.args.wanted
     c.args.listed.now c.args.mon.now c.none_set.result

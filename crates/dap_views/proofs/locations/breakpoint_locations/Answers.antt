@@ -3,8 +3,8 @@ use Rattle.std.proofs.lemmas.Result.{IfOk-weaker}
 use Rattle.dap_views.proofs.locations.breakpoint_locations.Goals as goal
 
 pub returns-then-is_one_file : goal.returns-then-is_one_file
-returns-then-is_one_file g c = IfOk-weaker c.list_body.result _ _ (λ v is. inl is) (c.list_body.ensures _ c.own_locations.ensures)
+returns-then-is_one_file g c = IfOk-weaker c.breakpoints_body.result _ _ (λ v is. inl is) (c.breakpoints_body.ensures _ c.own_locations.ensures)
 
 pub returns : goal.returns
 returns g c =
-    IfOk-weaker c.list_body-2.result _ _ (λ v is. inr (c.is_one_file.ensures c.if-is_one_file.false, is)) (c.list_body-2.ensures _ c.new.ensures)
+    IfOk-weaker c.breakpoints_body-2.result _ _ (λ v is. inr (c.is_one_file.ensures c.if-is_one_file.false, is)) (c.breakpoints_body-2.ensures _ c.new.ensures)

@@ -1,8 +1,8 @@
 use Rattle.std.proofs.Common.{◌≡◌, ◌+◌, ◌-◌, [], List, ap, arith, refl, subst}
+use Rattle.dap_messages.specs.SeenAnswers.{SeenItem}
 use Rattle.dap_views.proofs.Following.{lacking_done, lacking_more}
 use Rattle.dap_views.specs.Rows.{lacking_rows}
-use Rattle.json_messages.specs.ValueLists.{HasValues}
-use Rattle.serde_json.specs.Data.{Data}
+use Rattle.dap_messages.specs.ItemLists.{HasItems}
 use Rattle.dap_views.proofs.rows.lacking_rows.Goals as goal
 
 pub loop-init : goal.loop-init
@@ -14,7 +14,7 @@ pub loop-preserved : goal.loop-preserved
 loop-preserved c =
     let so_far = c.loop.invariant in (
       _,
-      c.with-list.ensures _ _ so_far.1 (c.no_row.ensures _ c.format.ensures.ok),
+      c.with-list.ensures _ _ so_far.1 (c.no_instruction.ensures _ c.format.ensures.ok),
       lacking_more (c.args.count - c.loop.counter) (c.args.count - (c.loop.counter + 1)) c.loop.before _ so_far.0 _ _
           (omega (arith, c.loop-test.true)) c.saturating_sub-before.ensures refl so_far.2,
     )
@@ -23,4 +23,4 @@ pub returns : goal.returns
 returns c =
     let so_far = c.loop.invariant in
     let all = lacking_done (c.args.count - c.loop.counter) c.loop.before so_far.0 _ (omega (arith, c.loop-test.false)) so_far.2 in
-    subst (λ (found : List Data). HasValues found c.loop.list) all so_far.1
+    subst (λ (found : List SeenItem). HasItems found c.loop.list) all so_far.1

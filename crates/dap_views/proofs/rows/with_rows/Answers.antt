@@ -1,8 +1,8 @@
 use Rattle.std.proofs.Common.{◌≡◌, ◌∙◌, ◌+◌, ◌-◌, ◌++◌, List, ap, arith, subst}
+use Rattle.dap_messages.specs.SeenAnswers.{SeenItem}
 use Rattle.dap_views.proofs.Following.{row_here, rows_done, rows_more}
 use Rattle.dap_views.specs.Rows.{rows}
-use Rattle.json_messages.specs.ValueLists.{HasValues}
-use Rattle.serde_json.specs.Data.{Data}
+use Rattle.dap_messages.specs.ItemLists.{HasItems}
 use Rattle.dap_views.proofs.rows.with_rows.Goals as goal
 
 pub loop-init : goal.loop-init
@@ -29,4 +29,4 @@ returns c = λ ds has.
     let so_far = c.loop.invariant ds has in
     let all = rows_done c.args.mon.now c.args.source.now.path.now c.args.source.now.counting c.args.until (c.args.count - c.loop.counter)
     c.loop.address so_far.0 _ (omega (arith, c.loop-test.false)) so_far.2 in
-    subst (λ (found : List Data). HasValues found c.loop.list) all so_far.1
+    subst (λ (found : List SeenItem). HasItems found c.loop.list) all so_far.1

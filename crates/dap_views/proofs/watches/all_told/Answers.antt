@@ -1,6 +1,6 @@
 use Rattle.std.proofs.Common.{arith}
 use Rattle.dap_views.specs.Watches.{told_of}
-use Rattle.json_messages.proofs.Lists.{all_values, next_value}
+use Rattle.dap_messages.proofs.Lists.{all_items, next_item}
 use Rattle.dap_views.proofs.watches.all_told.Goals as goal
 
 pub loop-wanted-init : goal.loop-wanted-init
@@ -9,11 +9,11 @@ loop-wanted-init c = c.new-list.ensures
 pub loop-wanted-preserved : goal.loop-wanted-preserved
 loop-wanted-preserved c =
     let f = told_of c.args.stops.now.watches.items in
-    next_value f c.args.listed.now c.loop-wanted.wanted-index _ _ (omega (arith, c.loop-wanted-test.true))
+    next_item f c.args.listed.now c.loop-wanted.wanted-index _ _ (omega (arith, c.loop-wanted-test.true))
     (c.with-list.ensures _ _ c.loop-wanted.invariant c.told.ensures)
 
 pub returns : goal.returns
 returns c =
     let f = told_of c.args.stops.now.watches.items in
-    c.list_body.ensures _ (all_values f c.args.listed.now c.loop-wanted.wanted-index c.loop-wanted.list (omega (arith, c.loop-wanted-test.false))
+    c.breakpoints_body.ensures _ (all_items f c.args.listed.now c.loop-wanted.wanted-index c.loop-wanted.list (omega (arith, c.loop-wanted-test.false))
     c.loop-wanted.invariant)

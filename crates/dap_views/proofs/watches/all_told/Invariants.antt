@@ -1,7 +1,7 @@
 use Rattle.std.proofs.Common.{map, take}
 use Rattle.dap_views.specs.Watches.{told_of}
-use Rattle.json_messages.specs.ValueLists.{HasValues}
+use Rattle.dap_messages.specs.ItemLists.{HasItems}
 use Rattle.dap_views.proofs.watches.all_told.Given as goal
 
 abbrev pub invariant-loop-wanted : goal.invariant-loop-wanted
-invariant-loop-wanted l = HasValues (map (told_of l.stops.watches.items) (take l.wanted-index l.listed)) l.list
+invariant-loop-wanted l = HasItems (map (told_of l.stops.watches.items) (take l.wanted-index l.listed)) l.list

@@ -1,7 +1,7 @@
 use Rattle.std.proofs.Common.{◌∙◌, List, ap, arith, map, sym}
 use Rattle.std.proofs.lemmas.Result.{IfOk-weaker}
+use Rattle.dap_messages.specs.SeenAnswers.{breakpoints_body}
 use Rattle.dap_views.proofs.Watching.{set_done, set_more}
-use Rattle.dap_messages.specs.Answers.{breakpoints_body}
 use Rattle.dap_messages.specs.declared.request.DataBreakpoint.{DataBreakpoint}
 use Rattle.dap_views.specs.Watches.{none_watched, told_of, watched_of, watches_in, with_all}
 use Rattle.dap_views.proofs.watches.set_data.Goals as goal

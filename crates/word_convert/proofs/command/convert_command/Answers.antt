@@ -1,7 +1,6 @@
 use Rattle.std.proofs.Common.{rules, ap₂, codes, ◌≡◌, ◌∙◌}
-use Rattle.arguments.specs.CommandLine.{file_rule, flag_rule, option_rule}
+use Rattle.arguments.specs.CommandLine.{file_rule, flag_rule, option_rule, word_rule}
 use Rattle.clap.specs.Words.{rule_of, with_rule}
-use Rattle.word_convert.specs.CommandLine.{word_rule}
 use Rattle.word_convert.proofs.command.convert_command.Goals as goal
 
 pub returns-clause-shape : goal.returns-clause-shape

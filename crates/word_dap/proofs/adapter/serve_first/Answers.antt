@@ -5,4 +5,4 @@ use Rattle.word_dap.proofs.adapter.serve_first.Goals as goal
 
 pub returns-in-Initialize-clause-done : goal.returns-in-Initialize-clause-done
 returns-in-Initialize-clause-done c = rw c.in-Initialize.is (kept c.answered.result c.or_memory.result _ c.or_memory.ensures.made
-    (IfOk-weaker c.answered.result _ _ (λ ms said. (refl, said)) (c.answered.ensures _ c.capabilities.ensures)))
+    (IfOk-weaker c.answered.result _ _ (λ ms said. (refl, said)) (c.answered.ensures _ refl)))

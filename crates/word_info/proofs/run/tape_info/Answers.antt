@@ -21,7 +21,8 @@ returns-in-Ok-clause-wrong g c = λ one. (
   info_view c.in-Ok.words,
   c.in-Ok.ensures.taken,
   c.in-Ok.ensures.asked,
-  said_wrong (IsSaid (info_view c.in-Ok.words)) c.answer_to.result c.answered.result _ _ _ c.answer_to.ensures.about c.answered.ensures.said c.answered.ensures.alone one,
+  said_wrong (IsSaid (info_view c.in-Ok.words)) c.answer_to.result c.answered.result _ _ _ c.answer_to.ensures.about c.answered.ensures.said
+      c.answered.ensures.alone one,
 )
 
 pub returns-in-Ok-clause-refused : goal.returns-in-Ok-clause-refused

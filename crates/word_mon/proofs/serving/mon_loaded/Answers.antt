@@ -2,7 +2,8 @@ use Rattle.std.proofs.Common.{◌≡◌, inl, inr, refl}
 use Rattle.arguments.specs.Asked.{file_view}
 use Rattle.arguments.specs.OtherFiles.{others_view}
 use Rattle.arguments_play.specs.Mon.{mon_view}
-use Rattle.word_mon.proofs.Ends.{ends_debug, ends_named}
+use Rattle.debug_files.proofs.Undebugged.{ends_debug}
+use Rattle.word_mon.proofs.Ends.{ends_named}
 use Rattle.word_mon.proofs.Starts.{named_starts}
 use Rattle.word_mon.proofs.serving.mon_loaded.Goals as goal
 
@@ -41,8 +42,7 @@ returns-in-Err-OfNames-clause-done g c =
 pub returns-in-Err-OfDebug-clause-done : goal.returns-in-Err-OfDebug-clause-done
 returns-in-Err-OfDebug-clause-done g c =
     let ends = rw c.in-Err-OfDebug.field-0-is at c.in-Err-OfDebug.ensures.refused in
-    inr (inl (inr (ends_debug c.args.words.now.debug_info c.args.words.now.file.file (record {
-      held = g.E.Write.contents c.args.errors.now;
-      now = g.E.Write.contents c.tell.new.errors;
-    }) c.in-Err-OfDebug.fault c.tell.result ((c.args.input.now ≡ c.args.input.now) × (c.args.output.now ≡ c.args.output.now))
+    inr (inl (inr (ends_debug c.args.words.now.debug_info c.args.words.now.file.file
+    (g.E.Write.contents c.args.errors.now) (g.E.Write.contents c.tell.new.errors) c.in-Err-OfDebug.fault
+    c.tell.result ((c.args.input.now ≡ c.args.input.now) × (c.args.output.now ≡ c.args.output.now))
     ends c.tell.ensures.status (rw c.unwrap_or-file-in-Err-OfDebug.ensures at c.tell.ensures.told) (refl, refl))))

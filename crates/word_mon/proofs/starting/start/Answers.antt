@@ -10,8 +10,8 @@ pub returns-clause-made : goal.returns-clause-made
 returns-clause-made g c =
     let made = c.in_ok-mon.ensures.made in
     let named = c.in_ok-names.ensures.named in (
-      c.in_ok-places.places,
-      c.in_ok-places.ensures.places,
+      c.in_ok-known.known.places,
+      c.in_ok-known.ensures.places,
       named.0,
       named.1,
       record {
@@ -29,8 +29,8 @@ returns-clause-made g c =
 pub returns-clause-warned : goal.returns-clause-warned
 returns-clause-warned g c =
     subst (λ (o : Option AssemblyView). IsWarningLine (map_of (file_view c.args.words.now.file)) o c.args.loaded.fill
-    c.warning_line_of-warning_line.result.items)
-    c.as_ref.ensures.value c.warning_line_of-warning_line.ensures
+    (mon_view c.args.words.now).debug_info c.warning_line_of-warning_line.result.items)
+    c.as_ref-source.ensures.value c.warning_line_of-warning_line.ensures
 
 pub returns-in_err-names-clause-refused : goal.returns-in_err-names-clause-refused
 returns-in_err-names-clause-refused g c =

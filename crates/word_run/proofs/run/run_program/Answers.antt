@@ -1,4 +1,4 @@
-use Rattle.std.proofs.Common.{◌≡◌, ◌≤◌, Bool, None, arith, inl, inr, refl, subst}
+use Rattle.std.proofs.Common.{◌≡◌, ◌≤◌, ℕ, Option, None, arith, inl, inr, refl, subst}
 use Rattle.arguments.proofs.Refusing.{not_refused, refuses}
 use Rattle.arguments.specs.Words.{IsStatusOf, texts}
 use Rattle.arguments.proofs.Parsed.{not_both, one_asked}
@@ -49,12 +49,12 @@ returns-in-Err-clause-bad_map g c a h fits bad =
     inr (subst (λ f. IsStatusOf f c.refused_words.result) (c.in-Err.ensures.served a fits h) c.refused_words.ensures.status)
 
 pub returns-in-Ok-clause-quiet : goal.returns-in-Ok-clause-quiet
-returns-in-Ok-clause-quiet g c omits none zero =
+returns-in-Ok-clause-quiet g c base none zero =
     let given = none (run_view c.in-Ok.words) c.in-Ok.ensures.asked in
-    subst (λ (o : Bool). OnlyWarned o (g.E.Write.contents c.args.errors.now) (g.E.Write.contents c.run_words.new.errors)) given.1
-    (c.run_words.ensures.quiet given.0 zero)
+    subst (λ (at : Option ℕ). OnlyWarned at (g.E.Write.contents c.args.errors.now) (g.E.Write.contents c.run_words.new.errors)) given.2
+    (c.run_words.ensures.quiet given.0 given.1 zero)
 
 -- Help was written, and nothing was told.
 pub returns-in-Err-clause-quiet : goal.returns-in-Err-clause-quiet
-returns-in-Err-clause-quiet g c omits none zero = untold g.E.Write.contents omits c.args.errors.now c.refused_words.new.errors
+returns-in-Err-clause-quiet g c base none zero = untold g.E.Write.contents base c.args.errors.now c.refused_words.new.errors
     (c.refused_words.ensures.quiet (omega (arith, zero)))

@@ -1,13 +1,13 @@
 use Rattle.std.proofs.Common.{◌∙◌, ap, sym}
-use Rattle.std.specs.Prelude.{option_map}
 use Rattle.arguments.specs.Statuses.{status_of}
 use Rattle.word_run.proofs.Ran.{failed_to, interrupted_to, ran_to}
 use Rattle.arguments_play.specs.Run.{run_view}
+use Rattle.word_run.specs.Known.{known_view}
 use Rattle.word_run.proofs.run.run_to.Goals as goal
 
 pub returns-in-Ok-clause-ran : goal.returns-in-Ok-clause-ran
 returns-in-Ok-clause-ran g c =
-    ran_to (run_view c.args.words.now) (option_map (λ a. a.now) c.args.assembly) c.args.until
+    ran_to (run_view c.args.words.now) (known_view c.args.known) c.args.until
     (record { session = c.args.session.now; written = c.args.written }) c.play.new.session (record {
       given = g.R.Read.remaining c.args.input.now;
       left = g.R.Read.remaining c.play.new.reader;
@@ -20,7 +20,7 @@ returns-in-Ok-clause-ran g c =
 
 pub returns-else-was_interrupted-clause-ran : goal.returns-else-was_interrupted-clause-ran
 returns-else-was_interrupted-clause-ran g c =
-    failed_to (run_view c.args.words.now) (option_map (λ a. a.now) c.args.assembly) c.args.until
+    failed_to (run_view c.args.words.now) (known_view c.args.known) c.args.until
     (record { session = c.args.session.now; written = c.args.written }) c.play.new.session (record {
       given = g.R.Read.remaining c.args.input.now;
       left = g.R.Read.remaining c.play.new.reader;
@@ -34,7 +34,7 @@ returns-else-was_interrupted-clause-ran g c =
 
 pub returns-then-was_interrupted-clause-ran : goal.returns-then-was_interrupted-clause-ran
 returns-then-was_interrupted-clause-ran g c =
-    interrupted_to (run_view c.args.words.now) (option_map (λ a. a.now) c.args.assembly) c.args.until
+    interrupted_to (run_view c.args.words.now) (known_view c.args.known) c.args.until
     (record { session = c.args.session.now; written = c.args.written }) c.play.new.session (record {
       given = g.R.Read.remaining c.args.input.now;
       left = g.R.Read.remaining c.play.new.reader;

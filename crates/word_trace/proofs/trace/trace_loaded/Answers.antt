@@ -9,7 +9,7 @@ use Rattle.word_trace.proofs.trace.trace_loaded.Goals as goal
 pub returns-in-Err : goal.returns-in-Err
 returns-in-Err g c =
     let names = names_of c.args.loaded.now.assembly in let a = trace_view c.args.words.now in
-    unfound_from a (begin_view c.args.loaded.now) (place_asked names a.from) (place_asked names a.to) (record {
+    unfound_from a (begin_view c.args.loaded.now c.args.debug) (place_asked names a.from) (place_asked names a.to) (record {
       given = g.R.Read.remaining c.args.input.now;
       left = g.R.Read.remaining c.args.input.now;
       held = g.O.Write.contents c.args.output.now;
@@ -23,7 +23,7 @@ returns-in-Err g c =
 pub returns-in-Err-place_named : goal.returns-in-Err-place_named
 returns-in-Err-place_named g c =
     let names = names_of c.args.loaded.now.assembly in let a = trace_view c.args.words.now in
-    unfound_to a (begin_view c.args.loaded.now) c.in-Ok.from (place_asked names a.from) (place_asked names a.to) (record {
+    unfound_to a (begin_view c.args.loaded.now c.args.debug) c.in-Ok.from (place_asked names a.from) (place_asked names a.to) (record {
       given = g.R.Read.remaining c.args.input.now;
       left = g.R.Read.remaining c.args.input.now;
       held = g.O.Write.contents c.args.output.now;
@@ -38,7 +38,8 @@ returns-in-Err-place_named g c =
 pub returns : goal.returns
 returns g c =
     let names = names_of c.args.loaded.now.assembly in let a = trace_view c.args.words.now in
-    traced_between a (begin_view c.args.loaded.now) c.in-Ok.from c.in-Ok-place_named.to (place_asked names a.from) (place_asked names a.to) (record {
+    traced_between a (begin_view c.args.loaded.now c.args.debug) c.in-Ok.from c.in-Ok-place_named.to
+    (place_asked names a.from) (place_asked names a.to) (record {
       given = g.R.Read.remaining c.args.input.now;
       left = g.R.Read.remaining c.trace_told.new.input;
       held = g.O.Write.contents c.args.output.now;
@@ -48,7 +49,7 @@ returns g c =
       now = g.E.Write.contents c.trace_told.new.errors;
     }) c.trace_told.result
     ((c.trace_told.new.input ≡ c.args.input.now) × (c.trace_told.new.output ≡ c.args.output.now)) c.in-Ok.ensures.place c.in-Ok-place_named.ensures.place
-    (traced_quiet g.E.Write.contents a (begin_view c.args.loaded.now) c.in-Ok.from c.in-Ok-place_named.to (record {
+    (traced_quiet g.E.Write.contents a (begin_view c.args.loaded.now c.args.debug) c.in-Ok.from c.in-Ok-place_named.to (record {
       given = g.R.Read.remaining c.args.input.now;
       left = g.R.Read.remaining c.trace_told.new.input;
       held = g.O.Write.contents c.args.output.now;

@@ -1,5 +1,0 @@
-use Rattle.serde_json.proofs.Views.{view-Array}
-use Rattle.dap_messages.proofs.bodies.breakpoints_body.Goals as goal
-
-pub returns : goal.returns
-returns c = c.build.ensures _ (c.member.ensures _ _ c.new.ensures (view-Array c.args.list))

@@ -1,0 +1,6 @@
+use Rattle.dap_messages.proofs.variable_values.variable_with.Goals as goal
+
+pub returns : goal.returns
+returns c =
+    let named = c.word-2.ensures _ (c.text.ensures _ _ (c.word.ensures _ c.new.ensures) c.reference.ensures) in
+    c.build.ensures _ (c.count.ensures _ (c.word-3.ensures _ named))

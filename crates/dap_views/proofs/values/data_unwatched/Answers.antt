@@ -1,4 +1,0 @@
-use Rattle.dap_views.proofs.values.data_unwatched.Goals as goal
-
-pub returns : goal.returns
-returns c = c.build.ensures _ (c.flag.ensures _ (c.word.ensures _ c.new.ensures))

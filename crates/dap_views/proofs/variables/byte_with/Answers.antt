@@ -1,6 +1,0 @@
-use Rattle.dap_views.proofs.variables.byte_with.Goals as goal
-
-pub returns : goal.returns
-returns c =
-    let named = c.word-2.ensures _ (c.text.ensures _ _ (c.word.ensures _ c.new.ensures) c.reference.ensures) in
-    c.build.ensures _ (c.count.ensures _ (c.text-2.ensures _ _ named c.value_text.ensures))
