@@ -37,7 +37,7 @@ use Rattle.mon_runs.proofs.LookedRuns.{looked-begin, looked-ends, looked-goes, l
 
 -- ---- no step ends a run because it made as many as a run makes at most
 
-is_many : EndWhy → Bool
+abbrev is_many : EndWhy → Bool
 is_many end_why.Many = true
 is_many end_why.Met = false
 is_many (end_why.Stopped why) = false
@@ -49,7 +49,8 @@ is_many end_why.NoHandler = false
 is_many end_why.Waits = false
 
 or_line_few : (why : EndWhy) (is : Bool) → is_many why ≡ false → or_line why is ≡ why
-or_line_few end_why.Many is h = cc
+or_line_few end_why.Many true h = cc
+or_line_few end_why.Many false h = refl
 or_line_few end_why.Met is h = refl
 or_line_few (end_why.Stopped why) is h = refl
 or_line_few (end_why.Read address) is h = refl
