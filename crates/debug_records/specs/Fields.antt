@@ -5,6 +5,7 @@
 use Rattle.std.specs.Prelude.{ℕ, zero, suc, ◌+◌, ◌==◌, ◌||◌, Bool, true, false, is_some, if◌then◌else◌, List, [], ◌∷◌, ◌++◌, length, take, drop, position, Option, Some, None, unwrap_or, Result, Ok, Err}
 use Rattle.std.specs.List.{prefix_len}
 use Rattle.std.specs.Str.{byte, bytes_eq}
+use Rattle.lexer.specs.Front.{is_next}
 use Rattle.model.specs.Token.{begins, is_word_byte}
 use Rattle.debug_records.specs.Faults.{◌>>=◌, fault_at, fault_at_end}
 use Rattle.debug_records.specs.declared.fault.DebugFaultKind.TheVariants.{NoTab, NoField, OpenText, NameTwice}
@@ -17,10 +18,6 @@ pub record Field : Type 0 where
   pub value : List ℕ
   pub is_text : Bool
   pub left : ℕ
-
--- Whether a byte comes next.
-abbrev pub is_next : ℕ → List ℕ → Bool
-is_next sign text = begins (λ b. b == sign) text
 
 -- ---- the field at the front of a text, and what stands behind it
 

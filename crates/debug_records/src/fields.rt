@@ -2,16 +2,16 @@
 
 ghost use Rattle.std.specs.Prelude.{◌≡◌, ◌≤◌, ◌<◌, ◌==◌, drop, length, map, option_map};
 ghost use Rattle.std.specs.Prelude.{position, true};
-ghost use Rattle.std.specs.List.{prefix_len};
 ghost use Rattle.std.specs.Str.{byte, bytes_eq};
-ghost use Rattle.model.specs.Token.{is_word_byte};
+ghost use Rattle.lexer.specs.Front.{is_next};
 ghost use Rattle.debug_records.specs.Faults.{Gives, fault_at, seen};
 ghost use Rattle.debug_records.specs.Fields.{comma_in, ended, ends, field_in, field_of, field_with};
-ghost use Rattle.debug_records.specs.Fields.{fields_of, is_next, next_field, plain_field, said_by};
+ghost use Rattle.debug_records.specs.Fields.{fields_of, next_field, plain_field, said_by};
 ghost use Rattle.debug_records.specs.Fields.{text_field, with_field};
 ghost use Rattle.debug_records.specs.Views.{field_view, read_view, said_view};
 
 use crate::fault::{DebugFaultKind, LineError, LineFault};
+use lexer::{is_next, word_run};
 use std::alloc::Global;
 
 /// A field: its value, which is what stands between two `"` if it is a text, and how many bytes of
@@ -42,32 +42,6 @@ pub fn fault_at(kind: DebugFaultKind, text: &[u8]) -> LineFault
         kind,
         left: text.len(),
     }
-}
-
-/// Returns whether a byte comes next.
-fn is_next(sign: u8, text: &[u8]) -> bool
-    ensures next { result ≡ is_next sign text.now }
-    ensures some { result ≡ true → 0 < length text.now }
-{
-    match text {
-        [] => false,
-        [first, ..] => *first == sign,
-    }
-}
-
-/// Returns whether a byte may stand in a name: a letter, a digit or `_`.
-fn is_word_byte(byte: u8) -> bool
-    ensures { result ≡ is_word_byte byte }
-{
-    matches!(byte, b'A'..=b'Z' | b'a'..=b'z' | b'0'..=b'9' | b'_')
-}
-
-/// Counts the bytes of the name at the front.
-fn name_length(text: &[u8]) -> usize
-    ensures counted { result ≡ prefix_len is_word_byte text.now }
-    ensures within { result ≤ length text.now }
-{
-    text.iter().take_while(|byte| is_word_byte(**byte)).count()
 }
 
 /// Returns whether a field ends before a text.
@@ -167,7 +141,7 @@ fn field_with<'a>(name: &'a [u8], text: &'a [u8]) -> Read<'a>
 fn field_of(text: &[u8]) -> Read<'_>
     ensures { seen read_view result ≡ field_of text.now }
 {
-    let (name, rest) = text.split_at(name_length(text));
+    let (name, rest) = text.split_at(word_run(text));
     if name.is_empty() {
         return Err(fault_at(DebugFaultKind::NoField, text));
     }

@@ -1,17 +1,16 @@
 //! Texts that are given as sources, and begin with a record of an image.
 
-ghost use Rattle.std.specs.Prelude.{◌≡◌, ◌≤◌, IfErr, IfOk, None, OnOk, length};
-ghost use Rattle.std.specs.List.{list_all, prefix_len};
+ghost use Rattle.std.specs.Prelude.{◌≡◌, ◌≤◌, IfErr, IfOk, None, OnOk};
+ghost use Rattle.std.specs.List.{list_all};
 ghost use Rattle.image_files.specs.Looks.{EndsLooks, IsSource, begun_as, begun_in, first_line};
 ghost use Rattle.image_files.specs.Looks.{goes_on, is_written, lacks_end, looks_raw, records_begun};
 ghost use Rattle.image_files.specs.Forms.{form_of};
 ghost use Rattle.image_reader.specs.Texts.{text_image};
-ghost use Rattle.papertape.specs.Hint.{is_inside};
 
 use crate::form::{form_of, front_bytes};
 use arguments::{LoadFault, Refusal};
 use image_reader::{Form, ImageFault, RecordFaultKind, TextForm, read_image};
-use papertape::looks_like_tape;
+use papertape::{line_len, looks_like_tape};
 use std::alloc::{AllocError, Global};
 
 /// Returns whether a byte is no control byte, but for a tab and line ends.
@@ -37,16 +36,6 @@ pub fn looks_raw(bytes: &[u8]) -> bool
     ensures { result ≡ looks_raw bytes.now }
 {
     !all_are_written(front_bytes(bytes))
-}
-
-/// Counts the bytes before the first line end.
-fn line_len(text: &[u8]) -> usize
-    ensures counted { result ≡ prefix_len is_inside text.now }
-    ensures inside { result ≤ length text.now }
-{
-    text.iter()
-        .take_while(|byte| !matches!(**byte, b'\r' | b'\n'))
-        .count()
 }
 
 /// Returns the first line of a text, without its end.

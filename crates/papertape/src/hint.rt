@@ -12,7 +12,7 @@ use crate::{TapeReader, pieces_are_the_whole};
 use std::alloc::{AllocError, Global};
 
 /// Counts the bytes before the first line end.
-fn line_len(text: &[u8]) -> usize
+pub fn line_len(text: &[u8]) -> usize
     ensures counted { result ≡ prefix_len is_inside text.now }
     ensures inside { result ≤ length text.now }
 {

@@ -20,7 +20,7 @@ mod record;
 mod stream;
 mod writer;
 
-pub use hint::looks_like_tape;
+pub use hint::{line_len, looks_like_tape};
 pub use law::{
     each_text_has_one_reading, one_digit_is_refused, pieces_are_the_whole, pieces_have_one_reading,
     read_pieces, through_tape, written_is_read,
