@@ -31,7 +31,7 @@ pub record MarkedIf (old new : Trail) (c : Checkpoint) : Type 0 where
 
 -- how much of a trail there is before a checkpoint that may be due
 pub record IsDue (t : Trail) : Type 0 where
-  pub history : t.history ≤ 65536
+  pub history : t.history ≤ 1048576
   pub held : t.held ≤ t.history
   pub few : t.held ≤ length t.events.items
   pub recent : length t.events.items < t.held + 1024

@@ -18,7 +18,7 @@ with_steps t n = record {
 -- go.
 pub record IsQuiet (t : Trail) (steps more : ℕ) : Type 0 where
   pub few : steps + more ≤ 1024
-  pub size : t.history ≤ 65536
+  pub size : t.history ≤ 1048576
   pub held : t.held ≤ t.history
   pub part : (length t.events.items + steps) % 1024 + more < 1024
   pub room : length t.events.items + steps + more < min (t.held + steps) t.history + 1024

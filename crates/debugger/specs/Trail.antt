@@ -8,7 +8,7 @@ use Rattle.debugger.specs.declared.trail.Trail.{Trail}
 
 -- There is room for an event more, and for the checkpoint that it may need.
 pub record HasRoom (t : Trail) : Type 0 where
-  pub history : t.history ≤ 65536
+  pub history : t.history ≤ 1048576
   pub held : t.held ≤ t.history
   pub few : t.held ≤ length t.events.items
   pub recent : length t.events.items < t.held + 1024

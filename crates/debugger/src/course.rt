@@ -55,7 +55,7 @@ impl Model for Course {
 ///
 /// Errors: `OutOfMemory` if an allocation fails.
 pub fn new_course(alloc: Global, machine: &Machine, history: u32) -> Result<Course, SessionFault>
-    requires { history ≤ 65536 }
+    requires { history ≤ 1048576 }
     ensures room { IfOk result (λ course. HasRoom course) }
     ensures size { IfOk result (λ course. course.history ≡ history) }
     ensures history { IfOk result

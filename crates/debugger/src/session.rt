@@ -66,7 +66,7 @@ impl Model for Session {
 
 impl Session {
     /// Makes a session whose only state is the start of a machine with this map and image. It holds
-    /// up to `history` earlier states, at most 65,536, and allocates all the room that events need.
+    /// up to `history` earlier states, at most 1,048,576, and allocates all the room that events need.
     ///
     /// Errors: `PortAddress` if the image has a byte at a port address, `OutOfMemory` if an
     /// allocation fails.
@@ -76,7 +76,7 @@ impl Session {
         image: &Image,
         history: u32,
     ) -> Result<Session, SessionFault>
-        requires { history ≤ 65536 }
+        requires { history ≤ 1048576 }
         ensures ok { IfOk result (λ session. session ≡ new_session history (start map image.now)) }
         ensures room { OnOk result (has_port_byte map image.now ≡ false) }
         ensures port { IsErrOf result SessionFault.PortAddress

@@ -302,7 +302,7 @@ fn save_checkpoint(trail: &mut Trail, machine: &Machine, pages: &mut Pages)
 ///
 /// Errors: `OutOfMemory` if an allocation fails.
 pub fn new_trail(alloc: Global, machine: &Machine, history: u32) -> Result<Trail, SessionFault>
-    requires { history ≤ 65536 }
+    requires { history ≤ 1048576 }
     ensures room { IfOk result (λ trail. HasRoom trail) }
     ensures size { IfOk result (λ trail. trail.history ≡ history) }
     ensures history { IfOk result
