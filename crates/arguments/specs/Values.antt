@@ -96,7 +96,12 @@ abbrev pub steps_asked : Option (List ℕ) → Option ℕ
 steps_asked None = Some 18446744073709551615
 steps_asked (Some word) = number_of word
 
--- The history of `mon` that is asked for: at most 65,536, and as many where no word says it.
+-- A history of at most 1,048,576 events, as a session can hold.
+abbrev pub at_most_1048576 : Option ℕ → Option ℕ
+at_most_1048576 None = None
+at_most_1048576 (Some number) = if nat_le number 1048576 then Some number else None
+
+-- The history of `mon` that is asked for: at most 1,048,576, and 65,536 where no word says it.
 abbrev pub history_asked : Option (List ℕ) → Option ℕ
 history_asked None = Some 65536
-history_asked (Some word) = at_most_65536 (number_of word)
+history_asked (Some word) = at_most_1048576 (number_of word)

@@ -6,7 +6,7 @@ use Rattle.arguments.specs.Values.{history_asked, port_asked, profile_asked, rom
 use Rattle.arguments.specs.declared.fault.WordsFault.{WordsFault}
 use Rattle.arguments.specs.declared.file_options.FileForm.{FileForm}
 use Rattle.arguments.specs.declared.fault.WordsFault.TheVariants.{Value, Wrong}
-use Rattle.arguments.specs.declared.wording.TheConstants.{FORM_TAKES, HISTORY_TAKES, NAME_TELLS, PORT_TAKES, PROFILE_TAKES, ROM_TAKES, STEPS_TAKES}
+use Rattle.arguments.specs.declared.wording.TheConstants.{FORM_TAKES, MON_HISTORY_TAKES, NAME_TELLS, PORT_TAKES, PROFILE_TAKES, ROM_TAKES, STEPS_TAKES}
 use Rattle.clap.specs.Words.{Text}
 
 -- A file's word tells another form than options say.
@@ -28,7 +28,7 @@ wrong_value value =
     if is_none (port_asked (value (codes "port"))) then Some PORT_TAKES.now
     else if is_none (rom_asked (value (codes "rom"))) then Some ROM_TAKES.now
     else if is_none (profile_asked (value (codes "profile"))) then Some PROFILE_TAKES.now
-    else if is_none (history_asked (value (codes "history"))) then Some HISTORY_TAKES.now
+    else if is_none (history_asked (value (codes "history"))) then Some MON_HISTORY_TAKES.now
     else if is_none (steps_asked (value (codes "steps"))) then Some STEPS_TAKES.now
     else wrong_form (value (codes "FILE")) (value (codes "TAPE")) (form_by value)
 

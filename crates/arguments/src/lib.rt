@@ -58,4 +58,5 @@ pub use value::{
     address_asked, debug_history_asked, form_asked, form_in, form_said_by, history_asked,
     port_asked, profile_asked, rom_asked, steps_asked, value_fault, wrong_value,
 };
+pub use wording::HISTORY_TAKES;
 pub use write_fault::{WriteFault, write_reason};

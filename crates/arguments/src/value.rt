@@ -16,7 +16,7 @@ use crate::file_names::form_for;
 use crate::file_options::FileForm;
 use crate::matching::{is_given, says_image};
 use crate::wording::{
-    FORM_TAKES, HISTORY_TAKES, NAME_TELLS, PORT_TAKES, PROFILE_TAKES, ROM_TAKES, STEPS_TAKES,
+    FORM_TAKES, MON_HISTORY_TAKES, NAME_TELLS, PORT_TAKES, PROFILE_TAKES, ROM_TAKES, STEPS_TAKES,
 };
 use clap::ArgMatches;
 use commands::{address_of, digits};
@@ -192,18 +192,18 @@ pub fn steps_asked(word: Option<&str>) -> Option<u64>
     }
 }
 
-/// Returns how many events the word after `--history` of `mon` asks for, at most 65,536, or `None`
-/// if it is wrong.
+/// Returns how many events the word after `--history` of `mon` asks for, at most 1,048,576, or
+/// `None` if it is wrong.
 ///
 /// Without the word, 65,536 are held.
 pub fn history_asked(word: Option<&str>) -> Option<u32>
     ensures asked { result ≡ history_asked (option_map (λ w. w.now) word.entry) }
-    ensures within { IfSome result (λ history. history ≤ 65536) }
+    ensures within { IfSome result (λ history. history ≤ 1048576) }
 {
     match word {
         None => Some(65536),
         Some(word) => match number_of(word.as_bytes()) {
-            Some(number) if number <= 65536 => Some(number as u32),
+            Some(number) if number <= 1048576 => Some(number as u32),
             _ => None,
         },
     }
@@ -277,7 +277,7 @@ pub fn wrong_value(matches: &ArgMatches<'_>) -> Option<&'static str>
     } else if profile_asked(matches.get_str("profile")).is_none() {
         Some(PROFILE_TAKES)
     } else if history_asked(matches.get_str("history")).is_none() {
-        Some(HISTORY_TAKES)
+        Some(MON_HISTORY_TAKES)
     } else if steps_asked(matches.get_str("steps")).is_none() {
         Some(STEPS_TAKES)
     } else {

@@ -49,6 +49,8 @@ pub const PROFILE_TAKES: &str = "--profile takes N or C";
 
 pub const HISTORY_TAKES: &str = "--history takes a number up to 65536";
 
+pub const MON_HISTORY_TAKES: &str = "--history takes a number up to 1048576";
+
 pub const FORM_TAKES: &str =
     "--bin takes four hex digits; only one of --image, --bin and --prg can be said";
 

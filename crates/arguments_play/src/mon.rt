@@ -35,7 +35,7 @@ pub fn mon_command<'a>(alloc: Global) -> Result<Command<'a>, Error>
     ensures memory { IfErr result (λ e. kind_of e ≡ ErrorKind.OutOfMemory) }
 {
     let about = "Steps through a program with a person at a terminal";
-    let history = "How many events can be undone, at most 65536 [default: 65536]";
+    let history = "How many events can be undone, at most 1048576 [default: 65536]";
     let symbols = "A file of names, as asm --symbols writes it [default: none]";
     let prompt = "Writes a prompt where standard input is no terminal, too";
     let screen = "Draws a screen after each line, if standard input is a terminal";

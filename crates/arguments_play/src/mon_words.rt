@@ -26,5 +26,5 @@ pub struct MonWords<'a> {
     /// The columns and rows of the screen, if they are given.
     pub size: Option<(u8, u8)>,
 
-    ghost history_held: { history ≤ 65536 },
+    ghost history_held: { history ≤ 1048576 },
 }

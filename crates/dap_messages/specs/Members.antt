@@ -29,7 +29,7 @@ abbrev pub form_of : Member → Form
 form_of member.Tape = form.Flag
 form_of member.Prg = form.Flag
 form_of member.StopOnEntry = form.Flag
-form_of member.History = form.Number 0 65536
+form_of member.History = form.Number 0 1048576
 form_of member.Steps = form.Number 1 4294967295
 form_of member.Program = form.Text
 form_of member.Bin = form.Text

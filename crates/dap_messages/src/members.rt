@@ -64,7 +64,7 @@ impl Member {
             Member::Rom => "rom takes a text: two addresses, as C000-FFFF",
             Member::Profile => "profile takes a text: N or C",
             Member::Symbols => "symbols takes a text: the path of a file of names",
-            Member::History => "history takes a number from 0 to 65536",
+            Member::History => "history takes a number from 0 to 1048576",
             Member::Steps => "steps takes a number from 1 to 4294967295",
             Member::StopOnEntry => "stopOnEntry takes true or false",
         }
@@ -106,7 +106,7 @@ fn form_of(member: Member) -> Form
         Member::Tape | Member::Prg | Member::StopOnEntry => Form::Flag,
         Member::History => Form::Number {
             least: 0,
-            most: 65536,
+            most: 1_048_576,
         },
         Member::Steps => Form::Number {
             least: 1,

@@ -20,10 +20,10 @@ program_of launch = unwrap_or launch.program []
 
 -- ---- the session
 
--- How many events are held: 65,536 at most, and where no number is given.
+-- How many events are held: 1,048,576 at most, and 65,536 where no number is given.
 abbrev pub history_by : Option ℕ → ℕ
 history_by None = 65536
-history_by (Some count) = if nat_lt count 65536 then count else 65536
+history_by (Some count) = if nat_lt count 1048576 then count else 1048576
 
 abbrev pub history_of : SeenLaunch → ℕ
 history_of launch = history_by launch.history

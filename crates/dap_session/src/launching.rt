@@ -10,14 +10,16 @@ use arguments::{FileWords, form_asked, form_for, name_of, port_asked, profile_as
 use dap_messages::Launch;
 use std::alloc::Global;
 
-/// Returns how many events a launch lets be undone: 65,536 at most, and where it gives no number.
+/// Returns how many events a launch lets be undone: 1,048,576 at most, and 65,536 where it gives no
+/// number.
 pub fn history_of(launch: &Launch) -> u32
     ensures value { result ≡ history_of (launch_view launch.now) }
-    ensures most { result ≤ 65536 }
+    ensures most { result ≤ 1048576 }
 {
     match launch.history {
-        Some(count) if count < 65536 => count as u32,
-        _ => 65536,
+        None => 65536,
+        Some(count) if count < 1_048_576 => count as u32,
+        Some(_) => 1_048_576,
     }
 }
 

@@ -186,7 +186,7 @@ fn started(
     image: &Image,
     history: u32,
 ) -> Result<(Session, Written), Refusal>
-    requires history { history ≤ 65536 }
+    requires history { history ≤ 1048576 }
     requires spared { has_port_byte map image.now ≡ false }
     ensures session { IfOk result (λ p. p.0 ≡ new_session history (start map image.now)) }
     ensures bytes { IfOk result (λ p. p.1 ≡ bytes_in image.now) }
@@ -204,7 +204,7 @@ fn start_source(
     assembly: Assembly,
     history: u32,
 ) -> Result<Loaded, Refusal>
-    requires history { history ≤ 65536 }
+    requires history { history ≤ 1048576 }
     requires spared { has_port_byte map assembly.image ≡ false }
     ensures started { IfOk result
         (λ loaded. loaded.session ≡ new_session history (start map assembly.image)) }
@@ -231,7 +231,7 @@ fn load_source<H: Files + AllocGlobal>(
     map: MapSpec,
     history: u32,
 ) -> Result<Loaded, LoadFault>
-    requires { history ≤ 65536 }
+    requires { history ≤ 1048576 }
     ensures started { IfOk result (λ loaded. (image : List (Option ℕ))
         × IsImageOf FileForm.Source words.now.omits_fill map loaded.fill image loaded.assembly
         × (loaded.session ≡ new_session history (start map image))
@@ -251,7 +251,7 @@ pub fn start_image(
     spared: &Spared,
     history: u32,
 ) -> Result<Loaded, Refusal>
-    requires history { history ≤ 65536 }
+    requires history { history ≤ 1048576 }
     requires spared { has_port_byte map spared.now.image ≡ false }
     ensures started { IfOk result
         (λ loaded. loaded.session ≡ new_session history (start map spared.now.image)) }
@@ -366,7 +366,7 @@ fn load_image<H: Files + AllocGlobal>(
     omits: bool,
     history: u32,
 ) -> Result<Loaded, LoadFault>
-    requires history { history ≤ 65536 }
+    requires history { history ≤ 1048576 }
     requires rom { map.rom ≡ rom }
     ensures started { IfOk result (λ loaded. (image : List (Option ℕ))
         × IsSparedFile said omits map loaded.fill image
@@ -388,7 +388,7 @@ fn load_form<H: Files + AllocGlobal>(
     map: MapSpec,
     history: u32,
 ) -> Result<Loaded, LoadFault>
-    requires history { history ≤ 65536 }
+    requires history { history ≤ 1048576 }
     requires rom { map.rom ≡ words.now.rom }
     requires form { words.now.form ≢ FileForm.Source }
     ensures started { IfOk result (λ loaded. (image : List (Option ℕ))
@@ -431,7 +431,7 @@ pub fn load<H: Files + AllocGlobal>(rt: &H, words: &FileWords<'_>) -> Result<Loa
 }
 
 /// Loads the file of the words as `load` does, into a session that holds up to `history` earlier
-/// states, at most 65,536.
+/// states, at most 1,048,576.
 ///
 /// # Errors
 ///
@@ -441,7 +441,7 @@ pub fn load_with_history<H: Files + AllocGlobal>(
     words: &FileWords<'_>,
     history: u32,
 ) -> Result<Loaded, LoadFault>
-    requires { history ≤ 65536 }
+    requires { history ≤ 1048576 }
     ensures started { IfOk result (λ loaded. (image : List (Option ℕ))
         × IsLoaded (file_view words.now) loaded.fill image loaded.assembly
         × (loaded.session ≡ new_session history (start (map_of (file_view words.now)) image))

@@ -342,7 +342,7 @@ fn load_joined<'a, H: Files + AllocGlobal>(
     others: OtherFiles<'a>,
     history: u32,
 ) -> Result<(Loaded, Image), FileFault<'a>>
-    requires history { history ≤ 65536 }
+    requires history { history ≤ 1048576 }
     ensures is_map { IfOk result (λ _. is_map words.now.rom words.now.port ≡ true) }
     ensures joined { IfOk result (λ made. IsSparedJoin (file_view words.now)
         (others_view others.entry) made.0.fill made.1) }
@@ -416,7 +416,7 @@ fn several_alone<'a, H: Files + AllocGlobal>(
     others: OtherFiles<'a>,
     history: u32,
 ) -> Result<Loaded, FileFault<'a>>
-    requires history { history ≤ 65536 }
+    requires history { history ≤ 1048576 }
     ensures started { IfOk result (λ loaded. (image : List (Option ℕ))
         × (is_map words.now.rom words.now.port ≡ true)
         × IsSparedJoin (file_view words.now) (others_view others.entry) loaded.fill image
@@ -533,7 +533,7 @@ fn alone_with_history<'a, H: Files + AllocGlobal>(
     words: &FileWords<'a>,
     history: u32,
 ) -> Result<Loaded, FileFault<'a>>
-    requires { history ≤ 65536 }
+    requires { history ≤ 1048576 }
     ensures started { IfOk result (λ loaded. (image : List (Option ℕ))
         × IsLoaded (file_view words.now) loaded.fill image loaded.assembly
         × (loaded.session ≡ new_session history (start (map_of (file_view words.now)) image))
@@ -553,7 +553,7 @@ fn alone_with_history<'a, H: Files + AllocGlobal>(
 }
 
 /// Loads the file of the words as `load_with_history` does, or several files as `load_machine`
-/// does, into a session that holds up to `history` earlier states, at most 65,536.
+/// does, into a session that holds up to `history` earlier states, at most 1,048,576.
 ///
 /// # Errors
 ///
@@ -564,7 +564,7 @@ pub fn load_files<'a, H: Files + AllocGlobal>(
     others: OtherFiles<'a>,
     history: u32,
 ) -> Result<Loaded, FileFault<'a>>
-    requires { history ≤ 65536 }
+    requires { history ≤ 1048576 }
     ensures started { IfOk result (λ loaded. (image : List (Option ℕ))
         × AreLoaded (file_view words.now) (others_view others.entry) loaded.fill image
         loaded.assembly

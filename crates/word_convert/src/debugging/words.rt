@@ -9,8 +9,8 @@ ghost use Rattle.word_convert.specs.DebugCommandLine.{debug, words_asked};
 use crate::debugging::asked::DebugImageWords;
 use crate::debugging::command::debug_image_command;
 use arguments::{
-    WordsFault, debug_history_asked, matched, name_of, port_asked, profile_asked, rom_asked,
-    value_fault,
+    HISTORY_TAKES, WordsFault, debug_history_asked, matched, name_of, port_asked, profile_asked,
+    rom_asked, value_fault,
 };
 use clap::ArgMatches;
 use image_files::form_said;
@@ -56,6 +56,9 @@ pub fn read_debug_words<'a>(
     let matches = matched(debug_image_command(alloc)?, words)?;
     match debug_words(&matches) {
         Some(words) => Ok(words),
+        None if debug_history_asked(matches.get_str("history")).is_none() => {
+            Err(WordsFault::Wrong(HISTORY_TAKES))
+        }
         None => Err(value_fault(&matches)),
     }
 }
