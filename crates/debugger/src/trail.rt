@@ -251,7 +251,7 @@ fn one_more(held: u32, limit: u32) -> u32
 #[inline(always)]
 fn drop_oldest(trail: &mut Trail, pages: &mut Pages)
     requires kept { 0 < length trail.old.kept.items }
-    requires few_kept { length trail.old.kept.items ≤ 66 }
+    requires few_kept { length trail.old.kept.items ≤ 1026 }
     requires room { length trail.old.spare.items < trail.old.spare.capacity }
     ensures few { length trail.old.events.items < trail.old.held + 1024 → trail.new ≡ trail.old }
     ensures many { trail.old.held + 1024 ≤ length trail.old.events.items
