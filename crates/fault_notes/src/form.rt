@@ -20,8 +20,8 @@ use opcode_facts::mnemonics_in;
 use optable::{letters_of, mnemonic_in};
 use parser::parse_expr;
 use source_notes::{
-    Hint, Note, after_label, concat, defines_next, describe, directive_hint, gives_value,
-    is_symbol, operation_hint, phrase,
+    Hint, Note, after_label, concat, defines_by_equals, defines_next, describe, directive_hint,
+    gives_value, is_symbol, marked_hint, operation_hint, phrase,
 };
 use std::alloc::{AllocError, Global};
 
@@ -108,6 +108,22 @@ fn definition_words(
     Ok(words)
 }
 
+/// Returns words with the definition that a word of another assembler makes of the tokens behind
+/// it, if they are a name, a `=` and a value.
+fn defined_words(
+    alloc: Global,
+    word: &[u8],
+    rest: &[Token<'_>],
+) -> Result<Option<Vec<u8>>, AllocError> {
+    match rest {
+        [name, equals, value @ ..]
+            if defines_by_equals(word) && is_word(name) && is_symbol(equals, b'=') => {
+            Ok(Some(definition_words(alloc, name.text, value)?))
+        }
+        _ => Ok(None),
+    }
+}
+
 /// Returns how many of some tokens stand before a `:` or a `=`, if each is a part of a name as
 /// other assemblers take it: a word, a number, a `-`, or a point with letters.
 fn parts_of_name(tokens: &[Token<'_>]) -> Option<usize> {
@@ -154,16 +170,19 @@ fn label_words(alloc: Global, label: &[u8]) -> Result<Vec<u8>, AllocError> {
     concat(alloc, &pieces)
 }
 
-/// Returns words about a label without a colon before a directive of another assembler.
+/// Returns words about a label without a colon before a directive of another assembler, which
+/// stands behind this mark.
 fn label_hint_words(
     alloc: Global,
     label: &[u8],
+    mark: &[u8],
     directive: &[u8],
     hint: Hint,
 ) -> Result<Vec<u8>, AllocError> {
     let (before, hinted) = hint.parts();
     let mut words = label_words(alloc, label)?;
     words.extend_from_slice(b", and for ")?;
+    words.extend_from_slice(mark)?;
     words.extend_from_slice(directive)?;
     words.extend_from_slice(b" ")?;
     words.extend_from_slice(before)?;
@@ -293,6 +312,9 @@ fn named_words(
     word: &Token<'_>,
     rest: &[Token<'_>],
 ) -> Result<Option<Vec<u8>>, AllocError> {
+    if let Some(words) = defined_words(alloc, word.text, rest)? {
+        return Ok(Some(words));
+    }
     let words = match rest {
         [next, value @ ..] if gives_value(next.text) => {
             definition_words(alloc, word.text, value)?
@@ -308,6 +330,27 @@ fn named_words(
     };
     Ok(Some(words))
 }
+
+/// Returns words about a label without a colon, if a directive of another assembler stands behind
+/// it.
+fn labelled_words(
+    alloc: Global,
+    label: &[u8],
+    rest: &[Token<'_>],
+) -> Result<Option<Vec<u8>>, AllocError> {
+    let (mark, directive, hint) = match rest {
+        [mark, next, ..] if is_symbol(mark, b'!') => (mark.text, next.text, marked_hint(next.text)),
+        [next, _, ..] => (NO_MARK, next.text, directive_hint(next.text)),
+        _ => return Ok(None),
+    };
+    match hint {
+        Some(hint) => Ok(Some(label_hint_words(alloc, label, mark, directive, hint)?)),
+        None => Ok(None),
+    }
+}
+
+/// No mark stands before a directive.
+const NO_MARK: &[u8] = b"";
 
 /// Returns why a word that is no mnemonic begins no operation, by the tokens after it.
 #[tactic(auto, using(crate::proofs::Marked::plain_steps))]
@@ -325,11 +368,8 @@ fn word_note(
     if let Some(hint) = operation_hint(word.text) {
         return hint_note(alloc, profile, word, NO_MNEMONIC, hint);
     }
-    if let [next, _, ..] = rest {
-        if let Some(hint) = directive_hint(next.text) {
-            let words = label_hint_words(alloc, word.text, next.text, hint)?;
-            return Ok(about(word, words));
-        }
+    if let Some(words) = labelled_words(alloc, word.text, rest)? {
+        return Ok(about(word, words));
     }
     match directive_hint(word.text) {
         Some(hint) => hint_note(alloc, profile, word, NO_MNEMONIC, hint),
@@ -492,15 +532,19 @@ fn part_of(directive: &[u8]) -> Part {
     }
 }
 
-/// Returns a note about a directive that is none of the five.
+/// Returns a note about a directive that is none of the five, by the tokens after it.
 #[tactic(auto, using(crate::proofs::Marked::plain_steps))]
 fn directive_note(
     alloc: Global,
     profile: Profile,
     directive: &Token<'_>,
+    rest: &[Token<'_>],
 ) -> Result<Note, AllocError>
     ensures { IfOk result (IsNote (token_place directive.now) (is_operation profile)) }
 {
+    if let Some(words) = defined_words(alloc, directive.text, rest)? {
+        return Ok(about(directive, words));
+    }
     match directive_hint(directive.text) {
         Some(hint) => hint_note(alloc, profile, directive, " is no directive here; ", hint),
         None => Ok(about(directive, describe(alloc, directive.text, NO_DIRECTIVE)?)),
@@ -513,11 +557,14 @@ const NO_MACROS: &str = "there are no macros: write the lines, or a subroutine";
 /// What is said of a directive that is not known.
 const NO_DIRECTIVE: &str = " is no directive; there are .BYTE .WORD .DBYTE .RES .END";
 
-/// Returns words about a directive that begins with `!`, as in ACME.
-fn marked_words(alloc: Global, word: &[u8]) -> Result<Vec<u8>, AllocError> {
+/// Returns words about a directive that begins with `!`, as in ACME, by the tokens after it.
+fn marked_words(alloc: Global, word: &[u8], rest: &[Token<'_>]) -> Result<Vec<u8>, AllocError> {
+    if let Some(words) = defined_words(alloc, word, rest)? {
+        return Ok(words);
+    }
     let pieces: [&[u8]; 2] = [b"!", word];
     let mut words = concat(alloc, &pieces)?;
-    match directive_hint(word) {
+    match marked_hint(word) {
         Some(hint) => {
             let (before, hinted) = hint.parts();
             words.extend_from_slice(b" is no directive here; ")?;
@@ -537,7 +584,7 @@ fn first_words(
     rest: &[Token<'_>],
 ) -> Result<Vec<u8>, AllocError> {
     match rest {
-        [next, ..] if is_symbol(first, b'!') => marked_words(alloc, next.text),
+        [next, operand @ ..] if is_symbol(first, b'!') => marked_words(alloc, next.text, operand),
         [next, ..] if is_symbol(first, b'+') && is_word(next) => {
             let is_mnemonic = mnemonic_in(Profile::C, next.text).is_some();
             phrase(alloc, if is_mnemonic { UNNAMED } else { NO_MACROS })
@@ -589,7 +636,7 @@ fn operation_note(
             if is_directive(first.text) {
                 return expression_note(alloc, behind(first), rest, part_of(first.text));
             }
-            directive_note(alloc, profile, first)
+            directive_note(alloc, profile, first, rest)
         }
         _ => Ok(about(first, first_words(alloc, first, rest)?)),
     }

@@ -26,23 +26,31 @@ type Row = (Hint, &'static [u8]);
 /// The words that give a name its value, which stands before them.
 const EQUALS: &[u8] = b"EQU EQ SET ASSIGN DEF EQUATE";
 
+/// The words that give the name after them a value behind a `=`.
+const DEFINES: &[u8] = b"ADDR ADDRESS SET CONST VAR LABEL";
+
 /// What to write in place of directives of other assemblers.
-const DIRECTIVES: [Row; 18] = [
+const DIRECTIVES: [Row; 22] = [
     (
         Hint::Words(b"write *= and the address"),
         b"ORG BA PC ALIGN RORG",
     ),
     (
         Hint::Words(b"write NAME = and the value"),
-        b"EQU EQ SET ASSIGN DEF DEFINE EQUATE",
+        b"EQU EQ SET ASSIGN DEF DEFINE EQUATE CONST VAR LABEL",
     ),
     (
         Hint::Word(b".BYTE"),
-        b"BYTE BYT DB DCB DC DFB DEFB FCB HEX CHAR BY",
+        b"BYTE BYT DB DCB DC DFB DEFB FCB CHAR BY",
     ),
+    (Hint::Words(b"write .BYTE and each byte as $FF"), b"HEX"),
     (
         Hint::Words(b"write .BYTE \"...\""),
-        b"TEXT ASCII ASC STR STRING FCC DEFM SCRU SCREEN PET TX RAW SCR SCRXOR",
+        b"TEXT ASCII ASC STR STRING FCC DEFM TX RAW",
+    ),
+    (
+        Hint::Words(b"write .BYTE and the codes: \"...\" is ASCII"),
+        b"PET SCR SCRU SCREEN SCRXOR",
     ),
     (Hint::Words(b"write .BYTE \"...\",0"), b"ASCIIZ ASCIZ NULL"),
     (
@@ -61,7 +69,11 @@ const DIRECTIVES: [Row; 18] = [
     ),
     (
         Hint::Words(b"no other file is read: put its lines here"),
-        b"INCLUDE INC INCBIN BINARY INCSRC ICL INSERT SRC SOURCE BIN",
+        b"INCLUDE INC INCSRC ICL INSERT SRC SOURCE",
+    ),
+    (
+        Hint::Words(b"no other file is read: put its bytes here by .BYTE"),
+        b"INCBIN BINARY BIN",
     ),
     (
         Hint::Words(b"there are no macros: write the lines, or a subroutine"),
@@ -88,9 +100,28 @@ const DIRECTIVES: [Row; 18] = [
         b"EXPORT IMPORT GLOBAL GLOBL EXTERN PUBLIC XDEF XREF",
     ),
     (
-        Hint::Words(b"leave the line out"),
-        b"LIST NOLIST TITLE PAGE OPT TTL NAM FEATURE TO SL INITMEM CONVTAB CT WARN ERROR SERIOUS",
+        Hint::Words(b"leave the line out: \"...\" is ASCII"),
+        b"CONVTAB CT CHARMAP ENC ENCODING",
     ),
+    (
+        Hint::Words(b"leave the line out"),
+        b"LIST NOLIST TITLE PAGE OPT TTL NAM FEATURE TO SL INITMEM WARN ERROR SERIOUS",
+    ),
+];
+
+/// What to write in place of words behind a `!`, as in ACME, where these say something else than
+/// without it.
+const MARKED: [Row; 7] = [
+    (Hint::Words(b"write NAME = and the value"), b"ADDR ADDRESS"),
+    (Hint::Word(b".BYTE"), b"8 08"),
+    (Hint::Word(b".WORD"), b"16"),
+    (
+        Hint::Words(b"write .BYTE and each byte"),
+        b"24 32 LE24 LE32 BE24 BE32",
+    ),
+    (Hint::Words(b"write .RES and how many bytes"), b"FI"),
+    (Hint::Words(b"write .BYTE and each byte as $FF"), b"H"),
+    (Hint::Words(b"leave the line out"), b"SYMBOLLIST INFO DEBUG"),
 ];
 
 /// What to write in place of mnemonics of other processors.
@@ -148,6 +179,11 @@ pub fn defines_next(text: &[u8]) -> bool {
     without_point(text).eq_ignore_ascii_case(b"DEFINE")
 }
 
+/// Returns whether a word gives the name after it a value behind a `=`, in another assembler.
+pub fn defines_by_equals(text: &[u8]) -> bool {
+    is_one_of(DEFINES, without_point(text))
+}
+
 /// Returns what the row of a word says, if one of some rows has it.
 fn hint_in(rows: &[Row], text: &[u8]) -> Option<Hint> {
     for (hint, words) in rows {
@@ -161,6 +197,11 @@ fn hint_in(rows: &[Row], text: &[u8]) -> Option<Hint> {
 /// Returns what to write in place of a directive of another assembler, if it is known.
 pub fn directive_hint(text: &[u8]) -> Option<Hint> {
     hint_in(&DIRECTIVES, text)
+}
+
+/// Returns what to write in place of a directive of another assembler behind a `!`, if it is known.
+pub fn marked_hint(text: &[u8]) -> Option<Hint> {
+    hint_in(&MARKED, text).or(directive_hint(text))
 }
 
 /// Returns what to write in place of a mnemonic of another processor, if it is known.

@@ -23,7 +23,9 @@ mod words;
 
 pub use block::{first_told, push_block, push_total};
 pub use characters::further;
-pub use dialects::{Hint, defines_next, directive_hint, gives_value, operation_hint};
+pub use dialects::{
+    Hint, defines_by_equals, defines_next, directive_hint, gives_value, marked_hint, operation_hint,
+};
 pub use lines::{Name, every_line, line_of, line_or_none, names_of};
 pub use note::Note;
 pub use operands::{about_operand, after_label, is_symbol, operand_of};
