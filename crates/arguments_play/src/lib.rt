@@ -2,7 +2,8 @@
 //!
 //! Each word has a command line and the words that it asks for, as a person wrote them. Places are
 //! not looked up here. What a word asks for is said by `clap`'s own definition of a parse
-//! (`specs/Run.antt`, `specs/Trace.antt`, `specs/Mon.antt`).
+//! (`specs/Run.antt`, `specs/Trace.antt`, `specs/Mon.antt`). `debug_asked` says which debug
+//! information they may name (`specs/Debug.antt`).
 #![tactic(auto)]
 
 mod debug;
@@ -12,6 +13,7 @@ mod run;
 mod size;
 mod trace;
 
+pub use debug::{DEBUG_HELP, DEBUG_TAKES, ROOT_HELP, debug_asked};
 pub use mon::{mon_command, read_mon_words};
 pub use mon_words::MonWords;
 pub use run::{RunWords, read_run_words, run_command};
