@@ -14,6 +14,7 @@ use Rattle.mon_instructions.specs.Places.{place_text}
 use Rattle.mon_texts.specs.Stops.{number_text, register_name}
 use Rattle.mon_runs.specs.declared.changes.RegisterChange.{RegisterChange}
 use Rattle.mon_texts.specs.declared.wording.TheConstants.{BREAK_AT}
+use Rattle.mon_steps.specs.SourceLines.{line_here}
 use Rattle.mon_steps.specs.Strays.{unserved_text}
 use Rattle.mon_steps.specs.declared.wording.TheConstants.{AFTER, AND_IS_NOW, DONE, IS_NOW, NO_STOP, RETURNED, STEP, STEPS, STUCK, WAITS, WAS, WATCH, WATCHED_READ, WATCHED_WRITE}
 
@@ -55,6 +56,7 @@ steps_text count = decimal count ++ (if count == 1 then STEP.now else STEPS.now)
 abbrev pub after_text : ℕ → List ℕ
 after_text count = AFTER.now ++ steps_text count ++ codes "\n"
 
--- The line that says how a run has ended.
+-- The line that says how a run has ended, and the line of the source that it led to.
 abbrev pub end_line : State → PlacesView → Ended → List ℕ
-end_line state places end = why_text state places end.from end.why ++ after_text end.did
+end_line state places end = why_text state places end.from end.why
+    ++ (after_text end.did ++ line_here state places)

@@ -19,6 +19,7 @@ use Rattle.mon_instructions.specs.Places.{place_text}
 use Rattle.mon_texts.specs.Screen.{output_since}
 use Rattle.mon_instructions.specs.Stores.{stores_text}
 use Rattle.mon_steps.specs.Reasons.{after_text, end_line}
+use Rattle.mon_steps.specs.SourceLines.{line_here}
 use Rattle.mon_steps.specs.Strays.{ended_text}
 use Rattle.mon_runs.specs.Goals.{opcode_at_pc}
 use Rattle.source_map.specs.Lines.{PlacesView}
@@ -30,9 +31,10 @@ use Rattle.mon_steps.specs.declared.wording.TheConstants.{HERE, HISTORY, SHOWS_T
 
 -- ---- how a run has ended
 
--- That a run came to the address that was asked for.
-abbrev pub here_text : List Named → ℕ → ℕ → List ℕ
-here_text names at did = HERE.now ++ (place_text names at ++ after_text did)
+-- That a run came to the address that was asked for, and the line of the source there.
+abbrev pub here_text : State → PlacesView → ℕ → ℕ → List ℕ
+here_text state places at did = HERE.now
+    ++ (place_text places.names at ++ (after_text did ++ line_here state places))
 
 -- What is noted of a state in which a run begins.
 abbrev pub begun_of : State → Begun
@@ -90,7 +92,7 @@ is_there address end_why.Waits = false
 -- A run to an address that came there, or ended before.
 abbrev pub shown_end_at_text : ℕ → State → PlacesView → Ended → Begun → List ℕ
 shown_end_at_text address state places end begun = if is_there address end.why
-    then here_text places.names address end.did ++ since_text state places.names begun
+    then here_text state places address end.did ++ since_text state places.names begun
     else shown_end_text state places end begun
 
 abbrev pub if_arrived_text : ℕ → PlacesView → Begun → Result Arrival SessionFault → List ℕ

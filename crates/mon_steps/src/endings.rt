@@ -10,6 +10,7 @@ ghost use Rattle.mon_steps.specs.Strays.{ended_text};
 ghost use Rattle.mon_instructions.specs.Places.{place_text};
 
 use crate::reasons::{push_after, push_end};
+use crate::source_lines::push_line_here;
 use crate::strays::push_ended;
 use crate::wording::HERE;
 use formatting::push_text;
@@ -102,14 +103,15 @@ fn push_place_after(
     push_after(text, did)
 }
 
-/// Says that a run came to the address that was asked for.
+/// Says that a run came to the address that was asked for, and shows the line of the source there.
 fn say_here(mon: &mut MonState, address: u16, did: u64) -> Result<(), AllocError>
     ensures shows { ShowsOnly mon.old mon.new }
     ensures text { OnOk result (mon.new.text.items ≡ mon.old.text.items
-        ++ here_text mon.old.places.names address did) }
+        ++ here_text mon.old.session.current mon.old.places address did) }
 {
     push_text(&mut mon.text, HERE)?;
-    push_place_after(&mut mon.text, &mon.places, address, did)
+    push_place_after(&mut mon.text, &mon.places, address, did)?;
+    push_line_here(&mut mon.text, &mon.session, &mon.places)
 }
 
 /// Says how a run to an address has ended, and shows where.

@@ -2,7 +2,8 @@
 //! by the events that were undone.
 //!
 //! `stepping` shows each step, `runs` goes on to a stop, `endings` and `reasons` say how a run has
-//! ended, `strays` where a program has, before a BRK that has no handler.
+//! ended, `source_lines` at which line of C or of another assembler, `strays` where a program has,
+//! before a BRK that has no handler.
 //! `back` undoes events, `again` makes them again. What each line does to the session stands in
 //! `specs/RunLines.antt` and `specs/BackLines.antt`, what it says in `specs/RunTexts.antt` and
 //! `specs/BackTexts.antt`.
@@ -13,6 +14,7 @@ mod back;
 mod endings;
 mod reasons;
 mod runs;
+mod source_lines;
 mod stepping;
 mod strays;
 pub mod wording;

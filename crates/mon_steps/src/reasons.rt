@@ -6,6 +6,7 @@ ghost use Rattle.mon_steps.specs.Reasons.{after_text, break_text, change_text, e
 ghost use Rattle.mon_steps.specs.Reasons.{stop_text, why_text};
 ghost use Rattle.mon_instructions.specs.Places.{place_text};
 
+use crate::source_lines::push_line_here;
 use crate::strays::push_unserved;
 use crate::wording::{
     AFTER, AND_IS_NOW, DONE, IS_NOW, NO_STOP, RETURNED, STEP, STEPS, STUCK, WAITS, WAS, WATCH,
@@ -131,7 +132,7 @@ fn push_why(
     }
 }
 
-/// Appends the line that says how a run has ended.
+/// Appends the line that says how a run has ended, and the line of the source that it led to.
 pub fn push_end(
     text: &mut Vec<u8>,
     session: &Session,
@@ -142,5 +143,6 @@ pub fn push_end(
         ++ end_line session.now.current places.now end) }
 {
     push_why(text, session, places, end.from, end.why)?;
-    push_after(text, end.did)
+    push_after(text, end.did)?;
+    push_line_here(text, session, places)
 }
