@@ -7,7 +7,7 @@ use Rattle.line_steps.specs.Back.{events_to_line, gone_back}
 use Rattle.line_steps.specs.declared.lines.FileLine.{FileLine}
 use Rattle.line_steps.specs.declared.lines.LineStart.{LineStart}
 use Rattle.mon_instructions.specs.Made.{line_text}
-use Rattle.mon_line_runs.specs.LineRuns.{line_run}
+use Rattle.mon_by_line.specs.LineRuns.{line_run}
 use Rattle.mon_runs.specs.Looked.{Arrival}
 use Rattle.mon_runs.specs.PastBreaks.{most_steps}
 use Rattle.mon_runs.specs.declared.ended.EndWhy.{EndWhy}

@@ -1,1 +1,2 @@
+pub mod LineRuns
 pub mod ByLine

@@ -12,10 +12,10 @@ ghost use Rattle.mon_by_line.specs.ByLine.{source_text, undone_if_held, undone_t
 ghost use Rattle.mon_steps.specs.RunLines.{KeepsWatches, arrived, stand_of, watches_of};
 ghost use Rattle.mon_steps.specs.RunTexts.{begun_at};
 
+use crate::line_runs::line;
 use formatting::push_text;
 use line_steps::{FileLine, LineStart, back_by_line};
 use mon_instructions::push_line_text;
-use mon_line_runs::line;
 use mon_runs::{EndWhy, Ended};
 use mon_session::MonState;
 use mon_steps::wording::{BACK_AT_OLDEST, EVENT_UNDONE, EVENTS_UNDONE, HERE, NONE_HELD};

@@ -1,8 +1,11 @@
-//! Lines of `mon` that go to where a line of the source begins: forwards by a run, or back.
+//! Steps of `mon` by lines of the source: forwards by a run to where another line begins, or back.
 //!
-//! What they do and what they say stands in `specs/ByLine.antt`.
+//! `line_runs` makes such a run, which looks at each step as `go` does and ends at the first later
+//! state at which another line begins, and that is within no call of the run (`specs/LineRuns.antt`).
+//! `by_line` serves the lines of `mon`: what they do and what they say stands in `specs/ByLine.antt`.
 #![tactic(auto)]
 
 mod by_line;
+mod line_runs;
 
 pub use by_line::{run_to_line, undo_to_line};

@@ -23,7 +23,7 @@ use Rattle.line_steps.proofs.LineRuns.{line_is}
 use Rattle.line_steps.proofs.Counted.{NoneTo, first_at, first_beyond, first_none}
 use Rattle.line_steps.proofs.Steps.{made_at_most}
 use Rattle.mon_runs.specs.Ends.{is_end}
-use Rattle.mon_line_runs.specs.LineRuns.{arrived_by, line_run, or_line}
+use Rattle.mon_by_line.specs.LineRuns.{arrived_by, line_run, or_line}
 use Rattle.mon_runs.specs.Looked.{Arrival, Place, after_stretch, changed_between, end_between, if_changed, if_read, if_stored, later, looked_run, pushed_at, seen_between, watched, watched_from, why_of_step}
 use Rattle.mon_runs.specs.Rests.{has_no_handler, rest_between, waits}
 use Rattle.mon_runs.specs.Stops.{Read, Write, has_access, register_change}

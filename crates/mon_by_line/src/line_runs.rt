@@ -3,7 +3,7 @@
 ghost use Rattle.std.specs.Prelude.{◌≡◌, ◌&&◌, is_some, not};
 ghost use Rattle.line_steps.specs.Lines.{begun, is_other};
 ghost use Rattle.model.specs.Run.{after_steps};
-ghost use Rattle.mon_line_runs.specs.LineRuns.{line_run};
+ghost use Rattle.mon_by_line.specs.LineRuns.{line_run};
 ghost use Rattle.mon_runs.specs.PastBreaks.{most_steps};
 
 use line_steps::{FileLine, LineStart, begun, call_begun, call_open, is_other};

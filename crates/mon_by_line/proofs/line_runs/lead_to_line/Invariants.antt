@@ -2,8 +2,8 @@ use Rattle.std.proofs.Common.{◌≡◌}
 use Rattle.line_steps.specs.Forwards.{is_line_on}
 use Rattle.line_steps.proofs.Calling.{IsCall}
 use Rattle.line_steps.proofs.Counted.{NoneTo}
-use Rattle.mon_line_runs.proofs.Lines.{IsOn}
-use Rattle.mon_line_runs.proofs.runs.lead_to_line.Given as goal
+use Rattle.mon_by_line.proofs.Lines.{IsOn}
+use Rattle.mon_by_line.proofs.line_runs.lead_to_line.Given as goal
 
 abbrev pub invariant-loop-done : goal.invariant-loop-done
 invariant-loop-done l = record {

@@ -7,8 +7,8 @@ use Rattle.model.specs.Run.{after_steps}
 use Rattle.mon_runs.specs.Looked.{Place, why_of_step}
 use Rattle.mon_runs.specs.declared.looked.Goal.TheVariants.{Rest}
 use Rattle.mon_runs.proofs.Counts.{steps_more}
-use Rattle.mon_line_runs.proofs.Lines.{IsStep, at_line, ends_last, ends_met, ends_stopped, on_begin, on_more}
-use Rattle.mon_line_runs.proofs.runs.lead_to_line.Goals as goal
+use Rattle.mon_by_line.proofs.Lines.{IsStep, at_line, ends_last, ends_met, ends_stopped, on_begin, on_more}
+use Rattle.mon_by_line.proofs.line_runs.lead_to_line.Goals as goal
 
 pub loop-done-init : goal.loop-done-init
 loop-done-init c = record {
