@@ -5,7 +5,7 @@ use Rattle.model.specs.declared.source_fault.AsmFaultKind.TheVariants.{BranchRan
 use Rattle.lsp_answers.specs.declared.kinds.DiagnosticKind.{DiagnosticKind}
 use Rattle.lsp_answers.specs.declared.kinds.DiagnosticKind.TheVariants.{Fault, Warning}
 use Rattle.warning_notes.specs.Blocks.{kind_name}
-use Rattle.warnings.specs.declared.kinds.WarningKind.TheVariants.{PlainNumber}
+use Rattle.warnings.specs.declared.kinds.WarningKind.TheVariants.{PlainNumber, UnusedName}
 
 abbrev pub name_of : DiagnosticKind → List ℕ
 name_of (Fault kind) = source_fault_name kind
@@ -19,6 +19,11 @@ is_fault (Warning kind) = false
 abbrev pub lacks_mark : DiagnosticKind → Bool
 lacks_mark (Warning PlainNumber) = true
 lacks_mark kind = false
+
+-- No expression uses a name.
+abbrev pub is_unused_name : DiagnosticKind → Bool
+is_unused_name (Warning UnusedName) = true
+is_unused_name kind = false
 
 -- A branch does not reach its target.
 abbrev pub is_far_branch : DiagnosticKind → Bool

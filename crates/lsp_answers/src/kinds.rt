@@ -2,7 +2,7 @@
 
 ghost use Rattle.std.specs.Prelude.{◌≡◌, IfOk};
 ghost use Rattle.lsp_answers.specs.Diagnostics.{IsPut};
-ghost use Rattle.lsp_answers.specs.Kinds.{is_far_branch, lacks_mark};
+ghost use Rattle.lsp_answers.specs.Kinds.{is_far_branch, is_unused_name, lacks_mark};
 
 use model::AsmFaultKind;
 use source_notes::Note;
@@ -25,6 +25,16 @@ impl DiagnosticKind {
     {
         match self {
             DiagnosticKind::Warning(WarningKind::PlainNumber) => true,
+            _ => false,
+        }
+    }
+
+    /// Returns whether no expression uses a name.
+    pub fn is_unused_name(self) -> bool
+        ensures { result ≡ is_unused_name self }
+    {
+        match self {
+            DiagnosticKind::Warning(WarningKind::UnusedName) => true,
             _ => false,
         }
     }

@@ -1,10 +1,10 @@
 -- The way along the tokens of a line, the lines of a source, and what is painted.
-use Rattle.std.proofs.Common.{◌≡◌, ℕ, ◌+◌, ◌<◌, ◌≤◌, Bool, false, List, [], ◌∷◌, ◌++◌, length, drop, refl, ap, get_or, add-one, drop-cons}
+use Rattle.std.proofs.Common.{◌≡◌, ℕ, ◌+◌, ◌<◌, ◌≤◌, Bool, false, List, [], ◌∷◌, ◌++◌, length, drop, Option, refl, ap, get_or, add-one, drop-cons}
 use Rattle.std.proofs.lemmas.List.{drop_all}
 use Rattle.std.specs.Borrow.{Bor}
 use Rattle.line_parts.specs.Lexemes.{lexeme_of, lexemes}
 use Rattle.line_parts.specs.declared.token.Token.{Token}
-use Rattle.lsp_hints.specs.Painted.{counted, line_paints, paint_counts, paints_from, token_paints, tokens_paints}
+use Rattle.lsp_hints.specs.Painted.{asked_paints, counted, paint_counts, paints_from, token_paints, tokens_paints}
 use Rattle.lsp_hints.specs.declared.paint.Paint.{Paint}
 use Rattle.model.specs.declared.instruction.Profile.{Profile}
 use Rattle.serde_json.specs.Data.{Data}
@@ -30,17 +30,18 @@ tokens_end profile line i defines tokens past = rw (drop_all i tokens past) refl
 
 -- ---- lines
 
-abbrev pub lines_left : Profile → List (Bor (List ℕ)) → ℕ → List Paint
-lines_left profile lines i = paints_from profile i (texts_of (drop i lines))
+abbrev pub lines_left : Profile → Option (ℕ × ℕ) → List (Bor (List ℕ)) → ℕ → List Paint
+lines_left profile between lines i = paints_from profile between i (texts_of (drop i lines))
 
-pub line_next : (profile : Profile) (i : ℕ) (lines : List (Bor (List ℕ))) (d : Bor (List ℕ)) → i < length lines
-    → lines_left profile lines i ≡ line_paints profile i (get_or lines i d).now ++ lines_left profile lines (i + 1)
+pub line_next : (profile : Profile) (between : Option (ℕ × ℕ)) (i : ℕ) (lines : List (Bor (List ℕ))) (d : Bor (List ℕ)) → i < length lines
+    → lines_left profile between lines i ≡ asked_paints profile between i (get_or lines i d).now ++ lines_left profile between lines (i + 1)
 unfolding paints_from
-line_next profile i lines d within = ap (λ (ls : List (Bor (List ℕ))). paints_from profile i (texts_of ls)) (cut lines i d within)
+line_next profile between i lines d within = ap (λ (ls : List (Bor (List ℕ))). paints_from profile between i (texts_of ls)) (cut lines i d within)
 
-pub lines_end : (profile : Profile) (i : ℕ) (lines : List (Bor (List ℕ))) → length lines ≤ i → lines_left profile lines i ≡ []
+pub lines_end : (profile : Profile) (between : Option (ℕ × ℕ)) (i : ℕ) (lines : List (Bor (List ℕ))) → length lines ≤ i
+    → lines_left profile between lines i ≡ []
 unfolding paints_from
-lines_end profile i lines past = rw (drop_all i lines past) refl
+lines_end profile between i lines past = rw (drop_all i lines past) refl
 
 -- ---- numbers
 

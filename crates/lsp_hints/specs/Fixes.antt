@@ -1,12 +1,13 @@
 -- The changes that an editor offers for faults. Source: Language Server Protocol 3.17, "Code Action
 -- Request"; for which faults, mos65.
-use Rattle.std.specs.Prelude.{◌≡◌, ℕ, ◌+◌, ◌-◌, max, min, if◌then◌else◌, Bool, List, [], ◌∷◌, ◌++◌, codes, Option, Some, None}
+use Rattle.std.specs.Prelude.{◌≡◌, ℕ, ◌+◌, ◌-◌, max, min, if◌then◌else◌, Bool, List, [], ◌∷◌, ◌++◌, codes, drop, Option, Some, None}
 use Rattle.std.specs.List.{flat_map}
 use Rattle.std.specs.Str.Lossy.{utf8_lossy}
-use Rattle.lsp_answers.specs.Kinds.{lacks_mark}
+use Rattle.lsp_answers.specs.Kinds.{is_unused_name, lacks_mark}
 use Rattle.lsp_answers.specs.Texts.{TextView, line_at, range_in}
-use Rattle.lsp_hints.specs.Branches.{far_of, far_title, far_words}
+use Rattle.lsp_hints.specs.Branches.{far_of, far_title, far_words, operand_in}
 use Rattle.lsp_hints.specs.Hints.{is_between}
+use Rattle.lsp_hints.specs.Operations.{begins_with, code_size, colon_of}
 use Rattle.lsp_hints.specs.declared.branches.Far.{Far}
 use Rattle.lsp_messages.specs.Columns.{most}
 use Rattle.json_messages.specs.Values.{list_of, object_of, word}
@@ -59,13 +60,39 @@ abbrev pub far_fix : List ℕ → TextView → ℕ → Far → Data
 far_fix uri t number far = change_data uri t number (far_place far)
     (far_words (line_at t number) far) (far_title (line_at t number) far)
 
+-- ---- a name that no expression uses
+
+-- Behind the `:` of a label, or before the comment of a line with `=`.
+abbrev pub definition_end : List ℕ → ℕ
+definition_end line = if begins_with 58 (drop (colon_of line) line) then colon_of line + 1
+    else code_size line
+
+abbrev pub unused_place : List ℕ → ℕ → ℕ × ℕ
+unused_place line start = (start, definition_end line - start)
+
+-- The bytes of the definition of a name that no expression uses.
+abbrev pub unused_of : List ℕ → Diagnostic → Option (ℕ × ℕ)
+unused_of line d = if is_unused_name d.kind then Some (unused_place line d.note.start) else None
+
+abbrev pub unused_title : List ℕ → Diagnostic → List ℕ
+unused_title line d = codes "remove " ++ operand_in line d.note.start d.note.width
+
+abbrev pub unused_fix : List ℕ → TextView → Diagnostic → ℕ × ℕ → Data
+unused_fix uri t d place = change_data uri t (max d.line 1) place []
+    (unused_title (line_at t (max d.line 1)) d)
+
 -- ---- which changes there are
+
+abbrev pub unused_fixes : List ℕ → TextView → Diagnostic → Option (ℕ × ℕ) → List Data
+unused_fixes uri t d None = []
+unused_fixes uri t d (Some place) = unused_fix uri t d place ∷ []
 
 abbrev pub fixes_by : List ℕ → TextView → Diagnostic → Option (ℕ × List ℕ) → Option Far
     → List Data
 fixes_by uri t d (Some word) far = word_fix uri t d word.0 word.1 ∷ []
 fixes_by uri t d None (Some far) = far_fix uri t (max d.line 1) far ∷ []
-fixes_by uri t d None None = []
+fixes_by uri t d None None
+    = unused_fixes uri t d (unused_of (line_at t (max d.line 1)) d)
 
 -- The change for a fault or a warning, if there is one.
 abbrev pub fixes_of : List ℕ → TextView → Diagnostic → List Data

@@ -3,6 +3,7 @@ pub mod Colours
 pub mod Fixes
 pub mod Folds
 pub mod Hints
+pub mod Operands
 pub mod Operations
 pub mod Painted
 pub mod Signatures

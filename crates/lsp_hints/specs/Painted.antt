@@ -1,6 +1,7 @@
 -- What is painted of a source. Source: Language Server Protocol 3.17, "Semantic Tokens"; mos65.
-use Rattle.std.specs.Prelude.{ℕ, ◌+◌, ◌-◌, ◌==◌, ◌||◌, nat_lt, Bool, false, if◌then◌else◌, List, [], ◌∷◌, ◌++◌, length, codes, Option, Some, None}
+use Rattle.std.specs.Prelude.{ℕ, ◌+◌, ◌-◌, ◌==◌, ◌||◌, nat_lt, Bool, true, false, if◌then◌else◌, List, [], ◌∷◌, ◌++◌, length, codes, Option, Some, None}
 use Rattle.lsp_hints.specs.Colours.{colour_of, modifiers_of, type_of}
+use Rattle.lsp_hints.specs.Hints.{is_between}
 use Rattle.lsp_hints.specs.Operations.{blanks_after}
 use Rattle.lsp_hints.specs.declared.colour.Colour.{Colour}
 use Rattle.lsp_hints.specs.declared.colour.Colour.TheVariants.{Comment}
@@ -68,15 +69,23 @@ paints_by profile line text (Some ts) = tokens_paints profile line (starts_defin
 unfoldable pub line_paints : Profile → ℕ → List ℕ → List Paint
 line_paints profile line text = paints_by profile line text (tokens_of text)
 
--- ---- all lines
+-- ---- all lines, or those between two
 
-unfoldable pub paints_from : Profile → ℕ → List (List ℕ) → List Paint
-paints_from profile line [] = []
-paints_from profile line (text ∷ texts)
-    = line_paints profile line text ++ paints_from profile (line + 1) texts
+abbrev pub is_asked : Option (ℕ × ℕ) → ℕ → Bool
+is_asked None line = true
+is_asked (Some between) line = is_between between line
 
-abbrev pub paints_of : Profile → List (List ℕ) → List Paint
-paints_of profile texts = paints_from profile 0 texts
+abbrev pub asked_paints : Profile → Option (ℕ × ℕ) → ℕ → List ℕ → List Paint
+asked_paints profile between line text
+    = if is_asked between line then line_paints profile line text else []
+
+unfoldable pub paints_from : Profile → Option (ℕ × ℕ) → ℕ → List (List ℕ) → List Paint
+paints_from profile between line [] = []
+paints_from profile between line (text ∷ texts)
+    = asked_paints profile between line text ++ paints_from profile between (line + 1) texts
+
+abbrev pub paints_of : Profile → Option (ℕ × ℕ) → List (List ℕ) → List Paint
+paints_of profile between texts = paints_from profile between 0 texts
 
 -- ---- numbers
 
@@ -96,6 +105,6 @@ counted line start (p ∷ ps) = paint_counts line start p ++ counted p.line p.st
 abbrev pub data_of : Data → Data
 data_of counts = object_of ((codes "data", counts) ∷ [])
 
--- What is painted of the lines of a source.
-abbrev pub painted : Profile → List (List ℕ) → Data
-painted profile lines = data_of (list_of (counted 0 0 (paints_of profile lines)))
+-- What is painted of the lines of a source, or of those between two.
+abbrev pub painted : Profile → Option (ℕ × ℕ) → List (List ℕ) → Data
+painted profile between lines = data_of (list_of (counted 0 0 (paints_of profile between lines)))

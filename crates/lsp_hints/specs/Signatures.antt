@@ -3,6 +3,7 @@
 use Rattle.std.specs.Prelude.{ℕ, List, [], ◌∷◌, ◌++◌, codes, Option, Some, None}
 use Rattle.std.specs.List.{flat_map}
 use Rattle.std.specs.Str.Lossy.{utf8_lossy}
+use Rattle.lsp_hints.specs.Operands.{meant_form, operand_of}
 use Rattle.lsp_hints.specs.Operations.{operation_at}
 use Rattle.lsp_hints.specs.declared.operation.Operation.{Operation}
 use Rattle.lsp_hints.specs.declared.operation.Operation.TheVariants.{Instruction, Bytes, Words, WordsHighFirst, Reserve, Finish, Origin, Definition}
@@ -42,15 +43,24 @@ forms_of profile Finish = signature_data END_FORM.now ∷ []
 forms_of profile Origin = signature_data ORIGIN_FORM.now ∷ []
 forms_of profile Definition = signature_data DEFINITION_FORM.now ∷ []
 
-abbrev pub help_data : Data → Data
-help_data signatures = object_of ((codes "activeSignature", count 0)
+-- Which of these forms is meant by what is written of the operand.
+abbrev pub meant_of : Profile → Operation → List ℕ → ℕ
+meant_of profile (Instruction m) operand = meant_form profile m operand
+meant_of profile operation operand = 0
+
+abbrev pub help_data : ℕ → Data → Data
+help_data meant signatures = object_of ((codes "activeSignature", count meant)
     ∷ (codes "signatures", signatures) ∷ [])
 
-abbrev pub help_of : Profile → Option Operation → Data
-help_of profile None = null
-help_of profile (Some operation) = help_data (list_of (forms_of profile operation))
+abbrev pub help_with : Profile → List ℕ → Operation → Data
+help_with profile operand operation
+    = help_data (meant_of profile operation operand) (list_of (forms_of profile operation))
+
+abbrev pub help_of : Profile → List ℕ → Option Operation → Data
+help_of profile operand None = null
+help_of profile operand (Some operation) = help_with profile operand operation
 
 -- The forms of the operation of a line, where a place is behind its word.
 abbrev pub signatures_of : Profile → List ℕ → ℕ → Data
 signatures_of profile line character
-    = help_of profile (operation_at profile line (column_of character line))
+    = help_of profile (operand_of line) (operation_at profile line (column_of character line))

@@ -55,7 +55,7 @@ fn turned(profile: Profile, line: &[u8]) -> Option<Mnemonic>
 
 /// Returns so many bytes of a line from one on.
 #[tactic(auto, using(std::proofs::lemmas::List::take_min))]
-fn operand_in(line: &[u8], from: usize, width: usize) -> &[u8]
+pub fn operand_in(line: &[u8], from: usize, width: usize) -> &[u8]
     ensures { result.now ≡ operand_in line.now from width }
 {
     let rest = after(line, from);

@@ -33,14 +33,19 @@ fn with_paint(counts: ValueList, line: usize, start: usize, paint: &Paint) -> Va
         .with(Ok(Value::from(numbers.1)))
 }
 
-/// Returns the colours of the lines of a source: of each token but symbols, and of each comment, in
-/// their order. A line that is not made of tokens has none. The only error is that a request for
-/// memory was refused.
-pub fn painted(alloc: Global, profile: Profile, lines: &[&[u8]]) -> Result<Value, AllocError>
-    ensures { IfOk result (λ v. view v ≡ painted profile (texts_of lines.now)) }
+/// Returns the colours of the lines of a source, or of those between two, counted from 0: of each
+/// token but symbols, and of each comment, in their order. A line that is not made of tokens has
+/// none. The only error is that a request for memory was refused.
+pub fn painted(
+    alloc: Global,
+    profile: Profile,
+    between: Option<(u64, u64)>,
+    lines: &[&[u8]],
+) -> Result<Value, AllocError>
+    ensures { IfOk result (λ v. view v ≡ painted profile between (texts_of lines.now)) }
 {
     let mut paints = Vec::new(alloc);
-    push_lines(alloc, &mut paints, profile, lines)?;
+    push_lines(alloc, &mut paints, profile, between, lines)?;
     let mut counts = ValueList::new(alloc);
     let mut line = 0;
     let mut start = 0;

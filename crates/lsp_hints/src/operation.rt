@@ -1,11 +1,11 @@
 //! The operation that is written in a line.
 
-ghost use Rattle.std.specs.Prelude.{◌≡◌, ◌≤◌, length};
+ghost use Rattle.std.specs.Prelude.{◌≡◌, ◌≤◌, length, take};
 ghost use Rattle.lsp_hints.specs.Operations.{begins_comment, begins_with, blanks_after};
-ghost use Rattle.lsp_hints.specs.Operations.{code_size, covered_then, directive_of, is_character};
-ghost use Rattle.lsp_hints.specs.Operations.{is_no_quote, operation_at, operation_of, quoted_rest};
-ghost use Rattle.lsp_hints.specs.Operations.{size_before_quote, spot_at, start_of, string_rest};
-ghost use Rattle.lsp_hints.specs.Operations.{word_after, word_size};
+ghost use Rattle.lsp_hints.specs.Operations.{code_size, colon_of, covered_then, directive_of};
+ghost use Rattle.lsp_hints.specs.Operations.{is_character, is_no_quote, operation_at, operation_of};
+ghost use Rattle.lsp_hints.specs.Operations.{quoted_rest, size_before_quote, spot_at, start_of};
+ghost use Rattle.lsp_hints.specs.Operations.{string_rest, word_after, word_size};
 
 use lsp_answers::Spot;
 use lsp_messages::column_of;
@@ -62,17 +62,24 @@ fn word_after(line: &[u8], place: usize) -> usize
     place + word_run(after(line, place))
 }
 
+/// Returns where the `:` of a line stands, or would stand, behind the word that it begins with.
+pub fn colon_of(line: &[u8]) -> usize
+    ensures place { result ≡ colon_of line.now }
+    ensures within { result ≤ length line.now }
+{
+    blanks_after(line, word_after(line, blanks_after(line, 0)))
+}
+
 /// Returns where the operation of a line starts: behind its label, if it has one.
 pub fn start_of(line: &[u8]) -> usize
     ensures start { result ≡ start_of line.now }
     ensures within { result ≤ length line.now }
 {
-    let first = blanks_after(line, 0);
-    let colon = blanks_after(line, word_after(line, first));
+    let colon = colon_of(line);
     if begins_with(b':', after(line, colon)) {
         blanks_after(line, colon + 1)
     } else {
-        first
+        blanks_after(line, 0)
     }
 }
 
@@ -198,7 +205,7 @@ fn begins_comment(covered: usize, byte: u8) -> bool
 
 /// Returns how many bytes stand before the comment of a line, or how many it has without one.
 #[tactic(auto, using(crate::proofs::CodeSteps::at_end))]
-fn code_size(line: &[u8]) -> usize
+pub fn code_size(line: &[u8]) -> usize
     ensures { result ≡ code_size line.now }
 {
     let mut covered = 0usize;
@@ -209,6 +216,14 @@ fn code_size(line: &[u8]) -> usize
         covered = covered_then(covered, after(line, index));
     }
     line.len()
+}
+
+/// Returns what stands before the comment of a line.
+#[tactic(auto, using(std::proofs::lemmas::List::take_min))]
+pub fn code_of(line: &[u8]) -> &[u8]
+    ensures { result.now ≡ take (code_size line.now) line.now }
+{
+    &line[..code_size(line).min(line.len())]
 }
 
 /// Returns the operation of a line, if a column stands behind its word and before its comment.

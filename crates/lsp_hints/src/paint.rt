@@ -2,12 +2,13 @@
 
 ghost use Rattle.std.specs.Prelude.{◌≡◌, ◌≤◌, ◌++◌, OnOk, Some, length};
 ghost use Rattle.line_parts.specs.Lexemes.{lexeme_of, lexemes};
-ghost use Rattle.lsp_hints.specs.Painted.{comment_paints, line_paints, paints_by};
-ghost use Rattle.lsp_hints.specs.Painted.{paints_of, starts_definition, token_paints};
+ghost use Rattle.lsp_hints.specs.Painted.{asked_paints, comment_paints, is_asked, line_paints};
+ghost use Rattle.lsp_hints.specs.Painted.{paints_by, paints_of, starts_definition, token_paints};
 ghost use Rattle.model.specs.Token.{tokens_of};
 ghost use Rattle.source_notes.specs.Lines.{texts_of};
 
 use crate::colour::{Colour, colour_of};
+use crate::hints::is_between;
 use crate::operation::blanks_after;
 use lexer::{tokens_are_slices, tokens_into};
 use line_parts::Token;
@@ -125,20 +126,50 @@ fn push_line<'a>(
     }
 }
 
-/// Appends what is painted of the lines of a source. The only error is that a request for memory
-/// was refused.
+/// Returns whether a line, counted from 0, is asked for: each is, or those between two lines.
+fn is_asked(between: Option<(u64, u64)>, line: usize) -> bool
+    ensures { result ≡ is_asked between line }
+{
+    match between {
+        Some(between) => is_between(between, line as u64),
+        None => true,
+    }
+}
+
+/// Appends what is painted of a line that is asked for.
+fn push_asked<'a>(
+    paints: &mut Vec<Paint>,
+    room: &mut Vec<Token<'a>>,
+    profile: Profile,
+    between: Option<(u64, u64)>,
+    line: usize,
+    text: &'a [u8],
+) -> Result<(), AllocError>
+    ensures { OnOk result (paints.new.items
+        ≡ paints.old.items ++ asked_paints profile between line text.now) }
+{
+    if is_asked(between, line) {
+        push_line(paints, room, profile, line, text)
+    } else {
+        Ok(())
+    }
+}
+
+/// Appends what is painted of the lines of a source that are asked for. The only error is that a
+/// request for memory was refused.
 pub fn push_lines(
     alloc: Global,
     paints: &mut Vec<Paint>,
     profile: Profile,
+    between: Option<(u64, u64)>,
     lines: &[&[u8]],
 ) -> Result<(), AllocError>
     ensures { OnOk result (paints.new.items
-        ≡ paints.old.items ++ paints_of profile (texts_of lines.now)) }
+        ≡ paints.old.items ++ paints_of profile between (texts_of lines.now)) }
 {
     let mut room = Vec::new(alloc);
     for (index, line) in lines.iter().enumerate() {
-        push_line(paints, &mut room, profile, index, line)?;
+        push_asked(paints, &mut room, profile, between, index, line)?;
     }
     Ok(())
 }

@@ -4,10 +4,12 @@ ghost use Rattle.std.specs.Prelude.{◌≡◌, ◌++◌, IfOk, List};
 ghost use Rattle.std.specs.List.{flat_map};
 ghost use Rattle.json_messages.specs.ValueLists.{HasValues};
 ghost use Rattle.json_messages.specs.Values.{list_of};
-ghost use Rattle.lsp_hints.specs.Signatures.{form_of, forms_of, signatures_of};
+ghost use Rattle.lsp_hints.specs.Signatures.{form_of, forms_of, help_with, meant_of};
+ghost use Rattle.lsp_hints.specs.Signatures.{signatures_of};
 ghost use Rattle.serde_json.specs.Data.{Data};
 ghost use Rattle.serde_json.specs.View.{view};
 
+use crate::operands::{meant_form, operand_of};
 use crate::operation::{Operation, operation_at};
 use crate::values::signature;
 use crate::wording::{
@@ -81,10 +83,36 @@ fn forms_of(alloc: Global, profile: Profile, operation: Operation) -> Result<Val
         .build()
 }
 
+/// Returns the number of the form that is meant by what is written of an operand.
+fn meant_of(profile: Profile, operation: Operation, operand: &[u8]) -> u64
+    ensures { result ≡ meant_of profile operation operand.now }
+{
+    match operation {
+        Operation::Instruction(mnemonic) => meant_form(profile, mnemonic, operand),
+        _ => 0,
+    }
+}
+
+/// Returns the forms of an operation, and the number of the one that is meant by what is written of
+/// its operand.
+fn help_data(
+    alloc: Global,
+    profile: Profile,
+    operation: Operation,
+    operand: &[u8],
+) -> Result<Value, AllocError>
+    ensures { IfOk result (λ v. view v ≡ help_with profile operand.now operation) }
+{
+    Object::new(alloc)
+        .count("activeSignature", meant_of(profile, operation, operand))
+        .member("signatures", forms_of(alloc, profile, operation))
+        .build()
+}
+
 /// Returns the forms of the operation of a line, where a place behind its word is meant, counted in
-/// units of UTF-16: of a mnemonic that of each of its modes, and otherwise one. It is `null` where
-/// there is no operation, before it, and behind a `;`. The only error is that a request for memory
-/// was refused.
+/// units of UTF-16: of a mnemonic that of each of its modes, and otherwise one; and the number of
+/// the one that is meant. It is `null` where there is no operation, before it, and behind a `;`. The
+/// only error is that a request for memory was refused.
 pub fn signatures_at(
     alloc: Global,
     profile: Profile,
@@ -94,10 +122,7 @@ pub fn signatures_at(
     ensures { IfOk result (λ v. view v ≡ signatures_of profile line.now character) }
 {
     match operation_at(profile, line, column_of(line, character)) {
-        Some(operation) => Object::new(alloc)
-            .count("activeSignature", 0)
-            .member("signatures", forms_of(alloc, profile, operation))
-            .build(),
+        Some(operation) => help_data(alloc, profile, operation, operand_of(line)),
         None => Ok(Value::Null),
     }
 }

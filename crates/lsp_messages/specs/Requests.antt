@@ -143,6 +143,8 @@ question_by_method method message =
     asked_of documents.Folds message
     else if bytes_eq method (codes "textDocument/inlayHint") then asked_within ranges.Hints message
     else if bytes_eq method (codes "textDocument/codeAction") then asked_within ranges.Fixes message
+    else if bytes_eq method (codes "textDocument/semanticTokens/range") then
+    asked_within ranges.Colours message
     else if bytes_eq method (codes "textDocument/prepareRename") then prepare_of message
     else if bytes_eq method (codes "textDocument/rename") then rename_of message
     else position_by_method method message

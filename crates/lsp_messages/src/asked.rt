@@ -37,6 +37,8 @@ pub enum Within {
     Hints,
     /// `textDocument/codeAction`
     Fixes,
+    /// `textDocument/semanticTokens/range`
+    Colours,
 }
 
 /// What is asked of a document.

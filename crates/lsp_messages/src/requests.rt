@@ -239,6 +239,7 @@ fn question_by_method<'a>(method: &str, message: &'a Value) -> Request<'a>
         "textDocument/foldingRange" => asked_of(Whole::Folds, message),
         "textDocument/inlayHint" => asked_within(Within::Hints, message),
         "textDocument/codeAction" => asked_within(Within::Fixes, message),
+        "textDocument/semanticTokens/range" => asked_within(Within::Colours, message),
         "textDocument/prepareRename" => prepare_of(message),
         "textDocument/rename" => rename_of(message),
         method => position_by_method(method, message),

@@ -2,7 +2,7 @@
 use Rattle.std.specs.Prelude.{◌≡◌, ◌⊎◌, ℕ, List}
 use Rattle.word_lsp.specs.Capabilities.{capabilities}
 use Rattle.word_lsp.specs.Searches.{found_in_all}
-use Rattle.word_lsp.specs.Shown.{colours_in, completion_in, folds_in, hints_in, signatures_in}
+use Rattle.word_lsp.specs.Shown.{colours_between, colours_in, completion_in, folds_in, hints_in, signatures_in}
 use Rattle.word_lsp.specs.Settings.{map_in}
 use Rattle.word_lsp.specs.State.{Opened, State, source_in, written_in}
 use Rattle.word_lsp.specs.declared.phase.Phase.{Phase}
@@ -75,6 +75,7 @@ IsOfPosition asked t line character positions.Completion given
 abbrev pub IsOfLines : Map → List ℕ → TextView → ℕ × ℕ → Within → Data → Type 0
 IsOfLines bus_map uri t lines ranges.Hints given = given ≡ hints_in t lines
 IsOfLines bus_map uri t lines ranges.Fixes given = AreFixes bus_map uri t lines given
+IsOfLines bus_map uri t lines ranges.Colours given = given ≡ colours_between t lines
 
 abbrev pub IsAnswerTo : Map → Asked → TextView → Question → Data → Type 0
 IsAnswerTo bus_map asked t (questions.Whole what) given = given ≡ of_document t what

@@ -12,13 +12,13 @@ yes = boolean true
 unfoldable pub sync : Data
 sync = object_of ((codes "change", count 2) ∷ (codes "openClose", yes) ∷ [])
 
--- The colours of a whole text, by the legend.
+-- The colours of a whole text, and of some of its lines, by the legend.
 unfoldable pub colours : Data
 colours = object_of ((codes "full", yes) ∷ (
   codes "legend",
   object_of ((codes "tokenModifiers", list_of (map word modifiers))
       ∷ (codes "tokenTypes", list_of (map word types)) ∷ []),
-) ∷ [])
+) ∷ (codes "range", yes) ∷ [])
 
 -- A blank and a comma ask for the forms of an operation.
 unfoldable pub signatures : Data

@@ -10,7 +10,10 @@ use Rattle.lsp_hints.specs.Painted.{painted}
 use Rattle.serde_json.specs.Data.{Data}
 
 abbrev pub colours_in : TextView → Data
-colours_in t = painted t.profile t.lines
+colours_in t = painted t.profile None t.lines
+
+abbrev pub colours_between : TextView → ℕ × ℕ → Data
+colours_between t lines = painted t.profile (Some lines) t.lines
 
 abbrev pub folds_in : TextView → Data
 folds_in t = folded t.profile t.lines

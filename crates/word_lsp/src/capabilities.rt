@@ -26,7 +26,8 @@ fn words(alloc: Global, texts: &[&str]) -> Result<Value, AllocError>
     list.build()
 }
 
-/// Returns what the server can do about colours: those of a whole text, by the legend.
+/// Returns what the server can do about colours: those of a whole text and of some of its lines, by
+/// the legend.
 fn colours(alloc: Global) -> Result<Value, AllocError>
     ensures { IfOk result (λ v. view v ≡ colours) }
 {
@@ -37,6 +38,7 @@ fn colours(alloc: Global) -> Result<Value, AllocError>
     Object::new(alloc)
         .flag("full", true)
         .member("legend", legend)
+        .flag("range", true)
         .build()
 }
 

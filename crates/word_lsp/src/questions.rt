@@ -50,7 +50,7 @@ pub fn answer_to(
     match question {
         Question::Whole(what) => match what {
             Whole::Symbols => symbols(alloc, text),
-            Whole::Colours => painted(alloc, text.profile, &text.lines),
+            Whole::Colours => painted(alloc, text.profile, None, &text.lines),
             Whole::Folds => folded(alloc, text.profile, &text.lines),
         },
         Question::At {
@@ -75,6 +75,7 @@ pub fn answer_to(
         Question::Within { what, from, to } => match what {
             Within::Hints => hints_in(alloc, text.profile, text.source, &text.lines, (from, to)),
             Within::Fixes => fixes_in(alloc, map, uri, text, (from, to)),
+            Within::Colours => painted(alloc, text.profile, Some((from, to)), &text.lines),
         },
     }
 }

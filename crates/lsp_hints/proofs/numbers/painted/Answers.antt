@@ -24,7 +24,7 @@ pub returns : goal.returns
 returns c =
     let so_far = c.loop-paint.invariant in
     let paints = c.deref-paint-items.ensures.value ∙ c.in_ok-push_lines.ensures
-    ∙ ap (λ (ps : List Paint). ps ++ paints_of c.args.profile (texts_of c.args.lines.now)) c.new-paints.ensures.items in
+    ∙ ap (λ (ps : List Paint). ps ++ paints_of c.args.profile c.args.between (texts_of c.args.lines.now)) c.new-paints.ensures.items in
     let all = gathered_all so_far.0 _ _ (paints_end c.loop-paint.line c.loop-paint.start c.loop-paint.paint-index c.deref-paint-items.result.now
     (omega (arith, c.loop-paint-test.false))) so_far.2 ∙ ap (counted 0 0) paints in
     c.build-2.ensures _ (c.member.ensures _ _ c.new.ensures (c.build.ensures _ (subst (λ (ds : List Data). HasValues ds c.loop-paint.counts) all so_far.1)))
