@@ -7,8 +7,8 @@
 //! is written of its operand (`operands`). `operation` also says at which spot of a line a place
 //! is. `fixes` has the change for a fault whose note has the right word, for a number that lacks
 //! its `#`, for a branch that is too far (`branches`), and for a name that nothing uses. The
-//! definitions are `Hints.antt`, `Operations.antt`, `Operands.antt`, `Signatures.antt`, `Fixes.antt`
-//! and `Branches.antt`.
+//! definitions are `Hints.antt`, `Operations.antt`, `Operands.antt`, `Signatures.antt`,
+//! `Fixes.antt` and `Branches.antt`.
 //!
 //! `painted` has the colours of all lines or of some, as the protocol counts them: `colour` gives
 //! each token one, `paint` finds where they stand, `numbers` counts from one to the next. `folded`

@@ -111,8 +111,8 @@ fn help_data(
 
 /// Returns the forms of the operation of a line, where a place behind its word is meant, counted in
 /// units of UTF-16: of a mnemonic that of each of its modes, and otherwise one; and the number of
-/// the one that is meant. It is `null` where there is no operation, before it, and behind a `;`. The
-/// only error is that a request for memory was refused.
+/// the one that is meant. It is `null` where there is no operation, before it, and behind a `;`.
+/// The only error is that a request for memory was refused.
 pub fn signatures_at(
     alloc: Global,
     profile: Profile,
