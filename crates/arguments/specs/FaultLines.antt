@@ -6,19 +6,22 @@ use Rattle.arguments.specs.declared.fault.WordsFault.{WordsFault}
 use Rattle.arguments.specs.declared.fault.WordsFault.TheVariants.{Help, Usage, Value, Wrong}
 use Rattle.arguments.specs.declared.fault.WordsFault.TheVariants as words_fault
 use Rattle.arguments.specs.declared.load_fault.LoadFault.{LoadFault}
-use Rattle.arguments.specs.declared.load_fault.LoadFault.TheVariants.{AtPort, Faults, LooksLikeHex, LooksLikeRaw, LooksLikeSRecords, LooksLikeTape, NoImage, Refused}
+use Rattle.arguments.specs.declared.load_fault.LoadFault.TheVariants.{AtPort, Faults, LooksLikeCapture, LooksLikeHex, LooksLikeRaw, LooksLikeSRecords, LooksLikeTape, NoImage, Refused}
 use Rattle.arguments.specs.declared.refusal.ReadFault.TheVariants.{Folder, NoName, NoSuchFile, PermissionDenied as permission_denied}
 use Rattle.arguments.specs.declared.refusal.Refusal.{Refusal}
 use Rattle.arguments.specs.declared.refusal.Refusal.TheVariants.{Words, Map, Source, Tape, Session, OutOfMemory, Read, Write, WriteFile}
 use Rattle.arguments.specs.declared.write_fault.WriteFault.{WriteFault}
-use Rattle.arguments.specs.declared.write_fault.WriteFault.TheVariants.{IsFolder, NoRoom, NoSuchFolder, SameFile}
+use Rattle.arguments.specs.declared.write_fault.WriteFault.TheVariants.{IsFolder, NoRoom, NoSuchFolder, OtherFile, SameFile}
 use Rattle.arguments.specs.declared.write_fault.WriteFault.TheVariants as write_fault
-use Rattle.arguments.specs.declared.wording.TheConstants.{AT_PORT, IS_FOLDER, IS_FREE, LIKE_HEX, LIKE_RAW, LIKE_S_RECORDS, LIKE_TAPE, NONE_IS_FREE, NO_NAME, NO_ROOM, NO_SUCH_FILE, NO_SUCH_FOLDER, PERMISSION_DENIED, SAME_FILE, SOURCE_LIKE_TAPE, TRY_PORT, USE_TAPE}
+use Rattle.arguments.specs.declared.wording.TheConstants.{AT_PORT, INFO_SAYS_MORE, IS_FOLDER, IS_FREE, LIKE_CAPTURE, LIKE_HEX, LIKE_RAW, LIKE_S_RECORDS, LIKE_TAPE, MEND_LEAVES_OUT, NONE_IS_FREE, NO_DIGIT, NO_NAME, NO_ROOM, NO_SUCH_FILE, NO_SUCH_FOLDER, OTHER_FILE, PERMISSION_DENIED, SAME_FILE, SOURCE_LIKE_TAPE, TRY_PORT, USE_ADDRESS, USE_MEND, USE_TAPE}
 use Rattle.model.specs.FaultTexts.{bus_fault_text, session_fault_text, source_fault_text, tape_fault_text}
 use Rattle.model.specs.Listing.{address_text}
 use Rattle.model.specs.Text.{hex_address}
 use Rattle.model.specs.Writers.{AppendsFront}
 use Rattle.model.specs.declared.source_fault.AsmFault.{AsmFault}
+use Rattle.model.specs.declared.tape.TapeFault.{TapeFault}
+use Rattle.model.specs.declared.tape.TapeFaultKind.{TapeFaultKind}
+use Rattle.model.specs.declared.tape.TapeFaultKind.TheVariants.{BadHex, JunkAfterEnd, JunkBetween}
 
 -- The parts of a line, one after another.
 abbrev pub joined : List (List ℕ) → List ℕ
@@ -58,6 +61,7 @@ write_reason IsFolder = IS_FOLDER.now
 write_reason NoSuchFolder = NO_SUCH_FOLDER.now
 write_reason SameFile = SAME_FILE.now
 write_reason write_fault.LooksLikeTape = SOURCE_LIKE_TAPE.now
+write_reason OtherFile = OTHER_FILE.now
 write_reason write_fault.Other = []
 
 -- Why a file cannot be read or is not written, where that is known.
@@ -92,23 +96,36 @@ file_line file OutOfMemory = fault_line OutOfMemory
 file_line file (Source fault) = source_line file fault
 file_line file refusal = named_line file refusal
 
--- A file is given as a source, and begins with a record of an image.
-abbrev pub like_line : List ℕ → List ℕ → List ℕ
-like_line like file = line_of file (like ++ USE_TAPE.now)
+-- What a file looks like that is given as a source, and what to do.
+abbrev pub like_line : List ℕ → List ℕ → List ℕ → List ℕ
+like_line like file advice = line_of file (like ++ advice)
 
--- A file is given as a source, and begins as a raw image.
-abbrev pub raw_line : List ℕ → List ℕ
-raw_line file = line_of file LIKE_RAW.now
-
--- The number of what is wrong, if it has one, and the end of the line.
+-- The number of what is wrong, if it has one.
 unfoldable pub number_part : Option ℕ → List ℕ
-number_part None = codes "\n"
-number_part (Some number) = codes " " ++ decimal number ++ codes "\n"
+number_part None = []
+number_part (Some number) = codes " " ++ decimal number
 
--- A file is no image: where that shows, what is wrong, and its number.
-abbrev pub no_image_line : List ℕ → List ℕ → List ℕ → Option ℕ → List ℕ
-no_image_line file place what number = line_of file (codes ": " ++ (place ++ (what
-    ++ number_part number)))
+-- A file is no image: where that shows, what is wrong, its number, and what that means.
+abbrev pub no_image_line : List ℕ → List ℕ → List ℕ → Option ℕ → List ℕ → List ℕ
+no_image_line file place what number note = line_of file (codes ": " ++ (place ++ (what
+    ++ (number_part number ++ (note ++ codes "\n")))))
+
+-- What a fault of a tape means for whoever has its file.
+abbrev pub tape_note : TapeFaultKind → List ℕ
+tape_note BadHex = NO_DIGIT.now
+tape_note JunkAfterEnd = MEND_LEAVES_OUT.now
+tape_note JunkBetween = MEND_LEAVES_OUT.now
+tape_note kind = INFO_SAYS_MORE.now
+
+-- A file is a tape with a fault.
+abbrev pub tape_line : List ℕ → TapeFault → List ℕ
+tape_line file fault = line_of file (codes ": " ++ (place_part (Tape fault)
+    ++ (tape_fault_text fault.kind ++ (tape_note fault.kind ++ codes "\n"))))
+
+-- Why a file has no image, where no promise is made of the line: a fault of a tape has its note.
+unfoldable pub image_line : List ℕ → Refusal → List ℕ
+image_line file (Tape fault) = tape_line file fault
+image_line file refusal = file_line file refusal
 
 -- Which base is free, after the addresses of the port.
 abbrev pub free_part : Option ℕ → List ℕ
@@ -126,14 +143,32 @@ port_line file first last free
 
 -- All faults of a source, or one line.
 unfoldable pub load_text : LoadFault → List ℕ → List ℕ
-load_text LooksLikeTape file = like_line LIKE_TAPE.now file
-load_text LooksLikeHex file = like_line LIKE_HEX.now file
-load_text LooksLikeSRecords file = like_line LIKE_S_RECORDS.now file
-load_text LooksLikeRaw file = raw_line file
-load_text (NoImage place what number) file = no_image_line file place.items what.now number
+load_text LooksLikeTape file = like_line LIKE_TAPE.now file USE_TAPE.now
+load_text LooksLikeHex file = like_line LIKE_HEX.now file USE_TAPE.now
+load_text LooksLikeSRecords file = like_line LIKE_S_RECORDS.now file USE_TAPE.now
+load_text LooksLikeRaw file = like_line LIKE_RAW.now file USE_ADDRESS.now
+load_text LooksLikeCapture file = like_line LIKE_CAPTURE.now file USE_MEND.now
+load_text (NoImage place what number note) file
+    = no_image_line file place.items what.now number note.now
 load_text (Faults fault text) file = text.items
 load_text (AtPort first last free) file = port_line file first last free
-load_text (Refused refusal) file = file_line file refusal
+load_text (Refused refusal) file = image_line file refusal
+
+-- What a file looks like that is refused as a source, and that some words take as an image.
+abbrev pub look_of : LoadFault → Option (List ℕ)
+look_of LooksLikeTape = Some LIKE_TAPE.now
+look_of LooksLikeHex = Some LIKE_HEX.now
+look_of LooksLikeSRecords = Some LIKE_S_RECORDS.now
+look_of LooksLikeRaw = Some LIKE_RAW.now
+look_of fault = None
+
+abbrev pub advised_by : Option (List ℕ) → LoadFault → List ℕ → List ℕ → List ℕ
+advised_by (Some look) fault file advice = like_line look file advice
+advised_by None fault file advice = load_text fault file
+
+-- What a word says of a file that takes no image: what the file looks like has this advice behind it.
+abbrev pub advised_text : LoadFault → List ℕ → List ℕ → List ℕ
+advised_text fault file advice = advised_by (look_of fault) fault file advice
 
 -- The error stream got the fault line of a refusal with this status, or a beginning of the line if
 -- it cannot be written.

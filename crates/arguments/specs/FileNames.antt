@@ -98,3 +98,7 @@ form_beside word said = unwrap_or (own_form word) said
 -- One of two files at least takes what options say.
 abbrev pub takes_either : Text → Text → FileForm → Bool
 takes_either word other said = is_some (form_for word said) || is_some (form_for other said)
+
+-- A word that names an image: with an address behind it, or an ending of one.
+abbrev pub names_image : Text → Bool
+names_image word = is_some (address_at word) || is_some (form_of_ending word)

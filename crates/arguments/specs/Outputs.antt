@@ -2,7 +2,7 @@
 -- clause can say. Source: mos65.
 use Rattle.std.specs.Borrow.{Bor}
 use Rattle.std.specs.List.{list_any}
-use Rattle.std.specs.Prelude.{Bool, List, Option, None, Some, false, option_map, ◌++◌, ◌∷◌, [], ◌||◌}
+use Rattle.std.specs.Prelude.{◌==◌, Bool, List, Option, None, Some, false, length, option_map, ◌++◌, ◌∷◌, [], ◌||◌}
 use Rattle.std.specs.Str.{bytes_eq}
 use Rattle.clap.specs.Words.{Text}
 
@@ -24,3 +24,7 @@ is_among others (Some name) = list_any (is_named name) others
 unfoldable pub clash : List (Option Text) → List (Option Text) → Bool
 clash before [] = false
 clash before (file ∷ written) = is_among before file || clash (before ++ (file ∷ [])) written
+
+-- A file may be replaced that has no byte, or begins as what replaces it.
+abbrev pub may_replace : Text → Text → Bool
+may_replace front bytes = length bytes == 0 || bytes_eq bytes front

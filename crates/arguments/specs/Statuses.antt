@@ -1,7 +1,7 @@
 -- The exit status of a word that ends without an answer. Source: mos65.
 use Rattle.std.specs.Prelude.{ℕ}
 use Rattle.arguments.specs.declared.load_fault.LoadFault.{LoadFault}
-use Rattle.arguments.specs.declared.load_fault.LoadFault.TheVariants.{AtPort, Faults, LooksLikeHex, LooksLikeRaw, LooksLikeSRecords, LooksLikeTape, NoImage, Refused}
+use Rattle.arguments.specs.declared.load_fault.LoadFault.TheVariants.{AtPort, Faults, LooksLikeCapture, LooksLikeHex, LooksLikeRaw, LooksLikeSRecords, LooksLikeTape, NoImage, Refused}
 use Rattle.arguments.specs.declared.refusal.Refusal.{Refusal}
 use Rattle.arguments.specs.declared.refusal.Refusal.TheVariants.{Words, Map, Source, Tape, Session, OutOfMemory, Read, Write, WriteFile}
 
@@ -24,7 +24,8 @@ status_of_load LooksLikeTape = 2
 status_of_load LooksLikeHex = 2
 status_of_load LooksLikeSRecords = 2
 status_of_load LooksLikeRaw = 2
-status_of_load (NoImage place what number) = 1
+status_of_load LooksLikeCapture = 2
+status_of_load (NoImage place what number note) = 1
 status_of_load (Faults fault text) = 1
 status_of_load (AtPort first last free) = 1
 status_of_load (Refused refusal) = status_of refusal

@@ -2,16 +2,20 @@
 ghost use Rattle.std.specs.Prelude.{◌≡◌, ◌+◌, ◌≤◌, ◌++◌, ◌∷◌, [], codes, decimal, length};
 ghost use Rattle.model.specs.Writers.{AppendsFront};
 ghost use Rattle.arguments.specs.FaultLines.{fault_line, file_line, name_part, named_line};
-ghost use Rattle.arguments.specs.FaultLines.{joined, line_of, place_part, reason_part, source_line};
+ghost use Rattle.arguments.specs.FaultLines.{image_line, joined, line_of, place_part, reason_part};
+ghost use Rattle.arguments.specs.FaultLines.{source_line, tape_line, tape_note};
+ghost use Rattle.model.specs.FaultTexts.{tape_fault_text};
 ghost use Rattle.arguments.specs.Words.{texts};
 
 use crate::output::put;
 use crate::refusal::{ReadFault, Refusal};
 use crate::shown::put_shown;
-use crate::wording::{IS_FOLDER, NO_NAME, NO_SUCH_FILE, PERMISSION_DENIED};
+use crate::wording::{
+    INFO_SAYS_MORE, IS_FOLDER, MEND_LEAVES_OUT, NO_DIGIT, NO_NAME, NO_SUCH_FILE, PERMISSION_DENIED,
+};
 use crate::write_fault::write_reason;
 use formatting::{Text, push_bytes, push_decimal};
-use model::AsmFault;
+use model::{AsmFault, TapeFault, TapeFaultKind};
 use std::io::Write;
 
 /// Returns what is rejected, and where the fault is in it.
@@ -207,5 +211,63 @@ pub fn put_file_line<E: Write>(refusal: Refusal, file: &str, errors: &mut E)
         | Refusal::Read(_)
         | Refusal::Write
         | Refusal::WriteFile(_) => put_named_line(refusal, file, errors),
+    }
+}
+
+/// Returns what a fault of a tape means for whoever has its file.
+fn tape_note(kind: TapeFaultKind) -> &'static str
+    ensures { result.now ≡ tape_note kind }
+{
+    match kind {
+        TapeFaultKind::BadHex => NO_DIGIT,
+        TapeFaultKind::JunkAfterEnd => MEND_LEAVES_OUT,
+        TapeFaultKind::JunkBetween => MEND_LEAVES_OUT,
+        _ => INFO_SAYS_MORE,
+    }
+}
+
+/// Returns the name and the number of a fault of a tape.
+fn tape_name(kind: TapeFaultKind) -> Text
+    ensures { result.items ≡ tape_fault_text kind }
+{
+    let mut text = Text::new();
+    push_name(&mut text, kind.name(), kind.number());
+    text
+}
+
+/// Writes which fault a tape has and what it means, or a beginning of that line if a write fails.
+fn put_tape_line<E: Write>(fault: TapeFault, file: &str, errors: &mut E)
+    ensures { AppendsFront (E.contents errors.old) (E.contents errors.new)
+        (tape_line file.now fault) }
+{
+    put_named(
+        file,
+        &[
+            b": ",
+            place_text(Refusal::Tape(fault)).as_slice(),
+            tape_name(fault.kind).as_slice(),
+            tape_note(fault.kind).as_bytes(),
+            b"\n",
+        ],
+        errors,
+    );
+}
+
+/// Writes why a file has no image as `put_file_line` does, and of a fault of a tape what it means.
+#[tactic(auto, unfolding(crate::specs::FaultLines::image_line))]
+pub fn put_image_line<E: Write>(refusal: Refusal, file: &str, errors: &mut E)
+    ensures { AppendsFront (E.contents errors.old) (E.contents errors.new)
+        (image_line file.now refusal) }
+{
+    match refusal {
+        Refusal::Tape(fault) => put_tape_line(fault, file, errors),
+        Refusal::Words
+        | Refusal::Map(_)
+        | Refusal::Source(_)
+        | Refusal::Session(_)
+        | Refusal::OutOfMemory
+        | Refusal::Read(_)
+        | Refusal::Write
+        | Refusal::WriteFile(_) => put_file_line(refusal, file, errors),
     }
 }

@@ -3,7 +3,7 @@
 ghost use Rattle.std.specs.Prelude.{◌≡◌};
 ghost use Rattle.arguments.specs.FileNames.{address_at, form_beside, form_by_ending, form_for};
 ghost use Rattle.arguments.specs.FileNames.{form_of_ending, form_with, has_ending, name_of};
-ghost use Rattle.arguments.specs.FileNames.{own_form, prg_with, takes_either};
+ghost use Rattle.arguments.specs.FileNames.{names_image, own_form, prg_with, takes_either};
 
 use crate::file_options::FileForm;
 use commands::address_of;
@@ -173,4 +173,11 @@ pub fn takes_either(word: &str, other: &str, said: FileForm) -> bool
     ensures { result ≡ takes_either word.now other.now said }
 {
     form_for(word, said).is_some() || form_for(other, said).is_some()
+}
+
+/// Returns whether a word names an image: with an address behind it, or an ending of one.
+pub fn names_image(word: &str) -> bool
+    ensures { result ≡ names_image word.now }
+{
+    address_at(word.as_bytes()).is_some() || form_of_ending(word.as_bytes()).is_some()
 }

@@ -37,21 +37,21 @@ mod write_fault;
 pub use fault::WordsFault;
 pub use fault_line::{put_all, put_fault_line, put_named, put_three, put_two};
 pub use file_names::{
-    FormName, address_at, form_beside, form_for, form_of_ending, name_of, takes_either,
+    FormName, address_at, form_beside, form_for, form_of_ending, name_of, names_image, takes_either,
 };
 pub use file_options::{FileForm, FileWords, file_words, with_file_options};
 pub use file_refusal::FileRefusal;
 pub use files::{check_output, read_given, read_given_source, read_most, read_source, write_file};
-pub use load_fault::{LoadFault, tell_no_image};
+pub use load_fault::{LoadFault, tell_no_image, tell_noted};
 pub use machine_files::{OtherFiles, other_files, with_files_options};
 pub use map::map_of;
 pub use matching::{is_given, let_go, matched, says_image};
 pub use new_file::{NewFile, begin_file};
 pub use options::{begin, file, file_list, flag, list, option, port, profile, rom, tape};
 pub use output::{NotWritten, put, write_text};
-pub use outputs::{check_outputs, check_source, create, write_output};
+pub use outputs::{check_outputs, check_replaced, check_source, create, write_output};
 pub use refusal::{ReadFault, Refusal};
-pub use refused::{finish, refuse, refuse_file, refused_words};
+pub use refused::{finish, refuse, refuse_file, refuse_image_file, refused_words};
 pub use same_file::{is_one_file, is_one_output};
 pub use shown::{put_shown, shown_name};
 pub use value::{

@@ -1,18 +1,19 @@
 //! Why a file is not loaded.
 
-ghost use Rattle.std.specs.Prelude.{◌≡◌, ◌++◌, OnOk, Some};
-ghost use Rattle.arguments.specs.FaultLines.{like_line, load_text, no_image_line};
-ghost use Rattle.arguments.specs.FaultLines.{number_part, port_line, port_part, raw_line};
+ghost use Rattle.std.specs.Prelude.{◌≡◌, ◌++◌, [], OnOk, Some, option_map};
+ghost use Rattle.arguments.specs.FaultLines.{advised_text, like_line, load_text, look_of};
+ghost use Rattle.arguments.specs.FaultLines.{no_image_line};
+ghost use Rattle.arguments.specs.FaultLines.{number_part, port_line, port_part};
 ghost use Rattle.arguments.specs.Statuses.{status_of_load};
 ghost use Rattle.arguments.specs.declared.load_fault.LoadFault.TheVariants.{Refused};
 ghost use Rattle.model.specs.Writers.{AppendsFront};
 
 use crate::fault_line::{put_all, put_named};
 use crate::refusal::Refusal;
-use crate::refused::refuse_file;
+use crate::refused::refuse_image_file;
 use crate::wording::{
-    AT_PORT, IS_FREE, LIKE_HEX, LIKE_RAW, LIKE_S_RECORDS, LIKE_TAPE, NONE_IS_FREE, TRY_PORT,
-    USE_TAPE,
+    AT_PORT, IS_FREE, LIKE_CAPTURE, LIKE_HEX, LIKE_RAW, LIKE_S_RECORDS, LIKE_TAPE, NONE_IS_FREE,
+    TRY_PORT, USE_ADDRESS, USE_MEND, USE_TAPE,
 };
 use formatting::{Text, address_text, push_bytes, push_decimal, push_hex_address};
 use model::AsmFault;
@@ -31,12 +32,16 @@ pub enum LoadFault {
     LooksLikeSRecords,
     /// The file is given as a source, has a fault, and begins with bytes that no source has.
     LooksLikeRaw,
+    /// The file is given as a source, has a fault, and looks like what the terminal of a KIM-1
+    /// showed while a tape was written.
+    LooksLikeCapture,
     /// The file is given as an image, and is none in its form: where that shows, if it is in a
-    /// line, what is wrong, and the number of that if it has one.
+    /// line, what is wrong, the number of that if it has one, and what it means, if that is said.
     NoImage {
         place: Text,
         what: &'static str,
         number: Option<u8>,
+        note: &'static str,
     },
     /// The source has this fault. The text tells of all its faults, as `check` does.
     Faults {
@@ -62,22 +67,15 @@ impl From<Refusal> for LoadFault {
     }
 }
 
-/// Writes what a file looks like that is given as a source.
-fn tell_like<E: Write>(file: &str, like: &str, errors: &mut E)
+/// Writes what a file looks like that is given as a source, and what to do.
+fn tell_like<E: Write>(file: &str, like: &str, advice: &str, errors: &mut E)
     ensures { AppendsFront (E.contents errors.old) (E.contents errors.new)
-        (like_line like.now file.now) }
+        (like_line like.now file.now advice.now) }
 {
-    put_named(file, &[like.as_bytes(), USE_TAPE.as_bytes()], errors);
+    put_named(file, &[like.as_bytes(), advice.as_bytes()], errors);
 }
 
-/// Writes that a file looks like a raw image that is given as a source.
-fn tell_raw<E: Write>(file: &str, errors: &mut E)
-    ensures { AppendsFront (E.contents errors.old) (E.contents errors.new) (raw_line file.now) }
-{
-    put_named(file, &[LIKE_RAW.as_bytes()], errors);
-}
-
-/// Returns the number of what is wrong, if it has one, and the end of the line.
+/// Returns the number of what is wrong, if it has one.
 #[tactic(auto, unfolding(crate::specs::FaultLines::number_part))]
 fn number_text(number: Option<u8>) -> Text
     ensures { result.items ≡ number_part number }
@@ -87,8 +85,35 @@ fn number_text(number: Option<u8>) -> Text
         push_bytes(&mut text, b" ");
         push_decimal(&mut text, number as u64);
     }
-    push_bytes(&mut text, b"\n");
     text
+}
+
+/// Writes why a file is no image: where that shows, what is wrong, its number if it has one, and
+/// what it means, if that is said.
+pub fn tell_noted<E: Write>(
+    file: &str,
+    place: &[u8],
+    what: &str,
+    number: Option<u8>,
+    note: &str,
+    errors: &mut E,
+)
+    ensures { AppendsFront (E.contents errors.old) (E.contents errors.new)
+        (no_image_line file.now place.now what.now number note.now) }
+{
+    let number = number_text(number);
+    put_named(
+        file,
+        &[
+            b": ",
+            place,
+            what.as_bytes(),
+            number.as_slice(),
+            note.as_bytes(),
+            b"\n",
+        ],
+        errors,
+    );
 }
 
 /// Writes why a file is no image: where that shows, what is wrong, and its number if it has one.
@@ -100,14 +125,9 @@ pub fn tell_no_image<E: Write>(
     errors: &mut E,
 )
     ensures { AppendsFront (E.contents errors.old) (E.contents errors.new)
-        (no_image_line file.now place.now what.now number) }
+        (no_image_line file.now place.now what.now number []) }
 {
-    let end = number_text(number);
-    put_named(
-        file,
-        &[b": ", place, what.as_bytes(), end.as_slice()],
-        errors,
-    );
+    tell_noted(file, place, what, number, "", errors);
 }
 
 /// Returns the addresses of a port, and which base is free.
@@ -199,27 +219,32 @@ impl LoadFault {
     {
         match self {
             LoadFault::LooksLikeTape => {
-                tell_like(file, LIKE_TAPE, errors);
+                tell_like(file, LIKE_TAPE, USE_TAPE, errors);
                 2
             }
             LoadFault::LooksLikeHex => {
-                tell_like(file, LIKE_HEX, errors);
+                tell_like(file, LIKE_HEX, USE_TAPE, errors);
                 2
             }
             LoadFault::LooksLikeSRecords => {
-                tell_like(file, LIKE_S_RECORDS, errors);
+                tell_like(file, LIKE_S_RECORDS, USE_TAPE, errors);
                 2
             }
             LoadFault::LooksLikeRaw => {
-                tell_raw(file, errors);
+                tell_like(file, LIKE_RAW, USE_ADDRESS, errors);
+                2
+            }
+            LoadFault::LooksLikeCapture => {
+                tell_like(file, LIKE_CAPTURE, USE_MEND, errors);
                 2
             }
             LoadFault::NoImage {
                 place,
                 what,
                 number,
+                note,
             } => {
-                tell_no_image(file, &place, what, number, errors);
+                tell_noted(file, &place, what, number, note, errors);
                 1
             }
             LoadFault::Faults { text, .. } => {
@@ -230,7 +255,57 @@ impl LoadFault {
                 tell_port(file, first, last, free, errors);
                 1
             }
-            LoadFault::Refused(refusal) => refuse_file(refusal, file, errors),
+            LoadFault::Refused(refusal) => refuse_image_file(refusal, file, errors),
+        }
+    }
+
+    /// Returns what the file looks like that is refused as a source, if some words take such a file
+    /// as an image.
+    fn look(&self) -> Option<&'static str>
+        ensures { option_map (λ look. look.now) result ≡ look_of self.now }
+    {
+        match self {
+            LoadFault::LooksLikeTape => Some(LIKE_TAPE),
+            LoadFault::LooksLikeHex => Some(LIKE_HEX),
+            LoadFault::LooksLikeSRecords => Some(LIKE_S_RECORDS),
+            LoadFault::LooksLikeRaw => Some(LIKE_RAW),
+            LoadFault::LooksLikeCapture
+            | LoadFault::NoImage { .. }
+            | LoadFault::Faults { .. }
+            | LoadFault::AtPort { .. }
+            | LoadFault::Refused(_) => None,
+        }
+    }
+
+    /// Returns the exit status of a word that does not load the file.
+    fn status(&self) -> u8
+        ensures { result ≡ status_of_load self.now }
+    {
+        match self {
+            LoadFault::LooksLikeTape
+            | LoadFault::LooksLikeHex
+            | LoadFault::LooksLikeSRecords
+            | LoadFault::LooksLikeRaw
+            | LoadFault::LooksLikeCapture => 2,
+            LoadFault::NoImage { .. } | LoadFault::Faults { .. } | LoadFault::AtPort { .. } => 1,
+            LoadFault::Refused(refusal) => refusal.status(),
+        }
+    }
+
+    /// Writes why the file was not loaded by a word that takes no image, with this advice where the
+    /// file looks like one, and returns the exit status as `tell` does.
+    pub fn tell_advised<E: Write>(self, file: &str, advice: &str, errors: &mut E) -> u8
+        ensures status { result ≡ status_of_load self }
+        ensures told { AppendsFront (E.contents errors.old) (E.contents errors.new)
+            (advised_text self file.now advice.now) }
+    {
+        let status = self.status();
+        match self.look() {
+            None => self.tell(file, errors),
+            Some(look) => {
+                tell_like(file, look, advice, errors);
+                status
+            }
         }
     }
 }

@@ -3,12 +3,12 @@
 ghost use Rattle.std.specs.List.{list_any};
 ghost use Rattle.std.specs.Prelude.{◌≡◌, IfErr, IfOk, false, map};
 ghost use Rattle.arguments.specs.Files.{EndsWriting};
-ghost use Rattle.arguments.specs.Outputs.{clash, is_among, is_named, named};
+ghost use Rattle.arguments.specs.Outputs.{clash, is_among, is_named, may_replace, named};
 ghost use Rattle.arguments.specs.declared.write_fault.WriteFault.TheVariants.{LooksLikeTape};
 ghost use Rattle.papertape.specs.Hint.{BeginsTape};
 
 use crate::file_refusal::FileRefusal;
-use crate::files::write_file;
+use crate::files::{read_most, write_file};
 use crate::new_file::{NewFile, begin_file};
 use crate::refusal::Refusal;
 use crate::same_file::is_one_output;
@@ -181,5 +181,40 @@ pub fn check_source<'a, H: Files + AllocGlobal>(
             file,
             refusal: Refusal::OutOfMemory,
         }),
+    }
+}
+
+/// Returns whether a file may be replaced that begins with these bytes.
+fn may_replace(front: &[u8], bytes: &[u8]) -> bool
+    ensures { result ≡ may_replace front.now bytes.now }
+{
+    bytes.is_empty() || bytes == front
+}
+
+/// Checks that a file of that name, if it is there and keeps its bytes, has none or begins as what
+/// would replace it.
+///
+/// Errors: `WriteFile` with `OtherFile` if it begins otherwise or cannot be read, and `OutOfMemory`
+/// if an allocation fails.
+pub fn check_replaced<H: Files + AllocGlobal>(
+    rt: &H,
+    path: &str,
+    front: &[u8],
+) -> Result<(), Refusal>
+    ensures { IfErr result EndsWriting }
+{
+    if !is_kept(rt, path) {
+        return Ok(());
+    }
+    match read_most(rt, path, front.len() as u64) {
+        Ok(bytes) => {
+            if may_replace(front, &bytes) {
+                Ok(())
+            } else {
+                Err(Refusal::WriteFile(WriteFault::OtherFile))
+            }
+        }
+        Err(Refusal::OutOfMemory) => Err(Refusal::OutOfMemory),
+        Err(_) => Err(Refusal::WriteFile(WriteFault::OtherFile)),
     }
 }

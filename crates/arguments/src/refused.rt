@@ -2,12 +2,13 @@
 
 ghost use Rattle.std.specs.Prelude.{◌≡◌, ◌≤◌, MatchResult};
 ghost use Rattle.arguments.specs.FaultLines.{IsTold, IsToldOfWords, fault_line, file_line};
+ghost use Rattle.arguments.specs.FaultLines.{image_line};
 ghost use Rattle.arguments.specs.Statuses.{status_of};
 ghost use Rattle.arguments.specs.Words.{IsStatusOf};
 ghost use Rattle.model.specs.Writers.{AppendsFront};
 
 use crate::fault::WordsFault;
-use crate::fault_line::{put_all, put_fault_line, put_file_line};
+use crate::fault_line::{put_all, put_fault_line, put_file_line, put_image_line};
 use crate::refusal::Refusal;
 use crate::shown::ShownLines;
 use std::fmt::Write as _;
@@ -31,6 +32,17 @@ pub fn refuse_file<E: Write>(refusal: Refusal, file: &str, errors: &mut E) -> u8
         (file_line file.now refusal) }
 {
     put_file_line(refusal, file, errors);
+    refusal.status()
+}
+
+/// Writes why a file has no image, as `refuse_file` does, and of a fault of a tape what it means.
+/// Returns the exit status, even if the line cannot be written.
+pub fn refuse_image_file<E: Write>(refusal: Refusal, file: &str, errors: &mut E) -> u8
+    ensures status { result ≡ status_of refusal }
+    ensures told { AppendsFront (E.contents errors.old) (E.contents errors.new)
+        (image_line file.now refusal) }
+{
+    put_image_line(refusal, file, errors);
     refusal.status()
 }
 

@@ -19,17 +19,32 @@ pub const SAME_FILE: &str = " same file as another";
 
 pub const SOURCE_LIKE_TAPE: &str = " the source looks like a tape";
 
-/// What a file looks like that is given as a source, and how to say so.
+pub const OTHER_FILE: &str = " the file has something else: name a new one, or remove it";
+
+/// What a file looks like that is given as a source, and what to do.
 pub const LIKE_TAPE: &str = " looks like a tape";
 
 pub const LIKE_HEX: &str = " looks like Intel HEX";
 
 pub const LIKE_S_RECORDS: &str = " looks like S-records";
 
-pub const LIKE_RAW: &str =
-    " looks like a raw image: use --bin HHHH, the address of its first byte, or FILE@HHHH\n";
+pub const LIKE_RAW: &str = " looks like a raw image";
+
+pub const LIKE_CAPTURE: &str = " looks like a capture of a KIM-1's terminal";
 
 pub const USE_TAPE: &str = ": use --image\n";
+
+pub const USE_ADDRESS: &str =
+    ": use FILE@HHHH, with the address of its first byte, or --bin HHHH\n";
+
+pub const USE_MEND: &str = ": mend makes a tape of it, as in mend FILE OUT\n";
+
+/// What a fault of a tape means, after its number.
+pub const MEND_LEAVES_OUT: &str = ": text stands beside the records, and mend leaves it out";
+
+pub const NO_DIGIT: &str = ": no hex digit stands there; of a source, asm makes a tape";
+
+pub const INFO_SAYS_MORE: &str = ": info says more";
 
 /// That an image has bytes at the port's addresses, which follow, and which base is free.
 pub const AT_PORT: &str = ": IMAGE PortAddress 5 at ";

@@ -5,7 +5,7 @@ ghost use Rattle.arguments.specs.Refusals.{write_fault_of};
 ghost use Rattle.arguments.specs.FaultLines.{write_reason};
 
 use crate::wording::{
-    IS_FOLDER, NO_ROOM, NO_SUCH_FOLDER, PERMISSION_DENIED, SAME_FILE, SOURCE_LIKE_TAPE,
+    IS_FOLDER, NO_ROOM, NO_SUCH_FOLDER, OTHER_FILE, PERMISSION_DENIED, SAME_FILE, SOURCE_LIKE_TAPE,
 };
 use std::io::ErrorKind;
 
@@ -24,6 +24,8 @@ pub enum WriteFault {
     SameFile,
     /// The file is there, and what is given as a source looks like a tape.
     LooksLikeTape,
+    /// The file is there, and has something else than what would replace it.
+    OtherFile,
     /// Another reason, or none that is known.
     Other,
 }
@@ -55,6 +57,7 @@ pub fn write_reason(fault: WriteFault) -> &'static str
         WriteFault::NoSuchFolder => NO_SUCH_FOLDER,
         WriteFault::SameFile => SAME_FILE,
         WriteFault::LooksLikeTape => SOURCE_LIKE_TAPE,
+        WriteFault::OtherFile => OTHER_FILE,
         WriteFault::Other => "",
     }
 }

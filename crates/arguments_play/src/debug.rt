@@ -7,7 +7,8 @@ ghost use Rattle.arguments_play.specs.Debug.{debug_asked};
 use arguments::{FileForm, FileWords};
 
 /// What is said where debug information is given for a source.
-pub const DEBUG_TAKES: &str = "--debug-info is for an image; a source has its own lines";
+pub const DEBUG_TAKES: &str =
+    "--debug-info is for an image, of raw bytes as FILE@HHHH; a source has its own lines";
 
 /// What help says of `--debug-info`.
 pub const DEBUG_HELP: &str = "What another tool says of an image's lines: a debug file of ld65";

@@ -1,8 +1,9 @@
 -- What is told of a debug file that has a fault: where, its name and its number. Source: mos65.
-use Rattle.std.specs.Prelude.{◌≡◌, ℕ, List, ◌++◌, codes, decimal, Some}
+use Rattle.std.specs.Prelude.{◌≡◌, ◌==◌, ℕ, if◌then◌else◌, List, [], ◌++◌, codes, decimal, Some}
 use Rattle.arguments.specs.declared.load_fault.LoadFault.{LoadFault}
 use Rattle.arguments.specs.declared.load_fault.LoadFault.TheVariants.{NoImage, Refused}
 use Rattle.arguments.specs.declared.refusal.Refusal.TheVariants.{OutOfMemory}
+use Rattle.debug_files.specs.declared.faults.TheConstants.{NO_DEBUG_FILE}
 use Rattle.debug_records.specs.declared.fault.DebugError.{DebugError}
 use Rattle.debug_records.specs.declared.fault.DebugError.TheVariants as debug
 use Rattle.debug_records.specs.declared.fault.DebugFault.{DebugFault}
@@ -45,9 +46,14 @@ number_of kind.TooMany = 12
 number_of kind.NoRecord = 13
 number_of kind.TooLarge = 14
 
+-- What a fault means: a file whose first line is no record is no debug file.
+abbrev pub note_of : DebugFault → List ℕ
+note_of fault = if fault.line == 1 then NO_DEBUG_FILE.now else []
+
 -- Why a debug file is not loaded that was not read.
 abbrev pub IsToldAs : DebugError → LoadFault → Type 0
 IsToldAs debug.OutOfMemory fault = fault ≡ Refused OutOfMemory
-IsToldAs (debug.Fault why) (NoImage place what number) = (place.items ≡ place_of why)
+IsToldAs (debug.Fault why) (NoImage place what number note) = (place.items ≡ place_of why)
     × (what.now ≡ name_of why.kind) × (number ≡ Some (number_of why.kind))
+    × (note.now ≡ note_of why)
 IsToldAs (debug.Fault why) fault = ⊥

@@ -1,7 +1,7 @@
 //! What is told of a debug file that has a fault.
 
 ghost use Rattle.std.specs.Prelude.{◌≡◌};
-ghost use Rattle.debug_files.specs.Told.{IsToldAs, name_of, number_of, place_of};
+ghost use Rattle.debug_files.specs.Told.{IsToldAs, name_of, note_of, number_of, place_of};
 
 use arguments::{LoadFault, Refusal};
 use debug_records::{DebugError, DebugFault, DebugFaultKind};
@@ -65,6 +65,16 @@ fn number_of(kind: DebugFaultKind) -> u8
     }
 }
 
+/// What is said of a file whose first line is no record.
+const NO_DEBUG_FILE: &str = ": this is no debug file of ld65";
+
+/// Returns what a fault means: a file whose first line is no record is no debug file.
+fn note_of(fault: DebugFault) -> &'static str
+    ensures { result.now ≡ note_of fault }
+{
+    if fault.line == 1 { NO_DEBUG_FILE } else { "" }
+}
+
 /// Returns why a debug file is not loaded.
 pub fn load_fault(error: DebugError) -> LoadFault
     ensures { IsToldAs error result }
@@ -75,6 +85,7 @@ pub fn load_fault(error: DebugError) -> LoadFault
             place: place_of(fault),
             what: name_of(fault.kind),
             number: Some(number_of(fault.kind)),
+            note: note_of(fault),
         },
     }
 }

@@ -1,5 +1,5 @@
 -- How a text tells its form, and when bytes are no raw image. Source: mos65.
-use Rattle.std.specs.Prelude.{ℕ, ◌==◌, ◌||◌, ◌&&◌, nat_le, nat_lt, length, Bool, true, false, if◌then◌else◌, List, [], ◌∷◌, drop, take, Result, Ok, Err}
+use Rattle.std.specs.Prelude.{ℕ, ◌==◌, ◌||◌, ◌&&◌, nat_le, nat_lt, length, Bool, not, true, false, if◌then◌else◌, List, [], ◌∷◌, drop, take, Result, Ok, Err}
 use Rattle.std.specs.List.{list_all, prefix_len}
 use Rattle.model.specs.Token.{is_digit}
 use Rattle.image_reader.specs.declared.form.Form.{Form}
@@ -18,9 +18,27 @@ is_plain b = (nat_le 32 b && nat_le b 126) || (b == 9) || (b == 10) || (b == 13)
 unfoldable pub front_bytes : List ℕ → List ℕ
 front_bytes bytes = take 64 bytes
 
--- What bytes look like that begin with no record.
+-- No record of a tape begins with such a byte.
+abbrev pub is_no_record : ℕ → Bool
+is_no_record b = not (b == 59)
+
+-- What a text has before its first `;`, or all of it.
+unfoldable pub before_record : List ℕ → List ℕ
+before_record text = take (prefix_len is_no_record text) text
+
+-- What it has from its first `;` on.
+unfoldable pub from_record : List ℕ → List ℕ
+from_record text = drop (prefix_len is_no_record text) text
+
+-- Eight hex digits stand behind the first byte, as in each record.
+abbrev pub has_digits : List ℕ → Bool
+has_digits rest = if nat_lt (length rest) 9 then false else list_all is_hex_byte (take 8 (drop 1 rest))
+
+-- What bytes look like that begin with no record. What the terminal of a KIM-1 showed has a record
+-- of a tape at its first `;`.
 abbrev pub other_of : List ℕ → OtherText
-other_of bytes = if list_all is_plain (front_bytes bytes) then other.Plain else other.Bytes
+other_of bytes = if has_digits (from_record bytes) then other.Capture
+    else if list_all is_plain (front_bytes bytes) then other.Plain else other.Bytes
 
 -- `S` begins an S-record if a digit follows.
 abbrev pub s_form : List ℕ → List ℕ → Result Form OtherText
@@ -43,10 +61,7 @@ form_of bytes = first_form bytes (drop (prefix_len is_skipped bytes) bytes)
 
 -- ---- bytes that are given as raw ones
 
--- Eight hex digits stand behind the first byte that a tape does not skip, as in each record.
-abbrev pub has_digits : List ℕ → Bool
-has_digits rest = if nat_lt (length rest) 9 then false else list_all is_hex_byte (take 8 (drop 1 rest))
-
+-- Eight hex digits stand behind the first byte that a tape does not skip.
 unfoldable pub begins_record : List ℕ → Bool
 begins_record bytes = has_digits (drop (prefix_len is_skipped bytes) bytes)
 

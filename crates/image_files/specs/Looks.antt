@@ -5,7 +5,7 @@ use Rattle.std.specs.List.{list_all, prefix_len}
 use Rattle.arguments.specs.declared.load_fault.LoadFault.{LoadFault}
 use Rattle.arguments.specs.declared.load_fault.LoadFault.TheVariants.{LooksLikeHex, LooksLikeSRecords, LooksLikeTape, Refused}
 use Rattle.arguments.specs.declared.refusal.Refusal.TheVariants.{OutOfMemory}
-use Rattle.image_files.specs.Forms.{form_of, front_bytes}
+use Rattle.image_files.specs.Forms.{form_of, from_record, front_bytes}
 use Rattle.image_reader.specs.Texts.{text_image}
 use Rattle.image_reader.specs.declared.fault.RecordFault.{RecordFault}
 use Rattle.image_reader.specs.declared.fault.RecordFaultKind.{RecordFaultKind}
@@ -24,6 +24,11 @@ is_written b = nat_le 32 b || (b == 9) || (b == 10) || (b == 13)
 -- Bytes that no source begins with: a control byte stands among the first 64.
 abbrev pub looks_raw : List ℕ → Bool
 looks_raw bytes = not (list_all is_written (front_bytes bytes))
+
+-- Bytes whose first `;` begins a right record of a tape: where text comes before it, they are what the
+-- terminal of a KIM-1 showed while a tape was written.
+abbrev pub IsCaptured : List ℕ → Type 0
+IsCaptured bytes = BeginsTape (from_record bytes)
 
 -- The first line of a text, without its end.
 unfoldable pub first_line : List ℕ → List ℕ

@@ -1,11 +1,12 @@
 //! How a text tells its form.
 
-ghost use Rattle.std.specs.Prelude.{◌≡◌, ◌≤◌, drop, length};
+ghost use Rattle.std.specs.Prelude.{◌≡◌, ◌≤◌, ◌+◌, drop, length};
 ghost use Rattle.std.specs.List.{list_all, prefix_len};
 ghost use Rattle.model.specs.Digits.{is_hex_byte};
 ghost use Rattle.model.specs.Token.{is_digit};
-ghost use Rattle.image_files.specs.Forms.{alone, begins_record, first_form, form_of, front_bytes};
-ghost use Rattle.image_files.specs.Forms.{has_digits, is_plain, other_of};
+ghost use Rattle.image_files.specs.Forms.{alone, before_record, begins_record, first_form, form_of};
+ghost use Rattle.image_files.specs.Forms.{from_record, front_bytes, has_digits, is_no_record};
+ghost use Rattle.image_files.specs.Forms.{is_plain, other_of};
 ghost use Rattle.image_files.specs.Forms.{record_of, s_form};
 ghost use Rattle.model.specs.Tape.{is_skipped};
 
@@ -21,6 +22,8 @@ pub enum OtherText {
     Bytes,
     /// Text, as the source of an assembler.
     Plain,
+    /// What the terminal of a KIM-1 showed while a tape was written.
+    Capture,
     /// A tape, where a form without records is said.
     Tape,
     /// Intel HEX, where a form without records is said.
@@ -72,11 +75,66 @@ pub fn front_bytes(bytes: &[u8]) -> &[u8]
     &bytes[..64]
 }
 
+/// Returns whether a byte is a hex digit.
+fn is_hex(byte: u8) -> bool
+    ensures { result ≡ is_hex_byte byte }
+{
+    hex_value(byte).is_some()
+}
+
+/// Returns whether all of some bytes are hex digits.
+fn all_are_hex(bytes: &[u8]) -> bool
+    ensures { result ≡ list_all is_hex_byte bytes.now }
+{
+    let mut all = true;
+    for byte in bytes {
+        all &= is_hex(*byte);
+    }
+    all
+}
+
+/// Returns whether eight hex digits stand behind the first byte.
+fn has_digits(rest: &[u8]) -> bool
+    ensures { result ≡ has_digits rest.now }
+{
+    if rest.len() < 9 {
+        return false;
+    }
+    all_are_hex(&rest[1..9])
+}
+
+/// Returns whether no record of a tape begins with a byte.
+fn is_no_record(byte: u8) -> bool
+    ensures { result ≡ is_no_record byte }
+{
+    !(byte == b';')
+}
+
+/// Counts the bytes before the first `;`.
+fn before_len(text: &[u8]) -> usize
+    ensures counted { result ≡ prefix_len is_no_record text.now }
+    ensures inside { result ≤ length text.now }
+{
+    text.iter().take_while(|byte| is_no_record(**byte)).count()
+}
+
+/// Returns what a text has before its first `;`, or all of it, and what it has from there on.
+#[tactic(auto, unfolding(crate::specs::Forms::before_record, crate::specs::Forms::from_record))]
+pub fn at_record(text: &[u8]) -> (&[u8], &[u8])
+    ensures before { result.0.now ≡ before_record text.now }
+    ensures behind { result.1.now ≡ from_record text.now }
+    ensures whole { length result.0.now + length result.1.now ≡ length text.now }
+{
+    text.split_at(before_len(text))
+}
+
 /// Returns what bytes look like that begin with no record.
 fn other_of(bytes: &[u8]) -> OtherText
     ensures { result ≡ other_of bytes.now }
 {
-    if all_are_plain(front_bytes(bytes)) {
+    if has_digits(at_record(bytes).1) {
+        OtherText::Capture
+    } else if all_are_plain(front_bytes(bytes)) {
         OtherText::Plain
     } else {
         OtherText::Bytes
@@ -129,34 +187,6 @@ pub fn form_of(bytes: &[u8]) -> Result<Form, OtherText>
     ensures { result ≡ form_of bytes.now }
 {
     first_form(bytes, &bytes[skipped_len(bytes)..])
-}
-
-/// Returns whether a byte is a hex digit.
-fn is_hex(byte: u8) -> bool
-    ensures { result ≡ is_hex_byte byte }
-{
-    hex_value(byte).is_some()
-}
-
-/// Returns whether all of some bytes are hex digits.
-fn all_are_hex(bytes: &[u8]) -> bool
-    ensures { result ≡ list_all is_hex_byte bytes.now }
-{
-    let mut all = true;
-    for byte in bytes {
-        all &= is_hex(*byte);
-    }
-    all
-}
-
-/// Returns whether eight hex digits stand behind the first byte.
-fn has_digits(rest: &[u8]) -> bool
-    ensures { result ≡ has_digits rest.now }
-{
-    if rest.len() < 9 {
-        return false;
-    }
-    all_are_hex(&rest[1..9])
 }
 
 /// Returns whether eight hex digits stand behind the first byte that a tape does not skip.

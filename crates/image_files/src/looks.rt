@@ -1,14 +1,14 @@
 //! Texts that are given as sources, and begin with a record of an image.
 
-ghost use Rattle.std.specs.Prelude.{◌≡◌, ◌≤◌, IfErr, IfOk, None, OnOk, length};
+ghost use Rattle.std.specs.Prelude.{◌≡◌, ◌≤◌, ◌↔◌, IfErr, IfOk, None, OnOk, length, true};
 ghost use Rattle.std.specs.List.{list_all, prefix_len};
-ghost use Rattle.image_files.specs.Looks.{EndsLooks, IsSource, begun_as, begun_in, first_line};
-ghost use Rattle.image_files.specs.Looks.{goes_on, is_written, lacks_end, looks_raw, records_begun};
+ghost use Rattle.image_files.specs.Looks.{EndsLooks, IsCaptured, IsSource, begun_as, begun_in};
+ghost use Rattle.image_files.specs.Looks.{first_line, goes_on, is_written, lacks_end, looks_raw, records_begun};
 ghost use Rattle.image_files.specs.Forms.{form_of};
 ghost use Rattle.image_reader.specs.Texts.{text_image};
 ghost use Rattle.papertape.specs.Hint.{is_inside};
 
-use crate::form::{form_of, front_bytes};
+use crate::form::{at_record, form_of, front_bytes};
 use arguments::{LoadFault, Refusal};
 use image_reader::{Form, ImageFault, RecordFaultKind, TextForm, read_image};
 use papertape::looks_like_tape;
@@ -37,6 +37,16 @@ pub fn looks_raw(bytes: &[u8]) -> bool
     ensures { result ≡ looks_raw bytes.now }
 {
     !all_are_written(front_bytes(bytes))
+}
+
+/// Returns whether a text has a right record at its first `;`, as what the terminal of a KIM-1
+/// showed while a tape was written.
+///
+/// The only error is that an allocation failed.
+pub fn looks_like_capture(alloc: Global, text: &[u8]) -> Result<bool, AllocError>
+    ensures { IfOk result (λ is. (is ≡ true) ↔ IsCaptured text.now) }
+{
+    looks_like_tape(alloc, at_record(text).1)
 }
 
 /// Counts the bytes before the first line end.

@@ -2,16 +2,16 @@
 
 ghost use Rattle.std.specs.Prelude.{◌≡◌};
 ghost use Rattle.image_files.specs.Bytes.{of_fault};
-ghost use Rattle.image_files.specs.Told.{IsUnloaded, no_image_text, number_of, place_of};
-ghost use Rattle.image_files.specs.Told.{refusal_text, status_of_image, what_of};
+ghost use Rattle.image_files.specs.Told.{IsUnloaded, no_image_text, note_of, number_of, place_of};
+ghost use Rattle.image_files.specs.Told.{record_note, refusal_text, status_of_image, what_of};
 ghost use Rattle.image_files.specs.declared.refusal.ImageRefusal.TheVariants.{Refused};
 ghost use Rattle.model.specs.Writers.{AppendsFront};
 
 use crate::form::OtherText;
 use crate::wording;
-use arguments::{FileRefusal, LoadFault, Refusal, refuse_file, tell_no_image};
+use arguments::{FileRefusal, LoadFault, Refusal, refuse_image_file, tell_noted};
 use formatting::{Text, push_bytes, push_decimal};
-use image_reader::{ImageFault, RecordFault};
+use image_reader::{ImageFault, RecordFault, RecordFaultKind};
 use std::io::Write;
 
 /// What is wrong with the bytes of a file.
@@ -37,6 +37,24 @@ pub enum ImageRefusal {
     NoImage(NoImage),
     /// A tape has a fault, the file cannot be read, or memory ran out.
     Refused(Refusal),
+}
+
+/// Returns what a fault of a text of records means, to be written behind its number.
+pub fn record_note(kind: RecordFaultKind) -> &'static str
+    ensures { result.now ≡ record_note kind }
+{
+    match kind {
+        RecordFaultKind::NoMark => wording::NO_RECORD_BEGINS,
+        RecordFaultKind::BadHex => wording::NO_HEX_DIGIT,
+        RecordFaultKind::ShortRecord => wording::LINE_ENDS,
+        RecordFaultKind::LongRecord => wording::LINE_GOES_ON,
+        RecordFaultKind::BadChecksum => wording::OTHER_SUM,
+        RecordFaultKind::UnknownType => wording::NO_TYPE,
+        RecordFaultKind::BadLength => wording::OTHER_LENGTH,
+        RecordFaultKind::PastEnd => wording::PAST_LAST,
+        RecordFaultKind::BadCount => wording::OTHER_COUNT,
+        RecordFaultKind::NoEnd => wording::END_MISSES,
+    }
 }
 
 /// Returns a fault of an image as why a file is none.
@@ -83,6 +101,7 @@ impl NoImage {
             NoImage::Looks(OtherText::Nothing) => wording::LOOKS_EMPTY,
             NoImage::Looks(OtherText::Bytes) => wording::LOOKS_RAW,
             NoImage::Looks(OtherText::Plain) => wording::LOOKS_PLAIN,
+            NoImage::Looks(OtherText::Capture) => wording::LOOKS_CAPTURED,
             NoImage::Looks(OtherText::Tape) => wording::IS_TAPE,
             NoImage::Looks(OtherText::Hex) => wording::IS_HEX,
             NoImage::Looks(OtherText::SRecords) => wording::IS_S_RECORDS,
@@ -100,16 +119,27 @@ impl NoImage {
         }
     }
 
+    /// Returns what a fault of a text of records means; nothing for any other fault.
+    pub fn note(self) -> &'static str
+        ensures { result.now ≡ note_of self }
+    {
+        match self {
+            NoImage::Record(fault) => record_note(fault.kind),
+            _ => "",
+        }
+    }
+
     /// Writes why the file is no image, or a beginning of the line if a write fails.
     fn tell<E: Write>(self, file: &str, errors: &mut E)
         ensures { AppendsFront (E.contents errors.old) (E.contents errors.new)
             (no_image_text file.now self) }
     {
-        tell_no_image(
+        tell_noted(
             file,
             self.place().as_slice(),
             self.what(),
             self.number(),
+            self.note(),
             errors,
         );
     }
@@ -129,7 +159,7 @@ impl ImageRefusal {
                 why.tell(file, errors);
                 1
             }
-            ImageRefusal::Refused(refusal) => refuse_file(refusal, file, errors),
+            ImageRefusal::Refused(refusal) => refuse_image_file(refusal, file, errors),
         }
     }
 
@@ -142,6 +172,7 @@ impl ImageRefusal {
                 place: why.place(),
                 what: why.what(),
                 number: why.number(),
+                note: why.note(),
             },
             ImageRefusal::Refused(refusal) => LoadFault::Refused(refusal),
         }

@@ -9,7 +9,7 @@ use Rattle.arguments.specs.Shown.{shown_name}
 use Rattle.arguments.specs.declared.file_options.FileForm.{FileForm}
 use Rattle.arguments.specs.declared.file_options.FileForm.TheVariants as form
 use Rattle.arguments.specs.declared.load_fault.LoadFault.{LoadFault}
-use Rattle.arguments.specs.declared.load_fault.LoadFault.TheVariants.{AtPort, Faults, LooksLikeHex, LooksLikeRaw, LooksLikeSRecords, LooksLikeTape, NoImage, Refused}
+use Rattle.arguments.specs.declared.load_fault.LoadFault.TheVariants.{AtPort, Faults, LooksLikeCapture, LooksLikeHex, LooksLikeRaw, LooksLikeSRecords, LooksLikeTape, NoImage, Refused}
 use Rattle.arguments.specs.declared.refusal.Refusal.{Refusal}
 use Rattle.arguments.specs.declared.refusal.Refusal.TheVariants.{Map as NoMap, OutOfMemory, Read, Session, Source, Tape, Words, Write, WriteFile}
 use Rattle.assembler.specs.Assembly.{AssemblyView, out_of_memory}
@@ -62,7 +62,8 @@ in_file bus_map file LooksLikeTape ends = absurd ends
 in_file bus_map file LooksLikeHex ends = absurd ends
 in_file bus_map file LooksLikeSRecords ends = absurd ends
 in_file bus_map file LooksLikeRaw ends = absurd ends
-in_file bus_map file (NoImage place what number) ends = absurd ends
+in_file bus_map file LooksLikeCapture ends = absurd ends
+in_file bus_map file (NoImage place what number note) ends = absurd ends
 in_file bus_map file (AtPort first last free) ends = absurd ends
 in_file bus_map file (Faults fault text) ends = ends
 in_file bus_map file (Refused fault) ends = ends
@@ -72,7 +73,8 @@ looks_end bus_map file source LooksLikeTape ends = (source, ends)
 looks_end bus_map file source LooksLikeHex ends = (source, ends)
 looks_end bus_map file source LooksLikeSRecords ends = (source, ends)
 looks_end bus_map file source LooksLikeRaw ends = absurd ends
-looks_end bus_map file source (NoImage place what number) ends = absurd ends
+looks_end bus_map file source LooksLikeCapture ends = absurd ends
+looks_end bus_map file source (NoImage place what number note) ends = absurd ends
 looks_end bus_map file source (AtPort first last free) ends = absurd ends
 looks_end bus_map file source (Faults fault text) ends = absurd ends
 looks_end bus_map file source (Refused OutOfMemory) ends = tt
@@ -92,7 +94,8 @@ as_ends said omits bus_map LooksLikeTape ends = ends
 as_ends said omits bus_map LooksLikeHex ends = ends
 as_ends said omits bus_map LooksLikeSRecords ends = ends
 as_ends said omits bus_map LooksLikeRaw ends = ends
-as_ends said omits bus_map (NoImage place what number) ends = ends
+as_ends said omits bus_map LooksLikeCapture ends = ends
+as_ends said omits bus_map (NoImage place what number note) ends = ends
 as_ends said omits bus_map (Faults fault text) ends = ends
 as_ends said omits bus_map (Refused refusal) ends = ends
 as_ends said omits bus_map (AtPort first last free) (why.NoImage no_image, ends, is) = absurd is

@@ -4,7 +4,7 @@ use Rattle.std.specs.Borrow.{Bor}
 use Rattle.std.specs.Prelude.{option_map}
 use Rattle.accesses.specs.Writing.{bytes_in}
 use Rattle.arguments.specs.Asked.{FileAsked, map_of}
-use Rattle.arguments.specs.FaultLines.{IsToldOfWords, file_line, load_text}
+use Rattle.arguments.specs.FaultLines.{IsToldOfWords, file_line, image_line, load_text}
 use Rattle.arguments.specs.OtherFiles.{Others, others_view}
 use Rattle.arguments.specs.Words.{IsStatusOf}
 use Rattle.arguments.specs.declared.fault.WordsFault.{WordsFault}
@@ -114,7 +114,7 @@ pub unloaded_files_by_memory : (file : FileAsked) (others : Others) (heard : Hea
     → fault ≡ words_fault.OutOfMemory
     → IsStatusOf fault status → IsToldOfWords fault status heard.held heard.now → Unread → (1 ≤ status → status ≤ 3 → Unwritten)
     → AreUnloaded file others heard status (Unread × Unwritten)
-unfolding load_text file_line
+unfolding load_text image_line file_line
 unloaded_files_by_memory file others heard fault status Unread Unwritten memory is told unread unwritten =
     let three : status ≡ 3 = subst (λ f. IsStatusOf f status) memory is in
     let line = subst (λ f. IsToldOfWords f status heard.held heard.now) memory told in (

@@ -7,14 +7,14 @@ use Rattle.arguments.specs.Asked.{FileAsked, map_of}
 use Rattle.arguments.specs.declared.file_options.FileForm.{FileForm}
 use Rattle.arguments.specs.declared.file_options.FileForm.TheVariants.{Source}
 use Rattle.arguments.specs.declared.load_fault.LoadFault.{LoadFault}
-use Rattle.arguments.specs.declared.load_fault.LoadFault.TheVariants.{AtPort, Faults, LooksLikeHex, LooksLikeRaw, LooksLikeSRecords, LooksLikeTape, NoImage, Refused}
+use Rattle.arguments.specs.declared.load_fault.LoadFault.TheVariants.{AtPort, Faults, LooksLikeCapture, LooksLikeHex, LooksLikeRaw, LooksLikeSRecords, LooksLikeTape, NoImage, Refused}
 use Rattle.arguments.specs.declared.refusal.Refusal.{Refusal}
 use Rattle.arguments.specs.declared.refusal.Refusal.TheVariants as refusal
 use Rattle.fault_notes.specs.Blocks.{IsToldText}
 use Rattle.image_files.specs.Files.{EndsImage, IsOfFile}
 use Rattle.image_files.specs.Fill.{IsSpared, fill_at}
 use Rattle.image_files.specs.FreeBase.{IsFreeBase}
-use Rattle.image_files.specs.Looks.{EndsLooks, looks_raw}
+use Rattle.image_files.specs.Looks.{EndsLooks, IsCaptured, looks_raw}
 use Rattle.image_files.specs.Options.{said_of}
 use Rattle.image_files.specs.Told.{IsUnloaded}
 use Rattle.image_files.specs.declared.refusal.ImageRefusal.{ImageRefusal}
@@ -83,13 +83,15 @@ EndsSourceFile bus_map file (Faults fault text) = TellsFaults bus_map file fault
 EndsSourceFile bus_map file (Refused fault) = EndsReading fault
 EndsSourceFile bus_map file fault = ⊥
 
--- Why a file is not loaded as a source: it may begin with a record of an image, or as a raw image.
+-- Why a file is not loaded as a source: it may begin with a record of an image, or as a raw image, or
+-- be a capture of a terminal.
 abbrev pub EndsAsSource : Map → List ℕ → LoadFault → Type 0
 EndsAsSource bus_map file LooksLikeTape = (source : List ℕ) × EndsLooks source LooksLikeTape
 EndsAsSource bus_map file LooksLikeHex = (source : List ℕ) × EndsLooks source LooksLikeHex
 EndsAsSource bus_map file LooksLikeSRecords
     = (source : List ℕ) × EndsLooks source LooksLikeSRecords
 EndsAsSource bus_map file LooksLikeRaw = (bytes : List ℕ) × (looks_raw bytes ≡ true)
+EndsAsSource bus_map file LooksLikeCapture = (bytes : List ℕ) × IsCaptured bytes
 EndsAsSource bus_map file fault = EndsSourceFile bus_map file fault
 
 -- Why a file is no image, as why it is not loaded.

@@ -88,9 +88,10 @@ clash_place address = codes "IMAGE address " ++ hex_address address ++ codes " "
 
 -- A file has another byte for an address than those before it.
 abbrev pub IsClash : LoadFault → Type 0
-IsClash (NoImage place what number) = (address : ℕ) × (one : List (Option ℕ))
+IsClash (NoImage place what number note) = (address : ℕ) × (one : List (Option ℕ))
     × (other : List (Option ℕ)) × IsFirstClash one other (Some address)
     × (place.items ≡ clash_place address) × (what.now ≡ CLASH.now) × (number ≡ None)
+    × (note.now ≡ [])
 IsClash fault = ⊥
 
 -- Why the images of several files are not joined: one is no image in its form, or is not read; or one

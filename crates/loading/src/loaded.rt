@@ -34,7 +34,8 @@ use clean_source::clean_source;
 use debugger::Session;
 use fault_notes::told_faults;
 use image_files::{
-    ImageRefusal, fill_at, free_base, image_of_file, looks_raw, refuse_image, said_of, without_port,
+    ImageRefusal, fill_at, free_base, image_of_file, looks_like_capture, looks_raw, refuse_image,
+    said_of, without_port,
 };
 use image_reader::Form;
 use memory_map::{Image, MapSpec};
@@ -110,8 +111,8 @@ pub fn faults_of(
     }
 }
 
-/// Returns why the source of a file is refused, by its first fault: `LooksLikeRaw` where its bytes
-/// begin as no source does, and otherwise as `faults_of` says.
+/// Returns why the source of a file is refused, by its first fault: what its bytes look like, if
+/// they do not look like a source, and otherwise as `faults_of` says.
 #[tactic(auto, using(crate::proofs::Ends::in_file))]
 fn refused_source(
     alloc: Global,
@@ -124,8 +125,15 @@ fn refused_source(
     requires { (fault ≡ out_of_memory) ⊎ HasFault map.now source.now fault }
     ensures { EndsFile FileForm.Source map.now file.now result }
 {
-    if fault.kind != AsmFaultKind::OutOfMemory && looks_raw(bytes) {
-        return LoadFault::LooksLikeRaw;
+    if fault.kind != AsmFaultKind::OutOfMemory {
+        match looks_like_capture(alloc, bytes) {
+            Ok(true) => return LoadFault::LooksLikeCapture,
+            _ => {
+                if looks_raw(bytes) {
+                    return LoadFault::LooksLikeRaw;
+                }
+            }
+        }
     }
     faults_of(alloc, file, source, map, fault)
 }
@@ -145,8 +153,9 @@ fn cleaned_source(alloc: Global, bytes: &[u8]) -> Result<Vec<u8>, Refusal>
 ///
 /// # Errors
 ///
-/// `LooksLikeTape`, `LooksLikeHex` or `LooksLikeSRecords` by that record; `LooksLikeRaw` for a
-/// source with a fault that begins as a raw image; `Faults` with all faults of any other source;
+/// `LooksLikeTape`, `LooksLikeHex` or `LooksLikeSRecords` by that record; for a source with a fault
+/// `LooksLikeCapture` if its first `;` begins a right record of a tape, `LooksLikeRaw` if it begins
+/// as a raw image; `Faults` with all faults of any other source;
 /// `OutOfMemory` if an allocation fails.
 #[tactic(auto, using(crate::proofs::Ends::in_file, crate::proofs::Ends::looks_end))]
 pub fn assembled_source(
@@ -410,11 +419,11 @@ fn load_form<H: Files + AllocGlobal>(
 /// # Errors
 ///
 /// In this order: `Map` if the port and the ROM do not make a map; `Read` if the file cannot be
-/// read; `LooksLikeTape`, `LooksLikeHex`, `LooksLikeSRecords` or `LooksLikeRaw` if the file is
-/// given as a source and begins as such an image; `Faults` with all faults of a source; `Tape` with
-/// the fault of a tape; `NoImage` with why any other file is no image; `AtPort` if an image has a
-/// byte at the port, unless that is fill that the words leave out. `OutOfMemory` if an allocation
-/// fails.
+/// read; `LooksLikeTape`, `LooksLikeHex`, `LooksLikeSRecords`, `LooksLikeCapture` or `LooksLikeRaw`
+/// if the file is given as a source and looks like such an image; `Faults` with all faults of a
+/// source; `Tape` with the fault of a tape; `NoImage` with why any other file is no image; `AtPort`
+/// if an image has a byte at the port, unless that is fill that the words leave out. `OutOfMemory`
+/// if an allocation fails.
 pub fn load<H: Files + AllocGlobal>(rt: &H, words: &FileWords<'_>) -> Result<Loaded, LoadFault>
     ensures started { IfOk result (λ loaded. (image : List (Option ℕ))
         × IsLoaded (file_view words.now) loaded.fill image loaded.assembly

@@ -130,6 +130,7 @@ fn clash(one: &Image, other: &Image, address: u16) -> LoadFault
         place: clash_place(address),
         what: CLASH,
         number: None,
+        note: "",
     }
 }
 

@@ -26,7 +26,8 @@ use std::io::Write;
 use std::rt::Files;
 
 /// What is said where a file of names is given for a source.
-const HAS_NAMES: &str = "mos65: WORDS: --symbols is for an image; a source has its own names\n";
+const HAS_NAMES: &str =
+    "mos65: WORDS: --symbols is for an image, of raw bytes as FILE@HHHH; a source has its own names\n";
 
 /// Why nothing is loaded where a file of names may be named.
 #[derive(Drop)]

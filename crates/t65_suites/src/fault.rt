@@ -82,6 +82,7 @@ fn is_out_of_file(fault: &LoadFault) -> bool
         | LoadFault::LooksLikeHex
         | LoadFault::LooksLikeSRecords
         | LoadFault::LooksLikeRaw
+        | LoadFault::LooksLikeCapture
         | LoadFault::NoImage { .. }
         | LoadFault::Faults { .. }
         | LoadFault::AtPort { .. } => false,

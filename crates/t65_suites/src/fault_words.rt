@@ -8,7 +8,7 @@ use crate::fault::{FileFault, TestFault};
 use crate::names::text_of;
 use crate::suites::Suite;
 use crate::wording::{AT_PORT, NO_IMAGE, NO_ROW, NO_SOURCE, TOO_LARGE};
-use arguments::{LoadFault, Refusal, put_fault_line, refuse_file, shown_name, tell_no_image};
+use arguments::{LoadFault, Refusal, put_fault_line, refuse_file, shown_name, tell_noted};
 use loading::NamedFault;
 use std::alloc::{AllocError, Global};
 use std::io::Write;
@@ -105,7 +105,8 @@ fn file_title(alloc: Global, fault: &LoadFault) -> Result<String, AllocError>
         LoadFault::LooksLikeTape
         | LoadFault::LooksLikeHex
         | LoadFault::LooksLikeSRecords
-        | LoadFault::LooksLikeRaw => shown_text(alloc, NO_SOURCE.as_bytes()),
+        | LoadFault::LooksLikeRaw
+        | LoadFault::LooksLikeCapture => shown_text(alloc, NO_SOURCE.as_bytes()),
     }
 }
 
@@ -164,17 +165,24 @@ fn tell_rows<E: Write>(path: &str, fault: TestFault, text: &mut E) {
     }
 }
 
-/// Writes what a file looks like that is named as a source.
-fn tell_like<E: Write>(path: &str, like: &str, text: &mut E) {
+/// Writes what a file looks like that is named as a source, and what to do.
+fn tell_like<E: Write>(path: &str, like: &str, advice: &str, text: &mut E) {
     let _ = writeln!(
         text,
-        "mos65: {path} looks like {like}, and is no source: use --image"
+        "mos65: {path} looks like {like}, and is no source: use {advice}"
     );
 }
 
 /// Writes that an image has bytes at the port, and which base is free.
 fn tell_port<E: Write>(path: &str, first: u32, last: u32, free: Option<u16>, text: &mut E) {
-    let _ = LoadFault::AtPort { first, last, free }.tell(path, text);
+    let _ = write!(
+        text,
+        "mos65: {path}: IMAGE PortAddress 5 at {first:04X}-{last:04X}; "
+    );
+    let _ = match free {
+        Some(base) => writeln!(text, "port {base:04X} in the head is free, or port none"),
+        None => writeln!(text, "no base is free, try port none in the head"),
+    };
 }
 
 /// Writes why a file is not loaded: all faults of a source, what a file looks like, why it is no
@@ -187,17 +195,31 @@ fn tell_file<E: Write>(path: &str, fault: &LoadFault, text: &mut E) {
         LoadFault::Refused(refusal) => {
             let _ = refuse_file(*refusal, path, text);
         }
-        LoadFault::LooksLikeTape => tell_like(path, "a tape", text),
-        LoadFault::LooksLikeHex => tell_like(path, "Intel HEX", text),
-        LoadFault::LooksLikeSRecords => tell_like(path, "S-records", text),
+        LoadFault::LooksLikeTape => tell_like(path, "a tape", "--image", text),
+        LoadFault::LooksLikeHex => tell_like(path, "Intel HEX", "--image", text),
+        LoadFault::LooksLikeSRecords => tell_like(path, "S-records", "--image", text),
         LoadFault::LooksLikeRaw => {
-            let _ = LoadFault::LooksLikeRaw.tell(path, text);
+            tell_like(
+                path,
+                "a raw image",
+                "--bin HHHH, the address of its first byte",
+                text,
+            )
+        }
+        LoadFault::LooksLikeCapture => {
+            tell_like(
+                path,
+                "a capture of a KIM-1's terminal",
+                "mend to make a tape of it",
+                text,
+            )
         }
         LoadFault::NoImage {
             place,
             what,
             number,
-        } => tell_no_image(path, place.as_slice(), *what, *number, text),
+            note,
+        } => tell_noted(path, place.as_slice(), *what, *number, *note, text),
         LoadFault::AtPort { first, last, free } => tell_port(path, *first, *last, *free, text),
     }
 }

@@ -1,11 +1,12 @@
 -- What a fault of a tape means where it shows, as text. Source: mos65.
-use Rattle.std.specs.Prelude.{ℕ, ◌-◌, ◌^◌, ◌==◌, nat_lt, Bool, false, true, not, if◌then◌else◌, List, [], ◌++◌, Option, None, Some, codes, decimal, length, slice_index, take}
+use Rattle.std.specs.Prelude.{ℕ, ◌-◌, ◌^◌, ◌==◌, nat_lt, Bool, false, true, if◌then◌else◌, List, [], ◌++◌, Option, None, Some, codes, decimal, length, slice_index, take}
 use Rattle.std.specs.Fmt.{digits, format_spec, padded_integral}
 use Rattle.std.specs.List.{count_by, suffix_len}
 use Rattle.model.specs.Tape.{is_skipped}
 use Rattle.model.specs.declared.tape.TapeFault.{TapeFault}
 use Rattle.model.specs.declared.tape.TapeFaultKind.{TapeFaultKind}
 use Rattle.model.specs.declared.tape.TapeFaultKind.TheVariants.{NoRecord, BadHex, BadChecksum, PastEnd, Truncated, BadCount, JunkAfterEnd, JunkBetween, OutOfMemory, TooLong}
+pub use Rattle.image_files.specs.Forms.{is_no_record}
 use Rattle.tape_words.specs.Answers.{counted, fault_front}
 use Rattle.tape_words.specs.Lines.{line_of}
 use Rattle.tape_words.specs.Records.{end_by, numbers_at}
@@ -23,9 +24,6 @@ named_hex words width number = words
 
 abbrev pub is_record : ℕ → Bool
 is_record b = b == 59
-
-abbrev pub is_no_record : ℕ → Bool
-is_no_record b = not (b == 59)
 
 -- How many records begin before a place.
 abbrev pub records_before : List ℕ → ℕ → ℕ

@@ -1,7 +1,7 @@
 -- What the fault of a source makes of the result.
 use Rattle.std.proofs.Common.{◌≡◌, Result, Ok, Err, ◌⊎◌, inl, inr, ap}
 use Rattle.arguments.specs.declared.load_fault.LoadFault.{LoadFault}
-use Rattle.arguments.specs.declared.load_fault.LoadFault.TheVariants.{AtPort, Faults, LooksLikeHex, LooksLikeRaw, LooksLikeSRecords, LooksLikeTape, NoImage, Refused}
+use Rattle.arguments.specs.declared.load_fault.LoadFault.TheVariants.{AtPort, Faults, LooksLikeCapture, LooksLikeHex, LooksLikeRaw, LooksLikeSRecords, LooksLikeTape, NoImage, Refused}
 use Rattle.arguments.specs.declared.refusal.Refusal.TheVariants.{Words, Map as NoMap, Source, Tape, Session as NoSession, OutOfMemory, Read, Write, WriteFile}
 use Rattle.word_asm.specs.CommandLine.{EndsTexts}
 use Rattle.clap.specs.Words.{Text}
@@ -33,7 +33,8 @@ source_ends bus_map file LooksLikeTape ends = absurd ends
 source_ends bus_map file LooksLikeHex ends = absurd ends
 source_ends bus_map file LooksLikeSRecords ends = absurd ends
 source_ends bus_map file LooksLikeRaw ends = absurd ends
-source_ends bus_map file (NoImage place what number) ends = absurd ends
+source_ends bus_map file LooksLikeCapture ends = absurd ends
+source_ends bus_map file (NoImage place what number note) ends = absurd ends
 source_ends bus_map file (Faults fault text) ends = ends
 source_ends bus_map file (AtPort first last free) ends = absurd ends
 source_ends bus_map file (Refused Words) ends = absurd ends

@@ -7,7 +7,7 @@ use Rattle.std.proofs.KnownBytes.{Appends-nil, Appends-trans}
 use Rattle.arguments.specs.Statuses.{status_of_load}
 use Rattle.arguments.specs.Words.{texts}
 use Rattle.arguments.specs.declared.load_fault.LoadFault.{LoadFault}
-use Rattle.arguments.specs.declared.load_fault.LoadFault.TheVariants.{AtPort, Faults, LooksLikeHex, LooksLikeRaw, LooksLikeSRecords, LooksLikeTape, NoImage, Refused}
+use Rattle.arguments.specs.declared.load_fault.LoadFault.TheVariants.{AtPort, Faults, LooksLikeCapture, LooksLikeHex, LooksLikeRaw, LooksLikeSRecords, LooksLikeTape, NoImage, Refused}
 use Rattle.arguments.specs.declared.refusal.Refusal.TheVariants.{Words, Map as NoMap, Source, Tape, Session as NoSession, OutOfMemory, Read, Write, WriteFile}
 use Rattle.word_check.specs.CommandLine.{CheckAsked}
 use Rattle.word_check.specs.Files.{AreBegun, AreKeptBack, AreOutcomes, AreTried, IsBegun, IsOutcome, IsTried, Outcome, said_of, worst_of}
@@ -66,7 +66,8 @@ kept_status LooksLikeTape ends = (omega arith, omega arith)
 kept_status LooksLikeHex ends = (omega arith, omega arith)
 kept_status LooksLikeSRecords ends = (omega arith, omega arith)
 kept_status LooksLikeRaw ends = (omega arith, omega arith)
-kept_status (NoImage place what number) ends = absurd ends
+kept_status LooksLikeCapture ends = (omega arith, omega arith)
+kept_status (NoImage place what number note) ends = absurd ends
 kept_status (Faults fault text) ends = absurd ends
 kept_status (AtPort first last free) ends = absurd ends
 kept_status (Refused Words) ends = absurd ends
@@ -85,7 +86,8 @@ looks_end text LooksLikeTape ends = (text, ends)
 looks_end text LooksLikeHex ends = (text, ends)
 looks_end text LooksLikeSRecords ends = (text, ends)
 looks_end text LooksLikeRaw ends = absurd ends
-looks_end text (NoImage place what number) ends = absurd ends
+looks_end text LooksLikeCapture ends = absurd ends
+looks_end text (NoImage place what number note) ends = absurd ends
 looks_end text (Faults fault told) ends = absurd ends
 looks_end text (AtPort first last free) ends = absurd ends
 looks_end text (Refused OutOfMemory) ends = tt

@@ -2,14 +2,14 @@
 use Rattle.std.specs.Prelude.{◌≡◌, ⊤, ℕ, ◌==◌, ◌&&◌, ◌||◌, Bool, not, true, List, None, length}
 use Rattle.arguments.specs.Shown.{shown_name}
 use Rattle.arguments.specs.declared.load_fault.LoadFault.{LoadFault}
-use Rattle.arguments.specs.declared.load_fault.LoadFault.TheVariants.{LooksLikeHex, LooksLikeRaw, LooksLikeSRecords, LooksLikeTape, Refused}
+use Rattle.arguments.specs.declared.load_fault.LoadFault.TheVariants.{LooksLikeCapture, LooksLikeHex, LooksLikeRaw, LooksLikeSRecords, LooksLikeTape, Refused}
 use Rattle.arguments.specs.declared.refusal.Refusal.TheVariants.{OutOfMemory, Read}
 use Rattle.word_check.specs.Checked.{IsCheckedText}
 use Rattle.word_check.specs.CommandLine.{CheckAsked, map_asked}
 use Rattle.word_check.specs.declared.text.CheckedText.{CheckedText}
 use Rattle.clap.specs.Words.{Text}
 use Rattle.clean_source.specs.Cleaned.{cleaned}
-use Rattle.image_files.specs.Looks.{EndsLooks, looks_raw}
+use Rattle.image_files.specs.Looks.{EndsLooks, IsCaptured, looks_raw}
 use Rattle.model.specs.AllFaults.{faults_of}
 use Rattle.model.specs.State.{is_map}
 use Rattle.warnings.specs.Warnings.{warnings_of}
@@ -39,12 +39,13 @@ abbrev pub HasImage : LoadFault → Type 0
 HasImage fault = (text : List ℕ) × EndsLooks text fault
 
 -- Why the source of a file was not checked: the file begins with a record of an image, or as a raw
--- image, or cannot be read. Memory may run out at any file.
+-- image, or is a capture of a terminal, or cannot be read. Memory may run out at any file.
 abbrev pub EndsFile : LoadFault → Type 0
 EndsFile LooksLikeTape = HasImage LooksLikeTape
 EndsFile LooksLikeHex = HasImage LooksLikeHex
 EndsFile LooksLikeSRecords = HasImage LooksLikeSRecords
 EndsFile LooksLikeRaw = (bytes : List ℕ) × (looks_raw bytes ≡ true)
+EndsFile LooksLikeCapture = (bytes : List ℕ) × IsCaptured bytes
 EndsFile (Refused OutOfMemory) = ⊤
 EndsFile (Refused (Read why)) = ⊤
 EndsFile fault = ⊥

@@ -16,7 +16,7 @@ use arguments::{
 };
 use bus::MapSpec;
 use clean_source::clean_source;
-use image_files::{looks_raw, refuse_image};
+use image_files::{looks_like_capture, looks_raw, refuse_image};
 use std::alloc::Global;
 use std::io::Write;
 use std::rt::Files;
@@ -80,9 +80,14 @@ fn found_in(
     }
 }
 
-/// Returns what is to be written of a source, unless it has a fault and its file begins as no
-/// source does.
-fn unless_raw(
+/// What is said behind what a file looks like that is no source.
+const TAKES_SOURCES: &str =
+    ": check takes sources; info, dis --source and convert take images, of raw bytes as FILE@HHHH\n";
+
+/// Returns what is to be written of a source, unless it has a fault and its file looks like a
+/// capture of a terminal, or begins as no source does.
+fn unless_image(
+    alloc: Global,
     words: &CheckWords<'_>,
     file: &str,
     bytes: &[u8],
@@ -92,10 +97,18 @@ fn unless_raw(
     ensures found { IfOk result (IsFound (check_view words.now) file.now) }
     ensures refused { IfErr result EndsFile }
 {
-    if found.is_faulty && looks_raw(bytes) {
-        return Err(LoadFault::LooksLikeRaw);
+    if !found.is_faulty {
+        return Ok(found);
     }
-    Ok(found)
+    match looks_like_capture(alloc, bytes) {
+        Ok(true) => Err(LoadFault::LooksLikeCapture),
+        _ => {
+            if looks_raw(bytes) {
+                return Err(LoadFault::LooksLikeRaw);
+            }
+            Ok(found)
+        }
+    }
 }
 
 /// Returns what is to be written of a file, or why nothing is.
@@ -112,7 +125,7 @@ fn checked<H: Files + AllocGlobal>(
     let bytes = read_given_source(rt, file)?;
     let source = cleaned_source(rt.alloc(), &bytes)?;
     let found = found_in(rt.alloc(), words, map, file, &source)?;
-    unless_raw(words, file, &bytes, found)
+    unless_image(rt.alloc(), words, file, &bytes, found)
 }
 
 /// Returns the status of what was found of a file: 1 if the text counts, and 0 if not.
@@ -170,7 +183,7 @@ fn check_file<H: Files + AllocGlobal, O: Write, E: Write>(
 {
     match checked(rt, words, map, file) {
         Ok(found) => tell(words, file, &found, output),
-        Err(fault) => Ok(fault.tell(file, errors)),
+        Err(fault) => Ok(fault.tell_advised(file, TAKES_SOURCES, errors)),
     }
 }
 

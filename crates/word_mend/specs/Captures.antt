@@ -1,8 +1,9 @@
 -- What `mend` makes of a capture of a KIM-1's terminal: of what it showed while the monitor wrote a
 -- tape, before that, and behind it. Source: KIM-1 manual, on the format of paper tapes: what comes
 -- before a `;` is ignored, and the last record has no data; mos65 for the rest.
-use Rattle.std.specs.Prelude.{◌≡◌, ℕ, ◌+◌, ◌-◌, ◌==◌, if◌then◌else◌, true, List, [], ◌∷◌, ◌++◌, codes, decimal, drop, length, take, Option}
-use Rattle.std.specs.List.{list_all, prefix_len, AllByRecursion}
+use Rattle.std.specs.Prelude.{◌≡◌, ℕ, ◌+◌, ◌-◌, ◌==◌, if◌then◌else◌, true, List, [], ◌∷◌, ◌++◌, codes, decimal, length, take, Option}
+use Rattle.std.specs.List.{list_all, AllByRecursion}
+pub use Rattle.image_files.specs.Forms.{before_record, from_record}
 use Rattle.model.specs.Image.{empty_image}
 use Rattle.model.specs.Tape.{Part, IsEnd, IsPiece, count_of, front_of, with_records}
 use Rattle.model.specs.declared.tape.TapeFault.{TapeFault}
@@ -14,14 +15,6 @@ use Rattle.tape_words.specs.declared.wording.TheConstants.{BYTE, BYTES}
 use Rattle.word_mend.specs.Mending.{kept, with_line_ends}
 use Rattle.word_mend.specs.Reported.{is_end, last_record, moved}
 use Rattle.word_mend.specs.declared.wording.TheConstants.{BEFORE_RECORD, BEHIND_END_RECORD, LEFT_OUT}
-
--- What a text has before its first `;`, or all of it.
-unfoldable pub before_record : List ℕ → List ℕ
-before_record text = take (prefix_len is_no_record text) text
-
--- What it has from its first `;` on.
-unfoldable pub from_record : List ℕ → List ℕ
-from_record text = drop (prefix_len is_no_record text) text
 
 -- Some kept bytes without what follows their last record, if that is an end record: the `;`, and
 -- ten digits.

@@ -1,18 +1,17 @@
 //! A tape from what the terminal of a KIM-1 showed while one was written.
 
-ghost use Rattle.std.specs.Prelude.{◌≡◌, ◌⊎◌, ◌≤◌, ◌+◌, ◌++◌, ℕ, List, Option, IfErr, IfOk, MatchResult, OnOk};
-ghost use Rattle.std.specs.Prelude.{length, string_bytes};
-ghost use Rattle.std.specs.List.{prefix_len};
+ghost use Rattle.std.specs.Prelude.{◌≡◌, ◌⊎◌, ◌++◌, ℕ, List, Option, IfErr, IfOk, MatchResult, OnOk};
+ghost use Rattle.std.specs.Prelude.{string_bytes};
 ghost use Rattle.model.specs.Tape.{FirstFault, TapeDenotes};
 ghost use Rattle.model.specs.TapeFault.{out_of_memory};
-ghost use Rattle.tape_words.specs.Meanings.{is_no_record};
-ghost use Rattle.word_mend.specs.Captures.{IsCapture, at_line, before_record, before_text};
-ghost use Rattle.word_mend.specs.Captures.{behind_text, capture_text, captured_tape, from_record};
-ghost use Rattle.word_mend.specs.Captures.{left_out, some_left_out, up_to_end};
+ghost use Rattle.word_mend.specs.Captures.{IsCapture, at_line, before_text, behind_text};
+ghost use Rattle.word_mend.specs.Captures.{capture_text, captured_tape, left_out, some_left_out};
+ghost use Rattle.word_mend.specs.Captures.{up_to_end};
 
 use crate::parts::{kept_of, push_records};
 use crate::reporting::{is_end, last_record};
 use crate::wording;
+use image_files::at_record;
 use memory_map::Image;
 use model::{TAPE_OUT_OF_MEMORY, TapeFault};
 use papertape::{each_text_has_one_reading, looks_like_tape, read_tape};
@@ -29,31 +28,6 @@ pub struct CapturedTape {
 }
 
 // ---- the parts of a capture
-
-/// Returns whether no record begins with a byte.
-fn is_no_record(byte: u8) -> bool
-    ensures { result ≡ is_no_record byte }
-{
-    !(byte == b';')
-}
-
-/// Counts the bytes before the first `;`.
-fn before_len(text: &[u8]) -> usize
-    ensures counted { result ≡ prefix_len is_no_record text.now }
-    ensures inside { result ≤ length text.now }
-{
-    text.iter().take_while(|byte| is_no_record(**byte)).count()
-}
-
-/// Returns what a text has before its first `;`, or all of it, and what it has from there on.
-#[tactic(auto, unfolding(crate::specs::Captures::before_record, crate::specs::Captures::from_record))]
-pub fn at_record(text: &[u8]) -> (&[u8], &[u8])
-    ensures before { result.0.now ≡ before_record text.now }
-    ensures behind { result.1.now ≡ from_record text.now }
-    ensures whole { length result.0.now + length result.1.now ≡ length text.now }
-{
-    text.split_at(before_len(text))
-}
 
 /// Returns kept bytes without what follows their last record, if that is an end record.
 #[tactic(auto, unfolding(crate::specs::Captures::up_to_end))]

@@ -18,14 +18,14 @@ ghost use Rattle.word_mend.specs.Word.{Asks, EndsMend, IsAbout, IsSaid, IsSaidOf
 ghost use Rattle.tape_words.specs.Asked.{mend_asked, mend_view};
 ghost use Rattle.tape_words.specs.CommandLines.{mend};
 
-use crate::captures::{CapturedTape, at_record, capture_report, looks_like_capture, mend_capture};
+use crate::captures::{CapturedTape, capture_report, looks_like_capture, mend_capture};
 use crate::mending::{Mended, mend_text};
 use crate::parts::is_kept;
 use crate::record_reports::{record_line, records_report};
 use crate::records::{MendedRecords, mend_records};
 use crate::reporting::report;
 use arguments::{FileRefusal, Refusal, refused_words, write_output};
-use image_files::form_by;
+use image_files::{at_record, form_by};
 use image_reader::{Form, ImageFault, RecordFault, TextForm};
 use model::{TapeFault, TapeFaultKind};
 use std::alloc::{AllocError, Global};

@@ -2,7 +2,7 @@
 use Rattle.std.proofs.Common.{◌≡◌, ◌⊎◌, ℕ, Bool, ◌++◌, inl, inr, refl, subst, List, Option, None, Some, Err, Bor, option_map, unwrap_or}
 use Rattle.std.specs.Prelude.{⊤}
 use Rattle.std.specs.Io.KnownBytes.{Appends}
-use Rattle.arguments.specs.FaultLines.{file_line, load_text}
+use Rattle.arguments.specs.FaultLines.{file_line, image_line, load_text}
 use Rattle.arguments.specs.Statuses.{status_of}
 use Rattle.arguments.specs.Asked.{FileAsked}
 use Rattle.arguments.specs.declared.load_fault.LoadFault.TheVariants.{Refused}
@@ -21,7 +21,7 @@ use Rattle.word_mon.specs.Starts.{EndsNamed}
 -- Memory ran out: the line names no file.
 memory_unloads : (file : FileAsked) (others : Others) (heard : Heard) (path : List ℕ) (fault : Refusal) (status : ℕ) (Alone : Type 0) → fault ≡ OutOfMemory
     → status ≡ status_of fault → Tells heard (file_line path fault) → Alone → AreUnloaded file others heard status Alone
-unfolding load_text file_line
+unfolding load_text image_line file_line
 memory_unloads file others heard path fault status A memory is told alone = (
   file.file,
   Refused OutOfMemory,

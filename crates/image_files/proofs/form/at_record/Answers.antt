@@ -1,5 +1,5 @@
 use Rattle.std.proofs.Common.{ℕ, List, length, ap, arith, length-drop}
-use Rattle.word_mend.proofs.captures.at_record.Goals as goal
+use Rattle.image_files.proofs.form.at_record.Goals as goal
 
 pub returns-clause-whole : goal.returns-clause-whole
 returns-clause-whole c = omega (
