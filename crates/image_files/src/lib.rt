@@ -30,6 +30,6 @@ pub use form::{OtherText, at_record};
 pub use looks::{looks_like_capture, looks_raw, refuse_image};
 pub use options::{fill_asked, form_said, forms_said, said_of, with_image_options};
 pub use ports::free_base;
-pub use refusal::{ImageFileRefusal, ImageRefusal, NoImage};
+pub use refusal::{ImageFileRefusal, ImageRefusal, NoImage, record_note};
 pub use union::{first_clash, union_of};
 pub use written::write_form;

@@ -34,7 +34,7 @@ pub const LINE_ENDS: &str = ": the line ends within its record";
 pub const LINE_GOES_ON: &str =
     ": the line goes on behind its record, as one that ends with CR alone";
 
-pub const OTHER_SUM: &str = ": the bytes have another sum, which info tells";
+pub const OTHER_SUM: &str = ": the bytes have another sum (info says which)";
 
 pub const NO_TYPE: &str = ": no record has this type";
 
