@@ -31,20 +31,34 @@ pub struct Program<'a> {
     pub names: Option<&'a Assembly>,
 }
 
-/// Returns the facts of a session's program.
-fn facts_in(alloc: Global, program: &Program<'_>) -> Result<Vec<u8>, AllocError> {
-    let file = &program.words.file;
-    facts_of(
-        alloc,
-        &Facts {
-            title: file.file,
-            port: file.port,
-            profile: file.profile,
-            written: program.loaded,
-            assembly: program.source,
-            names: program.names,
-        },
-    )
+/// What a page says of a program besides its run.
+#[derive(Drop)]
+struct Said {
+    facts: Vec<u8>,
+    source: Vec<u8>,
+}
+
+/// Returns what a page says of a session's program: with the files of debug information, if the
+/// session was begun with some.
+fn said_of(alloc: Global, mon: &MonState, program: &Program<'_>) -> Result<Said, AllocError> {
+    let words = program.words;
+    let file = &words.file;
+    let debug = match words.debug_info {
+        None => None,
+        Some(_) => Some(&mon.places),
+    };
+    let told = Facts {
+        title: file.file,
+        port: file.port,
+        profile: file.profile,
+        written: program.loaded,
+        assembly: program.source,
+        debug,
+        names: program.names,
+    };
+    let facts = facts_of(alloc, &told)?;
+    let source = source_of(alloc, told.assembly, told.debug)?;
+    Ok(Said { facts, source })
 }
 
 /// Returns the page of what a session holds: undoes all events that are held, and makes them again.
@@ -62,12 +76,11 @@ pub fn page_of_held(
     ensures stops { KeepsStops mon.old mon.new }
     ensures text { mon.new.text ≡ mon.old.text }
 {
-    let facts = facts_in(alloc, program)?;
-    let source = source_of(alloc, program.source)?;
+    let said = said_of(alloc, mon, program)?;
     let bytes = record_held(alloc, mon)?;
     let texts = Texts {
-        facts: facts.as_slice(),
-        source: source.as_slice(),
+        facts: said.facts.as_slice(),
+        source: said.source.as_slice(),
     };
     let text = page_of(alloc, &viewer(), &texts, bytes.as_slice(), HERE)?;
     Ok(text)

@@ -1,6 +1,6 @@
 -- What a page says of a program besides its run: facts, a line each, a word and what it says, and
--- the source. Source: mos65.
-use Rattle.std.specs.Prelude.{ℕ, zero, suc, ℤ, pos, negsuc, ◌+◌, ◌-◌, ◌==◌, ◌&&◌, ◌||◌, nat_le, Bool, true, false, if◌then◌else◌, List, [], ◌∷◌, ◌++◌, codes, decimal, map, Option, Some, None, option_map}
+-- the source. Lines are those of its source, or those of debug information. Source: mos65.
+use Rattle.std.specs.Prelude.{ℕ, zero, suc, ℤ, pos, negsuc, ◌+◌, ◌-◌, ◌==◌, ◌&&◌, ◌||◌, nat_le, Bool, true, false, if◌then◌else◌, List, [], ◌∷◌, ◌++◌, codes, decimal, Option, Some, None, option_map}
 use Rattle.std.specs.List.{flat_map}
 use Rattle.accesses.specs.Writing.{is_written}
 use Rattle.assembler.specs.Assembly.{AssemblyView, source_lines}
@@ -12,19 +12,17 @@ use Rattle.model.specs.declared.instruction.Mode.{Mode}
 use Rattle.model.specs.declared.instruction.Mode.TheVariants.{Imp, Acc, Imm, Zp, ZpX, ZpY, Abs, AbsX, AbsY, IndX, IndY, Ind, Rel, IndZ}
 use Rattle.model.specs.declared.instruction.Profile.{Profile}
 use Rattle.model.specs.declared.instruction.Row.{Row as OpcodeRow}
+use Rattle.page_writer.specs.Files.{facts_by, files_text, row_numbers}
+use Rattle.page_writer.specs.InLine.{line_of}
 use Rattle.page_writer.specs.declared.facts.Program.{Program}
-use Rattle.source_map.specs.Lines.{rows_of}
+use Rattle.source_map.specs.Lines.{PlacesView, rows_of}
 use Rattle.source_map.specs.Names.{named_numbers}
 use Rattle.source_map.specs.declared.rows.Row.{Row}
 
 -- ---- the title and the port
 
--- The end of a line would end the fact: a blank stands for it.
-abbrev pub in_line : ℕ → ℕ
-in_line b = if b == 10 then 32 else b
-
 unfoldable pub title_fact : List ℕ → List ℕ
-title_fact title = codes "title " ++ (map in_line title ++ codes "\n")
+title_fact title = codes "title " ++ (line_of title ++ codes "\n")
 
 -- The base of the port, if there is a port.
 unfoldable pub port_fact : ℕ → List ℕ
@@ -84,8 +82,7 @@ loaded_facts address len (false ∷ cells) = stretch_fact address len
 
 -- A line of the source that has bytes: its number, its address, and how many they are.
 unfoldable pub line_fact : Row → List ℕ
-line_fact row = codes "line " ++ (decimal row.line ++ (codes " " ++ (hex_address row.address
-    ++ (codes " " ++ (decimal row.count ++ codes "\n")))))
+line_fact row = codes "line " ++ (row_numbers row ++ codes "\n")
 
 -- A name is shown as a label if it is one of the source. In another file of names it is one if a
 -- byte of the program stands at its address.
@@ -131,6 +128,7 @@ pub record ProgramView : Type 0 where
   pub profile : Profile
   pub written : List Bool
   pub assembly : Option AssemblyView
+  pub debug : Option PlacesView
   pub names : Option AssemblyView
 
 abbrev pub program_view : Program → ProgramView
@@ -140,13 +138,14 @@ program_view p = record {
   profile = p.profile;
   written = p.written.now;
   assembly = option_map (λ a. a.now) p.assembly;
+  debug = option_map (λ places. places.now) p.debug;
   names = option_map (λ a. a.now) p.names;
 }
 
 unfoldable pub facts_text : ProgramView → List ℕ
 facts_text p = title_fact p.title ++ (port_fact p.port ++ (opcodes_fact p.profile
     ++ (loaded_facts 0 0 p.written
-    ++ (told_by p.written p.assembly ++ names_of p.written p.names))))
+    ++ (told_by p.written p.assembly ++ (facts_by p.debug ++ names_of p.written p.names)))))
 
 -- ---- the source
 
@@ -158,6 +157,10 @@ text_of line = line.text ++ 10 ∷ []
 abbrev pub lines_of : AssemblyView → List ℕ
 lines_of assembly = flat_map text_of (source_lines assembly)
 
-abbrev pub source_text : Option AssemblyView → List ℕ
-source_text None = []
-source_text (Some assembly) = lines_of assembly
+abbrev pub assembly_text : Option AssemblyView → List ℕ
+assembly_text None = []
+assembly_text (Some assembly) = lines_of assembly
+
+-- The lines of the source, or of the files that debug information names.
+abbrev pub source_text : Option AssemblyView → Option PlacesView → List ℕ
+source_text assembly debug = assembly_text assembly ++ files_text debug

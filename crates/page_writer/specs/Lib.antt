@@ -2,6 +2,8 @@ pub mod Steps
 pub mod Data
 pub mod Turns
 pub mod Page
+pub mod InLine
+pub mod Files
 pub mod Facts
 pub mod Opening
 pub mod Viewer

@@ -1,23 +1,25 @@
 //! What a page says of a program besides its run: facts, a line each, and the source.
 
-ghost use Rattle.std.specs.Prelude.{◌≡◌, ◌++◌, IfOk, OnOk, map, option_map, slice_get};
+ghost use Rattle.std.specs.Prelude.{◌≡◌, ◌++◌, IfOk, OnOk, option_map, slice_get};
 ghost use Rattle.std.specs.List.{flat_map};
 ghost use Rattle.std.specs.Option.{option_to_list};
 ghost use Rattle.assembler.specs.Assembly.{source_lines};
-ghost use Rattle.page_writer.specs.Facts.{facts_text, in_line, line_fact, lines_of, names_of};
+ghost use Rattle.page_writer.specs.Facts.{assembly_text, facts_text, line_fact, lines_of, names_of};
 ghost use Rattle.page_writer.specs.Facts.{port_fact, program_view, source_text, text_of};
 ghost use Rattle.page_writer.specs.Facts.{told_by, title_fact};
 ghost use Rattle.source_map.specs.Lines.{rows_of};
 
+use crate::files::{push_debug_facts, push_debug_texts, push_numbers};
+use crate::in_line::push_in_line;
 use crate::names::push_names;
 use crate::opcodes::push_opcodes;
 use crate::stretches::push_loaded;
 use accesses::Written;
 use assembler::Assembly;
-use formatting::{push_address, push_count, push_text};
+use formatting::{push_address, push_text};
 use memory_map::Port;
 use model::Profile;
-use source_map::{Row, rows_of};
+use source_map::{Places, Row, rows_of};
 use std::alloc::{AllocError, Global};
 
 /// What is told of a program.
@@ -33,25 +35,10 @@ pub struct Program<'a> {
     pub written: &'a Written,
     /// What the file says of names and lines, if it is a source.
     pub assembly: Option<&'a Assembly>,
+    /// What debug information says of lines, if there is some.
+    pub debug: Option<&'a Places>,
     /// A file of names, if there is one.
     pub names: Option<&'a Assembly>,
-}
-
-/// Returns a byte of a title, and a blank for the end of a line.
-fn in_line(byte: u8) -> u8
-    ensures { result ≡ in_line byte }
-{
-    if byte == b'\n' { b' ' } else { byte }
-}
-
-/// Appends bytes in one line.
-fn push_in_line(text: &mut Vec<u8>, bytes: &[u8]) -> Result<(), AllocError>
-    ensures { OnOk result (text.new.items ≡ text.old.items ++ map in_line bytes.now) }
-{
-    for byte in bytes {
-        text.push(in_line(*byte))?;
-    }
-    Ok(())
 }
 
 /// Appends the title.
@@ -83,11 +70,7 @@ fn push_line(text: &mut Vec<u8>, row: Row) -> Result<(), AllocError>
     ensures { OnOk result (text.new.items ≡ text.old.items ++ line_fact row) }
 {
     push_text(text, "line ")?;
-    push_count(text, row.line as u64)?;
-    push_text(text, " ")?;
-    push_address(text, row.address)?;
-    push_text(text, " ")?;
-    push_count(text, row.count as u64)?;
+    push_numbers(text, row)?;
     push_text(text, "\n")
 }
 
@@ -135,7 +118,8 @@ fn push_other_names(
 }
 
 /// Returns the facts of a program: its title, the port, the opcodes, where its file has bytes, the
-/// lines and the names of its source, and those of a file of names.
+/// lines and the names of its source, the files and the rows of debug information, and the names of
+/// a file of names.
 ///
 /// Errors: `AllocError` if an allocation fails. Source: mos65.
 #[tactic(auto, unfolding(crate::specs::Facts::facts_text))]
@@ -148,6 +132,7 @@ pub fn facts_of(alloc: Global, program: &Program<'_>) -> Result<Vec<u8>, AllocEr
     push_opcodes(&mut text, program.profile)?;
     push_loaded(&mut text, program.written)?;
     push_source_facts(alloc, &mut text, program.assembly, program.written)?;
+    push_debug_facts(&mut text, program.debug)?;
     push_other_names(&mut text, program.names, program.written)?;
     Ok(text)
 }
@@ -177,17 +162,32 @@ fn push_texts(text: &mut Vec<u8>, assembly: &Assembly) -> Result<(), AllocError>
     Ok(())
 }
 
-/// Returns the source as a page has it: the lines that were read, each with an LF, and nothing if
-/// the file is no source.
+/// Appends the lines of a source that were read, if there is one.
+fn push_assembly_text(text: &mut Vec<u8>, assembly: Option<&Assembly>) -> Result<(), AllocError>
+    ensures { OnOk result (text.new.items ≡ text.old.items
+        ++ assembly_text (option_map (λ a. a.now) assembly.entry)) }
+{
+    match assembly {
+        None => Ok(()),
+        Some(assembly) => push_texts(text, assembly),
+    }
+}
+
+/// Returns the source as a page has it: the lines that were read, and those of the files of debug
+/// information, each with an LF.
 ///
 /// Errors: `AllocError` if an allocation fails. Source: mos65.
-pub fn source_of(alloc: Global, assembly: Option<&Assembly>) -> Result<Vec<u8>, AllocError>
-    ensures { IfOk result
-        (λ text. text.items ≡ source_text (option_map (λ a. a.now) assembly.entry)) }
+pub fn source_of(
+    alloc: Global,
+    assembly: Option<&Assembly>,
+    debug: Option<&Places>,
+) -> Result<Vec<u8>, AllocError>
+    ensures { IfOk result (λ text. text.items
+        ≡ source_text (option_map (λ a. a.now) assembly.entry)
+        (option_map (λ places. places.now) debug.entry)) }
 {
     let mut text = Vec::new(alloc);
-    if let Some(assembly) = assembly {
-        push_texts(&mut text, assembly)?;
-    }
+    push_assembly_text(&mut text, assembly)?;
+    push_debug_texts(&mut text, debug)?;
     Ok(text)
 }

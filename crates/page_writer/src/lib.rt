@@ -8,12 +8,14 @@
 //! memory does not grow with the steps. `page_of` makes a page of data that were recorded before.
 //! Nothing between the parts ends a script or begins markup.
 //!
-//! `facts_of` and `source_of` make what is told of a program (`specs/Facts.antt`), `push_opening`
-//! adds what a page shows when it is opened, and `viewer` is the template between whose parts it
-//! stands.
+//! `facts_of` and `source_of` make what is told of a program (`specs/Facts.antt`), with the files
+//! of one that another tool built (`specs/Files.antt`); `push_opening` adds what a page shows when
+//! it is opened, and `viewer` is the template between whose parts it stands.
 #![tactic(auto)]
 
 mod facts;
+mod files;
+mod in_line;
 mod names;
 mod opcodes;
 mod opening;

@@ -5,6 +5,7 @@ use Rattle.std.specs.Str.{bytes_eq}
 use Rattle.arguments.specs.Asked.{FileAsked, file_asked, file_view, is_flag}
 use Rattle.arguments.specs.Values.{steps_asked}
 use Rattle.arguments.specs.Words.{value_in}
+use Rattle.arguments_play.specs.Debug.{debug_for}
 use Rattle.clap.specs.Words.{Text}
 use Rattle.model.specs.Commands.{address_of, decimal_of}
 use Rattle.word_page.specs.CommandLine.{page}
@@ -52,6 +53,8 @@ pub record PageAsked : Type 0 where
   pub file : FileAsked
   pub out : Text
   pub symbols : Option Text
+  pub debug_info : Option Text
+  pub source_root : Option Text
   pub input : Option Text
   pub until : Option Text
   pub steps : ℕ
@@ -68,19 +71,22 @@ abbrev pub names_file : Option Text → Text → Bool
 names_file None name = false
 names_file (Some word) name = bytes_eq word name
 
--- The page has the name of a file that is read: of FILE, of the names, of the input, or of the
--- notes.
-abbrev pub is_read : Text → Option Text → Option Text → Option Text → Text → Bool
-is_read file symbols input notes out = bytes_eq file out || names_file symbols out
-    || names_file input out || names_file notes out
+-- The page has the name of a file that is read: of FILE, of the names, of the debug information, of
+-- the input, or of the notes.
+abbrev pub is_read : Text → Option Text → Option Text → Option Text → Option Text → Text → Bool
+is_read file symbols debug input notes out = bytes_eq file out || names_file symbols out
+    || names_file debug out || names_file input out || names_file notes out
 
-abbrev pub page_of : Option FileAsked → Option Text → Option Text → Option Text → Option Text
-    → Option ℕ → Option Text → Option OpeningAsked → Bool → Option PageAsked
-page_of (Some file) (Some out) symbols input until (Some steps) title (Some opening) is_free
-    = if is_read file.file symbols input opening.notes out then None else Some (record {
+abbrev pub page_of : Option FileAsked → Option Text → Option Text → Option (Option Text)
+    → Option Text → Option Text → Option Text → Option ℕ → Option Text → Option OpeningAsked → Bool
+    → Option PageAsked
+page_of (Some file) (Some out) symbols (Some debug) root input until (Some steps) title (Some opening) is_free
+    = if is_read file.file symbols debug input opening.notes out then None else Some (record {
       file = file;
       out = out;
       symbols = symbols;
+      debug_info = debug;
+      source_root = root;
       input = input;
       until = until;
       steps = steps;
@@ -88,12 +94,13 @@ page_of (Some file) (Some out) symbols input until (Some steps) title (Some open
       opening = opening;
       is_free = is_free;
     })
-page_of file out symbols input until steps title opening is_free = None
+page_of file out symbols debug root input until steps title opening is_free = None
 
 -- What the values of the names ask for, where each is one that its name can have, and the page has
 -- the name of no file that is read.
 abbrev pub page_asked : (Text → Option Text) → Option PageAsked
 page_asked value = page_of (file_asked value) (value (codes "OUT")) (value (codes "symbols"))
+    (debug_for (file_asked value) (value (codes "debug-info"))) (value (codes "source-root"))
     (value (codes "input")) (value (codes "until")) (page_steps (value (codes "steps")))
     (value (codes "title")) (opening_asked value) (is_flag (value (codes "free")))
 
@@ -107,6 +114,8 @@ page_view w = record {
   file = file_view w.file;
   out = w.out.now;
   symbols = option_map (λ s. s.now) w.symbols;
+  debug_info = option_map (λ s. s.now) w.debug_info;
+  source_root = option_map (λ s. s.now) w.source_root;
   input = option_map (λ s. s.now) w.input;
   until = option_map (λ s. s.now) w.until;
   steps = w.steps;

@@ -12,6 +12,8 @@ use Rattle.assembler.specs.Assembly.{AssemblyView}
 use Rattle.console.specs.Playing.{Outcome, begun, played}
 use Rattle.console.specs.Written.{RanAs}
 use Rattle.console.specs.declared.ending.Played.{Played}
+use Rattle.debug_files.specs.Changed.{TellsChanged}
+use Rattle.debug_files.specs.Loaded.{IsUndebugged}
 use Rattle.loading.specs.Loads.{AreImageNames, IsLoaded}
 use Rattle.loading.specs.Named.{MayLose}
 use Rattle.loading.specs.Warned.{left_text}
@@ -20,12 +22,13 @@ use Rattle.loading.specs.Told.{Heard, IsUnloaded, Tells}
 use Rattle.model.specs.Event.{start}
 use Rattle.model.specs.Names.{Definitions}
 use Rattle.model.specs.Session.{Session as SessionView, new_session}
+use Rattle.source_map.specs.Lines.{PlacesView}
 use Rattle.word_page.specs.Asked.{PageAsked}
 use Rattle.word_page.specs.Notes.{IsFaultOf, notes_line, notes_status}
 use Rattle.word_page.specs.declared.fault.PageFault.{PageFault}
 use Rattle.word_page.specs.declared.fault.PageFault.TheVariants.{File, Notes}
 use Rattle.word_page.specs.declared.notes.NotesFault.{NotesFault}
-use Rattle.word_run.specs.Known.{known_by}
+use Rattle.word_run.specs.Known.{AreDebugged, known_by}
 use Rattle.word_run.specs.Places.{place_asked}
 use Rattle.word_run.specs.Runs.{Start, TellsEnding}
 use Rattle.word_run.specs.Statuses.{status_of_ending}
@@ -79,22 +82,22 @@ abbrev pub IsRefused : Heard → ℕ → Type 0
 IsRefused heard status = IsUnread heard status ⊎ IsUnnoted heard status
 
 -- A session ran over some input by the definition of a run, and the error stream got how it ended.
-abbrev pub IsRun : PageAsked → Option AssemblyView → Heard → ℕ → Outcome → Type 0
-IsRun a assembly heard status end = (status ≡ status_of_ending end.ending 0)
-    × TellsEnding (known_by a.file.file assembly None) heard end.ending end.steps end.play.session.current.regs.pc
+abbrev pub IsRun : Option PlacesView → Heard → ℕ → Outcome → Type 0
+IsRun known heard status end = (status ≡ status_of_ending end.ending 0)
+    × TellsEnding known heard end.ending end.steps end.play.session.current.regs.pc
 
 -- A session ran up to a place, or there is no whole page.
-abbrev pub IsShown : PageAsked → Option AssemblyView → Option ℕ → Start → Heard → ℕ → Type 0
-IsShown a assembly until s heard status = IsRefused heard status
+abbrev pub IsShown : PageAsked → Option PlacesView → Option ℕ → Start → Heard → ℕ → Type 0
+IsShown a known until s heard status = IsRefused heard status
     ⊎ ((input : List ℕ) × IsInput a.input input
-    × IsRun a assembly heard status (played until a.steps (begun s.session s.written input)))
+    × IsRun known heard status (played until a.steps (begun s.session s.written input)))
 
 -- The same up to the place of the words, if it is found; otherwise the error stream got that it is
 -- no place.
-abbrev pub ShownIfFound : PageAsked → Option AssemblyView → Result (Option ℕ) ℕ → Start → Heard
+abbrev pub ShownIfFound : PageAsked → Option PlacesView → Result (Option ℕ) ℕ → Start → Heard
     → ℕ → Type 0
-ShownIfFound a assembly (Ok until) s heard status = IsShown a assembly until s heard status
-ShownIfFound a assembly (Err refused) s heard status
+ShownIfFound a known (Ok until) s heard status = IsShown a known until s heard status
+ShownIfFound a known (Err refused) s heard status
     = (status ≡ refused) × Tells heard (unplaced_line a.until)
 
 -- ---- names and places
@@ -122,16 +125,30 @@ found_or None rest = rest
 abbrev pub place_in : Definitions → Definitions → Option (List ℕ) → Result (Option ℕ) ℕ
 place_in source names word = found_or (place_besides source names word) (place_asked source word)
 
+-- The debug information that is named was read, the error stream got which of its sources have
+-- changed, and the place of the words was looked for among names and in the source; or it was not
+-- read, and the error stream got why.
+abbrev pub ShownIfDebugged : PageAsked → Option AssemblyView → Option AssemblyView → List Bool
+    → Start → Heard → ℕ → Type 0
+ShownIfDebugged a assembly names loaded s heard status
+    = IsUndebugged a.debug_info heard.held heard.now status ⊤
+    ⊎ ((debug : Option PlacesView)
+    × AreDebugged a.debug_info s.session.current loaded assembly debug
+    × (between : Option (List ℕ)) × TellsChanged a.debug_info heard.held between
+    × ShownIfFound a (known_by a.file.file assembly debug)
+    (place_in (names_of assembly) (names_of names) a.until) s
+    (record { held = between; now = heard.now }) status)
+
 -- The names were read, the error stream got how many lines gave none and that fill at the port was
--- left out, and the place of the words was looked for among them and in the source; or there is no
--- whole page.
-abbrev pub ShownIfNamed : PageAsked → Option AssemblyView → Option ℕ → Start → Heard → ℕ → Type 0
-ShownIfNamed a assembly fill s heard status = IsRefused heard status
+-- left out, and the same was done with them; or there is no whole page.
+abbrev pub ShownIfNamed : PageAsked → Option AssemblyView → Option ℕ → List Bool → Start → Heard
+    → ℕ → Type 0
+ShownIfNamed a assembly fill loaded s heard status = IsRefused heard status
     ⊎ ((names : Option AssemblyView) × AreNamed a.symbols a.file names
     × (lost : ℕ) × MayLose a.file.profile a.symbols lost × (between : Option (List ℕ))
     × Tells (record { held = heard.held; now = between }) (left_text lost fill)
-    × ShownIfFound a assembly (place_in (names_of assembly) (names_of names) a.until) s
-    (record { held = between; now = heard.now }) status)
+    × ShownIfDebugged a assembly names loaded s (record { held = between; now = heard.now })
+    status)
 
 -- A session at the start of an image, with the image's bytes written.
 abbrev pub start_of : PageAsked → List (Option ℕ) → Start
@@ -145,4 +162,4 @@ abbrev pub IsDone : PageAsked → Heard → ℕ → Type 0
 IsDone a heard status = IsUnloaded a.file heard status ⊤
     ⊎ ((image : List (Option ℕ)) × (assembly : Option AssemblyView)
     × (fill : Option ℕ) × IsLoaded a.file fill image assembly
-    × ShownIfNamed a assembly fill (start_of a image) heard status)
+    × ShownIfNamed a assembly fill (bytes_in image) (start_of a image) heard status)

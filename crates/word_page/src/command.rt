@@ -6,6 +6,7 @@ ghost use Rattle.clap.specs.declared.builder.command.Command.TheViews.{out-Comma
 ghost use Rattle.word_page.specs.CommandLine.{page};
 
 use arguments::{begin, file, flag, option, with_file_options};
+use arguments_play::{DEBUG_HELP, ROOT_HELP};
 use clap::error::ErrorKind;
 use clap::{Command, Error};
 use std::alloc::Global;
@@ -15,7 +16,7 @@ const STATUSES: &str = "OUT is one file for a browser: keys, clicks and a slider
 
 Exit status: 0 the run came to its end, 10 the limit of steps, 11 a fault of the program,
 12 the console is full, 13 nothing stands where the program runs: the page was written;
-1 bad source, tape, names or notes, 2 bad words or map, 3 out of memory, 4 I/O failed
+1 bad source, tape, names, notes or debug file, 2 bad words or map, 3 out of memory, 4 I/O failed
 
 Example:
   mos65 page guess.a65 guess.html --input answers.txt";
@@ -43,6 +44,8 @@ pub fn page_command<'a>(alloc: Global) -> Result<Command<'a>, Error>
     let command = with_file_options(alloc, command)?
         .arg(file(alloc, "OUT", out))?
         .arg(option(alloc, "symbols", "FILE", symbols))?
+        .arg(option(alloc, "debug-info", "FILE", DEBUG_HELP))?
+        .arg(option(alloc, "source-root", "FOLDER", ROOT_HELP))?
         .arg(option(alloc, "input", "FILE", input))?
         .arg(option(alloc, "until", "WHERE", until))?
         .arg(option(alloc, "steps", "N", steps))?

@@ -11,7 +11,8 @@ ghost use Rattle.model.specs.Writers.{AppendsFront};
 ghost use Rattle.word_page.specs.Asked.{PageAsked, words_in, page_view};
 ghost use Rattle.word_page.specs.CommandLine.{page};
 ghost use Rattle.word_page.specs.Done.{AreNamed, EndsFile, EndsPage, IsDone, IsInput, IsShown};
-ghost use Rattle.word_page.specs.Done.{Ran, place_besides, place_in, start_in};
+ghost use Rattle.word_page.specs.Done.{Ran, ShownIfDebugged, place_besides, place_in, start_in};
+ghost use Rattle.word_run.specs.Known.{known_by};
 ghost use Rattle.word_run.specs.Told.{unplaced_line};
 
 use crate::fault::PageFault;
@@ -21,6 +22,7 @@ use accesses::Written;
 use arguments::{FileRefusal, NewFile, Refusal, create, read_most, refused_words};
 use assembler::Assembly;
 use console::Played;
+use debug_files::tell_changed;
 use loading::{Loaded, load, load_counted_names, place_of, tell_left_out};
 use page_writer::{
     Note, Opening, Program, SendFault, Texts, facts_of, push_opening, source_of, viewer, write_page,
@@ -29,7 +31,7 @@ use source_map::Places;
 use std::alloc::{AllocError, Global};
 use std::io::Write;
 use std::rt::Files;
-use word_run::{Known, place_named, status_of_ending, tell_ending};
+use word_run::{Known, load_debug, place_named, status_of_ending, tell_ending};
 
 /// The most bytes of input that a program can be given.
 const MOST_INPUT: u64 = 65_536;
@@ -108,6 +110,7 @@ fn said_of(
     words: &PageWords<'_>,
     loaded: &Loaded,
     names: Option<&Assembly>,
+    debug: Option<&Places>,
     opening: &Opening<'_>,
 ) -> Result<Said, AllocError> {
     let program = Program {
@@ -116,11 +119,12 @@ fn said_of(
         profile: words.file.profile,
         written: &loaded.written,
         assembly: loaded.assembly.as_ref(),
+        debug,
         names,
     };
     let mut facts = facts_of(alloc, &program)?;
     push_opening(&mut facts, opening)?;
-    let source = source_of(alloc, program.assembly)?;
+    let source = source_of(alloc, program.assembly, program.debug)?;
     Ok(Said { facts, source })
 }
 
@@ -135,7 +139,13 @@ fn begun_file<'a, H: Files + AllocGlobal>(
     ensures { IfErr result EndsFile }
 {
     let notes = words.opening.notes;
-    let read = [Some(words.file.file), words.symbols, words.input, notes];
+    let read = [
+        Some(words.file.file),
+        words.symbols,
+        words.debug_info,
+        words.input,
+        notes,
+    ];
     Ok(create(rt, words.out, &read)?)
 }
 
@@ -214,6 +224,7 @@ fn make_page<H: Files + AllocGlobal>(
     words: &PageWords<'_>,
     loaded: &mut Loaded,
     names: Option<&Assembly>,
+    debug: Option<&Places>,
     opening: &Opening<'_>,
     until: Option<u16>,
     input: &[u8],
@@ -224,7 +235,7 @@ fn make_page<H: Files + AllocGlobal>(
     ensures assembly { loaded.new.assembly ≡ loaded.old.assembly }
     ensures refused { IfErr result EndsFile }
 {
-    let Ok(said) = said_of(rt.alloc(), words, loaded, names, opening) else {
+    let Ok(said) = said_of(rt.alloc(), words, loaded, names, debug, opening) else {
         return Err(Refusal::OutOfMemory);
     };
     let mut file = begun_file(rt, words)?;
@@ -243,6 +254,7 @@ fn show_run<'a, H: Files + AllocGlobal>(
     words: &PageWords<'a>,
     loaded: &mut Loaded,
     names: Option<&Assembly>,
+    debug: Option<&Places>,
     until: Option<u16>,
 ) -> Result<Played, PageFault<'a>>
     ensures ran { IfOk result (λ end. (input : List ℕ) × IsInput (page_view words.now).input input
@@ -262,7 +274,7 @@ fn show_run<'a, H: Files + AllocGlobal>(
         notes: notes.as_slice(),
     };
     let bytes = input.as_slice();
-    let made = make_page(rt, words, loaded, names, &opening, until, bytes);
+    let made = make_page(rt, words, loaded, names, debug, &opening, until, bytes);
     let file = words.out;
     let played = made.map_err(|refusal| FileRefusal { file, refusal })?;
     Ok(played)
@@ -275,20 +287,21 @@ fn show_to<H: Files + AllocGlobal, E: Write>(
     words: &PageWords<'_>,
     loaded: &mut Loaded,
     names: Option<&Assembly>,
+    debug: Option<&Places>,
     until: Option<u16>,
     errors: &mut E,
 ) -> u8
-    ensures { IsShown (page_view words.now) loaded.old.assembly until
+    ensures { IsShown (page_view words.now) (known_by words.now.file.file.now loaded.old.assembly
+        (option_map (λ p. p.now) debug.entry)) until
         (start_in words.now.is_free loaded.old.session loaded.old.written) (record {
           held = E.contents errors.old;
           now = E.contents errors.new;
         }) result }
 {
-    match show_run(rt, words, loaded, names, until) {
+    match show_run(rt, words, loaded, names, debug, until) {
         Ok(played) => {
             let pc = loaded.session.regs().pc;
             let assembly = loaded.assembly.as_ref();
-            let debug: Option<&Places> = None;
             let known = Known {
                 file: words.file.file,
                 assembly,
@@ -335,7 +348,36 @@ fn place_in<E: Write>(
     }
 }
 
-/// Loads the file of the words and the names that they ask for, writes the page of its run up to
+/// Reads the debug information that is named for what was loaded, writes the page of its run up to
+/// the place of the words, and returns the exit status.
+fn show_loaded<H: Files + AllocGlobal, E: Write>(
+    rt: &H,
+    words: &PageWords<'_>,
+    loaded: &mut Loaded,
+    names: Option<&Assembly>,
+    errors: &mut E,
+) -> u8
+    ensures { ShownIfDebugged (page_view words.now) loaded.old.assembly
+        (option_map (λ a. a.now) names.entry) loaded.old.written
+        (start_in words.now.is_free loaded.old.session loaded.old.written) (record {
+          held = E.contents errors.old;
+          now = E.contents errors.new;
+        }) result }
+{
+    let debug = match load_debug(rt, words.debug_info, words.source_root, loaded) {
+        Ok(debug) => debug,
+        Err(fault) => return fault.tell(words.debug_info.unwrap_or(words.file.file), errors),
+    };
+    tell_changed(words.debug_info, debug.changed.as_slice(), errors);
+    let until = match place_in(loaded, names, words.until, errors) {
+        Ok(until) => until,
+        Err(status) => return status,
+    };
+    let places = debug.places.as_ref();
+    show_to(rt, words, loaded, names, places, until, errors)
+}
+
+/// Loads the file of the words and what they ask for beside it, writes the page of its run up to
 /// the place of the words, and returns the exit status.
 fn show_words<H: Files + AllocGlobal, E: Write>(rt: &H, words: &PageWords<'_>, errors: &mut E) -> u8
     ensures done { IsDone (page_view words.now) (record {
@@ -353,11 +395,7 @@ fn show_words<H: Files + AllocGlobal, E: Write>(rt: &H, words: &PageWords<'_>, e
         Err(why) => return why.tell(errors),
     };
     tell_left_out(lost, loaded.fill, errors);
-    let until = match place_in(&loaded, names.as_ref(), words.until, errors) {
-        Ok(until) => until,
-        Err(status) => return status,
-    };
-    show_to(rt, words, &mut loaded, names.as_ref(), until, errors)
+    show_loaded(rt, words, &mut loaded, names.as_ref(), errors)
 }
 
 /// Does what the words of `page` ask for, its own name left out, and returns the exit status.
@@ -369,11 +407,12 @@ fn show_words<H: Files + AllocGlobal, E: Write>(rt: &H, words: &PageWords<'_>, e
 ///   ended. 10: the limit of steps. 11: a fault of the program. 12: the console is full. 13:
 ///   nothing stands where the program runs, or at the vector of its BRK. In each of these cases the
 ///   page was written.
-/// - 1: the source, the tape, the file of names or that of notes is rejected. 2: the words, the
-///   place or the map are wrong. 3: memory ran out. 4: reading or writing failed, or the page is a
-///   file that is read under another name.
+/// - 1: the source, the tape, the file of names, that of debug information or that of notes is
+///   rejected. 2: the words, the place or the map are wrong. 3: memory ran out. 4: reading or
+///   writing failed, or the page is a file that is read under another name.
 ///
-/// For each status but 0 a line on `errors` says why; that it cannot be written changes no status.
+/// For each status but 0 a line on `errors` says why, and one says which sources have changed since
+/// the debug information was made; that a line cannot be written changes no status.
 /// A file that was at the name of the page is replaced.
 pub fn page<H: Files + AllocGlobal, O: Write, E: Write>(
     rt: &H,

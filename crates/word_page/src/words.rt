@@ -12,6 +12,7 @@ ghost use Rattle.word_page.specs.CommandLine.{page};
 use crate::command::page_command;
 use crate::wording::{AT_TAKES, ONE_NAME, SCREEN_TAKES};
 use arguments::{FileWords, WordsFault, file_words, is_given, matched, steps_asked, wrong_value};
+use arguments_play::{DEBUG_TAKES, debug_asked};
 use clap::ArgMatches;
 use commands::{address_of, decimal_of};
 use std::alloc::Global;
@@ -36,6 +37,10 @@ pub struct PageWords<'a> {
     pub out: &'a str,
     /// The file of names, if one is named.
     pub symbols: Option<&'a str>,
+    /// The file of debug information, if one is named.
+    pub debug_info: Option<&'a str>,
+    /// Where relative names of its sources begin, if that is said.
+    pub source_root: Option<&'a str>,
     /// The file with the input, if one is named.
     pub input: Option<&'a str>,
     /// The place that ends the run, if one is named.
@@ -116,14 +121,20 @@ fn names_file(word: Option<&str>, name: &str) -> bool
 fn is_read(
     file: &str,
     symbols: Option<&str>,
+    debug: Option<&str>,
     input: Option<&str>,
     notes: Option<&str>,
     out: &str,
 ) -> bool
     ensures { result ≡ is_read file.now (option_map (λ w. w.now) symbols.entry)
-        (option_map (λ w. w.now) input.entry) (option_map (λ w. w.now) notes.entry) out.now }
+        (option_map (λ w. w.now) debug.entry) (option_map (λ w. w.now) input.entry)
+        (option_map (λ w. w.now) notes.entry) out.now }
 {
-    file == out || names_file(symbols, out) || names_file(input, out) || names_file(notes, out)
+    file == out
+        || names_file(symbols, out)
+        || names_file(debug, out)
+        || names_file(input, out)
+        || names_file(notes, out)
 }
 
 /// Returns the words of the matched values, or `None` if one is wrong.
@@ -135,16 +146,19 @@ fn words_in<'a>(matches: &ArgMatches<'a>) -> Option<PageWords<'a>>
     };
     let out = matches.get_str("OUT")?;
     let symbols = matches.get_str("symbols");
+    let debug_info = debug_asked(&file, matches.get_str("debug-info"))?;
     let input = matches.get_str("input");
     let steps = page_steps(matches.get_str("steps"))?;
     let opening = opening_asked(matches)?;
-    if is_read(file.file, symbols, input, opening.notes, out) {
+    if is_read(file.file, symbols, debug_info, input, opening.notes, out) {
         return None;
     }
     Some(PageWords {
         file,
         out,
         symbols,
+        debug_info,
+        source_root: matches.get_str("source-root"),
         input,
         until: matches.get_str("until"),
         steps,
@@ -152,6 +166,14 @@ fn words_in<'a>(matches: &ArgMatches<'a>) -> Option<PageWords<'a>>
         opening,
         is_free: is_given(matches, "free"),
     })
+}
+
+/// Returns whether debug information is named for a source.
+fn is_debug_wrong(matches: &ArgMatches<'_>) -> bool {
+    match file_words(matches) {
+        None => false,
+        Some(file) => debug_asked(&file, matches.get_str("debug-info")).is_none(),
+    }
 }
 
 /// Returns a sentence that says what is wrong with the values that were found.
@@ -162,6 +184,8 @@ fn wrong_words(matches: &ArgMatches<'_>) -> &'static str {
         AT_TAKES
     } else if screen_asked(matches.get_str("screen")).is_none() {
         SCREEN_TAKES
+    } else if is_debug_wrong(matches) {
+        DEBUG_TAKES
     } else {
         ONE_NAME
     }

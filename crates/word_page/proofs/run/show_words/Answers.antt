@@ -1,6 +1,6 @@
 use Rattle.std.proofs.Common.{inl}
 use Rattle.word_page.specs.Asked.{page_view}
-use Rattle.word_page.proofs.Running.{done_placed, done_unnamed, done_unplaced}
+use Rattle.word_page.proofs.Running.{done_named, done_unnamed}
 use Rattle.word_page.proofs.run.show_words.Goals as goal
 
 pub returns-in-Err-names_asked-clause-done : goal.returns-in-Err-names_asked-clause-done
@@ -19,21 +19,12 @@ returns-in-Err-names_asked-clause-done g c =
       c.tell-in-Err-names_asked.ensures.told,
     ))
 
-pub returns-in-Err-place_in-clause-done : goal.returns-in-Err-place_in-clause-done
-returns-in-Err-place_in-clause-done g c =
-    let started = c.in-Ok.ensures.started in
-    done_unplaced (page_view c.args.words.now) c.in-Ok.loaded.session c.in-Ok.loaded.written c.in-Ok.loaded.assembly c.in-Ok-names_asked.names.0 _
-    c.in-Ok.loaded.fill started.0 c.in-Ok-names_asked.names.1 (record {
-      held = g.E.Write.contents c.args.errors.now;
-      now = g.E.Write.contents c.place_in.new.errors;
-    }) (g.E.Write.contents c.tell_left_out.new.errors) c.in-Err-place_in.status started.1 started.2 started.3 c.in-Ok-names_asked.ensures.named
-    c.in-Ok-names_asked.ensures.lost c.tell_left_out.ensures c.as_ref.ensures.value c.in-Err-place_in.ensures.place c.in-Err-place_in.ensures.told
-
 pub returns-clause-done : goal.returns-clause-done
 returns-clause-done g c =
     let started = c.in-Ok.ensures.started in
-    done_placed g.E.Write.contents (page_view c.args.words.now) c.in-Ok.loaded.session c.in-Ok.loaded.written c.in-Ok.loaded.assembly
-    c.in-Ok-names_asked.names.0 _ c.in-Ok.loaded.fill started.0 c.in-Ok-place_in.until c.in-Ok-names_asked.names.1
-    c.args.errors.now c.tell_left_out.new.errors c.place_in.new.errors c.show_to.new.errors c.show_to.result started.1 started.2 started.3
-    c.in-Ok-names_asked.ensures.named c.in-Ok-names_asked.ensures.lost c.tell_left_out.ensures c.as_ref.ensures.value c.in-Ok-place_in.ensures.place
-    c.in-Ok-place_in.ensures.quiet c.show_to.ensures
+    done_named (page_view c.args.words.now) c.in-Ok.loaded.session c.in-Ok.loaded.written c.in-Ok.loaded.assembly
+    c.in-Ok-names_asked.names.0 _ c.in-Ok.loaded.fill started.0 c.in-Ok-names_asked.names.1 (record {
+      held = g.E.Write.contents c.args.errors.now;
+      now = g.E.Write.contents c.show_loaded.new.errors;
+    }) (g.E.Write.contents c.tell_left_out.new.errors) c.show_loaded.result started.1 started.2 started.3
+    c.in-Ok-names_asked.ensures.named c.in-Ok-names_asked.ensures.lost c.tell_left_out.ensures c.as_ref.ensures.value c.show_loaded.ensures
