@@ -1,6 +1,6 @@
 "use strict";
 // The buttons and keys that move, and what each does.
-const {MOVES, playing, play, changeLight, writeHelp, addKey, pressKey} = (() => {
+const {MOVES, playing, play, toLine, changeLight, writeHelp, addKey, pressKey} = (() => {
 
 const playing = {frame: 0};               // the frame that is asked for, or 0
 
@@ -27,6 +27,7 @@ function select(id) {
   $(id).select();
 }
 
+const toLine = by => now.info.lines.length && jump(by < 0 ? lineBack() : lineOn());
 const toCall = by => jump(by < 0 ? now.run.callAt(now.cur).start - 1 : now.run.callAt(now.cur).end);
 const toWrite = by => now.byte >= 0 && toUse(now.byte, true, by);
 
@@ -42,6 +43,8 @@ const MOVES = [
   ["End of the run (End)", "M15 4h2v12h-2zM1 4v12l8-6zM9 4v12l6-6z", () => jump(now.run.n), "End"],
 ];
 const KEYS = [
+  ["Shift ArrowRight", "on to where another line begins, over calls", () => toLine(1)],
+  ["Shift ArrowLeft", "back to where a line begins", () => toLine(-1)],
   ["u", "back to the call of this subroutine", () => toCall(-1)],
   ["r", "on to where this subroutine has returned", () => toCall(1)],
   ["v", "next visit of this line, or of the one that was clicked", () => toVisit(chosenLine(), 1)],
@@ -113,7 +116,8 @@ function addKey(key, words, act) {
 }
 
 function pressKey(event) {
-  const {key, target} = event;
+  const {target} = event, isShifted = event.shiftKey && event.key.startsWith("Arrow");
+  const key = (isShifted ? "Shift " : "") + event.key;
   const isTyped = target.closest?.("textarea,select,input:not([type=range])");
   if (event.ctrlKey || event.metaKey || event.altKey || $("help").open || isTyped) return;
   if (key == " " && target.tagName == "BUTTON") return;
@@ -125,8 +129,8 @@ function pressKey(event) {
   else move[2]();
 }
 
-return {MOVES, playing, play, changeLight, writeHelp, addKey, pressKey};
+return {MOVES, playing, play, toLine, changeLight, writeHelp, addKey, pressKey};
 })();
 if (typeof module !== "undefined") {
-  module.exports = {MOVES, playing, play, changeLight, writeHelp, addKey, pressKey};
+  module.exports = {MOVES, playing, play, toLine, changeLight, writeHelp, addKey, pressKey};
 }

@@ -33,13 +33,15 @@ function showTab(value) {
 
 function listenToLists() {
   $("rows").onclick = clickLine;
+  $("sources").onchange = event => showFile(+event.target.value);
   $("rows").onkeydown = pressInLines;
   $("regs").onkeydown = $("flags").onkeydown = $("pc").onkeydown = pressAsClick;
   // Shift would select text
   $("rows").onmousedown = event => event.shiftKey && event.preventDefault();
   $("visit").onclick = event => {
-    const by = event.target.dataset.v;
-    if (by) toVisit(chosenLine(), +by);
+    const {v, l} = event.target.dataset;
+    if (v) toVisit(chosenLine(), +v);
+    if (l) toLine(+l);
   };
   $("names").onclick = event => {
     const button = event.target.closest("button");

@@ -127,7 +127,7 @@ const flagsAt = k => [..."NV-BDIZC"].map((name, j) => !FLAGS[name] ? ""
 function drawMachine() {
   const pc = now.run.PC[now.cur], place = placeOf(pc);
   put("regs", [..."AXYS"].map(registerTold).join(""));
-  put("pc", `<small><span>PC</span><span>${lineText(pc)}</span></small><b>${hex(pc, 4)}</b>` +
+  put("pc", `<small><span>PC</span><span>${escaped(lineText(pc))}</span></small><b>${hex(pc, 4)}</b>` +
     `<small>${escaped(place)}</small>`);
   $("pc").ariaLabel = `PC ${hex(pc, 4)} ${place == address4(pc) ? "" : place}`;
   $("pc").title = `${place}. Click: back to the step that jumped last`;
@@ -151,7 +151,7 @@ function drawCalls() {
 }
 
 function callTold(call, pushed) {
-  const from = call.up ? lineOrAddress(now.run.PC[call.start - 1]) : "";
+  const from = call.up ? escaped(lineOrAddress(now.run.PC[call.start - 1])) : "";
   const origin = !call.up ? "reset" : (call.irq ? "interrupt at " : "from ") + from;
   const told = "Go to the call. Pushed: what is on the stack since";
   return `<button data-go="${Math.max(0, call.start - 1)}" title="${told}">` +

@@ -187,7 +187,7 @@ function writerTold(writes) {
   if (head & NO_INSTRUCTION) text = head & BY_HAND ? "by hand" : "interrupt";
   const value = now.memory[now.byte], change = `${hex(value ^ now.run.xor[i])} → ${hex(value)}`;
   return `Last write: step ${grouped(k + 1)}, <code>${escaped(text)}</code>` +
-    ` ${lineText(at) || "at " + address4(at)}: <code>${change}</code>`;
+    ` ${escaped(lineText(at)) || "at " + address4(at)}: <code>${change}</code>`;
 }
 
 // The address of a cell, or -1.

@@ -48,7 +48,7 @@ function beforeOver() {
 }
 
 // The line that was clicked, or the one that comes next.
-const chosenLine = () => now.line < 0 ? now.run.PC[now.cur] : now.line;
+const chosenLine = () => now.line < 0 ? shownStart(now.run.PC[now.cur]) : now.line;
 
 // To the visit of an address before or after this state, round at the ends.
 function toVisit(address, by) {

@@ -1,19 +1,15 @@
 "use strict";
 // Names of addresses, and the texts of instructions.
-const {readNames, readLabels, nameOf, placeOf, lineText, lineOrAddress, lengthOf,
-  disassembled} = (() => {
+const {readNames, readLabels, nameOf, placeOf, lengthOf, disassembled} = (() => {
 
 // So many bytes from its own on an address is named by a label, as in `mon`.
 const REACH = 64;
 
 function readNames() {
-  now.lineAt = new Int32Array(65536).fill(-1);
-  for (const [number, address, length] of now.info.lines) {
-    for (let k = 0; k < length; k++) now.lineAt[address + k & 65535] = number;
-  }
+  readLines();
   const meant = namesMeant();
   now.named = new Map();
-  const isMeant = name => !now.info.source || meant.has(name);
+  const isMeant = name => !now.info.source || now.info.files.length || meant.has(name);
   for (const [name, at] of now.info.names) if (isMeant(name)) now.named.set(at, name);
   for (const [name, at] of now.info.labels) now.named.set(at, name);
   readLabels();
@@ -54,9 +50,6 @@ function placeOf(address) {
   return label[0] + (beyond ? "+" + beyond : "");
 }
 
-const lineText = address => now.lineAt[address] < 0 ? "" : "line " + (now.lineAt[address] + 1);
-const lineOrAddress = address => lineText(address) || address4(address);
-
 // ---- instructions: `ops` has four characters for each opcode, the mnemonic and its form
 
 const FORMS = {
@@ -83,9 +76,8 @@ function disassembled(address) {
   return [mnemonic + shape.replace("@", () => operand), length];
 }
 
-return {readNames, readLabels, nameOf, placeOf, lineText, lineOrAddress, lengthOf, disassembled};
+return {readNames, readLabels, nameOf, placeOf, lengthOf, disassembled};
 })();
 if (typeof module !== "undefined") {
-  module.exports = {readNames, readLabels, nameOf, placeOf, lineText, lineOrAddress, lengthOf,
-    disassembled};
+  module.exports = {readNames, readLabels, nameOf, placeOf, lengthOf, disassembled};
 }

@@ -14,7 +14,7 @@ const now = {
   jumps: [],                        // the steps from which jumps went
   stops: new Set(),                 // the addresses that are marked
   labels: [], labelAt: null,        // [name, address], by address; which label an address follows
-  named: null, lineAt: null,        // names by address; the line of each address, from 0, or -1
+  named: null, lineAt: null,        // names by address; the line of each address, or -1
 };
 
 // ---- texts and markup

@@ -1,10 +1,12 @@
 "use strict";
 // The program: its source, what was run of it, or its labels, in a list of rows.
-const {program, list, listAgain, drawProgram, clickLine, pressInLines, pressAsClick,
-  reveal} = (() => {
+const {program, list, listAgain, drawProgram, makeFileChoice, showFile, clickLine, pressInLines,
+  pressAsClick, reveal} = (() => {
 
-// A row has the text of its number, its address or -1, the markup of its text, and its element.
-const program = {view: "source", rows: []};
+// A row has the text of its number, its address or -1, the markup of its text, and its element; one
+// of a file has its line besides. `file` is the one that is listed, and `step` is that at which it
+// was chosen.
+const program = {view: "source", rows: [], file: 0, step: -1};
 
 const isCode = text => /^(?:[\w.]+:)?\s*[A-Za-z]{3}\b/.test(text);
 
@@ -28,6 +30,10 @@ function paintedLine(text) {
 
 // A line is a row that can be marked if it has an instruction, or if the run ends on it.
 function sourceRows() {
+  return now.info.files.length ? fileRows() : ownRows();
+}
+
+function ownRows() {
   const starts = new Map(now.info.lines), end = now.run.PC[now.run.n];
   return now.info.source.map((text, k) => {
     const start = starts.has(k) ? starts.get(k) : -1;
@@ -35,6 +41,54 @@ function sourceRows() {
     const isEnd = !isRow && now.lineAt[end] == k;
     return {number: k + 1, at: isRow ? start : isEnd ? end : -1, start, isEnd, text};
   });
+}
+
+// A line of a file has one row, also where its bytes stand in several places.
+function fileRows() {
+  const end = now.run.PC[now.run.n];
+  return linesOf(program.file).map(line => {
+    const start = startOf(line), isEnd = now.lineAt[end] == line;
+    const isRow = start >= 0 && (hasCode(line) || now.run.visits.count(start) > 0);
+    const at = isRow ? start : isEnd ? end : -1, text = textAt(line) ?? "";
+    const html = /\.[ch]$/i.test(now.info.files[program.file].name) ? escaped(text) : undefined;
+    return {number: line % WIDE + 1, line, at, start, isEnd: isEnd && !isRow, text, html};
+  });
+}
+
+// The files that have lines with bytes, to choose from.
+function makeFileChoice() {
+  const box = $("sources"), files = new Set(now.info.lines.map(it => fileOf(it[0])));
+  box.textContent = "";
+  box.hidden = !now.info.files.length;
+  if (box.hidden) return;
+  [...files].sort((a, b) => a - b).forEach(file => {
+    const option = document.createElement("option");
+    option.value = file;
+    option.textContent = now.info.files[file].name;
+    box.append(option);
+  });
+  const line = now.lineAt[now.run.PC[now.cur]];
+  program.file = line < 0 ? Math.min(...files, Infinity) : fileOf(line);
+  if (program.file == Infinity) program.file = 0;
+  box.value = program.file;
+}
+
+function showFile(file) {
+  program.file = file;
+  program.step = now.cur;
+  $("sources").value = file;
+  list();
+  draw();
+}
+
+// The file of the line that comes next is listed, until another one is chosen.
+function followFile() {
+  const line = now.lineAt[now.run.PC[now.cur]];
+  if (!now.info.files.length || line < 0 || program.step == now.cur) return;
+  program.step = -1;
+  if (fileOf(line) == program.file) return;
+  program.file = $("sources").value = fileOf(line);
+  if (program.view == "source") list();
 }
 
 function labelRows() {
@@ -100,7 +154,8 @@ function listAgain() {
   else list();
 }
 
-const cyclesOf = row => row.label >= 0 ? costs.of[row.label] : now.run.cyclesAt[row.at];
+const cyclesOf = row => row.label >= 0 ? costs.of[row.label]
+  : row.line >= 0 ? lineCycles().get(row.line) || 0 : now.run.cyclesAt[row.at];
 
 // What a row says of the whole run: how often it was reached, and its share of the cycles.
 function drawShares() {
@@ -120,7 +175,9 @@ function drawShares() {
   }
   const lines = reachable.filter(row => !row.isEnd);
   const reached = `${count(lines, row => row.visits > 0)} of ${lines.length} lines reached`;
-  $("reached").textContent = program.view == "source" ? reached : "";
+  const isUntold = now.info.files.length && !now.info.files[program.file].count;
+  const told = reached + (isUntold ? "; its text is missing, or has changed" : "");
+  $("reached").textContent = program.view == "source" ? told : "";
 }
 
 // What a row is called for those who do not see it.
@@ -136,6 +193,7 @@ function nameRow(row) {
 }
 
 function drawProgram() {
+  followFile();
   const {run, cur} = now, pc = run.PC[cur];
   const isInstruction = cur && !(run.head[cur - 1] & NO_INSTRUCTION);
   const was = isInstruction ? run.PC[cur - 1] : -1;
@@ -146,8 +204,8 @@ function drawProgram() {
     }
     drawVisits(row);
     if (row.isLive) drawInstruction(row);
-    const isNow = row.label >= 0 ? row.label == now.labelAt[pc] : row.at == pc;
-    const isWas = row.at == was && !isNow, isChosen = row.at == now.line;
+    const isNow = row.label >= 0 ? row.label == now.labelAt[pc] : isOn(row, pc);
+    const isWas = isOn(row, was) && !isNow, isChosen = row.at == now.line;
     const isLast = isNow && !isBefore();
     setMarks(row, (row.visits ? "a" : "no") + (isNow ? " now" : "") + (isWas ? " was" : "") +
       (isChosen ? " sel" : "") + (isLast ? " end" : ""));
@@ -160,6 +218,8 @@ function drawProgram() {
   }
   drawVisit();
 }
+
+const isOn = (row, at) => row.line >= 0 ? row.line == now.lineAt[at] : row.at == at;
 
 function setMarks(row, wanted) {
   const marks = wanted + (now.stops.has(row.start) ? " stop" : "");
@@ -191,9 +251,13 @@ function drawVisit() {
   const {run, cur} = now, at = chosenLine(), isHere = run.PC[cur] == at && cur < run.n;
   const all = run.visits.count(at), seen = run.visits.before(at, cur) + (isHere ? 1 : 0);
   const visits = `${isHere ? "visit" : "visited"} ${grouped(seen)} of ${grouped(all)}`;
-  const cycles = `${grouped(run.cyclesAt[at])} cycles in all`;
-  const buttons = '<button data-v="-1">◂ visit</button><button data-v="1">visit ▸</button>';
-  put("visit", `<span>${lineOrAddress(at)}: ${visits}, ${cycles}</span><span>${buttons}</span>`);
+  const line = at == shownStart(at) && now.info.files.length ? now.lineAt[at] : -1;
+  const own = line < 0 ? run.cyclesAt[at] : lineCycles().get(line) || 0;
+  const told = `${escaped(lineOrAddress(at))}: ${visits}, ${grouped(own)} cycles in all`;
+  const moves = [["v", "visit"], ["l", "line"]].slice(0, now.info.lines.length ? 2 : 1);
+  const html = ([name, text]) => `<button data-${name}="-1">◂ ${text}</button>` +
+    `<button data-${name}="1">${text} ▸</button>`;
+  put("visit", `<span>${told}</span><span>${moves.map(html).join("")}</span>`);
 }
 
 function reveal(element) {
@@ -247,9 +311,10 @@ function pressAsClick(event) {
   event.target.dispatchEvent(new MouseEvent("click", {bubbles: true, shiftKey}));
 }
 
-return {program, list, listAgain, drawProgram, clickLine, pressInLines, pressAsClick, reveal};
+return {program, list, listAgain, drawProgram, makeFileChoice, showFile, clickLine, pressInLines,
+  pressAsClick, reveal};
 })();
 if (typeof module !== "undefined") {
-  module.exports = {program, list, listAgain, drawProgram, clickLine, pressInLines,
-    pressAsClick, reveal};
+  module.exports = {program, list, listAgain, drawProgram, makeFileChoice, showFile, clickLine,
+    pressInLines, pressAsClick, reveal};
 }

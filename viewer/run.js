@@ -345,17 +345,30 @@ function unescaped(text) {
 
 // What the lines of facts say, each a word and more, and the source, if there is one.
 function readFacts(lines, source) {
-  const info = {labels: [], names: [], lines: [], loaded: [], notes: [], port: 65536};
+  const info = {
+    labels: [], names: [], lines: [], files: [], loaded: [], notes: [], port: 65536,
+  };
   for (const line of lines) readFact(info, line);
   if (source) info.source = unescaped(source).replace(/\n$/, "").split("\n");
+  if (info.files.length) cutTexts(info);
   return info;
 }
 
+// The texts of files stand in the source one behind another.
+function cutTexts(info) {
+  let at = 0;
+  info.source ||= [];
+  for (const file of info.files) file.texts = info.source.slice(at, at += file.count);
+}
+
 function readFact(info, line) {
-  const [word, a, b, c] = line.split(" ");
+  const [word, a, b, c, file = 0, what] = line.split(" ");
   if (word == "label") info.labels.push([unescaped(b), parseInt(a, 16)]);
   else if (word == "name") info.names.push([unescaped(b), parseInt(a, 16)]);
-  else if (word == "line") info.lines.push([a - 1, parseInt(b, 16), +c]);
+  else if (word == "line" || word == "part") {
+    const number = file * 2 ** 32 + (a - 1);  // as lines.js has it
+    info.lines.push([number, parseInt(b, 16), +c, word == "part", what == "data"]);
+  } else if (word == "file") info.files.push({count: +a, name: unescaped(line.slice(a.length + 6))});
   else if (word == "loaded") info.loaded.push([parseInt(a, 16), +b]);
   else if (word == "note") info.notes.push([+a, unescaped(line.slice(a.length + 6))]);
   else if (word == "at") info.at = +a;

@@ -7,7 +7,7 @@ const MOST = 100;                         // steps of a sheet
 const SHEET = ["Step", "Line", "Instruction", "What it did", "A", "X", "Y", "S", "Flags", "Cycles"];
 
 function rowTold(k, text) {
-  const {run} = now, place = lineOrAddress(run.PC[k]).replace("line ", "");
+  const {run} = now, place = escaped(lineOrAddress(run.PC[k]).replace(/^line /, ""));
   const cells = [..."AXYS"].map(name => hex(run[name][k + 1]));
   const told = [k + 1, place, text, effectsOf(k, true), ...cells, flagsAt(k + 1), run.C[k + 1]];
   return `<tr><td>${told.join("</td><td>")}</td></tr>`;
@@ -36,7 +36,7 @@ function writeSheet() {
 
 // The moment that is shown: registers, what comes next, and the page of memory.
 function momentText() {
-  const {run, cur, memory} = now, pc = run.PC[cur], source = now.info.source?.[now.lineAt[pc]];
+  const {run, cur, memory} = now, pc = run.PC[cur], source = textAt(now.lineAt[pc]);
   const regs = [..."AXYS"].map(name => `${name}=${hex(run[name][cur])}`).join(" ");
   const next = source?.trim() ?? disassembled(pc)[0];
   const rows = addresses.slice(0, 16).map(row => {

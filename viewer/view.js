@@ -27,7 +27,7 @@
 const {openViewer, draw, drawAnew, choose} = (() => {
 
 const NOTHING = {
-  title: "", labels: [], names: [], lines: [], loaded: [], notes: [], port: 65536,
+  title: "", labels: [], names: [], lines: [], files: [], loaded: [], notes: [], port: 65536,
   ops: "....".repeat(256),
 };
 
@@ -124,6 +124,7 @@ function show(shown) {
   if (!isSame) chooseAnew();
   $("name").textContent = $("name").title = now.info.title;
   makeViewButtons();
+  makeFileChoice();
   list();
   if (!isSame) showFirstPage();
   else draw();

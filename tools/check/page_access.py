@@ -124,9 +124,10 @@ def look_at_notes(browser, compare, name, run, facts):
 def look_at_end(browser, compare, name, run, facts):
     """The line on which the run ends is the one that is marked, whatever stands there."""
     browser.key("End")
-    words = [fact.split() for fact in facts.decode().split("\n") if fact.startswith("line ")]
+    rows = ("line ", "part ")
+    words = [fact.split() for fact in facts.decode().split("\n") if fact.startswith(rows)]
     pc = run.pcs[-1]
-    ends = [(number, pc - int(at, 16)) for _, number, at, count in words
+    ends = [(number, pc - int(at, 16)) for _, number, at, count, *_ in words
             if 0 <= pc - int(at, 16) < int(count)]
     there, is_within = [number for number, _ in ends], any(byte for _, byte in ends)
     marked = "[...document.querySelectorAll('#lines tr.now td.n')].map(e => e.textContent)"
@@ -139,6 +140,41 @@ def look_at_end(browser, compare, name, run, facts):
     said = ("(e => e ? getComputedStyle(e, '::after').content : '')"
             "(document.querySelector('#lines tr.now .t'))")
     compare(f"{name} said at the end", "the run ends here" in browser.js(said), True)
+
+
+def look_at_files(browser, compare, name, run):
+    """The files that have lines with bytes can be chosen by name; the file of the line that comes next
+    is listed with this line marked, and lines have their visits and cycles. Without files there is
+    no choice."""
+    shown = browser.js("[document.querySelector('#sources').hidden, [...document.querySelectorAll("
+                       "'#sources option')].map(e => e.textContent)]")
+    files = sorted({file for file, _ in run.row_at.values()} if run.files else ())
+    compare(f"{name} files", shown, [not files, [run.files[file] for file in files]])
+    browser.js("document.querySelector('#views [value=source]')?.click()")
+    for at in range(0, run.last + 1, max(1, run.last // 40)) if files else ():
+        line = run.row_at.get(run.pcs[at])
+        label, file = browser.js(f"viewer.go({at}), [document.querySelector('#lines tr.now')?.ariaLabel"
+                                 " ?? '', +document.querySelector('#sources').value]")
+        comes = "comes next" if at < run.last else "the run ends here"
+        wanted = f"{run.files[line[0]]}:{line[1]}, {comes}" if line else ""
+        compare(f"{name} line at {at}", [label[:len(wanted)], file if line else 0],
+                [wanted, line[0] if line else 0])
+    for file in files:
+        told = browser.js(f"(e => {{ e.value = {file}; e.dispatchEvent(new Event('change')); }})(document"
+                          ".querySelector('#sources')), [...document.querySelectorAll('#lines tr')]"
+                          ".map(e => [e.cells[0].textContent, e.title.split(';')[0]])")
+        for number, title in told:
+            compare(f"{name} told of {run.files[file]}:{number}", title, told_of(run, (file, int(number))))
+
+
+def told_of(run, line):
+    """What a row says of a line: its visits, and the cycles of all its bytes."""
+    if line not in run.code:
+        return ""
+    cycles = sum(change["cycles"] for step, change in enumerate(run.changes)
+                 if run.row_at.get(run.pcs[step]) == line)
+    visits = len(run.visits.get(run.start_of(line), []))
+    return f"{visits:,} visits, {cycles:,} cycles" if visits else "never reached"
 
 
 def look_at_address(browser, compare, name, at):

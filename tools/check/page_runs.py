@@ -5,6 +5,7 @@ import base64
 import os
 import re
 
+import debug_rows
 import page_format
 import page_model
 import tape
@@ -36,6 +37,9 @@ RUNS = [
     ("none.a65", [], b"", MAP),
     ("hunt.tape", ["--tape"], b"", MAP),
     (HOSTILE, ["--title", "</script><b>&%41\n%", "--notes", NOTES], b"", MAP),
+    ("sum.hex", ["--debug-info", "sum.dbg"], b"", MAP),
+    ("odd.hex", ["--debug-info", "odd.dbg"], b"", MAP),
+    ("count.hex", ["--debug-info", "count.dbg"], b"", MAP),
     ("noted.a65", ["--at", "7", "--screen", "0200", "--notes", NOTES], b"", MAP),
 ]
 # What each of these runs finds as its notes.
@@ -135,6 +139,13 @@ draw:   TXA
 stop:   JMP stop""" + START,
     "none.a65": "*=$0200\nstart: .BYTE 2" + START,
 }
+# A name of a source that would be markup.
+ODD = "<img src=x onerror=alert(1)>&%41.c"
+# Programs that other tools built: the page of tests/ that has their files, the debug file, and the
+# sources that are there.
+BUILT = {"sum.hex": ("page.md", "sum.dbg", ("sum.c", "start.s")),
+         "odd.hex": ("page.md", "odd.dbg", (ODD,)),
+         "count.hex": ("names.md", "count.dbg", ("count.s",))}
 # Sessions of `mon` that end with a page: the file, the events that are held at most, and lines,
 # each with its events: a number is so many steps, a negative one so many events undone, and a call
 # with its words is an event of the machine.
@@ -184,6 +195,38 @@ def hostile():
     return "\r\n".join([*lines, "*=$FFFC", ".WORD start"]).encode()
 
 
+def block_of(page, name):
+    """A file of a page of tests/."""
+    text = read(f"{TOP}/tests/{page}").decode()
+    return re.search(rf"(?ms)^```source {re.escape(name)}\n(.*?)^```$", text)[1]
+
+
+def built_files(name):
+    """The files of a program that another tool built, by name: the debug file first."""
+    page, debug, sources = BUILT[name]
+    found = {it: block_of(page, "sum.c" if it == ODD else it) for it in sources}
+    text = block_of(page, "sum.dbg" if name == "odd.hex" else debug)
+    return {debug: text.replace("sum.c", ODD) if ODD in sources else text, **found}
+
+
+def hex_image(text):
+    """The bytes of a file of Intel HEX."""
+    image = {}
+    for line in text.decode().split():
+        record = bytes.fromhex(line[1:])
+        if record[3] == 0:
+            at = record[1] << 8 | record[2]
+            image.update({at + k: byte for k, byte in enumerate(record[4:-1])})
+    return image
+
+
+def debug_of(name, spec):
+    """What a page says of the sources of a program that another tool built."""
+    files = {it: text.encode() for it, text in built_files(name).items()}
+    ops = page_model.opcodes(spec.profile)
+    return debug_rows.facts_of(files.pop(BUILT[name][1]).decode(), files, hex_image(file_of(name)), ops)
+
+
 def said_in(part):
     """What an escaped part says."""
     part = part.removeprefix(b"\n")
@@ -194,8 +237,10 @@ def modelled(name, words, spec, page):
     """The page of a run by tools/models/reference: with the input where the program's page has it,
     or with none if there is no such page. Beside it the input."""
     text = read(name)
-    assembly = None if "--tape" in words else page_model.asm.assemble(text, spec)
-    image = assembly.image if assembly else tape.read_tape(text)
+    is_image = "--tape" in words or name in BUILT
+    assembly = None if is_image else page_model.asm.assemble(text, spec)
+    image = assembly.image if assembly else hex_image(text) if name in BUILT else tape.read_tape(text)
+    debug, source = debug_of(name, spec) if name in BUILT else (b"", page_model.source_of(assembly))
     if page:
         _, changes = page_format.decode(base64.b64decode(parts_of(page)["run"]))
         gives = [change["given"] for change in changes]
@@ -206,10 +251,10 @@ def modelled(name, words, spec, page):
     title = said.get("--title", name).replace("\n", " ")
     screen = int(said["--screen"], 16) if "--screen" in said else None
     notes = NOTED if "--notes" in said else ""
-    facts = page_model.facts_of(title, spec, image, assembly)
+    facts = page_model.facts_of(title, spec, image, assembly, debug)
     facts += page_model.opening_of(said.get("--at"), screen, notes)
     data = page_model.data_of(spec, image, gives)
-    page = page_model.page_of(facts, page_model.source_of(assembly), data, why)
+    page = page_model.page_of(facts, source, data, why)
     return page, b"".join(gives)
 
 
@@ -223,6 +268,8 @@ def file_of(name):
     """What a page is made of: an example, a source of this tool, or the tape of an example."""
     if name == HOSTILE:
         return hostile()
+    if name in BUILT:
+        return block_of(BUILT[name][0], name.replace("odd", "sum")).encode()
     source = name.replace(".tape", ".a65")
     if name in SOURCES:
         return SOURCES[name].encode()
@@ -240,6 +287,8 @@ def written(folder, name, words, typed):
         return None
     write(f"{folder}/typed", typed)
     write(f"{folder}/{NOTES}", NOTED.encode())
+    for it, text in built_files(name).items() if name in BUILT else ():
+        write(f"{folder}/{it}", text.encode())
     testing.run(["page", name, f"{name}.html", "--input", "typed", *words], cwd=folder)
     return read(f"{folder}/{name}.html")
 

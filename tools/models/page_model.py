@@ -159,7 +159,8 @@ def stretches(image):
     return found
 
 
-def facts_of(title, spec, image, assembly):
+def facts_of(title, spec, image, assembly, debug=b""):
+    """The facts of a program; those of debug information are `debug`."""
     lines = [f"title {title}"]
     if spec.port is not None:
         lines.append(f"port {spec.port:04X}")
@@ -172,7 +173,7 @@ def facts_of(title, spec, image, assembly):
         labels = {asm.read_text(spec.profile, text).label for text in assembly.texts}
         lines += [f"{'label' if name in labels else 'name'} {value:04X} {name.decode()}"
                   for name, value in assembly.names.items() if 0 <= value < 65536]
-    return ("\n".join(lines) + "\n").encode()
+    return ("\n".join(lines) + "\n").encode() + debug
 
 
 def opening_of(step, screen, notes):

@@ -1,6 +1,6 @@
 """Random moves in a page, each with where it has to lead by the run that was decoded in Python."""
 
-JSR = 0x20
+JSR, CALLS, RETURNS = 0x20, (0x20, 0x00), (0x60, 0x40)
 # How many bytes an instruction has, by the letter of its mode in a page's facts.
 LENGTHS = {**dict.fromkeys("ab", 1), **dict.fromkeys("jklm", 3)}
 
@@ -25,6 +25,7 @@ class Run:
         # (what was put out before the page begins is there at its start)
         self.outs = [0] if view.out else []
         self.calls, self.visits, self.writes, self.jumps = [], {}, {}, []
+        self.opened, self.left = [], []
         lines = facts.decode().split("\n")
         ops = next((it[4:] for it in lines if it.startswith("ops ")), "...." * 256)
         for step, change in enumerate(changes):
@@ -35,6 +36,9 @@ class Run:
             for address, _ in change["stores"]:
                 self.writes.setdefault(address, []).append(step + 1)
             is_plain = not is_entry(change) and not is_by_hand(change)
+            opcode = view.memory[view.pc]
+            self.opened.append(is_entry(change) or is_plain and opcode in CALLS)
+            self.left.append(is_plain and opcode in RETURNS)
             length = LENGTHS.get(ops[view.memory[view.pc] * 4 + 3], 2) if is_plain else 0
             behind = view.pc + length & 65535
             view.forth(change)
@@ -48,8 +52,49 @@ class Run:
         self.entries = self.after(is_entry)
         # (what was taken before the page begins was at its start)
         self.taken = [0] * (view.taken > 0) + self.after(lambda change: change["takes"])
-        words = [fact.split() for fact in lines if fact.startswith("line ")]
-        self.lines = {int(address, 16): int(number) for _, number, address, _ in words}
+        self.read_lines(lines)
+
+    def read_lines(self, facts):
+        """The line of the bytes that begin at each address, a file and a number, and where lines begin.
+        A page of one source has the file 0."""
+        self.files = [fact.split(" ", 2)[2] for fact in facts if fact.startswith("file ")]
+        self.row_at, self.begun, self.lines, self.code = {}, {}, {}, set()
+        for fact in facts:
+            word, *words = fact.split(" ")
+            if word not in ("line", "part"):
+                continue
+            number, address, _, file, *data = words + ["0"] * (len(words) < 4)
+            line, at = (int(file), int(number)), int(address, 16)
+            self.lines[at] = line[1]
+            self.row_at.setdefault(at, line)
+            if not data:
+                self.code.add(line)
+            if word == "line":
+                self.begun.setdefault(at, line)
+
+    def start_of(self, line):
+        """Where a line of a file begins: of several places the one that is reached most."""
+        begins = [at for at in sorted(self.begun) if self.begun[at] == line]
+        return max(begins, key=lambda at: len(self.visits.get(at, [])))
+
+    def line_on(self, at):
+        """The next state at which another line begins, in no call that has not returned."""
+        calls = []
+        for k in range(at + 1, self.last + 1):
+            calls += [self.stack[k - 1]] * self.opened[k - 1]
+            calls = [stack for stack in calls if self.stack[k] < stack]
+            line = self.begun.get(self.pcs[k])
+            if line and not calls and line != self.row_at.get(self.pcs[at]):
+                return k
+        return self.last
+
+    def line_back(self, at):
+        """The last state before at which a line begins, in no call that has returned since."""
+        for k in reversed(range(at)):
+            is_left = any(self.left[j] and self.stack[k] < self.stack[j + 1] for j in range(k, at))
+            if self.pcs[k] in self.begun and not is_left:
+                return k
+        return 0
 
     def after(self, happens):
         """The states after the steps in which something happens."""
@@ -146,9 +191,14 @@ def on_line(browser, rng, at, run):
     """A click on a line of the source: its next visit, with Shift the one before; then maybe a key
     or a button for one more."""
     address = run.pcs[rng.randrange(run.last + 1)]
-    if address not in run.lines:
+    if address not in run.row_at:
         return at
-    row = f"document.querySelectorAll('#lines tr')[{run.lines[address] - 1}]"
+    file, number = run.row_at[address]
+    row = f"[...document.querySelectorAll('#lines tr')].find(e => e.cells[0].textContent == '{number}')"
+    if run.files:
+        address = run.start_of((file, number))
+        browser.js(f"(e => {{ e.value = {file}; e.dispatchEvent(new Event('change')); }})"
+                   "(document.querySelector('#sources'))")
     is_next, more = rng.random() < .5, rng.choice(["", "v", "V", "▸", "◂"])
     browser.js(f"document.querySelector('#views [value=source]').click();"
                f"{row}.cells[0].scrollIntoView({{block: 'center'}})")
@@ -168,7 +218,22 @@ def to_visit(browser, rng, at, run):
     program counter."""
     key = rng.choice("vV")
     browser.key(key)
-    return run.visit(run.pcs[at] if run.chosen is None else run.chosen, at, key == "v")
+    here = run.pcs[at]
+    if run.files and here in run.row_at and browser.js("viewer.view == 'source'"):
+        here = run.start_of(run.row_at[here])
+    return run.visit(here if run.chosen is None else run.chosen, at, key == "v")
+
+
+def by_lines(browser, rng, at, run):
+    """Steps by lines, with buttons below the lines or, where there are no lines, none."""
+    if not run.row_at:
+        return at
+    is_on = rng.random() < .5
+    button = f"document.querySelector('#visit [data-l=\"{'1' if is_on else '-1'}\"]')"
+    for _ in range(rng.randrange(1, 4)):
+        browser.js(f"{button}.click()")
+        at = run.line_on(at) if is_on else run.line_back(at)
+    return at
 
 
 def over(browser, rng, at, run):
@@ -243,7 +308,7 @@ def to_other_view(browser, rng, at, run):
     return at
 
 
-MOVES = [by_steps, by_steps, by_typing, by_slider, by_address, to_an_end, to_set, to_jump, in_time, on_line,
+MOVES = [by_steps, by_steps, by_lines, by_typing, by_slider, by_address, to_an_end, to_set, to_jump, in_time, on_line,
          to_visit, over, back_over, to_write, to_output, to_input, to_interrupt, there_and_back, to_other_view]
 
 
