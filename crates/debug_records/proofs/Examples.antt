@@ -1,11 +1,11 @@
 -- Short debug files, and the rows of three addresses of files that ld65 wrote. Each is computed.
-use Rattle.std.proofs.Common.{◌≡◌, ℕ, List, [], ◌∷◌, ◌++◌, codes, Some, None, Result, Ok, Err, false, refl}
+use Rattle.std.proofs.Common.{◌≡◌, ℕ, List, [], ◌∷◌, ◌++◌, codes, Some, None, Option, Result, Ok, Err, false, true, refl}
 use Rattle.model.specs.TextLines.{lines_from}
 use Rattle.debug_records.specs.Fields.{field_of, field_with, fields_within, next_field, said_by}
 use Rattle.debug_records.specs.Info.{Info, no_info, with_new}
 use Rattle.debug_records.specs.Numbers.{next_number, number_of, numbers_within}
-use Rattle.debug_records.specs.Reading.{debug_info, finished, lines_read, with_file, with_line, with_module, with_record, with_said, with_segment, with_span, with_text, with_uses, with_version}
-use Rattle.debug_records.specs.Records.{Segment, file_of, line_of, segment_of, span_of}
+use Rattle.debug_records.specs.Reading.{debug_info, finished, lines_read, with_file, with_line, with_module, with_record, with_said, with_segment, with_span, with_symbol, with_text, with_uses, with_version}
+use Rattle.debug_records.specs.Records.{Segment, Symbol, file_of, line_of, segment_of, span_of, symbol_of}
 use Rattle.debug_records.specs.Rows.{begun_at, clear_rows, row_of, rows_at, rows_of, shown_at}
 use Rattle.debug_records.specs.declared.fault.DebugFault.{DebugFault}
 use Rattle.debug_records.specs.declared.fault.DebugFaultKind.{DebugFaultKind}
@@ -40,7 +40,7 @@ unfolding debug_info lines_read lines_from with_text said_by fields_within next_
     with_span span_of with_new finished
 no_segment = refl
 
-pub twice : debug_info (version ++ codes "seg\tid=0,start=0x0,size=1\r\nseg\tid=0,start=1,size=1\n") ≡ fault_in_file 3 8 fault.IdTwice
+pub twice : debug_info (version ++ codes "seg\tid=0,name=" ++ 34 ∷ codes "A" ++ 34 ∷ codes ",start=0x0,size=1\r\nseg\tid=0,name=" ++ 34 ∷ codes "B" ++ 34 ∷ codes ",start=1,size=1\n") ≡ fault_in_file 3 8 fault.IdTwice
 unfolding debug_info lines_read lines_from with_text said_by fields_within next_field field_of field_with number_of with_said with_version with_record
     with_segment segment_of with_new finished
 twice = refl
@@ -68,13 +68,29 @@ row file line kind depth start end = record {
 
 abbrev while_line : List ℕ
 while_line = version
-    ++ codes "line\tid=0,file=0,line=8,type=1,span=1+0\nspan\tid=0,seg=0,start=325,size=3\nspan\tid=1,seg=0,start=376,size=13\nseg\tid=0,start=0x008019,size=0x055E\nfile\tid=0,name="
-    ++ 34 ∷ codes "bank.c" ++ 34 ∷ codes ",size=9,mtime=0x10\n"
+    ++ codes "line\tid=0,file=0,line=8,type=1,span=1+0\nspan\tid=0,seg=0,start=325,size=3\nspan\tid=1,seg=0,start=376,size=13\nseg\tid=0,name="
+    ++ 34 ∷ codes "CODE" ++ 34 ∷ codes ",start=0x008019,size=0x055E\nfile\tid=0,name=" ++ 34 ∷ codes "bank.c" ++ 34 ∷ codes ",size=9,mtime=0x10\n"
 
 pub two_spans : rows_in (debug_info while_line) ≡ row 0 8 kind.C 0 0x8191 0x819E ∷ row 0 8 kind.C 0 0x815E 0x8161 ∷ []
 unfolding debug_info lines_read lines_from with_text said_by fields_within next_field field_of field_with number_of next_number numbers_within
     with_said with_version with_record with_file file_of with_segment segment_of with_span span_of with_line line_of with_uses with_new finished row_of
 two_spans = refl
+
+-- ---- a label, and a name that another module defines
+
+abbrev symbols_in : Result Info DebugFault → List (Option Symbol)
+symbols_in (Ok info) = info.symbols
+symbols_in (Err fault) = []
+
+abbrev symbol_lines : List ℕ
+symbol_lines = version ++ codes "sym\tid=1,name=" ++ 34 ∷ codes "sp" ++ 34 ∷ codes ",type=imp\nsym\tid=0,name="
+    ++ 34 ∷ codes "_main" ++ 34 ∷ codes ",val=0x8046,type=lab\n"
+
+pub two_symbols : symbols_in (debug_info symbol_lines) ≡ Some (record { name = codes "_main"; value = Some 0x8046; is_label = true })
+    ∷ Some (record { name = codes "sp"; value = None; is_label = false }) ∷ []
+unfolding debug_info lines_read lines_from with_text said_by fields_within next_field field_of field_with number_of with_said with_version with_record
+    with_symbol symbol_of with_new finished
+two_symbols = refl
 
 -- ---- a macro in a macro: the line that the author wrote is shown
 
@@ -113,7 +129,7 @@ shown_statement = refl
 -- ---- two banks, which run at one address: no row of theirs is shown
 
 abbrev bank : Segment
-bank = record { start = 0x8000; size = 0x100; output = None }
+bank = record { name = codes "BANK"; start = 0x8000; size = 0x100; output = None }
 
 pub in_banks : clear_rows (record no_info { segments = Some bank ∷ Some bank ∷ [] }) (row 0 1 kind.Assembler 0 0x8000 0x8002 ∷ []) ≡ []
 in_banks = refl

@@ -5,14 +5,15 @@ use Rattle.debug_records.specs.Faults.{Gives}
 use Rattle.debug_records.specs.Fields.{Field}
 use Rattle.debug_records.specs.Info.{Table, with_new}
 use Rattle.debug_records.specs.Numbers.{placed_in}
-use Rattle.debug_records.specs.Reading.{Reading, most_files, most_records, with_file, with_segment}
-use Rattle.debug_records.specs.Records.{File, Segment, file_of, segment_of}
-use Rattle.debug_records.specs.Views.{file_view, segment_view}
+use Rattle.debug_records.specs.Reading.{Reading, most_files, most_records, with_file, with_segment, with_symbol}
+use Rattle.debug_records.specs.Records.{File, Segment, Symbol, file_of, segment_of, symbol_of}
+use Rattle.debug_records.specs.Views.{file_view, segment_view, symbol_view}
 use Rattle.debug_records.specs.declared.fault.LineError.{LineError}
 use Rattle.debug_records.specs.declared.fault.LineFault.{LineFault}
 use Rattle.debug_records.specs.declared.numbers.Placed.{Placed}
 use Rattle.debug_records.specs.declared.record.File.{File as HeldFile}
 use Rattle.debug_records.specs.declared.record.Segment.{Segment as HeldSegment}
+use Rattle.debug_records.specs.declared.record.Symbol.{Symbol as HeldSymbol}
 use Rattle.debug_records.proofs.Passing.{passed_on}
 use Rattle.debug_records.proofs.Tables.{new_put, new_refused}
 
@@ -76,4 +77,35 @@ segment_given (Err why) fields r table new id segment same h k given =
     let whole : with_new most_records r.info.segments id (segment_view segment) ≡ Err fault =
     rw (← same) (new_refused segment_view most_records table id segment fault refused) in
     segment_refused fields r id (segment_view segment) fault h k whole)
+    given
+
+-- ---- symbols
+
+symbol_pushed : (fields : List Field) (r : Reading) (id : Placed) (symbol : Symbol) (symbols : Table Symbol)
+    → placed_in fields (codes "id") ≡ Ok id → symbol_of fields ≡ Ok symbol
+    → with_new most_records r.info.symbols id symbol ≡ Ok symbols → with_symbol fields r ≡ Ok (record r { info = record r.info { symbols = symbols } })
+unfolding with_symbol
+symbol_pushed fields r id symbol symbols h k p = rw h (rw k (rw p refl))
+
+symbol_refused : (fields : List Field) (r : Reading) (id : Placed) (symbol : Symbol) (fault : LineFault) → placed_in fields (codes "id") ≡ Ok id
+    → symbol_of fields ≡ Ok symbol
+    → with_new most_records r.info.symbols id symbol ≡ Err fault → with_symbol fields r ≡ Err fault
+unfolding with_symbol
+symbol_refused fields r id symbol fault h k p = rw h (rw k (rw p refl))
+
+pub symbol_given : {A : Type 0} (result : Result A LineError) (fields : List Field) (r : Reading) (table new : Table HeldSymbol) (id : Placed)
+    (symbol : HeldSymbol)
+    → map (option_map symbol_view) table ≡ r.info.symbols → placed_in fields (codes "id") ≡ Ok id → symbol_of fields ≡ Ok (symbol_view symbol)
+    → Gives (λ (x : A). new) result (with_new most_records table id symbol)
+    → Gives (λ (x : A). record r { info = record r.info { symbols = map (option_map symbol_view) new } }) result (with_symbol fields r)
+symbol_given (Ok x) fields r table new id symbol same h k given =
+    let put : with_new most_records r.info.symbols id (symbol_view symbol) ≡ Ok (map (option_map symbol_view) new) =
+    rw (← same) (new_put symbol_view most_records table new id symbol given) in
+    symbol_pushed fields r id (symbol_view symbol) (map (option_map symbol_view) new) h k put
+symbol_given (Err why) fields r table new id symbol same h k given =
+    passed_on why (with_new most_records table id symbol) (with_symbol fields r)
+    (λ (fault : LineFault) (refused : with_new most_records table id symbol ≡ Err fault).
+    let whole : with_new most_records r.info.symbols id (symbol_view symbol) ≡ Err fault =
+    rw (← same) (new_refused symbol_view most_records table id symbol fault refused) in
+    symbol_refused fields r id (symbol_view symbol) fault h k whole)
     given

@@ -3,7 +3,7 @@
 use Rattle.std.specs.Prelude.{ℕ, ◌+◌, ◌-◌, ◌==◌, nat_le, nat_lt, Bool, false, is_some, if◌then◌else◌, List, [], ◌++◌, length, get_or, set, replicate, Option, Some, None, Result, Ok, Err}
 use Rattle.std.specs.List.{count_by}
 use Rattle.debug_records.specs.Faults.{fault_before}
-use Rattle.debug_records.specs.Records.{File, Segment}
+use Rattle.debug_records.specs.Records.{File, Segment, Symbol}
 use Rattle.debug_records.specs.declared.fault.DebugFaultKind.TheVariants.{IdTwice, TooMany}
 use Rattle.debug_records.specs.declared.fault.LineFault.{LineFault}
 use Rattle.debug_records.specs.declared.info.Use.{Use}
@@ -39,6 +39,7 @@ with_new most table id item = if nat_le most id.number then Err (fault_before To
 pub record Info : Type 0 where
   pub files : Table File
   pub segments : Table Segment
+  pub symbols : Table Symbol
   pub spans : Table Span
   pub lines : Table Line
   pub modules : Table ℕ
@@ -48,6 +49,7 @@ abbrev pub no_info : Info
 no_info = record {
   files = [];
   segments = [];
+  symbols = [];
   spans = [];
   lines = [];
   modules = [];

@@ -8,7 +8,7 @@ use Rattle.debug_records.specs.Faults.{◌>>=◌, column_of, fault_before, fault
 use Rattle.debug_records.specs.Fields.{Field, Said, said_by}
 use Rattle.debug_records.specs.Info.{Info, no_info, record_at, with_new}
 use Rattle.debug_records.specs.Numbers.{numbers_in, placed_in}
-use Rattle.debug_records.specs.Records.{file_of, line_of, segment_of, span_of}
+use Rattle.debug_records.specs.Records.{file_of, line_of, segment_of, span_of, symbol_of}
 use Rattle.debug_records.specs.declared.fault.DebugFault.{DebugFault}
 use Rattle.debug_records.specs.declared.fault.DebugFaultKind.{DebugFaultKind}
 use Rattle.debug_records.specs.declared.fault.DebugFaultKind.TheVariants.{NoRecord, NoVersion, OtherVersion, TooLarge, TooMany}
@@ -68,6 +68,13 @@ with_segment fields r =
     with_new most_records r.info.segments id segment >>= λ segments.
     Ok (record r { info = record r.info { segments = segments } })
 
+unfoldable pub with_symbol : List Field → Reading → Read
+with_symbol fields r =
+    placed_in fields (codes "id") >>= λ id.
+    symbol_of fields >>= λ symbol.
+    with_new most_records r.info.symbols id symbol >>= λ symbols.
+    Ok (record r { info = record r.info { symbols = symbols } })
+
 unfoldable pub with_span : Place → List Field → Reading → Read
 with_span place fields r =
     placed_in fields (codes "id") >>= λ id.
@@ -123,6 +130,7 @@ with_record place said r =
     else if bytes_eq said.word (codes "span") then with_span place said.fields r
     else if bytes_eq said.word (codes "file") then with_file said.fields r
     else if bytes_eq said.word (codes "seg") then with_segment said.fields r
+    else if bytes_eq said.word (codes "sym") then with_symbol said.fields r
     else if bytes_eq said.word (codes "mod") then with_module place said.fields r
     else Ok r
 

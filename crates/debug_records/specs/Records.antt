@@ -1,7 +1,8 @@
 -- What a record of a debug file says, by its fields. Other words and other fields say nothing here: a
 -- minor version may add them. Names of a record are looked for in the order in which they stand
 -- here. Sources: those of Fields.antt; mos65 for the faults.
-use Rattle.std.specs.Prelude.{ℕ, ◌==◌, Bool, is_some, if◌then◌else◌, List, codes, Option, Some, None, Result, Ok, Err}
+use Rattle.std.specs.Prelude.{ℕ, ◌==◌, Bool, false, is_some, if◌then◌else◌, List, codes, Option, Some, None, Result, Ok, Err}
+use Rattle.std.specs.Str.{bytes_eq}
 use Rattle.debug_records.specs.Faults.{◌>>=◌, fault_before}
 use Rattle.debug_records.specs.Fields.{Field, field_in}
 use Rattle.debug_records.specs.Numbers.{number_in, number_or, number_value, text_in, text_value}
@@ -26,13 +27,14 @@ file_of fields =
     number_in fields (codes "mtime") >>= λ modified.
     Ok (record { name = name; size = size; modified = modified })
 
--- ---- `seg`: a segment, where it runs, and where its bytes are in a file that the linker wrote
+-- ---- `seg`: a segment, its name, where it runs, and where its bytes are in a file that the linker wrote
 
 pub record Output : Type 0 where
   pub name : List ℕ
   pub offset : ℕ
 
 pub record Segment : Type 0 where
+  pub name : List ℕ
   pub start : ℕ
   pub size : ℕ
   pub output : Option Output
@@ -46,10 +48,36 @@ output_by fields (Some field) =
 
 unfoldable pub segment_of : List Field → Result Segment LineFault
 segment_of fields =
+    text_in fields (codes "name") >>= λ name.
     number_in fields (codes "start") >>= λ start.
     number_in fields (codes "size") >>= λ size.
     output_by fields (field_in fields (codes "oname")) >>= λ output.
-    Ok (record { start = start; size = size; output = output })
+    Ok (record { name = name; start = start; size = size; output = output })
+
+-- ---- `sym`: a name, its value if its module defines it, and whether it is a label
+
+pub record Symbol : Type 0 where
+  pub name : List ℕ
+  pub value : Option ℕ
+  pub is_label : Bool
+
+abbrev pub value_by : Option Field → Result (Option ℕ) LineFault
+value_by None = Ok None
+value_by (Some field) = number_value field >>= λ value. Ok (Some value)
+
+abbrev pub is_label_by : Option Field → Bool
+is_label_by None = false
+is_label_by (Some field) = bytes_eq field.value (codes "lab")
+
+unfoldable pub symbol_of : List Field → Result Symbol LineFault
+symbol_of fields =
+    text_in fields (codes "name") >>= λ name.
+    value_by (field_in fields (codes "val")) >>= λ value.
+    Ok (record {
+      name = name;
+      value = value;
+      is_label = is_label_by (field_in fields (codes "type"));
+    })
 
 -- ---- `span`: bytes of a segment; they are data if they have a type
 

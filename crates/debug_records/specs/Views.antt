@@ -5,7 +5,7 @@ use Rattle.std.specs.Option.{option_map}
 use Rattle.debug_records.specs.Fields.{Field, Said}
 use Rattle.debug_records.specs.Info.{Info}
 use Rattle.debug_records.specs.Reading.{Reading}
-use Rattle.debug_records.specs.Records.{File, Output, Segment}
+use Rattle.debug_records.specs.Records.{File, Output, Segment, Symbol}
 use Rattle.debug_records.specs.declared.fields.Field.{Field as HeldField}
 use Rattle.debug_records.specs.declared.fields.Said.{Said as HeldSaid}
 use Rattle.debug_records.specs.declared.info.DebugInfo.{DebugInfo}
@@ -13,6 +13,7 @@ use Rattle.debug_records.specs.declared.reading.Reading.{Reading as HeldReading}
 use Rattle.debug_records.specs.declared.record.File.{File as HeldFile}
 use Rattle.debug_records.specs.declared.record.Output.{Output as HeldOutput}
 use Rattle.debug_records.specs.declared.record.Segment.{Segment as HeldSegment}
+use Rattle.debug_records.specs.declared.record.Symbol.{Symbol as HeldSymbol}
 
 abbrev pub field_view : HeldField → Field
 field_view field = record {
@@ -33,15 +34,24 @@ output_view output = record { name = output.name.now; offset = output.offset }
 
 abbrev pub segment_view : HeldSegment → Segment
 segment_view segment = record {
+  name = segment.name.now;
   start = segment.start;
   size = segment.size;
   output = option_map output_view segment.output;
+}
+
+abbrev pub symbol_view : HeldSymbol → Symbol
+symbol_view symbol = record {
+  name = symbol.name.now;
+  value = symbol.value;
+  is_label = symbol.is_label;
 }
 
 abbrev pub info_view : DebugInfo → Info
 info_view info = record {
   files = map (option_map file_view) info.files.items;
   segments = map (option_map segment_view) info.segments.items;
+  symbols = map (option_map symbol_view) info.symbols.items;
   spans = info.spans.items;
   lines = info.lines.items;
   modules = info.modules.items;

@@ -8,7 +8,7 @@ ghost use Rattle.debug_records.specs.Views.{info_view};
 
 use crate::fault::{DebugFaultKind, LineError, LineFault};
 use crate::numbers::Placed;
-use crate::record::{File, Line, Segment, Span};
+use crate::record::{File, Line, Segment, Span, Symbol};
 use std::alloc::{AllocError, Global};
 
 /// A line, and a span of it.
@@ -24,6 +24,7 @@ pub struct Use {
 pub struct DebugInfo<'a> {
     pub files: Vec<Option<File<'a>>>,
     pub segments: Vec<Option<Segment<'a>>>,
+    pub symbols: Vec<Option<Symbol<'a>>>,
     pub spans: Vec<Option<Span>>,
     pub lines: Vec<Option<Line>>,
     pub modules: Vec<Option<u32>>,
@@ -37,6 +38,7 @@ pub fn no_info<'a>(alloc: Global) -> DebugInfo<'a>
     DebugInfo {
         files: Vec::new(alloc),
         segments: Vec::new(alloc),
+        symbols: Vec::new(alloc),
         spans: Vec::new(alloc),
         lines: Vec::new(alloc),
         modules: Vec::new(alloc),

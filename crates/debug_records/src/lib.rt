@@ -4,7 +4,7 @@
 //! makes a row for each span of each line, `shown_at` picks the one that is shown for an address,
 //! and `table_of` does so for all addresses at once. `specs/Fields.antt` says what a line says,
 //! `specs/Records.antt` what each record has, `specs/Reading.antt` what a file denotes, and
-//! `specs/Rows.antt` what the rows are. Symbols and scopes are skipped.
+//! `specs/Rows.antt` what the rows are. Scopes and the names of C are skipped.
 #![tactic(auto)]
 
 mod fault;
@@ -22,7 +22,7 @@ mod text;
 
 pub use fault::{DebugError, DebugFault, DebugFaultKind};
 pub use info::{DebugInfo, Use, is_ambiguous, record_at};
-pub use record::{File, Line, LineKind, Output, Segment, Span};
+pub use record::{File, Line, LineKind, Output, Segment, Span, Symbol};
 pub use row::{Row, Wanted};
 pub use rows::{clear_rows, rows_at, rows_of, shown_at, size_of};
 pub use table::table_of;

@@ -4,8 +4,8 @@ ghost use Rattle.std.specs.Prelude.{◌≡◌, ◌<◌, ◌^◌, ◌++◌, OnOk,
 ghost use Rattle.debug_records.specs.Faults.{Gives};
 ghost use Rattle.debug_records.specs.Reading.{nothing_read, use_of, with_file, with_line};
 ghost use Rattle.debug_records.specs.Reading.{with_major, with_module, with_record, with_reference};
-ghost use Rattle.debug_records.specs.Reading.{with_said, with_segment, with_span, with_text};
-ghost use Rattle.debug_records.specs.Reading.{reference_of, with_uses, with_version};
+ghost use Rattle.debug_records.specs.Reading.{with_said, with_segment, with_span, with_symbol};
+ghost use Rattle.debug_records.specs.Reading.{reference_of, with_text, with_uses, with_version};
 ghost use Rattle.debug_records.specs.Views.{field_view, reading_view, said_view};
 ghost use Rattle.debug_records.specs.declared.reference.Target.TheVariants as target;
 
@@ -13,7 +13,7 @@ use crate::fault::{DebugFaultKind, LineError, LineFault, Place};
 use crate::fields::{Field, Said, is_same, said_by};
 use crate::info::{DebugInfo, Use, no_info, put_new};
 use crate::numbers::{Placed, numbers_in, placed_in};
-use crate::record_fields::{file_of, line_of, segment_of, span_of};
+use crate::record_fields::{file_of, line_of, segment_of, span_of, symbol_of};
 use crate::reference::{Reference, Target, reference_of};
 use std::alloc::{AllocError, Global};
 
@@ -77,6 +77,17 @@ fn push_segment<'a>(reading: &mut Reading<'a>, fields: &[Field<'a>]) -> Result<(
     let id = placed_in(fields, b"id")?;
     let segment = segment_of(fields)?;
     put_new(&mut reading.info.segments, MOST_RECORDS, id, segment)
+}
+
+/// Takes a record `sym`.
+#[tactic(auto, unfolding(crate::specs::Reading::with_symbol))]
+fn push_symbol<'a>(reading: &mut Reading<'a>, fields: &[Field<'a>]) -> Result<(), LineError>
+    ensures { Gives (λ _. reading_view reading.new) result
+        (with_symbol (map field_view fields.now) (reading_view reading.old)) }
+{
+    let id = placed_in(fields, b"id")?;
+    let symbol = symbol_of(fields)?;
+    put_new(&mut reading.info.symbols, MOST_RECORDS, id, symbol)
 }
 
 /// Takes a record `span`.
@@ -234,6 +245,8 @@ fn push_record<'a>(
         push_file(reading, fields)
     } else if is_same(said.word, b"seg") {
         push_segment(reading, fields)
+    } else if is_same(said.word, b"sym") {
+        push_symbol(reading, fields)
     } else if is_same(said.word, b"mod") {
         push_module(reading, place, fields)
     } else {

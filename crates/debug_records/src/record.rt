@@ -15,12 +15,21 @@ pub struct Output<'a> {
     pub offset: u32,
 }
 
-/// A segment: where it runs, and where its bytes are in a file that the linker wrote.
+/// A segment: its name, where it runs, and where its bytes are in a file that the linker wrote.
 #[derive(Clone, Copy)]
 pub struct Segment<'a> {
+    pub name: &'a [u8],
     pub start: u32,
     pub size: u32,
     pub output: Option<Output<'a>>,
+}
+
+/// A name, its value if its module defines it, and whether it is a label.
+#[derive(Clone, Copy)]
+pub struct Symbol<'a> {
+    pub name: &'a [u8],
+    pub value: Option<u32>,
+    pub is_label: bool,
 }
 
 /// Bytes of a segment, from its start on. They are data if they have a type.

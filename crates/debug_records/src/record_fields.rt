@@ -4,13 +4,15 @@ ghost use Rattle.std.specs.Prelude.{◌≡◌, codes, map, option_map};
 ghost use Rattle.debug_records.specs.Faults.{seen};
 ghost use Rattle.debug_records.specs.Fields.{field_in};
 ghost use Rattle.debug_records.specs.Records.{file_of, kind_by, kind_of, kind_or_fault, line_of};
-ghost use Rattle.debug_records.specs.Records.{output_by, segment_of, span_of};
+ghost use Rattle.debug_records.specs.Records.{is_label_by, output_by, segment_of, span_of};
+ghost use Rattle.debug_records.specs.Records.{symbol_of, value_by};
 ghost use Rattle.debug_records.specs.Views.{field_view, file_view, output_view, segment_view};
+ghost use Rattle.debug_records.specs.Views.{symbol_view};
 
 use crate::fault::{DebugFaultKind, LineFault};
-use crate::fields::{Field, field_in};
+use crate::fields::{Field, field_in, is_same};
 use crate::numbers::{number_in, number_or, number_value, text_in, text_value};
-use crate::record::{File, Line, LineKind, Output, Segment, Span};
+use crate::record::{File, Line, LineKind, Output, Segment, Span, Symbol};
 
 /// Returns the file that a record `file` tells of.
 #[tactic(auto, unfolding(crate::specs::Records::file_of))]
@@ -48,13 +50,53 @@ fn output_of<'a>(fields: &[Field<'a>]) -> Result<Option<Output<'a>>, LineFault>
 pub fn segment_of<'a>(fields: &[Field<'a>]) -> Result<Segment<'a>, LineFault>
     ensures { segment_of (map field_view fields.now) ≡ seen segment_view result }
 {
+    let name = text_in(fields, b"name")?;
     let start = number_in(fields, b"start")?;
     let size = number_in(fields, b"size")?;
     let output = output_of(fields)?;
     Ok(Segment {
+        name,
         start,
         size,
         output,
+    })
+}
+
+/// Returns the value of a symbol, if its record has one.
+fn value_in(fields: &[Field<'_>]) -> Result<Option<u32>, LineFault>
+    ensures { value_by (field_in (map field_view fields.now) (codes "val")) ≡ result }
+{
+    match field_in(fields, b"val") {
+        None => Ok(None),
+        Some(field) => {
+            let value = number_value(field)?;
+            Ok(Some(value))
+        }
+    }
+}
+
+/// Returns whether a symbol is a label.
+fn is_label(fields: &[Field<'_>]) -> bool
+    ensures { result ≡ is_label_by (field_in (map field_view fields.now) (codes "type")) }
+{
+    match field_in(fields, b"type") {
+        None => false,
+        Some(field) => is_same(field.value, b"lab"),
+    }
+}
+
+/// Returns the symbol that a record `sym` tells of.
+#[tactic(auto, unfolding(crate::specs::Records::symbol_of))]
+pub fn symbol_of<'a>(fields: &[Field<'a>]) -> Result<Symbol<'a>, LineFault>
+    ensures { symbol_of (map field_view fields.now) ≡ seen symbol_view result }
+{
+    let name = text_in(fields, b"name")?;
+    let value = value_in(fields)?;
+    let is_label = is_label(fields);
+    Ok(Symbol {
+        name,
+        value,
+        is_label,
     })
 }
 
