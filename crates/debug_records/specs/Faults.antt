@@ -1,4 +1,4 @@
--- What is wrong with a debug file, and where. Source: mos65.
+-- What is wrong with a debug file or a listing, and where. Source: mos65.
 use Rattle.std.specs.Prelude.{◌≡◌, ℕ, ◌+◌, ◌-◌, List, length, Result, Ok, Err, ⊤}
 use Rattle.debug_records.specs.declared.fault.DebugError.{DebugError}
 use Rattle.debug_records.specs.declared.fault.DebugError.TheVariants as debug

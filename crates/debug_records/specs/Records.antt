@@ -13,19 +13,19 @@ use Rattle.debug_records.specs.declared.record.LineKind.{LineKind}
 use Rattle.debug_records.specs.declared.record.LineKind.TheVariants.{Assembler, C, Macro, Parameter}
 use Rattle.debug_records.specs.declared.record.Span.{Span}
 
--- ---- `file`: a source, with its size and time when it was assembled
+-- ---- `file`: a source, with its size when it was assembled, as far as that is told; a debug file has
+-- its time too
 
 pub record File : Type 0 where
   pub name : List ℕ
-  pub size : ℕ
-  pub modified : ℕ
+  pub size : Option ℕ
 
 unfoldable pub file_of : List Field → Result File LineFault
 file_of fields =
     text_in fields (codes "name") >>= λ name.
     number_in fields (codes "size") >>= λ size.
     number_in fields (codes "mtime") >>= λ modified.
-    Ok (record { name = name; size = size; modified = modified })
+    Ok (record { name = name; size = Some size })
 
 -- ---- `seg`: a segment, its name, where it runs, and where its bytes are in a file that the linker wrote
 

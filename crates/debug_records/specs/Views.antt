@@ -27,7 +27,7 @@ abbrev pub said_view : HeldSaid → Said
 said_view said = record { word = said.word.now; fields = map field_view said.fields.items }
 
 abbrev pub file_view : HeldFile → File
-file_view file = record { name = file.name.now; size = file.size; modified = file.modified }
+file_view file = record { name = file.name.now; size = file.size }
 
 abbrev pub output_view : HeldOutput → Output
 output_view output = record { name = output.name.now; offset = output.offset }

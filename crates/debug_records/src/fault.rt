@@ -1,11 +1,11 @@
-//! What is wrong with a debug file, and where.
+//! What is wrong with a debug file or a listing, and where.
 
 ghost use Rattle.std.specs.Prelude.{◌≡◌, ◌<◌, ◌^◌};
 ghost use Rattle.debug_records.specs.Faults.{column_of, fault_in};
 
 use std::alloc::{AllocError, AllocFailed};
 
-/// What is wrong with a debug file. Source: mos65.
+/// What is wrong with a debug file, or with a listing. Source: mos65.
 #[derive(Clone, Copy, Debug, PartialEq, Eq)]
 pub enum DebugFaultKind {
     /// No tab stands behind the word of a line.
@@ -36,6 +36,18 @@ pub enum DebugFaultKind {
     NoRecord,
     /// The file has more than 16 MiB.
     TooLarge,
+    /// The file is neither a debug file nor a listing.
+    NoForm,
+    /// The listing has no numbers of lines.
+    NoNumbers,
+    /// A row of a listing has no number of a line.
+    NoLineNumber,
+    /// The listing has no columns, or others.
+    NoColumns,
+    /// A line of a listing names no file.
+    NoHead,
+    /// The bytes of a row are no pairs of hex digits.
+    NoBytes,
 }
 
 /// What is wrong with a line, and how many bytes of it are left where the fault stands.

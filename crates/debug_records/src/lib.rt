@@ -20,8 +20,11 @@ mod rows;
 mod table;
 mod text;
 
-pub use fault::{DebugError, DebugFault, DebugFaultKind};
-pub use info::{DebugInfo, Use, is_ambiguous, record_at};
+pub use fault::{
+    DebugError, DebugFault, DebugFaultKind, LineError, LineFault, Place, column_of, fault_in,
+};
+pub use info::{DebugInfo, Use, grow, is_ambiguous, no_info, record_at};
+pub use numbers::{decimal_number, hex_number};
 pub use record::{File, Line, LineKind, Output, Segment, Span, Symbol};
 pub use row::{Row, Wanted};
 pub use rows::{clear_rows, rows_at, rows_of, shown_at, size_of};

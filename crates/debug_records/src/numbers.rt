@@ -52,7 +52,7 @@ fn with_hex_digit(number: u32, digit: u8) -> Option<u32>
 }
 
 /// Returns the number that decimal digits write, if it is not too large.
-fn decimal_number(digits: &[u8]) -> Option<u32>
+pub fn decimal_number(digits: &[u8]) -> Option<u32>
     ensures { result ≡ not_large (decimal_number digits.now) }
 {
     let mut number = 0u32;
@@ -64,7 +64,7 @@ fn decimal_number(digits: &[u8]) -> Option<u32>
 }
 
 /// Returns the number that hex digits write, if it is not too large.
-fn hex_number(digits: &[u8]) -> Option<u32>
+pub fn hex_number(digits: &[u8]) -> Option<u32>
     ensures { result ≡ not_large (hex_number digits.now) }
 {
     let mut number = 0u32;

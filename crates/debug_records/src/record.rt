@@ -1,11 +1,10 @@
 //! Records of a debug file.
 
-/// A source, with its size and time when it was assembled.
+/// A source, with its size when it was assembled, as far as that is told.
 #[derive(Clone, Copy)]
 pub struct File<'a> {
     pub name: &'a [u8],
-    pub size: u32,
-    pub modified: u32,
+    pub size: Option<u32>,
 }
 
 /// A file that the linker wrote, and a place in it.

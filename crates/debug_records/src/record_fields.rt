@@ -21,11 +21,10 @@ pub fn file_of<'a>(fields: &[Field<'a>]) -> Result<File<'a>, LineFault>
 {
     let name = text_in(fields, b"name")?;
     let size = number_in(fields, b"size")?;
-    let modified = number_in(fields, b"mtime")?;
+    number_in(fields, b"mtime")?;
     Ok(File {
         name,
-        size,
-        modified,
+        size: Some(size),
     })
 }
 
