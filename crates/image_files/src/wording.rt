@@ -3,13 +3,13 @@
 pub const LOOKS_EMPTY: &str = "has no record";
 
 pub const LOOKS_RAW: &str =
-    "begins with no record: it looks like a raw image (FILE@HHHH) or a PRG file (--prg)";
+    "begins with no record: it looks like a raw image (FILE@HHHH, --bin HHHH) or a PRG file (--prg)";
 
 pub const LOOKS_PLAIN: &str =
     "begins with no record: it looks like a text; of a source, asm makes a tape";
 
 pub const LOOKS_CAPTURED: &str =
-    "looks like a capture of a KIM-1's terminal: mend makes a tape of it";
+    "looks like a capture of a KIM-1's terminal: mend makes a tape of it, or says why not";
 
 pub const TOO_LONG: &str = "has more than 16777216 bytes";
 

@@ -8,7 +8,9 @@ use crate::fault::{FileFault, TestFault};
 use crate::names::text_of;
 use crate::suites::Suite;
 use crate::wording::{AT_PORT, NO_IMAGE, NO_ROW, NO_SOURCE, TOO_LARGE};
-use arguments::{LoadFault, Refusal, put_fault_line, refuse_file, shown_name, tell_noted};
+use arguments::{
+    LoadFault, Refusal, put_fault_line, refuse_file, refuse_image_file, shown_name, tell_noted,
+};
 use loading::NamedFault;
 use std::alloc::{AllocError, Global};
 use std::io::Write;
@@ -180,8 +182,8 @@ fn tell_port<E: Write>(path: &str, first: u32, last: u32, free: Option<u16>, tex
         "mos65: {path}: IMAGE PortAddress 5 at {first:04X}-{last:04X}; "
     );
     let _ = match free {
-        Some(base) => writeln!(text, "port {base:04X} in the head is free, or port none"),
-        None => writeln!(text, "no base is free, try port none in the head"),
+        Some(base) => writeln!(text, "port={base:04X} in the head is free, or port=none"),
+        None => writeln!(text, "no base is free, try port=none in the head"),
     };
 }
 
@@ -193,7 +195,7 @@ fn tell_file<E: Write>(path: &str, fault: &LoadFault, text: &mut E) {
             let _ = text.write_all(told);
         }
         LoadFault::Refused(refusal) => {
-            let _ = refuse_file(*refusal, path, text);
+            let _ = refuse_image_file(*refusal, path, text);
         }
         LoadFault::LooksLikeTape => tell_like(path, "a tape", "--image", text),
         LoadFault::LooksLikeHex => tell_like(path, "Intel HEX", "--image", text),
