@@ -35,7 +35,7 @@ def refusal(text: str, status: int) -> Fault:
     line = text.strip().split("\n")[-1]
     if found := re.fullmatch(r"mos65: SOURCE line (\d+) (\w+) (\d+)", line):
         return AssemblyFault(found[2], int(found[3]), line=int(found[1]))
-    if found := re.fullmatch(r"mos65: (?:.+: )?TAPE byte (\d+) (\w+) (\d+)", line):
+    if found := re.fullmatch(r"mos65: (?:.+: )?TAPE byte (\d+) (\w+) (\d+)(?:: .*)?", line):
         return TapeFault(found[2], int(found[3]), offset=int(found[1]))
     if found := re.fullmatch(r"mos65: (?:.+: )?(?:TAPE|IMAGE) (\w+) (\d+)(?: at .*)?", line):
         return SessionFault(found[1], int(found[2]))

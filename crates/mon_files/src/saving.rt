@@ -9,7 +9,7 @@ ghost use Rattle.mon_files.specs.Saved.{save_form, with_saved};
 ghost use Rattle.mon_session.specs.Course.{ShowsOnly};
 
 use crate::known::Known;
-use crate::wording::{BYTE_IS_SAVED, BYTES_ARE_SAVED};
+use crate::wording::{BYTE_FILLS_GAP, BYTE_IS_SAVED, BYTES_ARE_SAVED, BYTES_FILL_GAPS};
 use crate::writing::{Outcome, of_memory, say_failure, say_of, say_own, write_new};
 use accesses::Written;
 use arguments::{FormName, Refusal, form_of_ending};
@@ -130,25 +130,58 @@ fn text_of(alloc: Global, form: FormName, image: &Image) -> Result<Vec<u8>, Allo
     }
 }
 
-/// Returns the text of what is saved in a form, and how many bytes that are.
+/// What is saved.
+#[derive(Drop)]
+struct Saved {
+    text: Vec<u8>,
+    /// How many bytes of memory the text has.
+    count: usize,
+    /// How many others it has between these.
+    gaps: usize,
+}
+
+/// Returns how many bytes a form without addresses has between those of an image.
+fn gaps_in(form: FormName, image: &Image, count: usize) -> usize {
+    match (form, ends_of(image)) {
+        (FormName::Bin | FormName::Prg, Some((low, high))) => {
+            (high as usize + 1).saturating_sub(low as usize + count)
+        }
+        _ => 0,
+    }
+}
+
+/// Returns what is saved in a form.
 ///
 /// Errors: `AllocError` if an allocation fails.
-fn saved_text(
+fn saved_in(
     alloc: Global,
     session: &Session,
     loaded: &Written,
     form: FormName,
     stretch: Option<Stretch>,
-) -> Result<(Vec<u8>, usize), AllocError>
+) -> Result<Saved, AllocError>
     // It is read again as the image that is saved.
-    ensures saved { IfOk result (λ text. (image : List (Option ℕ))
+    ensures saved { IfOk result (λ saved. (image : List (Option ℕ))
         × IsSaved session.now.current.bus loaded.now stretch image
-        × IsSavedAs form image text.0.items) }
+        × IsSavedAs form image saved.text.items) }
 {
     let image = saved_image(alloc, session, loaded, stretch)?;
     let text = text_of(alloc, form, &image)?;
     let count = image.cells().iter().filter(|cell| cell.is_some()).count();
-    Ok((text, count))
+    let gaps = gaps_in(form, &image, count);
+    Ok(Saved { text, count, gaps })
+}
+
+/// Says how many bytes of memory a file has, and how many fill the gaps between them, if some do.
+fn say_counts(mon: &mut MonState, count: usize, gaps: usize) -> Result<(), AllocError>
+    ensures shows { ShowsOnly mon.old mon.new }
+    ensures said { OnOk result ((said : List ℕ) × Says said mon.old mon.new) }
+{
+    if gaps == 0 {
+        return mon.count(count as u64, BYTE_IS_SAVED, BYTES_ARE_SAVED);
+    }
+    mon.count(count as u64, BYTE_IS_SAVED, BYTES_ARE_SAVED)?;
+    mon.count(gaps as u64, BYTE_FILLS_GAP, BYTES_FILL_GAPS)
 }
 
 /// Says what has become of a file, and how many bytes it has if it was written.
@@ -157,6 +190,7 @@ fn say_saved(
     file: &[u8],
     outcome: Outcome,
     count: usize,
+    gaps: usize,
 ) -> Result<(), AllocError>
     ensures shows { ShowsOnly mon.old mon.new }
     ensures said { OnOk result ((said : List ℕ) × Says said mon.old mon.new) }
@@ -164,7 +198,7 @@ fn say_saved(
     match outcome {
         Outcome::Whole => {
             say_of(mon, file, ": ")?;
-            mon.count(count as u64, BYTE_IS_SAVED, BYTES_ARE_SAVED)
+            say_counts(mon, count, gaps)
         }
         Outcome::Own => say_own(mon, file),
         Outcome::Not(fault) => say_failure(mon, file, fault),
@@ -173,7 +207,8 @@ fn say_saved(
 
 /// Writes a stretch of memory to a file, without a stretch each byte that the session's file has or
 /// that is not 0: in the form that the file's ending tells, or as a tape. Says how many bytes it
-/// has, or that it is not written: a file that the session has read is not.
+/// has, and how many fill gaps in a form without addresses; or that it is not written: a file that
+/// the session has read is not.
 ///
 /// # Errors
 ///
@@ -191,8 +226,8 @@ pub fn save_image<H: Files + AllocGlobal>(
     ensures refused { IfErr result (λ fault. fault ≡ Refusal.OutOfMemory) }
 {
     let form = save_form(file);
-    let text = saved_text(rt.alloc(), &mon.session, known.written(), form, stretch);
-    let (text, count) = of_memory(text)?;
-    let outcome = write_new(rt, words, file, text.as_slice())?;
-    of_memory(say_saved(mon, file, outcome, count))
+    let saved = saved_in(rt.alloc(), &mon.session, known.written(), form, stretch);
+    let saved = of_memory(saved)?;
+    let outcome = write_new(rt, words, file, saved.text.as_slice())?;
+    of_memory(say_saved(mon, file, outcome, saved.count, saved.gaps))
 }

@@ -11,6 +11,11 @@ pub const BYTE_IS_SAVED: &str = " byte is saved\n";
 
 pub const BYTES_ARE_SAVED: &str = " bytes are saved\n";
 
+/// What is said of the bytes that a form without addresses has between those of memory.
+pub const BYTE_FILLS_GAP: &str = " byte FF fills a gap\n";
+
+pub const BYTES_FILL_GAPS: &str = " bytes FF fill gaps\n";
+
 pub const NONE_HELD: &str = " is not written: no step was made yet, or its history is gone\n";
 
 pub const EVENT: &str = " event, ";

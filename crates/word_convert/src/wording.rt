@@ -15,7 +15,8 @@ pub const IN_TELLS: &str =
 pub const TO_TAKES: &str =
     "--to takes bin, hex, srec, tape or prg, which the ending of OUT does not tell";
 
-pub const RANGE_TAKES: &str = "LO and HI are two addresses of four hex digits, LO not above HI";
+pub const RANGE_TAKES: &str =
+    "LO and HI are two addresses of four hex digits, LO not above HI; files join two by two";
 
 pub const FILL_TAKES: &str = "--fill takes two hex digits";
 

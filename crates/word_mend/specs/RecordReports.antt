@@ -2,6 +2,7 @@
 use Rattle.std.specs.Prelude.{◌≡◌, ℕ, if◌then◌else◌, List, [], ◌++◌, Option, None, Some, codes, decimal}
 use Rattle.std.specs.List.{flat_map}
 use Rattle.arguments.specs.Shown.{shown_name}
+use Rattle.image_files.specs.Told.{record_note}
 use Rattle.image_reader.specs.RecordFault.{record_fault_name, record_fault_number}
 use Rattle.image_reader.specs.declared.fault.RecordFault.{RecordFault}
 use Rattle.image_reader.specs.declared.fault.RecordFaultKind.{RecordFaultKind}
@@ -39,10 +40,10 @@ unfoldable pub place_text : List ℕ → ℕ → ℕ → List ℕ
 place_text file line column = shown_name file ++ codes ":" ++ decimal line ++ codes ":"
     ++ decimal column ++ codes ": "
 
--- Its name and number.
+-- Its name and number, and what it means.
 unfoldable pub kind_text : RecordFaultKind → List ℕ
 kind_text kind = record_fault_name kind ++ codes " " ++ decimal (record_fault_number kind)
-    ++ codes "\n"
+    ++ record_note kind ++ codes "\n"
 
 -- The line that says a fault of a file.
 abbrev pub record_line : List ℕ → RecordFault → List ℕ

@@ -11,6 +11,7 @@ use crate::checksums::{WrongSum, wrong_sums};
 use crate::records::MendedRecords;
 use crate::wording;
 use arguments::shown_name;
+use image_files::record_note;
 use image_reader::{RecordFault, RecordFaultKind, TextForm};
 use std::alloc::{AllocError, Global};
 
@@ -124,17 +125,19 @@ fn push_place(
     write!(words, "{file}:{line}:{column}: ")
 }
 
-/// Appends the name and the number of a fault, and ends the line.
+/// Appends the name and the number of a fault and what it means, and ends the line.
 #[tactic(auto, unfolding(crate::specs::RecordReports::kind_text))]
 fn push_kind(words: &mut String, kind: RecordFaultKind) -> Result<(), AllocError>
     ensures { OnOk result
         (string_bytes words.new ≡ string_bytes words.old ++ kind_text kind) }
 {
     let (name, number) = (kind.name(), kind.number());
-    writeln!(words, "{name} {number}")
+    let note = record_note(kind);
+    writeln!(words, "{name} {number}{note}")
 }
 
-/// Returns the line that says a fault of a text of records: `FILE:LINE:COLUMN: NAME NUMBER`.
+/// Returns the line that says a fault of a text of records: `FILE:LINE:COLUMN: NAME NUMBER`, and
+/// what it means.
 ///
 /// Errors: `AllocError` if an allocation fails.
 pub fn record_line(alloc: Global, file: &str, fault: RecordFault) -> Result<String, AllocError>

@@ -3,6 +3,7 @@
 use Rattle.std.specs.Prelude.{ℕ, Bool, false, ◌||◌, List, Option, Some, None, codes, if◌then◌else◌, option_map}
 use Rattle.std.specs.Str.{bytes_eq}
 use Rattle.arguments.specs.Asked.{FileAsked, file_asked, file_view, is_flag}
+use Rattle.arguments.specs.FileNames.{names_image}
 use Rattle.arguments.specs.Values.{steps_asked}
 use Rattle.arguments.specs.Words.{value_in}
 use Rattle.arguments_play.specs.Debug.{debug_for}
@@ -77,11 +78,16 @@ abbrev pub is_read : Text → Option Text → Option Text → Option Text → Op
 is_read file symbols debug input notes out = bytes_eq file out || names_file symbols out
     || names_file debug out || names_file input out || names_file notes out
 
+-- The page has such a name, or that of an image: `page` takes one image.
+abbrev pub is_taken : Text → Option Text → Option Text → Option Text → Option Text → Text → Bool
+is_taken file symbols debug input notes out
+    = names_image out || is_read file symbols debug input notes out
+
 abbrev pub page_of : Option FileAsked → Option Text → Option Text → Option (Option Text)
     → Option Text → Option Text → Option Text → Option ℕ → Option Text → Option OpeningAsked → Bool
     → Option PageAsked
 page_of (Some file) (Some out) symbols (Some debug) root input until (Some steps) title (Some opening) is_free
-    = if is_read file.file symbols debug input opening.notes out then None else Some (record {
+    = if is_taken file.file symbols debug input opening.notes out then None else Some (record {
       file = file;
       out = out;
       symbols = symbols;
@@ -97,7 +103,7 @@ page_of (Some file) (Some out) symbols (Some debug) root input until (Some steps
 page_of file out symbols debug root input until steps title opening is_free = None
 
 -- What the values of the names ask for, where each is one that its name can have, and the page has
--- the name of no file that is read.
+-- the name of no image and of no file that is read.
 abbrev pub page_asked : (Text → Option Text) → Option PageAsked
 page_asked value = page_of (file_asked value) (value (codes "OUT")) (value (codes "symbols"))
     (debug_for (file_asked value) (value (codes "debug-info"))) (value (codes "source-root"))

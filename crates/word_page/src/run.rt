@@ -19,7 +19,10 @@ use crate::fault::PageFault;
 use crate::notes::{MOST_NOTES, read_notes};
 use crate::words::{PageWords, read_page_words};
 use accesses::Written;
-use arguments::{FileRefusal, NewFile, Refusal, create, read_most, refused_words};
+use arguments::{
+    FileRefusal, NewFile, Refusal, begin_file, check_outputs, check_replaced, read_most,
+    refused_words,
+};
 use assembler::Assembly;
 use console::Played;
 use debug_files::tell_changed;
@@ -35,6 +38,9 @@ use word_run::{Known, load_debug, place_named, status_of_ending, tell_ending};
 
 /// The most bytes of input that a program can be given.
 const MOST_INPUT: u64 = 65_536;
+
+/// How each page begins.
+const PAGE_FRONT: &[u8] = b"<!doctype html>";
 
 /// What a page says of a program besides its run.
 #[derive(Drop)]
@@ -128,7 +134,7 @@ fn said_of(
     Ok(Said { facts, source })
 }
 
-/// Begins the file of the page, unless it is one that was read.
+/// Begins the file of the page, unless it is one that was read, or is there and is no page.
 ///
 /// Errors: `WriteFile` if it is, or cannot be made; `OutOfMemory` if an allocation fails.
 #[tactic(auto, using(crate::proofs::Ends::unwritten_ends))]
@@ -146,7 +152,9 @@ fn begun_file<'a, H: Files + AllocGlobal>(
         words.input,
         notes,
     ];
-    Ok(create(rt, words.out, &read)?)
+    check_outputs(rt, &read, &[Some(words.out)])?;
+    check_replaced(rt, words.out, PAGE_FRONT)?;
+    Ok(begin_file(rt, words.out)?)
 }
 
 /// Returns the addresses that count as written when the run begins.
@@ -409,11 +417,12 @@ fn show_words<H: Files + AllocGlobal, E: Write>(rt: &H, words: &PageWords<'_>, e
 ///   page was written.
 /// - 1: the source, the tape, the file of names, that of debug information or that of notes is
 ///   rejected. 2: the words, the place or the map are wrong. 3: memory ran out. 4: reading or
-///   writing failed, or the page is a file that is read under another name.
+///   writing failed, or the page is a file that is read under another name, or one
+///   that is there and is no page.
 ///
 /// For each status but 0 a line on `errors` says why, and one says which sources have changed since
 /// the debug information was made; that a line cannot be written changes no status.
-/// A file that was at the name of the page is replaced.
+/// A page that was at the name of the page is replaced.
 pub fn page<H: Files + AllocGlobal, O: Write, E: Write>(
     rt: &H,
     words: &[&str],

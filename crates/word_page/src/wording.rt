@@ -3,6 +3,10 @@
 /// That a file that is read has the name of the page.
 pub const ONE_NAME: &str = "OUT is a file that is read";
 
+/// That the page has the name of an image.
+pub const ONE_IMAGE: &str =
+    "page takes one image, and OUT is the page, as run.html; convert joins images";
+
 /// What an option takes, where its value is wrong.
 pub const AT_TAKES: &str = "--at takes a number of at most seven digits";
 

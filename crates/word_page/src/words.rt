@@ -4,14 +4,17 @@ ghost use Rattle.std.specs.Prelude.{◌≡◌, IsOkUnless, IfErr, IfOk, None, So
 ghost use Rattle.std.specs.Prelude.{option_map};
 ghost use Rattle.arguments.specs.Words.{Fits, IsRefusalOf, texts};
 ghost use Rattle.clap.specs.Words.{first_value, found_of};
-ghost use Rattle.word_page.specs.Asked.{PageAsked, words_in, is_read, names_file, opening_asked};
-ghost use Rattle.word_page.specs.Asked.{opening_view, page_asked, page_steps, page_view};
+ghost use Rattle.word_page.specs.Asked.{PageAsked, words_in, is_read, is_taken, names_file};
+ghost use Rattle.word_page.specs.Asked.{opening_asked, opening_view, page_asked, page_steps};
+ghost use Rattle.word_page.specs.Asked.{page_view};
 ghost use Rattle.word_page.specs.Asked.{screen_asked, step_asked};
 ghost use Rattle.word_page.specs.CommandLine.{page};
 
 use crate::command::page_command;
-use crate::wording::{AT_TAKES, ONE_NAME, SCREEN_TAKES};
-use arguments::{FileWords, WordsFault, file_words, is_given, matched, steps_asked, wrong_value};
+use crate::wording::{AT_TAKES, ONE_IMAGE, ONE_NAME, SCREEN_TAKES};
+use arguments::{
+    FileWords, WordsFault, file_words, is_given, matched, names_image, steps_asked, wrong_value,
+};
 use arguments_play::{DEBUG_TAKES, debug_asked};
 use clap::ArgMatches;
 use commands::{address_of, decimal_of};
@@ -137,6 +140,22 @@ fn is_read(
         || names_file(notes, out)
 }
 
+/// Returns whether the name of the page is that of a file that is read, or that of an image.
+fn is_taken(
+    file: &str,
+    symbols: Option<&str>,
+    debug: Option<&str>,
+    input: Option<&str>,
+    notes: Option<&str>,
+    out: &str,
+) -> bool
+    ensures { result ≡ is_taken file.now (option_map (λ w. w.now) symbols.entry)
+        (option_map (λ w. w.now) debug.entry) (option_map (λ w. w.now) input.entry)
+        (option_map (λ w. w.now) notes.entry) out.now }
+{
+    names_image(out) || is_read(file, symbols, debug, input, notes, out)
+}
+
 /// Returns the words of the matched values, or `None` if one is wrong.
 fn words_in<'a>(matches: &ArgMatches<'a>) -> Option<PageWords<'a>>
     ensures { option_map page_view result ≡ page_asked (first_value (found_of matches.now)) }
@@ -150,7 +169,7 @@ fn words_in<'a>(matches: &ArgMatches<'a>) -> Option<PageWords<'a>>
     let input = matches.get_str("input");
     let steps = page_steps(matches.get_str("steps"))?;
     let opening = opening_asked(matches)?;
-    if is_read(file.file, symbols, debug_info, input, opening.notes, out) {
+    if is_taken(file.file, symbols, debug_info, input, opening.notes, out) {
         return None;
     }
     Some(PageWords {
@@ -186,6 +205,8 @@ fn wrong_words(matches: &ArgMatches<'_>) -> &'static str {
         SCREEN_TAKES
     } else if is_debug_wrong(matches) {
         DEBUG_TAKES
+    } else if matches.get_str("OUT").is_some_and(|out| names_image(out)) {
+        ONE_IMAGE
     } else {
         ONE_NAME
     }
@@ -197,8 +218,8 @@ fn wrong_words(matches: &ArgMatches<'_>) -> &'static str {
 ///
 /// - `Help`: the words ask for help. The text is `clap`'s.
 /// - `Usage`: a word is missing or unknown, or there are too many. The text is `clap`'s.
-/// - `Wrong`: an option has a value that it cannot have, or the page has the name of a file that is
-///   read.
+/// - `Wrong`: an option has a value that it cannot have, or the page has the name of an image or of
+///   a file that is read.
 /// - `OutOfMemory`: an allocation failed.
 pub fn read_page_words<'a>(alloc: Global, words: &'a [&'a str]) -> Result<PageWords<'a>, WordsFault>
     ensures asked { IfOk result (λ w. words_in (texts words.entry.now) ≡ Some (page_view w)) }
