@@ -128,11 +128,12 @@ fn refused_source(
     if fault.kind != AsmFaultKind::OutOfMemory {
         match looks_like_capture(alloc, bytes) {
             Ok(true) => return LoadFault::LooksLikeCapture,
-            _ => {
+            Ok(false) => {
                 if looks_raw(bytes) {
                     return LoadFault::LooksLikeRaw;
                 }
             }
+            Err(_) => return LoadFault::Refused(Refusal::OutOfMemory),
         }
     }
     faults_of(alloc, file, source, map, fault)

@@ -102,12 +102,13 @@ fn unless_image(
     }
     match looks_like_capture(alloc, bytes) {
         Ok(true) => Err(LoadFault::LooksLikeCapture),
-        _ => {
+        Ok(false) => {
             if looks_raw(bytes) {
                 return Err(LoadFault::LooksLikeRaw);
             }
             Ok(found)
         }
+        Err(_) => Err(LoadFault::Refused(Refusal::OutOfMemory)),
     }
 }
 
