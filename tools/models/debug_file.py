@@ -1,0 +1,127 @@
+"""What a debug file of ld65 says, read once more: by what ld65 writes (`--dbgfile`) and by cc65's own
+reader of it (`src/dbginfo` of cc65), and not by the definitions of this repository. Which of several
+lines is shown for an address is said in docs/DEFINITIONS.md, and so is how steps by lines go.
+
+A line of the file is a word, a tab, and fields NAME=VALUE with commas between them. Records of a word
+have numbers of their own, `id`, and name each other by these, in any order. A `span` is bytes of a `seg`,
+which says where it runs. A `line` has a file, a number, its spans, a type (none: assembler, 1: C,
+2: a line of a macro or a loop, 3: the text of a macro's parameter) and in `count` how deep it stands."""
+
+import collections
+import re
+
+FIELD = re.compile(r'(\w+)=("[^"]*"|[^,"]*)(?:,|$)')
+C, ASSEMBLER, MACRO, PARAMETER = 1, 0, 2, 3
+# Bytes from `start` on, before `end`, which a line of a file made.
+Row = collections.namedtuple("Row", "start end file line kind depth")
+
+
+def number(text):
+    return int(text, 16) if text.startswith("0x") else int(text)
+
+
+class DebugFile:
+    """The records of a debug file, by word and number."""
+
+    def __init__(self, text):
+        self.records = collections.defaultdict(dict)
+        for line in text.splitlines():
+            word, _, rest = line.partition("\t")
+            fields = {name: value.strip('"') for name, value in FIELD.findall(rest)}
+            if "id" in fields:
+                self.records[word][int(fields["id"])] = fields
+        self.rows = [row for row in self.all_rows() if self.is_clear(row)]
+
+    def file_name(self, id):
+        return self.records["file"][id]["name"]
+
+    def all_rows(self):
+        """A row for each span of each line, in the order of the file."""
+        for line in self.records["line"].values():
+            kind = int(line.get("type", "0"))
+            for id in filter(None, line.get("span", "").split("+")):
+                span = self.records["span"][int(id)]
+                start = number(self.records["seg"][int(span["seg"])]["start"]) + int(span["start"])
+                if kind != PARAMETER:
+                    yield Row(start, start + int(span["size"]), int(line["file"]),
+                              int(line["line"]), kind, int(line.get("count", "0")))
+
+    def segments_at(self, row):
+        """How many segments have an address of a row."""
+        ranges = [(number(it["start"]), number(it["size"])) for it in self.records["seg"].values()]
+        return sum(size > 0 and row.start < start + size and start < row.end
+                   for start, size in ranges)
+
+    def is_clear(self, row):
+        """Whether it is known whose bytes a row has: not where a file is the main one of two
+        modules, nor where two segments run."""
+        mains = [int(it["file"]) for it in self.records["mod"].values()]
+        return mains.count(row.file) < 2 and self.segments_at(row) < 2
+
+    def at(self, address):
+        """All rows that have an address."""
+        return [it for it in self.rows if it.start <= address < it.end]
+
+    def shown(self, address):
+        """The row that is shown for an address, or None: of C, else of the assembler, else of a
+        macro; of these the narrowest, of equal ones the deepest, and then the first."""
+        order = {C: 0, ASSEMBLER: 1, MACRO: 2}
+        return min(self.at(address), default=None,
+                   key=lambda it: (order[it.kind], it.end - it.start, -it.depth))
+
+    def begun(self, address):
+        """Whether a row begins at an address."""
+        return any(it.start == address and it.end > address for it in self.rows)
+
+    def starts(self):
+        """The addresses at which rows begin."""
+        return sorted({it.start for it in self.rows if it.start < it.end})
+
+    def site(self, address):
+        """`FILE:LINE` of the row that is shown where a row begins, or None."""
+        row = self.shown(address) if self.begun(address) else None
+        return row and f"{self.file_name(row.file)}:{row.line}"
+
+    def addresses(self, file, line):
+        """Where the rows of a line begin, or of the next line of its file that has bytes."""
+        rows = [it for it in self.rows if self.file_name(it.file) == file and it.line >= line
+                and it.start < it.end]
+        lowest = min((it.line for it in rows), default=None)
+        return sorted({it.start for it in rows if it.line == lowest})
+
+    def begins(self, address):
+        """Whether a line begins at an address."""
+        row = self.shown(address) if self.begun(address) else None
+        return bool(row) and row.start == address
+
+
+# A state of a run: what comes next, and the stack pointer.
+State = collections.namedtuple("State", "pc s opcode")
+JSR, RTS, RTI, BRK = 0x20, 0x60, 0x40, 0x00
+
+
+def line_forwards(info, states, at):
+    """The first later state of a run at which another line begins, within no call of that run; or
+    the last state."""
+    here, call = info.site(states[at].pc), None
+    for n in range(at + 1, len(states)):
+        before, now = states[n - 1], states[n]
+        if call is None and before.opcode in (JSR, BRK):
+            call = before.s
+        if call is not None and now.s >= call:
+            call = None
+        if call is None and info.begins(now.pc) and info.site(now.pc) != here:
+            return n
+    return len(states) - 1
+
+
+def line_back(info, states, at):
+    """The last earlier state at which a line begins, within no call that has returned since; or the
+    first state."""
+    highest = -1
+    for n in range(at - 1, -1, -1):
+        if states[n].opcode in (RTS, RTI):
+            highest = max(highest, states[n + 1].s)
+        if info.begins(states[n].pc) and highest <= states[n].s:
+            return n
+    return 0
