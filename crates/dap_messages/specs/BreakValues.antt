@@ -3,7 +3,8 @@
 -- "DataBreakpointInfo Request".
 use Rattle.std.specs.Prelude.{ℕ, true, false, List, [], ◌∷◌, codes, Option, Some, None}
 use Rattle.dap_messages.specs.Bodies.{list_body}
-use Rattle.dap_messages.specs.Texts.{address_text, reference}
+use Rattle.dap_messages.specs.Texts.{address_text, data_id, range_text, reference}
+use Rattle.dap_messages.specs.declared.request.ByteRange.{ByteRange}
 use Rattle.json_messages.specs.Values.{count, flag, list_of, object_of, word}
 use Rattle.serde_json.specs.Data.{Data, null}
 
@@ -52,14 +53,14 @@ targets_body ds = list_body (codes "targets") ds
 
 -- ---- watched bytes
 
--- A byte is watched by the reference to its address, for changes, for reads or for both.
+-- Bytes are watched by their ID, for changes, for reads or for both.
 abbrev pub accesses : Data
 accesses = list_of (word (codes "read") ∷ word (codes "write") ∷ word (codes "readWrite") ∷ [])
 
-abbrev pub data_at : ℕ → Data
-data_at address = object_of ((codes "accessTypes", accesses)
-    ∷ (codes "dataId", word (reference address))
-    ∷ (codes "description", word (address_text address)) ∷ [])
+abbrev pub data_at : ByteRange → Data
+data_at range = object_of ((codes "accessTypes", accesses)
+    ∷ (codes "dataId", word (data_id range))
+    ∷ (codes "description", word (range_text range)) ∷ [])
 
 abbrev pub no_data : List ℕ → Data
 no_data words = object_of ((codes "dataId", null) ∷ (codes "description", word words) ∷ [])

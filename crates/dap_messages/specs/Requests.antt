@@ -4,7 +4,7 @@ use Rattle.std.specs.Prelude.{ℕ, ◌-◌, ◌==◌, min, ◌&&◌, ◌||◌, n
 use Rattle.dap_messages.specs.Counting.{counting_of}
 use Rattle.dap_messages.specs.Members.{wrong_member}
 use Rattle.dap_messages.specs.Names.{name_of}
-use Rattle.dap_messages.specs.References.{offset_at, place_at}
+use Rattle.dap_messages.specs.References.{offset_at, place_at, range_in}
 use Rattle.dap_messages.specs.Seen.{SeenBreakpoints, SeenChange, SeenCondition, SeenFunction, SeenInstruction, SeenLaunch, SeenQuery, SeenRequest, SeenSessionRequest, SeenSource}
 use Rattle.dap_messages.specs.Seen as seen
 use Rattle.dap_messages.specs.declared.members.Member.{Member}
@@ -122,14 +122,14 @@ function_of listed = record {
   condition = condition_of listed;
 }
 
--- A byte is watched for changes if another access is named, or none.
+-- Bytes are watched for changes if another access is named, or none.
 abbrev pub access_named : List ℕ → Access
 access_named name = if bytes_eq name (codes "read") then access.Read
     else if bytes_eq name (codes "readWrite") then access.ReadWrite else access.Write
 
 abbrev pub data_of : Data → DataBreakpoint
 data_of listed = record {
-  address = place_at (codes "/dataId") (codes "/offset") listed;
+  range = range_in (text_in (codes "/dataId") listed);
   access = access_named (text_in (codes "/accessType") listed);
 }
 
@@ -188,6 +188,11 @@ abbrev pub locations_query : Data → SeenQuery
 locations_query request = seen.breakpoint_locations (path_in request)
     (number_at (codes "/arguments/line") request) (end_in request)
 
+abbrev pub data_query : Data → SeenQuery
+data_query request = seen.data_breakpoint_info (scope_in request)
+    (text_in (codes "/arguments/name") request) (number_at (codes "/arguments/bytes") request)
+    (is_set (codes "/arguments/asAddress") request)
+
 abbrev pub query_by : Data → QueryName → SeenQuery
 query_by request query.Threads = seen.threads
 query_by request query.StackTrace = seen.stack_trace
@@ -203,8 +208,8 @@ query_by request query.Disassemble = seen.disassemble (memory_in request)
 query_by request query.GotoTargets
     = seen.goto_targets (path_in request) (number_at (codes "/arguments/line") request)
 query_by request query.BreakpointLocations = locations_query request
-query_by request query.DataBreakpointInfo
-    = seen.data_breakpoint_info (scope_in request) (text_in (codes "/arguments/name") request)
+query_by request query.LoadedSources = seen.loaded_sources
+query_by request query.DataBreakpointInfo = data_query request
 query_by request query.Completions = seen.completions (text_in (codes "/arguments/text") request)
     (number_at (codes "/arguments/column") request)
 query_by request query.ExceptionInfo = seen.exception_info
@@ -256,6 +261,8 @@ launch_of request = record {
   rom = text_at (codes "/arguments/rom") request;
   profile = text_at (codes "/arguments/profile") request;
   symbols = text_at (codes "/arguments/symbols") request;
+  debug_info = text_at (codes "/arguments/debugInfo") request;
+  source_root = text_at (codes "/arguments/sourceRoot") request;
   history = number_at (codes "/arguments/history") request;
   steps = number_at (codes "/arguments/steps") request;
   stop_on_entry = unwrap_or (flag_at (codes "/arguments/stopOnEntry") request) true;

@@ -5,6 +5,7 @@ use Rattle.dap_messages.specs.declared.answer.Answer.{Answer}
 use Rattle.dap_messages.specs.declared.answer.Answer.TheVariants as answer
 use Rattle.dap_messages.specs.declared.item.Item.{Item}
 use Rattle.dap_messages.specs.declared.item.Item.TheVariants as item
+use Rattle.dap_messages.specs.declared.request.ByteRange.{ByteRange}
 
 -- ---- what a list has
 
@@ -36,6 +37,8 @@ pub data SeenItem : Type 0 where
   place_on : ℕ → SeenItem
   -- An address that can be gone to, and its line.
   goto_target : ℕ → ℕ → SeenItem
+  -- A file of the source, by its name and its path.
+  source_file : List ℕ → List ℕ → SeenItem
   -- A text, the column that it stands from, and for how many bytes it stands.
   completion_item : List ℕ → ℕ → ℕ → SeenItem
 
@@ -58,6 +61,7 @@ item_view item.Watched = data_watched
 item_view (item.Unwatched words) = data_unwatched (string_bytes words)
 item_view (item.Place line) = place_on line
 item_view (item.GotoTarget address line) = goto_target address line
+item_view (item.Source name path) = source_file (string_bytes name) (string_bytes path)
 item_view (item.Completion text start count) = completion_item (string_bytes text) start count
 
 -- ---- answers
@@ -74,6 +78,7 @@ pub data SeenAnswer : Type 0 where
   breakpoints_body : List SeenItem → SeenAnswer
   targets_body : List SeenItem → SeenAnswer
   instructions_body : List SeenItem → SeenAnswer
+  sources_body : List SeenItem → SeenAnswer
   variables_body : List SeenItem → SeenAnswer
   -- Some frames, and how many there are.
   frames_body : List SeenItem → ℕ → SeenAnswer
@@ -86,8 +91,8 @@ pub data SeenAnswer : Type 0 where
   written_body : ℕ → SeenAnswer
   -- Why a step was refused.
   exception_body : List ℕ → SeenAnswer
-  -- The byte at an address can be watched.
-  data_at : ℕ → SeenAnswer
+  -- Bytes can be watched.
+  data_at : ByteRange → SeenAnswer
   -- Words of why nothing can be watched.
   no_data : List ℕ → SeenAnswer
 
@@ -104,6 +109,7 @@ answer_view (answer.Scopes is_first) = scopes is_first
 answer_view (answer.Breakpoints items) = breakpoints_body (map item_view items.items)
 answer_view (answer.Targets items) = targets_body (map item_view items.items)
 answer_view (answer.Instructions items) = instructions_body (map item_view items.items)
+answer_view (answer.Sources items) = sources_body (map item_view items.items)
 answer_view (answer.Variables items) = variables_body (map item_view items.items)
 answer_view (answer.Frames items total) = frames_body (map item_view items.items) total
 answer_view (answer.Memory address text unread) = memory_body address (string_bytes text) unread
@@ -111,5 +117,5 @@ answer_view (answer.Look address words) = look_body address (string_bytes words)
 answer_view (answer.ValueSet words) = value_set_body (string_bytes words)
 answer_view (answer.Written count) = written_body count
 answer_view (answer.Exception words) = exception_body (string_bytes words)
-answer_view (answer.DataAt address) = data_at address
+answer_view (answer.DataAt range) = data_at range
 answer_view (answer.NoData words) = no_data (string_bytes words)

@@ -12,7 +12,8 @@ ghost use Rattle.json_messages.specs.Values.{list_of};
 ghost use Rattle.serde_json.specs.Data.{Data};
 ghost use Rattle.serde_json.specs.View.{view};
 
-use crate::texts::{address_text, reference};
+use crate::request::ByteRange;
+use crate::texts::{address_text, data_id, range_text, reference};
 use json_messages::{Object, ValueList};
 use serde_json::Value;
 use std::alloc::{AllocError, Global};
@@ -119,9 +120,9 @@ pub fn completion_item(
         .build()
 }
 
-/// Returns that the byte at an address can be watched.
-pub fn data_at(alloc: Global, address: u16) -> Result<Value, AllocError>
-    ensures { IfOk result (λ v. view v ≡ data_at address) }
+/// Returns that bytes can be watched.
+pub fn data_at(alloc: Global, range: ByteRange) -> Result<Value, AllocError>
+    ensures { IfOk result (λ v. view v ≡ data_at range) }
 {
     let accesses = ValueList::new(alloc)
         .with(Value::try_from_str(alloc, "read"))
@@ -130,8 +131,8 @@ pub fn data_at(alloc: Global, address: u16) -> Result<Value, AllocError>
         .build();
     Object::new(alloc)
         .member("accessTypes", accesses)
-        .text("dataId", reference(alloc, address))
-        .text("description", address_text(alloc, address))
+        .text("dataId", data_id(alloc, range))
+        .text("description", range_text(alloc, range))
         .build()
 }
 

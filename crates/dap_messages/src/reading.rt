@@ -4,7 +4,8 @@ ghost use Rattle.std.specs.Prelude.{◌≡◌, IfOk, map as each};
 ghost use Rattle.dap_messages.specs.Requests.{asked_by, asked_of, breakpoints_by, change_by};
 ghost use Rattle.dap_messages.specs.Requests.{condition_of, is_of_thread, needs_thread, page_in};
 ghost use Rattle.dap_messages.specs.Requests.{scope_in, scope_of};
-ghost use Rattle.dap_messages.specs.Requests.{count_in, data_of, function_of, instruction_of};
+ghost use Rattle.dap_messages.specs.Requests.{count_in, data_of, data_query, function_of};
+ghost use Rattle.dap_messages.specs.Requests.{instruction_of};
 ghost use Rattle.dap_messages.specs.Requests.{is_console};
 ghost use Rattle.dap_messages.specs.Requests.{end_in, expression_change, is_register};
 ghost use Rattle.dap_messages.specs.Requests.{locations_query, scope_expressed};
@@ -20,7 +21,7 @@ ghost use Rattle.serde_json.specs.View.{items_view, view};
 use crate::counting::Counting;
 use crate::members::wrong_member;
 use crate::names::{ChangeName, ListName, QueryName, RequestName, SessionName, name_of};
-use crate::references::{offset_at, place_at};
+use crate::references::{offset_at, place_at, range_in};
 use crate::request::{
     Access, Breakpoints, Change, Condition, DataBreakpoint, FunctionBreakpoint,
     InstructionBreakpoint, Launch, Page, Query, Request, Scope, SessionRequest, SourceBreakpoint,
@@ -134,7 +135,7 @@ fn function_of(alloc: Global, listed: &Value) -> Result<FunctionBreakpoint, Allo
     Ok(FunctionBreakpoint { name, condition })
 }
 
-/// Returns a byte to be watched that a request lists.
+/// Returns bytes to be watched that a request lists.
 fn data_of(listed: &Value) -> DataBreakpoint
     ensures { result ≡ data_of (view listed.now) }
 {
@@ -144,7 +145,7 @@ fn data_of(listed: &Value) -> DataBreakpoint
         _ => Access::Write,
     };
     DataBreakpoint {
-        address: place_at(listed, "/dataId", "/offset"),
+        range: range_in(text_or(listed, "/dataId", "").as_bytes()),
         access,
     }
 }
@@ -337,6 +338,22 @@ fn locations_query(request: &Value) -> Query<'_>
     Query::BreakpointLocations { path, line, end }
 }
 
+/// Returns the question whether something can be watched.
+fn data_query(request: &Value) -> Query<'_>
+    ensures { query_view result ≡ data_query (view request.now) }
+{
+    let scope = scope_in(request);
+    let name = text_or(request, "/arguments/name", "");
+    let count = number_at(request, "/arguments/bytes");
+    let is_address = flag_or(request, "/arguments/asAddress", false);
+    Query::DataBreakpointInfo {
+        scope,
+        name,
+        count,
+        is_address,
+    }
+}
+
 /// Returns the question that a request asks.
 fn query_by(request: &Value, name: QueryName) -> Query<'_>
     ensures { query_view result ≡ query_by (view request.now) name }
@@ -367,10 +384,8 @@ fn query_by(request: &Value, name: QueryName) -> Query<'_>
             line: number_at(request, "/arguments/line"),
         },
         QueryName::BreakpointLocations => locations_query(request),
-        QueryName::DataBreakpointInfo => Query::DataBreakpointInfo {
-            scope: scope_in(request),
-            name: text_or(request, "/arguments/name", ""),
-        },
+        QueryName::LoadedSources => Query::LoadedSources,
+        QueryName::DataBreakpointInfo => data_query(request),
         QueryName::Completions => Query::Completions {
             text: text_or(request, "/arguments/text", ""),
             column: number_at(request, "/arguments/column"),
@@ -469,6 +484,8 @@ fn launch_of(alloc: Global, request: &Value) -> Result<Launch, AllocError>
     let rom = own_text(alloc, request, "/arguments/rom")?;
     let profile = own_text(alloc, request, "/arguments/profile")?;
     let symbols = own_text(alloc, request, "/arguments/symbols")?;
+    let debug_info = own_text(alloc, request, "/arguments/debugInfo")?;
+    let source_root = own_text(alloc, request, "/arguments/sourceRoot")?;
     Ok(Launch {
         program,
         tape: flag_or(request, "/arguments/tape", false),
@@ -478,6 +495,8 @@ fn launch_of(alloc: Global, request: &Value) -> Result<Launch, AllocError>
         rom,
         profile,
         symbols,
+        debug_info,
+        source_root,
         history: number_at(request, "/arguments/history"),
         steps: number_at(request, "/arguments/steps"),
         stop_on_entry: flag_or(request, "/arguments/stopOnEntry", true),

@@ -1,15 +1,18 @@
-//! How a client names an address: a reference, `0x` and four hex digits, and an offset.
+//! How a client names an address: a reference, `0x` and four hex digits, and an offset. How it
+//! names bytes: the reference to the first, and that to the last, with `:` between them.
 
 ghost use Rattle.std.specs.Prelude.{◌≡◌};
-ghost use Rattle.dap_messages.specs.References.{address_of, offset_at, place_at};
+ghost use Rattle.dap_messages.specs.References.{address_of, last_in, offset_at, place_at};
+ghost use Rattle.dap_messages.specs.References.{range_by, range_in, range_of};
 ghost use Rattle.serde_json.specs.View.{view};
 
+use crate::request::ByteRange;
 use json_messages::text_at;
 use serde_json::Value;
 
 /// Returns the address of a reference, if it is one.
 #[tactic(auto, unfolding(crate::specs::References::begins_reference))]
-fn address_of(reference: &[u8]) -> Option<u16>
+pub fn address_of(reference: &[u8]) -> Option<u16>
     ensures { result ≡ address_of reference.now }
 {
     if reference.starts_with(b"0x") {
@@ -44,5 +47,56 @@ pub fn place_at(message: &Value, reference: &str, offset: &str) -> Option<u16>
             None => None,
         },
         None => None,
+    }
+}
+
+/// Returns so many bytes from an address on, if there is one at least, and all are within the
+/// memory.
+pub fn range_of(address: u16, count: u64) -> Option<ByteRange>
+    ensures { result ≡ range_of address count }
+{
+    if count == 0 || count > 65536 - u64::from(address) {
+        return None;
+    }
+    Some(ByteRange {
+        first: address,
+        last: address + (count - 1) as u16,
+    })
+}
+
+/// Returns the bytes from an address to another, if both are named and are in order.
+fn range_by(first: Option<u16>, last: Option<u16>) -> Option<ByteRange>
+    ensures { result ≡ range_by first last }
+{
+    let first = first?;
+    let last = last?;
+    if first <= last {
+        Some(ByteRange { first, last })
+    } else {
+        None
+    }
+}
+
+/// Returns the address that stands behind `:`, if one does.
+#[tactic(auto, unfolding(crate::specs::References::begins_last))]
+fn last_in(text: &[u8]) -> Option<u16>
+    ensures { result ≡ last_in text.now }
+{
+    if text.starts_with(b":") {
+        address_of(&text[1..])
+    } else {
+        None
+    }
+}
+
+/// Returns the bytes that an ID of data names, if it names some.
+pub fn range_in(id: &[u8]) -> Option<ByteRange>
+    ensures { result ≡ range_in id.now }
+{
+    if id.len() < 7 {
+        let first = address_of(id);
+        range_by(first, first)
+    } else {
+        range_by(address_of(&id[..6]), last_in(&id[6..]))
     }
 }

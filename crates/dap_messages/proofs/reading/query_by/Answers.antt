@@ -28,6 +28,9 @@ returns-in-GotoTargets c = rw c.in-GotoTargets.is
 pub returns-in-BreakpointLocations : goal.returns-in-BreakpointLocations
 returns-in-BreakpointLocations c = rw c.in-BreakpointLocations.is c.locations_query.ensures
 
+pub returns-in-DataBreakpointInfo : goal.returns-in-DataBreakpointInfo
+returns-in-DataBreakpointInfo c = rw c.in-DataBreakpointInfo.is c.data_query.ensures
+
 pub returns-in-Completions : goal.returns-in-Completions
 returns-in-Completions c = rw c.in-Completions.is
     (λ i. completions (c.text_or-in-Completions.ensures i) (c.number_at-in-Completions.ensures i))
