@@ -10,6 +10,7 @@ use Rattle.model.specs.Image.{cell_at}
 use Rattle.model.specs.OpcodeTable.{row_at as opcode_row}
 use Rattle.model.specs.declared.instruction.Profile.{Profile}
 use Rattle.model.specs.declared.instruction.Row.{Row as OpcodeRow}
+use Rattle.source_map.specs.DebugNames.{debug_names}
 use Rattle.source_map.specs.Lines.{PlacesView, SourceView, bytes_in}
 use Rattle.source_map.specs.declared.rows.Row.{Row}
 use Rattle.source_map.specs.declared.rows.Site.{Site}
@@ -88,16 +89,17 @@ sites_in rows = filter_map site_in rows
 
 -- ---- the whole
 
-abbrev pub places_in : Program → List DebugRow → List SourceView → PlacesView
-places_in program rows sources = record {
-  names = [];
+-- What stands where in a program by debug information, with these files: by its names, and by the
+-- rows that are told apart from others.
+abbrev pub places_by : Program → Info → List DebugRow → List SourceView → PlacesView
+places_by program info rows sources = record {
+  names = debug_names program.image info.symbols;
   lines = pieces_of program rows;
   sites = sites_in rows;
   sources = sources;
   is_whole = false;
 }
 
--- What stands where in a program by debug information, with these files: by the rows that are told
--- apart from others.
 abbrev pub debug_places : Program → Info → List SourceView → PlacesView
-debug_places program info sources = places_in program (clear_rows info (rows_of info)) sources
+debug_places program info sources
+    = places_by program info (clear_rows info (rows_of info)) sources

@@ -1,3 +1,4 @@
 pub mod Names
 pub mod Lines
 pub mod Debugged
+pub mod DebugNames

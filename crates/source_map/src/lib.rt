@@ -5,6 +5,7 @@
 //! one of sites by line (`specs/Lines.antt`).
 #![tactic(auto)]
 
+mod debug_names;
 mod debugged;
 mod names;
 mod places;

@@ -165,7 +165,7 @@ impl Names {
     }
 
     /// Appends a name.
-    fn push(
+    pub(crate) fn push(
         &mut self,
         alloc: Global,
         text: &[u8],

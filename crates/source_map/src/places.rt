@@ -11,6 +11,7 @@ ghost use Rattle.source_map.specs.Lines.{site_from, site_words, source_view, tex
 ghost use Rattle.source_map.specs.Lines.{with_site};
 ghost use Rattle.source_map.specs.Names.{named_numbers, names_in, names_of, other_names};
 
+use crate::debug_names::debug_names;
 use crate::debugged::{pieces_of, sites_in, told_rows};
 use crate::names::Names;
 use crate::rows::{Row, Site, rows_of, sites_of};
@@ -175,8 +176,8 @@ impl Places {
         })
     }
 
-    /// Makes the places of a program by debug information, which has no names here. The image has
-    /// the bytes of the program where it runs; the files are those of the information, by number.
+    /// Makes the places of a program by debug information, with its names. The image has the bytes
+    /// of the program where it runs; the files are those of the information, by number.
     ///
     /// Errors: `AllocError` if an allocation fails.
     pub fn of_debug(
@@ -193,8 +194,9 @@ impl Places {
         let told = told_rows(alloc, info)?;
         let rows = pieces_of(alloc, profile, image, told.as_slice())?;
         let sites = sites_in(alloc, told.as_slice())?;
+        let names = debug_names(alloc, image, info.symbols.as_slice())?;
         Ok(Places {
-            names: Names::new(alloc),
+            names,
             rows,
             sites,
             sources,
