@@ -3,3 +3,4 @@ pub mod Paths
 pub mod Told
 pub mod Changed
 pub mod Loaded
+pub mod Forms

@@ -1,9 +1,10 @@
--- What is told of a debug file that has a fault: where, its name and its number. Source: mos65.
-use Rattle.std.specs.Prelude.{◌≡◌, ◌==◌, ℕ, if◌then◌else◌, List, [], ◌++◌, codes, decimal, Some}
+-- What is told of a file of debug information that has a fault: where, its name and its number, and
+-- what it means. Source: mos65.
+use Rattle.std.specs.Prelude.{◌≡◌, ℕ, List, [], ◌++◌, codes, decimal, Some}
 use Rattle.arguments.specs.declared.load_fault.LoadFault.{LoadFault}
 use Rattle.arguments.specs.declared.load_fault.LoadFault.TheVariants.{NoImage, Refused}
 use Rattle.arguments.specs.declared.refusal.Refusal.TheVariants.{OutOfMemory}
-use Rattle.debug_files.specs.declared.faults.TheConstants.{NO_DEBUG_FILE}
+use Rattle.debug_files.specs.declared.faults.TheConstants.{NO_COLUMNS, NO_FORM, NO_LINE_NUMBER, NO_NUMBERS}
 use Rattle.debug_records.specs.declared.fault.DebugError.{DebugError}
 use Rattle.debug_records.specs.declared.fault.DebugError.TheVariants as debug
 use Rattle.debug_records.specs.declared.fault.DebugFault.{DebugFault}
@@ -29,6 +30,12 @@ name_of kind.IdTwice = codes "IdTwice"
 name_of kind.TooMany = codes "TooMany"
 name_of kind.NoRecord = codes "NoRecord"
 name_of kind.TooLarge = codes "TooLarge"
+name_of kind.NoForm = codes "NoForm"
+name_of kind.NoNumbers = codes "NoNumbers"
+name_of kind.NoLineNumber = codes "NoLineNumber"
+name_of kind.NoColumns = codes "NoColumns"
+name_of kind.NoHead = codes "NoHead"
+name_of kind.NoBytes = codes "NoBytes"
 
 abbrev pub number_of : DebugFaultKind → ℕ
 number_of kind.NoTab = 1
@@ -45,15 +52,26 @@ number_of kind.IdTwice = 11
 number_of kind.TooMany = 12
 number_of kind.NoRecord = 13
 number_of kind.TooLarge = 14
+number_of kind.NoForm = 15
+number_of kind.NoNumbers = 16
+number_of kind.NoLineNumber = 17
+number_of kind.NoColumns = 18
+number_of kind.NoHead = 19
+number_of kind.NoBytes = 20
 
--- What a fault means: a file whose first line is no record is no debug file.
-abbrev pub note_of : DebugFault → List ℕ
-note_of fault = if fault.line == 1 then NO_DEBUG_FILE.now else []
+-- What a fault means: a file of another kind, and a listing that was made in another way.
+abbrev pub note_of : DebugFaultKind → List ℕ
+note_of kind.NoForm = NO_FORM.now
+note_of kind.NoNumbers = NO_NUMBERS.now
+note_of kind.NoLineNumber = NO_LINE_NUMBER.now
+note_of kind.NoColumns = NO_COLUMNS.now
+note_of kind.NoHead = NO_COLUMNS.now
+note_of kind = []
 
 -- Why a debug file is not loaded that was not read.
 abbrev pub IsToldAs : DebugError → LoadFault → Type 0
 IsToldAs debug.OutOfMemory fault = fault ≡ Refused OutOfMemory
 IsToldAs (debug.Fault why) (NoImage place what number note) = (place.items ≡ place_of why)
     × (what.now ≡ name_of why.kind) × (number ≡ Some (number_of why.kind))
-    × (note.now ≡ note_of why)
+    × (note.now ≡ note_of why.kind)
 IsToldAs (debug.Fault why) fault = ⊥

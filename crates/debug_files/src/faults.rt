@@ -40,6 +40,12 @@ fn name_of(kind: DebugFaultKind) -> &'static str
         DebugFaultKind::TooMany => "TooMany",
         DebugFaultKind::NoRecord => "NoRecord",
         DebugFaultKind::TooLarge => "TooLarge",
+        DebugFaultKind::NoForm => "NoForm",
+        DebugFaultKind::NoNumbers => "NoNumbers",
+        DebugFaultKind::NoLineNumber => "NoLineNumber",
+        DebugFaultKind::NoColumns => "NoColumns",
+        DebugFaultKind::NoHead => "NoHead",
+        DebugFaultKind::NoBytes => "NoBytes",
     }
 }
 
@@ -62,17 +68,39 @@ fn number_of(kind: DebugFaultKind) -> u8
         DebugFaultKind::TooMany => 12,
         DebugFaultKind::NoRecord => 13,
         DebugFaultKind::TooLarge => 14,
+        DebugFaultKind::NoForm => 15,
+        DebugFaultKind::NoNumbers => 16,
+        DebugFaultKind::NoLineNumber => 17,
+        DebugFaultKind::NoColumns => 18,
+        DebugFaultKind::NoHead => 19,
+        DebugFaultKind::NoBytes => 20,
     }
 }
 
-/// What is said of a file whose first line is no record.
-const NO_DEBUG_FILE: &str = ": this is no debug file of ld65";
+/// What is said of a file that begins as neither form does.
+const NO_FORM: &str = ": this is no debug file of ld65 and no listing of 64tass";
 
-/// Returns what a fault means: a file whose first line is no record is no debug file.
-fn note_of(fault: DebugFault) -> &'static str
-    ensures { result.now ≡ note_of fault }
+/// What is said of a listing without numbers of lines.
+const NO_NUMBERS: &str = ": make the listing with --line-numbers";
+
+/// What is said of a row without the number of a line.
+const NO_LINE_NUMBER: &str =
+    ": 64tass gives no numbers to the first file of its command line; let another include it";
+
+/// What is said of a listing with other columns.
+const NO_COLUMNS: &str = ": make the listing without --tab-size";
+
+/// Returns what a fault means: a file of another kind, or a listing that was made in another way.
+fn note_of(kind: DebugFaultKind) -> &'static str
+    ensures { result.now ≡ note_of kind }
 {
-    if fault.line == 1 { NO_DEBUG_FILE } else { "" }
+    match kind {
+        DebugFaultKind::NoForm => NO_FORM,
+        DebugFaultKind::NoNumbers => NO_NUMBERS,
+        DebugFaultKind::NoLineNumber => NO_LINE_NUMBER,
+        DebugFaultKind::NoColumns | DebugFaultKind::NoHead => NO_COLUMNS,
+        _ => "",
+    }
 }
 
 /// Returns why a debug file is not loaded.
@@ -85,7 +113,7 @@ pub fn load_fault(error: DebugError) -> LoadFault
             place: place_of(fault),
             what: name_of(fault.kind),
             number: Some(number_of(fault.kind)),
-            note: note_of(fault),
+            note: note_of(fault.kind),
         },
     }
 }

@@ -4,9 +4,9 @@ ghost use Rattle.std.specs.Prelude.{◌≡◌, IfErr, IfOk};
 ghost use Rattle.debug_files.specs.Loads.{AreDebugPlaces, EndsDebug};
 
 use crate::faults::load_fault;
+use crate::forms::read_info;
 use crate::sources::{Sources, of_memory, sources_of};
 use arguments::{LoadFault, read_most};
-use debug_records::read_debug_info;
 use memory_map::Image;
 use model::Profile;
 use source_map::Places;
@@ -24,7 +24,7 @@ pub struct DebugPlaces {
 }
 
 /// Reads a debug file and the sources that it names, and returns what stands where in a program,
-/// without names. The image has the bytes of the program where it runs. Relative names of sources
+/// with its names. The image has the bytes of the program where it runs. Relative names of sources
 /// begin in `root`, if it is given, and otherwise in the folder of the debug file.
 ///
 /// # Errors
@@ -43,7 +43,7 @@ pub fn load_places<H: Files + AllocGlobal>(
     ensures refused { IfErr result EndsDebug }
 {
     let text = read_most(rt, file, MOST)?;
-    let info = match read_debug_info(rt.alloc(), text.as_slice()) {
+    let info = match read_info(rt.alloc(), text.as_slice()) {
         Ok(info) => info,
         Err(error) => return Err(load_fault(error)),
     };

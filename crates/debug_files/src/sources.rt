@@ -58,6 +58,14 @@ fn bytes_of<H: Files + AllocGlobal>(
     }
 }
 
+/// Returns whether a text has so many bytes, if that is told.
+fn has_size(text: &[u8], size: Option<u32>) -> bool {
+    match size {
+        None => true,
+        Some(size) => text.len() == size as usize,
+    }
+}
+
 /// Returns the text of a source: none if it cannot be read, or has changed, which is noted.
 ///
 /// Errors: `OutOfMemory` if an allocation fails.
@@ -73,7 +81,7 @@ fn text_of<H: Files + AllocGlobal>(
     let Some(text) = bytes_of(rt, file, root, source.name)? else {
         return Ok(Vec::new(rt.alloc()));
     };
-    if text.len() == source.size as usize {
+    if has_size(text.as_slice(), source.size) {
         return Ok(text);
     }
     of_memory(note_changed(changed, source.name))?;

@@ -1,0 +1,138 @@
+//! A listing from its first line to its last.
+
+ghost use Rattle.std.specs.Prelude.{◌≡◌, ◌≤◌, ◌<◌, ◌^◌, [], length};
+ghost use Rattle.model.specs.TextLines.{lines_of};
+ghost use Rattle.debug_listings.specs.Listing.{finished, flushed, is_listing, lines_read};
+ghost use Rattle.debug_listings.specs.Listing.{listing_info, nothing_read, reading_view, with_text};
+ghost use Rattle.debug_records.specs.Faults.{GivesInfo};
+ghost use Rattle.debug_records.specs.Reading.{in_line, place_of};
+ghost use Rattle.debug_records.specs.Views.{info_view};
+ghost use Rattle.debug_records.specs.declared.fault.DebugError.TheVariants.{Fault};
+
+use crate::line::begins;
+use crate::reading::{Reading, flush, nothing_read, take_text};
+use debug_records::{
+    DebugError, DebugFault, DebugFaultKind, DebugInfo, LineError, Place, fault_in,
+};
+use line_parts::next_line;
+use std::alloc::Global;
+
+/// The most bytes of a listing: 16 MiB.
+const MOST_BYTES: usize = 16_777_216;
+
+/// Returns whether a text begins as a listing of 64tass does, behind an empty line.
+pub fn is_listing(text: &[u8]) -> bool
+    ensures { result ≡ is_listing text.now }
+{
+    begins(text, b"\n; 64tass ") || begins(text, b"\r\n; 64tass ")
+}
+
+/// Takes a line, and tells a fault with its place in the listing.
+fn take_numbered<'a>(
+    reading: &mut Reading<'a>,
+    number: u32,
+    line: &'a [u8],
+) -> Result<(), DebugError>
+    requires { length line.now < 2 ^ 32 }
+    ensures { GivesInfo (λ _. reading_view reading.new) result
+        (in_line (place_of number line.now) (with_text line.now (reading_view reading.old))) }
+{
+    match take_text(reading, line) {
+        Ok(()) => Ok(()),
+        Err(LineError::Memory) => Err(DebugError::OutOfMemory),
+        Err(LineError::Fault(fault)) => {
+            let place = Place {
+                line: number,
+                length: line.len(),
+            };
+            Err(DebugError::Fault(fault_in(place, fault)))
+        }
+    }
+}
+
+/// Reads the lines of a listing.
+fn read_lines<'a>(alloc: Global, text: &'a [u8]) -> Result<Reading<'a>, DebugError>
+    requires { length text.now ≤ 2 ^ 24 }
+    ensures { GivesInfo reading_view result (lines_read 1 (lines_of text.now) nothing_read) }
+{
+    let Ok(mut reading) = nothing_read(alloc) else {
+        return Err(DebugError::OutOfMemory);
+    };
+    let mut rest = text;
+    let mut number = 1u32;
+    while !rest.is_empty() {
+        let (line, behind) = next_line(rest);
+        match take_numbered(&mut reading, number, line) {
+            Ok(()) => {}
+            Err(why) => return Err(why),
+        }
+        rest = behind;
+        number += 1;
+    }
+    Ok(reading)
+}
+
+/// Returns a fault of the whole listing.
+fn fault_at_start(kind: DebugFaultKind) -> DebugError
+    ensures { result ≡ Fault (record { line = 1; column = 1; kind = kind }) }
+{
+    DebugError::Fault(DebugFault {
+        line: 1,
+        column: 1,
+        kind,
+    })
+}
+
+/// Appends the row of the last bytes, behind the last line.
+fn flush_last(reading: &mut Reading<'_>) -> Result<(), DebugError>
+    ensures { GivesInfo (λ _. reading_view reading.new) result
+        (in_line (place_of 1 []) (flushed [] (reading_view reading.old))) }
+{
+    match flush(reading, b"") {
+        Ok(()) => Ok(()),
+        Err(LineError::Memory) => Err(DebugError::OutOfMemory),
+        Err(LineError::Fault(fault)) => {
+            let place = Place { line: 1, length: 0 };
+            Err(DebugError::Fault(fault_in(place, fault)))
+        }
+    }
+}
+
+/// Returns what all lines say, if the columns were named.
+#[tactic(auto, unfolding(crate::specs::Listing::finished))]
+fn finish<'a>(reading: Reading<'a>) -> Result<DebugInfo<'a>, DebugError>
+    ensures { GivesInfo info_view result (finished (reading_view reading.entry)) }
+{
+    if reading.columns.is_none() {
+        return Err(fault_at_start(DebugFaultKind::NoColumns));
+    }
+    let mut reading = reading;
+    flush_last(&mut reading)?;
+    let Reading {
+        columns: _,
+        file: _,
+        last: _,
+        info,
+    } = reading;
+    Ok(info)
+}
+
+/// Reads a listing of 64tass, with numbers of lines.
+///
+/// The names in the result are those of the text. A listing says nothing of the sizes of sources,
+/// and gives no names of addresses.
+///
+/// # Errors
+///
+/// `Fault` is the first fault of a line. A listing of more than 16 MiB, 4,096 files, or 262,144
+/// rows is refused. `OutOfMemory` comes where an allocation failed.
+#[tactic(auto, unfolding(crate::specs::Listing::listing_info))]
+pub fn read_listing<'a>(alloc: Global, text: &'a [u8]) -> Result<DebugInfo<'a>, DebugError>
+    ensures { GivesInfo info_view result (listing_info text.now) }
+{
+    if MOST_BYTES < text.len() {
+        return Err(fault_at_start(DebugFaultKind::TooLarge));
+    }
+    let reading = read_lines(alloc, text)?;
+    finish(reading)
+}
