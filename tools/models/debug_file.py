@@ -12,8 +12,8 @@ import re
 
 FIELD = re.compile(r'(\w+)=("[^"]*"|[^,"]*)(?:,|$)')
 C, ASSEMBLER, MACRO, PARAMETER = 1, 0, 2, 3
-# Bytes from `start` on, before `end`, which a line of a file made.
-Row = collections.namedtuple("Row", "start end file line kind depth")
+# Bytes from `start` on, before `end`, which a line of a file made, and whether they are said to be data.
+Row = collections.namedtuple("Row", "start end file line kind depth is_data")
 
 
 def number(text):
@@ -44,7 +44,7 @@ class DebugFile:
                 start = number(self.records["seg"][int(span["seg"])]["start"]) + int(span["start"])
                 if kind != PARAMETER:
                     yield Row(start, start + int(span["size"]), int(line["file"]),
-                              int(line["line"]), kind, int(line.get("count", "0")))
+                              int(line["line"]), kind, int(line.get("count", "0")), "type" in span)
 
     def segments_at(self, row):
         """How many segments have an address of a row."""
