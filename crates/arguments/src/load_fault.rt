@@ -90,12 +90,12 @@ fn number_text(number: Option<u8>) -> Text
 
 /// Writes why a file is no image: where that shows, what is wrong, its number if it has one, and
 /// what it means, if that is said.
-pub fn tell_noted<E: Write>(
+pub fn tell_noted<'a, E: Write>(
     file: &str,
-    place: &[u8],
-    what: &str,
+    place: &'a [u8],
+    what: &'a str,
     number: Option<u8>,
-    note: &str,
+    note: &'a str,
     errors: &mut E,
 )
     ensures { AppendsFront (E.contents errors.old) (E.contents errors.new)

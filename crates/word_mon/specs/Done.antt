@@ -14,7 +14,7 @@ use Rattle.loading.specs.Loads.{EndsNames}
 use Rattle.loading.specs.Machine.{AreUnloaded}
 use Rattle.loading.specs.Told.{Heard, Tells}
 use Rattle.word_mon.specs.Attended.{AttendsInPart, IsAttended, IsAttendedSoFar}
-use Rattle.word_mon.specs.Greeting.{greeting_of}
+use Rattle.word_mon.specs.Greeting.{greeting_of, has_image}
 use Rattle.word_mon.specs.Screens.{drawn}
 use Rattle.word_mon.specs.Starts.{StartsMon}
 use Rattle.word_mon.specs.Views.{IsSizeFor}
@@ -60,7 +60,9 @@ StartsView asked mon (Some view) = (asked.has_screen ≡ true) × IsSizeFor aske
 -- screen with both.
 abbrev pub opening : Bool → List ℕ → Terminal → List ℕ
 opening prompts warning_line terminal = drawn terminal.view terminal.mon (terminal.mon.text.items
-    ++ (greeting_of prompts terminal.mon.session.current terminal.mon.places.names warning_line
+    ++ (greeting_of prompts
+    (has_image terminal.words.now.file.form terminal.words.now.others.second)
+    terminal.mon.session.current terminal.mon.places.names warning_line
     ++ shown_text terminal.mon.session.current terminal.mon.places.names None))
 
 -- What a session at a terminal wrote of what it read, behind what is shown first, by how it ended.

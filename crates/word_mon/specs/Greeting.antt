@@ -1,5 +1,7 @@
 -- What `mon` writes first. Source: mos65.
-use Rattle.std.specs.Prelude.{ℕ, ◌==◌, ◌&&◌, ◌||◌, if◌then◌else◌, Bool, List, [], ◌∷◌, ◌++◌, codes, is_some, slice_index}
+use Rattle.std.specs.Prelude.{ℕ, ◌==◌, ◌&&◌, ◌||◌, if◌then◌else◌, Bool, false, true, List, [], ◌∷◌, ◌++◌, codes, Option, None, is_some, slice_index}
+use Rattle.arguments.specs.declared.file_options.FileForm.{FileForm}
+use Rattle.arguments.specs.declared.file_options.FileForm.TheVariants.{Source}
 use Rattle.model.specs.State.{State}
 use Rattle.source_map.specs.Names.{Named, address_of}
 use Rattle.word_mon.specs.declared.wording.TheConstants.{GREETING, HIDDEN, NO_VECTOR}
@@ -49,8 +51,14 @@ unfoldable pub greeting : List Named → ℕ → ℕ → List ℕ → List ℕ
 greeting names low high warning_line
     = GREETING.now ++ hidden_text names ++ vector_text low high ++ warning_line
 
--- What is written first, if prompts are.
-abbrev pub greeting_of : Bool → State → List Named → List ℕ → List ℕ
-greeting_of prompts state names warning_line = if prompts
+-- The words name an image: one file that is no source, or several.
+abbrev pub has_image : {X : Type 0} → FileForm → Option X → Bool
+has_image Source None = false
+has_image form second = true
+
+-- What is written first: all of this, if prompts are; without them of an image the last line alone,
+-- which tells of fill that was left out.
+abbrev pub greeting_of : Bool → Bool → State → List Named → List ℕ → List ℕ
+greeting_of prompts is_image state names warning_line = if prompts
     then greeting names (slice_index state.bus.memory 0xFFFC) (slice_index state.bus.memory 0xFFFD)
-    warning_line else []
+    warning_line else if is_image then warning_line else []

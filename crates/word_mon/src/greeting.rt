@@ -2,14 +2,15 @@
 
 ghost use Rattle.std.specs.Prelude.{◌≡◌, ◌++◌, IfErr, OnOk};
 ghost use Rattle.word_mon.specs.Done.{EndsAnswer};
-ghost use Rattle.word_mon.specs.Greeting.{greeting, greeting_of, has_hidden, hidden_flags, hidden_name};
-ghost use Rattle.word_mon.specs.Greeting.{hidden_registers, hidden_text, hides_flag, hides_register};
-ghost use Rattle.word_mon.specs.Greeting.{vector_text};
+ghost use Rattle.word_mon.specs.Greeting.{greeting, greeting_of, has_hidden, has_image};
+ghost use Rattle.word_mon.specs.Greeting.{hidden_flags, hidden_name, hidden_registers, hidden_text};
+ghost use Rattle.word_mon.specs.Greeting.{hides_flag, hides_register, vector_text};
 ghost use Rattle.mon_session.specs.Course.{ShowsOnly};
 
 use crate::terminal::of_memory;
 use crate::wording::{GREETING, HIDDEN, NO_VECTOR};
-use arguments::Refusal;
+use arguments::{FileForm, Refusal};
+use arguments_play::MonWords;
 use formatting::push_text;
 use mon_session::MonState;
 use source_map::Names;
@@ -124,18 +125,39 @@ fn push_greeting(
     text.extend_from_slice(warning_line)
 }
 
+/// Returns whether words name an image: one file that is no source, or several.
+fn has_image(words: &MonWords<'_>) -> bool
+    ensures { result ≡ has_image words.now.file.form words.now.others.second }
+{
+    match (words.file.form, words.others.second) {
+        (FileForm::Source, None) => false,
+        _ => true,
+    }
+}
+
 /// Says what is written first, if prompts are asked for: which lines help, which names of the
 /// program mean registers or flags, that there is no reset vector, and how many warnings there are.
-pub fn greet(mon: &mut MonState, prompts: bool, warning_line: &[u8]) -> Result<(), Refusal>
+/// Without prompts it says of an image alone what was left out of it.
+pub fn greet(
+    mon: &mut MonState,
+    words: &MonWords<'_>,
+    prompts: bool,
+    warning_line: &[u8],
+) -> Result<(), Refusal>
     ensures shows { ShowsOnly mon.old mon.new }
     ensures said { OnOk result (mon.new.text.items ≡ mon.old.text.items ++ greeting_of prompts
-        mon.old.session.current mon.old.places.names warning_line.now) }
+        (has_image words.now.file.form words.now.others.second) mon.old.session.current
+        mon.old.places.names warning_line.now) }
     ensures refused { IfErr result EndsAnswer }
 {
-    if !prompts {
+    if prompts {
+        let low = mon.session.peek(0xFFFC);
+        let high = mon.session.peek(0xFFFD);
+        let names = mon.places.names();
+        return of_memory(push_greeting(&mut mon.text, names, low, high, warning_line));
+    }
+    if !has_image(words) {
         return Ok(());
     }
-    let low = mon.session.peek(0xFFFC);
-    let high = mon.session.peek(0xFFFD);
-    of_memory(push_greeting(&mut mon.text, mon.places.names(), low, high, warning_line))
+    of_memory(mon.text.extend_from_slice(warning_line))
 }

@@ -41,7 +41,7 @@ fn say_opening(
         (terminal.new.mon.text.items ≡ opening prompts warning_line.now terminal.old) }
     ensures refused { IfErr result EndsAnswer }
 {
-    greet(&mut terminal.mon, prompts, warning_line)?;
+    greet(&mut terminal.mon, terminal.words, prompts, warning_line)?;
     of_memory(terminal.mon.show(None))?;
     draw(alloc, terminal)?;
     Ok(())
