@@ -39,7 +39,8 @@ reading_view reading = record {
 
 -- A listing has one segment, which is all of memory.
 abbrev pub memory : Segment
-memory = record { name = []; start = 0; size = 65536; output = None }
+memory
+    = record { name = []; start = 0; size = 65536; is_read_only = false; output = None }
 
 abbrev pub nothing_read : Reading
 nothing_read = record {

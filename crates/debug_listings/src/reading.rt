@@ -53,6 +53,7 @@ fn memory<'a>() -> Segment<'a>
         name: b"",
         start: 0,
         size: 65536,
+        is_read_only: false,
         output: None,
     }
 }

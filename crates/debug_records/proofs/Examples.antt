@@ -129,7 +129,7 @@ shown_statement = refl
 -- ---- two banks, which run at one address: no row of theirs is shown
 
 abbrev bank : Segment
-bank = record { name = codes "BANK"; start = 0x8000; size = 0x100; output = None }
+bank = record { name = codes "BANK"; start = 0x8000; size = 0x100; is_read_only = true; output = None }
 
 pub in_banks : clear_rows (record no_info { segments = Some bank ∷ Some bank ∷ [] }) (row 0 1 kind.Assembler 0 0x8000 0x8002 ∷ []) ≡ []
 in_banks = refl

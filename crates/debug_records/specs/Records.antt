@@ -27,7 +27,8 @@ file_of fields =
     number_in fields (codes "mtime") >>= λ modified.
     Ok (record { name = name; size = Some size })
 
--- ---- `seg`: a segment, its name, where it runs, and where its bytes are in a file that the linker wrote
+-- ---- `seg`: a segment, its name, where it runs, whether it is read only, and where its bytes are in a
+-- file that the linker wrote
 
 pub record Output : Type 0 where
   pub name : List ℕ
@@ -37,6 +38,7 @@ pub record Segment : Type 0 where
   pub name : List ℕ
   pub start : ℕ
   pub size : ℕ
+  pub is_read_only : Bool
   pub output : Option Output
 
 abbrev pub output_by : List Field → Option Field → Result (Option Output) LineFault
@@ -46,13 +48,24 @@ output_by fields (Some field) =
     number_in fields (codes "ooffs") >>= λ offset.
     Ok (Some (record { name = name; offset = offset }))
 
+-- A field has this word.
+abbrev pub is_word : List ℕ → Option Field → Bool
+is_word word None = false
+is_word word (Some field) = bytes_eq field.value word
+
 unfoldable pub segment_of : List Field → Result Segment LineFault
 segment_of fields =
     text_in fields (codes "name") >>= λ name.
     number_in fields (codes "start") >>= λ start.
     number_in fields (codes "size") >>= λ size.
     output_by fields (field_in fields (codes "oname")) >>= λ output.
-    Ok (record { name = name; start = start; size = size; output = output })
+    Ok (record {
+      name = name;
+      start = start;
+      size = size;
+      is_read_only = is_word (codes "ro") (field_in fields (codes "type"));
+      output = output;
+    })
 
 -- ---- `sym`: a name, its value if its module defines it, and whether it is a label
 
@@ -65,10 +78,6 @@ abbrev pub value_by : Option Field → Result (Option ℕ) LineFault
 value_by None = Ok None
 value_by (Some field) = number_value field >>= λ value. Ok (Some value)
 
-abbrev pub is_label_by : Option Field → Bool
-is_label_by None = false
-is_label_by (Some field) = bytes_eq field.value (codes "lab")
-
 unfoldable pub symbol_of : List Field → Result Symbol LineFault
 symbol_of fields =
     text_in fields (codes "name") >>= λ name.
@@ -76,7 +85,7 @@ symbol_of fields =
     Ok (record {
       name = name;
       value = value;
-      is_label = is_label_by (field_in fields (codes "type"));
+      is_label = is_word (codes "lab") (field_in fields (codes "type"));
     })
 
 -- ---- `span`: bytes of a segment; they are data if they have a type

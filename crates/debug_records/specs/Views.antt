@@ -37,6 +37,7 @@ segment_view segment = record {
   name = segment.name.now;
   start = segment.start;
   size = segment.size;
+  is_read_only = segment.is_read_only;
   output = option_map output_view segment.output;
 }
 

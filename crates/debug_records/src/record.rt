@@ -14,12 +14,13 @@ pub struct Output<'a> {
     pub offset: u32,
 }
 
-/// A segment: its name, where it runs, and where its bytes are in a file that the linker wrote.
+/// A segment: its name, where it runs, whether it is read only, and where its bytes are in a file that the linker wrote.
 #[derive(Clone, Copy)]
 pub struct Segment<'a> {
     pub name: &'a [u8],
     pub start: u32,
     pub size: u32,
+    pub is_read_only: bool,
     pub output: Option<Output<'a>>,
 }
 

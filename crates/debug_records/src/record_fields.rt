@@ -4,7 +4,7 @@ ghost use Rattle.std.specs.Prelude.{◌≡◌, codes, map, option_map};
 ghost use Rattle.debug_records.specs.Faults.{seen};
 ghost use Rattle.debug_records.specs.Fields.{field_in};
 ghost use Rattle.debug_records.specs.Records.{file_of, kind_by, kind_of, kind_or_fault, line_of};
-ghost use Rattle.debug_records.specs.Records.{is_label_by, output_by, segment_of, span_of};
+ghost use Rattle.debug_records.specs.Records.{is_word, output_by, segment_of, span_of};
 ghost use Rattle.debug_records.specs.Records.{symbol_of, value_by};
 ghost use Rattle.debug_records.specs.Views.{field_view, file_view, output_view, segment_view};
 ghost use Rattle.debug_records.specs.Views.{symbol_view};
@@ -44,6 +44,16 @@ fn output_of<'a>(fields: &[Field<'a>]) -> Result<Option<Output<'a>>, LineFault>
     }
 }
 
+/// Returns whether a record has this word as its type.
+fn is_type(fields: &[Field<'_>], word: &[u8]) -> bool
+    ensures { result ≡ is_word word.now (field_in (map field_view fields.now) (codes "type")) }
+{
+    match field_in(fields, b"type") {
+        None => false,
+        Some(field) => is_same(field.value, word),
+    }
+}
+
 /// Returns the segment that a record `seg` tells of.
 #[tactic(auto, unfolding(crate::specs::Records::segment_of))]
 pub fn segment_of<'a>(fields: &[Field<'a>]) -> Result<Segment<'a>, LineFault>
@@ -52,11 +62,13 @@ pub fn segment_of<'a>(fields: &[Field<'a>]) -> Result<Segment<'a>, LineFault>
     let name = text_in(fields, b"name")?;
     let start = number_in(fields, b"start")?;
     let size = number_in(fields, b"size")?;
+    let is_read_only = is_type(fields, b"ro");
     let output = output_of(fields)?;
     Ok(Segment {
         name,
         start,
         size,
+        is_read_only,
         output,
     })
 }
@@ -74,16 +86,6 @@ fn value_in(fields: &[Field<'_>]) -> Result<Option<u32>, LineFault>
     }
 }
 
-/// Returns whether a symbol is a label.
-fn is_label(fields: &[Field<'_>]) -> bool
-    ensures { result ≡ is_label_by (field_in (map field_view fields.now) (codes "type")) }
-{
-    match field_in(fields, b"type") {
-        None => false,
-        Some(field) => is_same(field.value, b"lab"),
-    }
-}
-
 /// Returns the symbol that a record `sym` tells of.
 #[tactic(auto, unfolding(crate::specs::Records::symbol_of))]
 pub fn symbol_of<'a>(fields: &[Field<'a>]) -> Result<Symbol<'a>, LineFault>
@@ -91,7 +93,7 @@ pub fn symbol_of<'a>(fields: &[Field<'a>]) -> Result<Symbol<'a>, LineFault>
 {
     let name = text_in(fields, b"name")?;
     let value = value_in(fields)?;
-    let is_label = is_label(fields);
+    let is_label = is_type(fields, b"lab");
     Ok(Symbol {
         name,
         value,
