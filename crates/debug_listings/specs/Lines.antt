@@ -120,7 +120,8 @@ abbrev pub is_row : List ℕ → Bool
 is_row text = begins text (codes ".") || begins text (codes ">")
 
 abbrev pub bytes_if : Bool → List ℕ → Result (Option Bytes) LineFault
-bytes_if has_run text = if is_row text then bytes_in has_run text >>= λ bytes. Ok (Some bytes) else Ok None
+bytes_if has_run text = if is_row text then (bytes_in has_run text >>= λ bytes. Ok (Some bytes))
+    else Ok None
 
 unfoldable pub row_of : Bool → List ℕ → Result Said LineFault
 row_of has_run line =
