@@ -197,6 +197,12 @@ pub at_line : (lines : List LineStart) (line : Option FileLine) (s t : Session) 
 at_line lines line s t k call is made within h =
     h ∙ and_turned (not (is_some call)) (is_other line (begun lines t.current)) ∙ line_is lines line s t k call made within
 
+-- where the step of a number led: on the way, within a call or not, and at a line or not
+pub record IsNext (lines : List LineStart) (line : Option FileLine) (w : List Watch) (p r : Place) (k : ℕ) (within : Option ℕ) (is : Bool) : Type 0 where
+  pub on : IsOn w p r k
+  pub call : IsCall p.0 k within
+  pub at : is ≡ is_line_on lines line p.0 k
+
 -- ---- how it ends
 
 module _ (lines : List LineStart) (line : Option FileLine) (limit : ℕ) (w : List Watch) (p : Place) where
