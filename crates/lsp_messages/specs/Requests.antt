@@ -133,6 +133,13 @@ position_by_method method message =
     asked_at positions.Completion message
     else unknown
 
+-- The colours of some lines, or what is asked of a position.
+unfoldable pub colours_by_method : List ℕ → Data → RequestView
+colours_by_method method message =
+    if bytes_eq method (codes "textDocument/semanticTokens/range") then
+    asked_within ranges.Colours message
+    else position_by_method method message
+
 -- What is asked of a document.
 unfoldable pub question_by_method : List ℕ → Data → RequestView
 question_by_method method message =
@@ -143,11 +150,9 @@ question_by_method method message =
     asked_of documents.Folds message
     else if bytes_eq method (codes "textDocument/inlayHint") then asked_within ranges.Hints message
     else if bytes_eq method (codes "textDocument/codeAction") then asked_within ranges.Fixes message
-    else if bytes_eq method (codes "textDocument/semanticTokens/range") then
-    asked_within ranges.Colours message
     else if bytes_eq method (codes "textDocument/prepareRename") then prepare_of message
     else if bytes_eq method (codes "textDocument/rename") then rename_of message
-    else position_by_method method message
+    else colours_by_method method message
 
 abbrev pub by_method : List ℕ → Data → RequestView
 by_method method message =

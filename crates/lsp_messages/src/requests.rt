@@ -6,7 +6,7 @@ ghost use Rattle.serde_json.specs.View.{items_view, view};
 ghost use Rattle.lsp_messages.specs.Fields.{changes_in, uri_of};
 ghost use Rattle.lsp_messages.specs.Requests.{asked_at, asked_of, asked_within, change_of};
 ghost use Rattle.lsp_messages.specs.Requests.{client_of, configures, initialize_of, open_by};
-ghost use Rattle.lsp_messages.specs.Requests.{position_by_method, prepare_of};
+ghost use Rattle.lsp_messages.specs.Requests.{colours_by_method, position_by_method, prepare_of};
 ghost use Rattle.lsp_messages.specs.Requests.{question_by_method, rename_of, request_of};
 ghost use Rattle.lsp_messages.specs.Requests.{search_by, takes_markdown};
 ghost use Rattle.lsp_messages.specs.Settings.{told_settings};
@@ -228,6 +228,18 @@ fn position_by_method<'a>(method: &str, message: &'a Value) -> Request<'a>
     }
 }
 
+/// Reads a message that asks for the colours of some lines, or something of a position.
+#[tactic(auto, unfolding(crate::specs::Requests::colours_by_method))]
+fn colours_by_method<'a>(method: &str, message: &'a Value) -> Request<'a>
+    ensures { request_view result ≡ colours_by_method method.now (view message.now) }
+{
+    if method == "textDocument/semanticTokens/range" {
+        asked_within(Within::Colours, message)
+    } else {
+        position_by_method(method, message)
+    }
+}
+
 /// Reads a message that asks something of a document.
 #[tactic(auto, unfolding(crate::specs::Requests::question_by_method))]
 fn question_by_method<'a>(method: &str, message: &'a Value) -> Request<'a>
@@ -239,10 +251,9 @@ fn question_by_method<'a>(method: &str, message: &'a Value) -> Request<'a>
         "textDocument/foldingRange" => asked_of(Whole::Folds, message),
         "textDocument/inlayHint" => asked_within(Within::Hints, message),
         "textDocument/codeAction" => asked_within(Within::Fixes, message),
-        "textDocument/semanticTokens/range" => asked_within(Within::Colours, message),
         "textDocument/prepareRename" => prepare_of(message),
         "textDocument/rename" => rename_of(message),
-        method => position_by_method(method, message),
+        method => colours_by_method(method, message),
     }
 }
 
