@@ -22,7 +22,7 @@ not ok 2 - b.a65:3 call double A=1 -> A=3
 # expected A=3, came 02
 #   0200  0A        ASL A
 # b.a65: 0 passed, 1 failed, 0 of 1 points
-not ok 3 - c.a65: SOURCE line 3 Syntax 4
+not ok 3 - c.a65: line 3: Syntax 4: RST is no mnemonic; RTS is
 # c.a65:3:9: Syntax 4: RST is no mnemonic; RTS is
 1..3
 """

@@ -39,11 +39,12 @@ pub enum FileFault {
     InProgram(String, NamedFault),
 }
 
-/// Why a suite cannot be tested, and how many points its rows are worth together: none where these
-/// were not reached.
+/// Why a suite cannot be tested, what is told of a row that cannot be read, and how many points its
+/// rows are worth together: none where these were not reached.
 #[derive(Drop)]
 pub struct Unprepared {
     pub fault: FileFault,
+    pub told: Option<Vec<u8>>,
     pub points: u64,
 }
 
@@ -53,6 +54,7 @@ impl From<TestFault> for Unprepared {
     fn from(fault: TestFault) -> Unprepared {
         Unprepared {
             fault: FileFault::InRows(fault),
+            told: None,
             points: 0,
         }
     }

@@ -1,10 +1,10 @@
 //! Why a suite cannot be tested, in words.
 
-ghost use Rattle.std.specs.Prelude.{◌≡◌, ◌++◌, IfOk, OnOk, chars, flat_map, string_bytes};
+ghost use Rattle.std.specs.Prelude.{◌≡◌, ◌≤◌, ◌++◌, IfOk, OnOk, chars, flat_map, length, string_bytes};
 ghost use Rattle.t65_suites.specs.FaultTexts.{IsRowsTitle, IsShown, IsTitle, line_title};
 ghost use Rattle.t65_suites.specs.FaultTexts.{shown_character, shown_text};
 
-use crate::fault::{FileFault, TestFault};
+use crate::fault::{FileFault, TestFault, Unprepared};
 use crate::names::text_of;
 use crate::suites::Suite;
 use crate::wording::{AT_PORT, NO_IMAGE, NO_ROW, NO_SOURCE, TOO_LARGE};
@@ -57,9 +57,7 @@ fn shown_text(alloc: Global, bytes: &[u8]) -> Result<String, AllocError>
 }
 
 /// Returns the words of a refusal, without the file that it is of.
-fn refusal_words(alloc: Global, refusal: Refusal) -> Result<String, AllocError>
-    ensures { IfOk result (λ title. IsShown (string_bytes title)) }
-{
+fn refusal_words(alloc: Global, refusal: Refusal) -> Result<Vec<u8>, AllocError> {
     let mut line = Vec::new(alloc);
     let front = match refusal {
         Refusal::Read(_) => {
@@ -71,7 +69,7 @@ fn refusal_words(alloc: Global, refusal: Refusal) -> Result<String, AllocError>
             "mos65: ".len()
         }
     };
-    shown_text(alloc, line[front.min(line.len())..].trim_ascii())
+    Vec::from_slice(alloc, line[front.min(line.len())..].trim_ascii())
 }
 
 /// Returns the line of a row, and what is wrong there.
@@ -91,47 +89,113 @@ fn rows_title(alloc: Global, fault: TestFault) -> Result<String, AllocError>
         TestFault::Rows(fault) => line_title(alloc, fault),
         TestFault::TooLarge => text_of(alloc, TOO_LARGE),
         TestFault::NoRow => text_of(alloc, NO_ROW),
-        TestFault::Refused(refusal) => refusal_words(alloc, refusal),
+        TestFault::Refused(refusal) => shown_text(alloc, &refusal_words(alloc, refusal)?),
     }
 }
 
-/// Returns why a file is not loaded, in a few words.
-fn file_title(alloc: Global, fault: &LoadFault) -> Result<String, AllocError>
-    ensures { IfOk result (λ title. IsShown (string_bytes title)) }
+/// Returns the index of the first `:`, or how many bytes there are.
+fn colon_in(text: &[u8]) -> usize
+    ensures { result ≤ length text.now }
 {
-    match fault {
-        LoadFault::Faults { fault, .. } => refusal_words(alloc, Refusal::Source(*fault)),
-        LoadFault::Refused(refusal) => refusal_words(alloc, *refusal),
-        LoadFault::NoImage { .. } => shown_text(alloc, NO_IMAGE.as_bytes()),
-        LoadFault::AtPort { .. } => shown_text(alloc, AT_PORT.as_bytes()),
+    match text.iter().position(|byte| *byte == b':') {
+        Some(at) => at,
+        None => text.len(),
+    }
+}
+
+/// Returns what stands before the first `:`, and behind it.
+fn parted(text: &[u8]) -> (&[u8], &[u8]) {
+    let at = colon_in(text);
+    (&text[..at], &text[at.saturating_add(1).min(text.len())..])
+}
+
+/// Returns the first line of a text.
+fn first_line(text: &[u8]) -> &[u8] {
+    match text.iter().position(|byte| *byte == b'\n') {
+        Some(at) => &text[..at],
+        None => text,
+    }
+}
+
+/// Returns the number of the line of the first block about a file of this name, and what is wrong
+/// there.
+fn block_words(alloc: Global, name: &str, told: &[u8]) -> Result<Vec<u8>, AllocError> {
+    let front = first_line(told);
+    let (_, place) = parted(&front[name.len().min(front.len())..]);
+    let (number, behind) = parted(place);
+    let (_, what) = parted(behind);
+    let mut words = Vec::from_slice(alloc, b"line ")?;
+    words.extend_from_slice(number)?;
+    words.extend_from_slice(b":")?;
+    words.extend_from_slice(what)?;
+    Ok(words)
+}
+
+/// Returns why a file is not loaded, in a few words.
+fn file_words(alloc: Global, path: &str, fault: &LoadFault) -> Result<Vec<u8>, AllocError> {
+    let words = match fault {
+        LoadFault::Faults { text, .. } => {
+            let name = shown_name(alloc, path)?;
+            return block_words(alloc, &name, text);
+        }
+        LoadFault::Refused(refusal) => return refusal_words(alloc, *refusal),
+        LoadFault::NoImage { .. } => NO_IMAGE,
+        LoadFault::AtPort { .. } => AT_PORT,
         LoadFault::LooksLikeTape
         | LoadFault::LooksLikeHex
         | LoadFault::LooksLikeSRecords
         | LoadFault::LooksLikeRaw
-        | LoadFault::LooksLikeCapture => shown_text(alloc, NO_SOURCE.as_bytes()),
-    }
+        | LoadFault::LooksLikeCapture => NO_SOURCE,
+    };
+    Vec::from_slice(alloc, words.as_bytes())
 }
 
-/// Returns why there is nothing to run rows on, in a few words.
-fn program_title(alloc: Global, fault: &NamedFault) -> Result<String, AllocError>
-    ensures { IfOk result (λ title. IsShown (string_bytes title)) }
-{
+/// Returns a file that is to blame, unless the suite has its name, and why.
+fn blamed(
+    alloc: Global,
+    suite: Suite<'_>,
+    file: &str,
+    words: Vec<u8>,
+) -> Result<Vec<u8>, AllocError> {
+    if file == suite.name() {
+        return Ok(words);
+    }
+    let mut blamed = Vec::from_slice(alloc, file.as_bytes())?;
+    blamed.extend_from_slice(b": ")?;
+    blamed.extend_from_slice(&words)?;
+    Ok(blamed)
+}
+
+/// Returns why there is nothing to run the rows of a suite on, in a few words.
+fn program_words(
+    alloc: Global,
+    suite: Suite<'_>,
+    path: &str,
+    fault: &NamedFault,
+) -> Result<Vec<u8>, AllocError> {
     match fault {
-        NamedFault::OfFile(fault) => file_title(alloc, fault),
-        NamedFault::OfNames(refusal) => refusal_words(alloc, *refusal),
-        NamedFault::HasSource => shown_text(alloc, NO_IMAGE.as_bytes()),
+        NamedFault::OfFile(fault) => blamed(alloc, suite, path, file_words(alloc, path, fault)?),
+        NamedFault::OfNames(refusal) => {
+            let file = suite.reading.symbols.unwrap_or("");
+            blamed(alloc, suite, file, refusal_words(alloc, *refusal)?)
+        }
+        NamedFault::HasSource => Vec::from_slice(alloc, NO_IMAGE.as_bytes()),
     }
 }
 
-/// Returns why a suite cannot be tested, in a few words.
+/// Returns why a suite cannot be tested, in a few words: those of `check` for a fault of a source,
+/// and the file that is to blame where it is not the one that names the suite.
 ///
 /// Errors: `AllocError` if an allocation fails.
-pub fn title_of(alloc: Global, fault: &FileFault) -> Result<String, AllocError>
+pub fn title_of(alloc: Global, suite: Suite<'_>, fault: &FileFault) -> Result<String, AllocError>
     ensures { IfOk result (λ title. IsTitle fault.now (string_bytes title)) }
 {
     match fault {
         FileFault::InRows(fault) => rows_title(alloc, *fault),
-        FileFault::InProgram(_, fault) => program_title(alloc, fault),
+        FileFault::InProgram(path, fault) => {
+            let words = program_words(alloc, suite, path, fault)?;
+            shown_text(alloc, &words)
+        }
     }
 }
 
@@ -147,10 +211,15 @@ fn tell_line<E: Write>(path: &str, fault: TextFault, text: &mut E) {
     );
 }
 
-/// Writes why a file of rows cannot be tested.
-fn tell_rows<E: Write>(path: &str, fault: TestFault, text: &mut E) {
+/// Writes why a file of rows cannot be tested; of a row, what is told already.
+fn tell_rows<E: Write>(path: &str, fault: TestFault, told: Option<&[u8]>, text: &mut E) {
     match fault {
-        TestFault::Rows(fault) => tell_line(path, fault, text),
+        TestFault::Rows(fault) => match told {
+            Some(told) => {
+                let _ = text.write_all(told);
+            }
+            None => tell_line(path, fault, text),
+        },
         TestFault::TooLarge => {
             let _ = writeln!(text, "mos65: {path}: {}", TOO_LARGE);
         }
@@ -239,18 +308,26 @@ fn tell_program<E: Write>(path: &str, symbols: Option<&str>, fault: &NamedFault,
     }
 }
 
+/// Returns what is told already, if something is.
+fn slice_of(told: &Option<Vec<u8>>) -> Option<&[u8]> {
+    match told {
+        None => None,
+        Some(told) => Some(told.as_slice()),
+    }
+}
+
 /// Returns why a suite cannot be tested, with all faults of a source: what another word writes on
 /// the error stream.
 ///
 /// Errors: `AllocError` if an allocation fails.
-pub fn remarks_of(alloc: Global, suite: Suite<'_>, fault: &FileFault) -> Result<String, AllocError>
+pub fn remarks_of(alloc: Global, suite: Suite<'_>, why: &Unprepared) -> Result<String, AllocError>
     ensures { IfOk result (λ remarks. IsShown (string_bytes remarks)) }
 {
     let mut told = Vec::new(alloc);
-    match fault {
+    match &why.fault {
         FileFault::InRows(fault) => {
             let rows = shown_name(alloc, suite.rows)?;
-            tell_rows(&rows, *fault, &mut told);
+            tell_rows(&rows, *fault, slice_of(&why.told), &mut told);
         }
         FileFault::InProgram(path, fault) => {
             let path = shown_name(alloc, path)?;

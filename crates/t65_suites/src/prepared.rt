@@ -27,7 +27,9 @@ use model::BusFault;
 use source_map::Places;
 use std::alloc::Global;
 use std::rt::Files;
+use t65_failures::faulty_text;
 use t65_reader::{Asking, Line, points_of, read_rows};
+use t65_reports::RowLines;
 use t65_runner::has_test;
 use t65_values::RowFaultKind;
 
@@ -196,6 +198,26 @@ fn rows_in(
     }
 }
 
+/// Returns what is told of a row of a file that cannot be read, with the nearest name of a source,
+/// if that is the fault. Where memory runs out nothing is told.
+fn told_row(
+    alloc: Global,
+    names: &Assembly,
+    rows: &str,
+    text: &[u8],
+    fault: TestFault,
+) -> Option<Vec<u8>> {
+    match fault {
+        TestFault::Rows(fault) => {
+            let mut lines = RowLines::new(text, 1);
+            let line = lines.walk_to(fault.line);
+            let told = faulty_text(alloc, names, rows, line, fault).ok()?;
+            Some(told.into_bytes())
+        }
+        TestFault::TooLarge | TestFault::NoRow | TestFault::Refused(_) => None,
+    }
+}
+
 /// Reads the rows of a suite, and loads what they are run on.
 ///
 /// # Errors
@@ -243,12 +265,14 @@ pub fn prepare<H: Files + AllocGlobal>(
                 }),
                 Err(fault) => Err(Unprepared {
                     fault: FileFault::InRows(fault),
+                    told: told_row(rt.alloc(), &assembly, suite.rows, &text, fault),
                     points,
                 }),
             }
         }
         Err(fault) => Err(Unprepared {
             fault: FileFault::InProgram(path, fault),
+            told: None,
             points,
         }),
     }

@@ -28,9 +28,7 @@ use std::io::Write;
 use std::rt::Files;
 use t65_reports::{Score, Telling, csv_line, fault_text, junit_fault, summary};
 use t65_runner::tests_of;
-use t65_suites::{
-    FileFault, Prepared, Suite, Unprepared, is_memory, line_of, prepare, remarks_of, title_of,
-};
+use t65_suites::{Prepared, Suite, Unprepared, is_memory, line_of, prepare, remarks_of, title_of};
 
 /// How rows are run and told of.
 #[derive(Clone, Copy)]
@@ -154,20 +152,20 @@ fn untested(
     telling: Telling,
     number: u64,
     suite: Suite<'_>,
-    fault: &FileFault,
+    why: &Unprepared,
 ) -> Result<Told, AllocError>
     ensures texts { IfOk result (λ told. (title : List ℕ) × (remarks : List ℕ)
         × (string_bytes told.tap
         ≡ fault_text telling number (name_of (suite_view suite.entry)) title remarks)
-        × IsFaultText fault.now title remarks
+        × IsFaultText why.now.fault title remarks
         × (string_bytes told.junit
         ≡ junit_fault (name_of (suite_view suite.entry)) (suite_view suite.entry).rows
-        (line_of fault.now) title remarks)) }
+        (line_of why.now.fault) title remarks)) }
     ensures fails { IfOk result (λ told. told.passes ≡ false) }
 {
-    let title = title_of(alloc, fault)?;
-    let remarks = remarks_of(alloc, suite, fault)?;
-    let line = line_of(fault);
+    let title = title_of(alloc, suite, &why.fault)?;
+    let remarks = remarks_of(alloc, suite, why)?;
+    let line = line_of(&why.fault);
     Ok(Told {
         tap: fault_text(alloc, telling, number, suite.name(), &title, &remarks)?,
         junit: junit_fault(alloc, suite.name(), suite.rows, line, &title, &remarks)?,
@@ -211,7 +209,7 @@ fn run_untested<H: Files + AllocGlobal, O: Write>(
         × IsFaultText why.now.fault title remarks)) }
 {
     let tally = untested_tally(why.points, count);
-    let told = untested(rt.alloc(), telling, tally.count, suite, &why.fault)?;
+    let told = untested(rt.alloc(), telling, tally.count, suite, why)?;
     reports.junit.begin_suite(rt.alloc(), suite.name(), 1)?;
     write_told(rt, &told, output, reports)?;
     reports.junit.end_suite(rt.alloc())?;
