@@ -16,6 +16,7 @@ mod places;
 mod sources;
 
 pub use changed::tell_changed;
+pub use faults::load_fault;
 pub use loaded::load_places_of;
 pub use paths::{begins_at_root, folder_of};
 pub use places::{DebugPlaces, load_places};
