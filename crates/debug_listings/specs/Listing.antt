@@ -37,17 +37,12 @@ reading_view reading = record {
   info = info_view reading.info;
 }
 
--- A listing has one segment, which is all of memory.
-abbrev pub memory : Segment
-memory
-    = record { name = []; start = 0; size = 65536; is_read_only = false; output = None }
-
 abbrev pub nothing_read : Reading
 nothing_read = record {
   columns = None;
   file = None;
   last = None;
-  info = record no_info { segments = Some memory ∷ [] };
+  info = no_info;
 }
 
 abbrev pub Read : Type 0
@@ -180,8 +175,16 @@ lines_read number [] r = Ok r
 lines_read number (line ∷ lines) r
     = in_line (place_of number line) (with_text line r) >>= lines_read (number + 1) lines
 
+-- A listing has one segment, which is all of memory.
+abbrev pub memory : Segment
+memory
+    = record { name = []; start = 0; size = 65536; is_read_only = false; output = None }
+
+abbrev pub in_memory : Info → Info
+in_memory info = record info { segments = Some memory ∷ [] }
+
 abbrev pub info_in : Reading → Result Info DebugFault
-info_in r = Ok r.info
+info_in r = Ok (in_memory r.info)
 
 unfoldable pub finished : Reading → Result Info DebugFault
 finished r = if is_some r.columns then in_line (place_of 1 []) (flushed [] r) >>= info_in

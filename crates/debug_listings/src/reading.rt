@@ -1,20 +1,20 @@
 //! What was read of a listing so far.
 
-ghost use Rattle.std.specs.Prelude.{◌≡◌, ◌<◌, IfOk, OnOk, length, true};
+ghost use Rattle.std.specs.Prelude.{◌≡◌, ◌<◌, OnOk, length, true};
 ghost use Rattle.debug_listings.specs.Lines.{said_view};
-ghost use Rattle.debug_listings.specs.Listing.{flushed, goes_on, in_file, memory, nothing_read};
+ghost use Rattle.debug_listings.specs.Listing.{flushed, goes_on, in_file, nothing_read};
 ghost use Rattle.debug_listings.specs.Listing.{reading_view};
 ghost use Rattle.debug_listings.specs.Listing.{with_begun, with_bytes, with_bytes_if, with_columns};
 ghost use Rattle.debug_listings.specs.Listing.{with_file, with_head, with_more};
 ghost use Rattle.debug_listings.specs.Listing.{with_numbered, with_row, with_said, with_text};
 ghost use Rattle.debug_records.specs.Faults.{Gives};
 ghost use Rattle.debug_records.specs.Info.{put_at};
-ghost use Rattle.debug_records.specs.Views.{info_view, segment_view};
+ghost use Rattle.debug_records.specs.Views.{info_view};
 
 use crate::line::{Bytes, Said, begins, fault_at, said_by};
 use debug_records::{
-    DebugFaultKind, DebugInfo, File, Line, LineError, LineKind, Segment, Span as DebugSpan, Use,
-    grow, no_info, record_at,
+    DebugFaultKind, DebugInfo, File, Line, LineError, LineKind, Span as DebugSpan, Use, grow,
+    no_info, record_at,
 };
 use std::alloc::{AllocError, Global};
 
@@ -45,31 +45,16 @@ pub struct Reading<'a> {
     pub info: DebugInfo<'a>,
 }
 
-/// Returns the segment of all of memory.
-fn memory<'a>() -> Segment<'a>
-    ensures { segment_view result ≡ memory }
-{
-    Segment {
-        name: b"",
-        start: 0,
-        size: 65536,
-        is_read_only: false,
-        output: None,
-    }
-}
-
 /// Returns what was read of no line.
-pub fn nothing_read<'a>(alloc: Global) -> Result<Reading<'a>, AllocError>
-    ensures { IfOk result (λ reading. reading_view reading ≡ nothing_read) }
+pub fn nothing_read<'a>(alloc: Global) -> Reading<'a>
+    ensures { reading_view result ≡ nothing_read }
 {
-    let mut info = no_info(alloc);
-    info.segments.push(Some(memory()))?;
-    Ok(Reading {
+    Reading {
         columns: None,
         file: None,
         last: None,
-        info,
-    })
+        info: no_info(alloc),
+    }
 }
 
 /// Appends the row of some bytes: a line, a span, and the use of one by the other.

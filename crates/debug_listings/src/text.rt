@@ -1,21 +1,21 @@
 //! A listing from its first line to its last.
 
-ghost use Rattle.std.specs.Prelude.{◌≡◌, ◌≤◌, ◌<◌, ◌^◌, [], length};
+ghost use Rattle.std.specs.Prelude.{◌≡◌, ◌≤◌, ◌<◌, ◌^◌, [], IfOk, length};
 ghost use Rattle.model.specs.TextLines.{lines_of};
-ghost use Rattle.debug_listings.specs.Listing.{finished, flushed, is_listing, lines_read};
-ghost use Rattle.debug_listings.specs.Listing.{listing_info, nothing_read, reading_view, with_text};
+ghost use Rattle.debug_listings.specs.Listing.{finished, flushed, in_memory, is_listing, lines_read};
+ghost use Rattle.debug_listings.specs.Listing.{listing_info, memory, nothing_read, reading_view, with_text};
 ghost use Rattle.debug_records.specs.Faults.{GivesInfo};
 ghost use Rattle.debug_records.specs.Reading.{in_line, place_of};
-ghost use Rattle.debug_records.specs.Views.{info_view};
+ghost use Rattle.debug_records.specs.Views.{info_view, segment_view};
 ghost use Rattle.debug_records.specs.declared.fault.DebugError.TheVariants.{Fault};
 
 use crate::line::begins;
 use crate::reading::{Reading, flush, nothing_read, take_text};
 use debug_records::{
-    DebugError, DebugFault, DebugFaultKind, DebugInfo, LineError, Place, fault_in,
+    DebugError, DebugFault, DebugFaultKind, DebugInfo, LineError, Place, Segment, fault_in,
 };
 use line_parts::next_line;
-use std::alloc::Global;
+use std::alloc::{AllocError, Global};
 
 /// The most bytes of a listing: 16 MiB.
 const MOST_BYTES: usize = 16_777_216;
@@ -55,9 +55,7 @@ fn read_lines<'a>(alloc: Global, text: &'a [u8]) -> Result<Reading<'a>, DebugErr
     requires { length text.now ≤ 2 ^ 24 }
     ensures { GivesInfo reading_view result (lines_read 1 (lines_of text.now) nothing_read) }
 {
-    let Ok(mut reading) = nothing_read(alloc) else {
-        return Err(DebugError::OutOfMemory);
-    };
+    let mut reading = nothing_read(alloc);
     let mut rest = text;
     let mut number = 1u32;
     while !rest.is_empty() {
@@ -98,9 +96,31 @@ fn flush_last(reading: &mut Reading<'_>) -> Result<(), DebugError>
     }
 }
 
+/// Returns the segment of all of memory.
+fn memory<'a>() -> Segment<'a>
+    ensures { segment_view result ≡ memory }
+{
+    Segment {
+        name: b"",
+        start: 0,
+        size: 65536,
+        is_read_only: false,
+        output: None,
+    }
+}
+
+/// Returns the records of a listing, whose segment is all of memory.
+fn in_memory<'a>(alloc: Global, info: DebugInfo<'a>) -> Result<DebugInfo<'a>, AllocError>
+    ensures { IfOk result (λ made. info_view made ≡ in_memory (info_view info.entry)) }
+{
+    let mut segments = Vec::new(alloc);
+    segments.push(Some(memory()))?;
+    Ok(DebugInfo { segments, ..info })
+}
+
 /// Returns what all lines say, if the columns were named.
 #[tactic(auto, unfolding(crate::specs::Listing::finished))]
-fn finish<'a>(reading: Reading<'a>) -> Result<DebugInfo<'a>, DebugError>
+fn finish<'a>(alloc: Global, reading: Reading<'a>) -> Result<DebugInfo<'a>, DebugError>
     ensures { GivesInfo info_view result (finished (reading_view reading.entry)) }
 {
     if reading.columns.is_none() {
@@ -114,7 +134,10 @@ fn finish<'a>(reading: Reading<'a>) -> Result<DebugInfo<'a>, DebugError>
         last: _,
         info,
     } = reading;
-    Ok(info)
+    match in_memory(alloc, info) {
+        Ok(info) => Ok(info),
+        Err(_) => Err(DebugError::OutOfMemory),
+    }
 }
 
 /// Reads a listing of 64tass, with numbers of lines.
@@ -134,5 +157,5 @@ pub fn read_listing<'a>(alloc: Global, text: &'a [u8]) -> Result<DebugInfo<'a>, 
         return Err(fault_at_start(DebugFaultKind::TooLarge));
     }
     let reading = read_lines(alloc, text)?;
-    finish(reading)
+    finish(alloc, reading)
 }
