@@ -171,6 +171,7 @@ SESSIONS = [
     ("session.a65", 8, [("step 50", [50]), ("irq on", [(IRQ, True)]), ("step 9", [9]),
                         ("irq off", [(IRQ, False)])]),
     ("session.tape", 5, [("step 50", [50]), ("nmi", [(NMI,)]), ("back 3", [-3])]),
+    ("sum.hex", 65536, [("step 30", [30]), ("set X 5", [(SET, "x", 5)]), ("line back", [-1]), ("back 4", [-4])]),
     # a short history, whose oldest state has an NMI pending
     ("session.a65", 2, [("step 30", [30]), ("nmi", [(NMI,)]), ("step 2", [2])]),
 ]
@@ -207,6 +208,13 @@ def built_files(name):
     found = {it: block_of(page, "sum.c" if it == ODD else it) for it in sources}
     text = block_of(page, "sum.dbg" if name == "odd.hex" else debug)
     return {debug: text.replace("sum.c", ODD) if ODD in sources else text, **found}
+
+
+def write_built(folder, name):
+    """Writes these files, and returns the name of the debug file."""
+    for it, text in built_files(name).items():
+        write(f"{folder}/{it}", text.encode())
+    return BUILT[name][1]
 
 
 def hex_image(text):
@@ -287,8 +295,8 @@ def written(folder, name, words, typed):
         return None
     write(f"{folder}/typed", typed)
     write(f"{folder}/{NOTES}", NOTED.encode())
-    for it, text in built_files(name).items() if name in BUILT else ():
-        write(f"{folder}/{it}", text.encode())
+    if name in BUILT:
+        write_built(folder, name)
     testing.run(["page", name, f"{name}.html", "--input", "typed", *words], cwd=folder)
     return read(f"{folder}/{name}.html")
 
@@ -313,14 +321,18 @@ def make_session(compare, folder, number, name, history, lines):
     is taken."""
     out = f"session-{number}.html"
     write(name, file_of(name))
-    image = page_model.asm.assemble(file_of("session.a65"), spec_of())
-    assembly = image if name.endswith(".a65") else None
-    facts = page_model.facts_of(name, spec_of(), image.image, assembly)
-    held, states = page_model.session_of(spec_of(), image.image, *events_of(lines, history))
-    wanted = page_model.page_of(facts, page_model.source_of(assembly), held, HELD)
+    assembly = page_model.asm.assemble(file_of("session.a65"), spec_of())
+    image = hex_image(file_of(name)) if name in BUILT else assembly.image
+    assembly = assembly if name.endswith(".a65") else None
+    debug, source = debug_of(name, spec_of()) if name in BUILT else (b"", page_model.source_of(assembly))
+    facts = page_model.facts_of(name, spec_of(), image, assembly, debug)
+    held, states = page_model.session_of(spec_of(), image, *events_of(lines, history))
+    wanted = page_model.page_of(facts, source, held, HELD)
     if os.access(PROGRAM, os.X_OK):
         typed = "".join(f"{line}\n" for line, _ in lines) + f"regs\npage {out}\nregs\nhistory\n"
         words = ["mon", name, *["--tape"] * name.endswith(".tape"), "--history", str(history)]
+        if name in BUILT:
+            words += ["--debug-info", write_built(folder, name)]
         ran = testing.run(words, typed, cwd=folder, text=True)
         said = ran.stdout.split("\n")
         told = f"{out}: {len(states) - 1} events, {len(wanted)} bytes"
