@@ -1,11 +1,15 @@
-"""What a debug file of ld65 says, read once more: by what ld65 writes (`--dbgfile`) and by cc65's own
-reader of it (`src/dbginfo` of cc65), and not by the definitions of this repository. Which of several
+"""What a debug file of ld65 or a listing of 64tass says, read once more: by what these tools write, and
+by cc65's own reader (`src/dbginfo` of cc65), not by the definitions of this repository. Which of several
 lines is shown for an address is said in docs/DEFINITIONS.md, and so is how steps by lines go.
 
-A line of the file is a word, a tab, and fields NAME=VALUE with commas between them. Records of a word
+A line of a debug file is a word, a tab, and fields NAME=VALUE with commas between them. Records of a word
 have numbers of their own, `id`, and name each other by these, in any order. A `span` is bytes of a `seg`,
 which says where it runs. A `line` has a file, a number, its spans, a type (none: assembler, 1: C,
-2: a line of a macro or a loop, 3: the text of a macro's parameter) and in `count` how deep it stands."""
+2: a line of a macro or a loop, 3: the text of a macro's parameter) and in `count` how deep it stands.
+
+A row of a listing has columns with tabs between them: LINE or LINE:FILE; `.` or, of data, `>`, and the
+address where its bytes are loaded; the address where they run, if it is another one; the bytes. A row
+of data goes on in rows without a number. `:FILE` and the file's name stand where a file begins."""
 
 import collections
 import re
@@ -20,43 +24,14 @@ def number(text):
     return int(text, 16) if text.startswith("0x") else int(text)
 
 
-class DebugFile:
-    """The records of a debug file, by word and number."""
+class Lines:
+    """The rows of a program, and the names of the files that they are of."""
 
-    def __init__(self, text):
-        self.records = collections.defaultdict(dict)
-        for line in text.splitlines():
-            word, _, rest = line.partition("\t")
-            fields = {name: value.strip('"') for name, value in FIELD.findall(rest)}
-            if "id" in fields:
-                self.records[word][int(fields["id"])] = fields
-        self.rows = [row for row in self.all_rows() if self.is_clear(row)]
+    def __init__(self, rows, files):
+        self.rows, self.files = rows, files
 
     def file_name(self, id):
-        return self.records["file"][id]["name"]
-
-    def all_rows(self):
-        """A row for each span of each line, in the order of the file."""
-        for line in self.records["line"].values():
-            kind = int(line.get("type", "0"))
-            for id in filter(None, line.get("span", "").split("+")):
-                span = self.records["span"][int(id)]
-                start = number(self.records["seg"][int(span["seg"])]["start"]) + int(span["start"])
-                if kind != PARAMETER:
-                    yield Row(start, start + int(span["size"]), int(line["file"]),
-                              int(line["line"]), kind, int(line.get("count", "0")), "type" in span)
-
-    def segments_at(self, row):
-        """How many segments have an address of a row."""
-        ranges = [(number(it["start"]), number(it["size"])) for it in self.records["seg"].values()]
-        return sum(size > 0 and row.start < start + size and start < row.end
-                   for start, size in ranges)
-
-    def is_clear(self, row):
-        """Whether it is known whose bytes a row has: not where a file is the main one of two
-        modules, nor where two segments run."""
-        mains = [int(it["file"]) for it in self.records["mod"].values()]
-        return mains.count(row.file) < 2 and self.segments_at(row) < 2
+        return self.files[id]
 
     def at(self, address):
         """All rows that have an address."""
@@ -93,6 +68,74 @@ class DebugFile:
         """Whether a line begins at an address."""
         row = self.shown(address) if self.begun(address) else None
         return bool(row) and row.start == address
+
+
+class DebugFile(Lines):
+    """The records of a debug file, by word and number."""
+
+    def __init__(self, text):
+        self.records = collections.defaultdict(dict)
+        for line in text.splitlines():
+            word, _, rest = line.partition("\t")
+            fields = {name: value.strip('"') for name, value in FIELD.findall(rest)}
+            if "id" in fields:
+                self.records[word][int(fields["id"])] = fields
+        files = {id: it["name"] for id, it in self.records["file"].items()}
+        super().__init__([row for row in self.all_rows() if self.is_clear(row)], files)
+
+    def all_rows(self):
+        """A row for each span of each line, in the order of the file."""
+        for line in self.records["line"].values():
+            kind = int(line.get("type", "0"))
+            for id in filter(None, line.get("span", "").split("+")):
+                span = self.records["span"][int(id)]
+                start = number(self.records["seg"][int(span["seg"])]["start"]) + int(span["start"])
+                if kind != PARAMETER:
+                    yield Row(start, start + int(span["size"]), int(line["file"]),
+                              int(line["line"]), kind, int(line.get("count", "0")), "type" in span)
+
+    def segments_at(self, row):
+        """How many segments have an address of a row."""
+        ranges = [(number(it["start"]), number(it["size"])) for it in self.records["seg"].values()]
+        return sum(size > 0 and row.start < start + size and start < row.end
+                   for start, size in ranges)
+
+    def is_clear(self, row):
+        """Whether it is known whose bytes a row has: not where a file is the main one of two
+        modules, nor where two segments run."""
+        mains = [int(it["file"]) for it in self.records["mod"].values()]
+        return mains.count(row.file) < 2 and self.segments_at(row) < 2
+
+
+HEAD = re.compile(r":(\d+)\t;\*+  [A-Z][a-z ]+: (.*)")
+LISTED = r"(\d*)(?::(\d+))?\t([.>])([0-9a-f]+)\t{}((?:[0-9a-f]{{2}} ?)+)(?:\t|$)"
+
+
+class Listing(Lines):
+    """A listing of 64tass with numbers of lines. It has a column of addresses where bytes run only if
+    some run elsewhere."""
+
+    def __init__(self, text):
+        rows, files, file = [], {}, None
+        shape = re.compile(LISTED.format("([0-9a-f]*)\t" if "\t;PC\t" in text else "()"))
+        for line in text.splitlines():
+            head, listed = HEAD.match(line), shape.match(line)
+            if head:
+                file = int(head[1])
+                files[file] = head[2]
+            if listed:
+                file = int(listed[2] or file)
+                start, count = int(listed[5] or listed[4], 16), len(listed[6].split())
+                if listed[1]:
+                    rows.append(Row(start, start + count, file, int(listed[1]), ASSEMBLER, 0,
+                                    listed[3] == ">"))
+                else:
+                    rows[-1] = rows[-1]._replace(end=start + count)
+        super().__init__(rows, files)
+
+
+def lines_in(text):
+    return (DebugFile if text.startswith("version") else Listing)(text)
 
 
 # A state of a run: what comes next, and the stack pointer.
