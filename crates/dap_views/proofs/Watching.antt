@@ -1,10 +1,12 @@
 -- Watches set and cleared one after another.
-use Rattle.std.proofs.Common.{◌≡◌, ◌∙◌, ℕ, ◌+◌, ◌<◌, ◌≤◌, List, [], ◌∷◌, ◌++◌, length, get_or, drop, refl, sym, ap, add-one, arith, drop-cons}
+use Rattle.std.proofs.Common.{◌≡◌, ◌∙◌, ℕ, zero, suc, Bool, true, false, ◌+◌, ◌<◌, ◌≤◌, List, [], ◌∷◌, ◌++◌, length, get_or, drop, refl, sym, ap, add-one, arith, drop-cons}
 use Rattle.std.proofs.lemmas.Grind.{common_steps}
 use Rattle.std.proofs.lemmas.List.{drop_all}
-use Rattle.std.specs.Prelude.{Err, IfErr, Ok, OnOk, Result}
+use Rattle.std.specs.Prelude.{◌&&◌, Err, IfErr, Ok, OnOk, Result}
 use Rattle.dap_messages.specs.declared.request.DataBreakpoint.{DataBreakpoint}
-use Rattle.dap_views.specs.Watches.{Watched, all_unset, unset, watches_in, watches_of, with_all, with_one}
+use Rattle.mon_lines.specs.declared.command.WatchKind.{WatchKind}
+use Rattle.mon_runs.specs.Stops.{has_access}
+use Rattle.dap_views.specs.Watches.{Watched, all_unset, has_all, unset, watches_in, watches_of, with_all, with_one}
 use Rattle.model.specs.Breakpoints.{watch_cleared}
 use Rattle.model.specs.Session.{Session}
 use Rattle.model.specs.declared.session_fault.SessionFault.{SessionFault}
@@ -48,3 +50,24 @@ set_more all i e whole p q within set so_far =
 
 pub set_done : (all : List DataBreakpoint) (i : ℕ) (whole p : Watched) → length all ≤ i → whole ≡ left_set all i p → whole ≡ p
 set_done all i whole p over so_far = so_far ∙ ap (λ (vs : List DataBreakpoint). with_all (watches_in vs) p) (drop_all i all over)
+
+-- ---- bytes one after another
+
+pub all_more : (kind : WatchKind) (watches : List Watch) (n m address : ℕ) (whole : Bool) → n ≡ m + 1 → whole ≡ has_all kind watches n address
+    → has_access kind address watches ≡ true → whole ≡ has_all kind watches m (address + 1)
+unfolding has_all
+all_more kind watches zero m address whole e so_far has = absurd (omega (arith, e))
+all_more kind watches (suc n) m address whole e so_far has =
+    let same : n ≡ m = omega (arith, e) in
+    so_far ∙ ap (λ b. b && has_all kind watches n (address + 1)) has ∙ ap (λ (k : ℕ). has_all kind watches k (address + 1)) same
+
+pub one_not : (kind : WatchKind) (watches : List Watch) (n m address : ℕ) (whole : Bool) → n ≡ m + 1 → whole ≡ has_all kind watches n address
+    → has_access kind address watches ≡ false → false ≡ whole
+unfolding has_all
+one_not kind watches zero m address whole e so_far none = absurd (omega (arith, e))
+one_not kind watches (suc n) m address whole e so_far none = sym (so_far ∙ ap (λ b. b && has_all kind watches n (address + 1)) none)
+
+pub all_over : (kind : WatchKind) (watches : List Watch) (n address : ℕ) (whole : Bool) → n ≡ 0 → whole ≡ has_all kind watches n address → true ≡ whole
+unfolding has_all
+all_over kind watches zero address whole e so_far = sym so_far
+all_over kind watches (suc n) address whole e so_far = absurd (omega (arith, e))

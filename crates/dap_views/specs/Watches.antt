@@ -1,12 +1,14 @@
 -- Watched bytes. Source: Debug Adapter Protocol 1.65, "DataBreakpointInfo Request",
--- "SetDataBreakpoints Request"; that a write is a change, and that the list stands for all watches,
--- mos65.
-use Rattle.std.specs.Prelude.{ℕ, ◌≡◌, ◌&&◌, Bool, true, false, if◌then◌else◌, List, [], ◌∷◌, ◌++◌, map, Option, Some, None}
+-- "SetDataBreakpoints Request"; that a write is a change, that an address is written as a reference,
+-- and that the list stands for all watches, mos65.
+use Rattle.std.specs.Prelude.{ℕ, ◌≡◌, ◌+◌, ◌-◌, ◌&&◌, zero, suc, unwrap_or, Bool, true, false, if◌then◌else◌, List, [], ◌∷◌, ◌++◌, map, Option, Some, None}
 use Rattle.std.specs.List.{flat_map}
 use Rattle.dap_views.specs.declared.watches.TheConstants.{NO_DATA, NOT_WATCHED}
 use Rattle.dap_messages.specs.SeenAnswers.{SeenAnswer, SeenItem, breakpoints_body, data_at, data_unwatched, data_watched, no_data}
 use Rattle.dap_messages.specs.declared.request.Access.{Access}
 use Rattle.dap_messages.specs.declared.request.Access.TheVariants as access
+use Rattle.dap_messages.specs.References.{address_of, range_of}
+use Rattle.dap_messages.specs.declared.request.ByteRange.{ByteRange}
 use Rattle.dap_messages.specs.declared.request.DataBreakpoint.{DataBreakpoint}
 use Rattle.dap_messages.specs.declared.request.Scope.{Scope}
 use Rattle.dap_messages.specs.declared.request.Scope.TheVariants as scope
@@ -35,29 +37,40 @@ abbrev pub place_if : Bool → MonState → List ℕ → Option ℕ
 place_if is_byte mon name = if is_byte
     then place_named mon.places mon.session.current.regs.pc name else None
 
-abbrev pub data_by : Option ℕ → SeenAnswer
-data_by (Some address) = data_at address
+-- The address that a name is, or else that of the byte that it stands for.
+abbrev pub place_meant : MonState → Option Scope → List ℕ → Bool → Option ℕ
+place_meant mon scope name is_address = if is_address then address_of name
+    else place_if (has_bytes scope) mon name
+
+-- So many bytes from there on: one where no number is named.
+abbrev pub range_from : Option ℕ → Option ℕ → Option ByteRange
+range_from None count = None
+range_from (Some address) count = range_of address (unwrap_or count 1)
+
+abbrev pub data_by : Option ByteRange → SeenAnswer
+data_by (Some range) = data_at range
 data_by None = no_data NO_DATA.now
 
-abbrev pub data_shown : MonState → Option Scope → List ℕ → SeenAnswer
-data_shown mon scope name = data_by (place_if (has_bytes scope) mon name)
+abbrev pub data_shown : MonState → Option Scope → List ℕ → Option ℕ → Bool → SeenAnswer
+data_shown mon scope name count is_address
+    = data_by (range_from (place_meant mon scope name is_address) count)
 
 -- ---- watches that are listed
 
-abbrev pub byte_watch : ℕ → WatchKind → Watch
-byte_watch address kind = Bytes (record { first = address; last = address }) kind
+abbrev pub bytes_watch : ByteRange → WatchKind → Watch
+bytes_watch range kind = Bytes (record { first = range.first; last = range.last }) kind
 
-abbrev pub watches_for : ℕ → Access → List Watch
-watches_for address access.Read = byte_watch address Read ∷ []
-watches_for address access.ReadWrite = byte_watch address Read ∷ byte_watch address Write ∷ []
-watches_for address access.Write = byte_watch address Change ∷ []
+abbrev pub watches_for : ByteRange → Access → List Watch
+watches_for range access.Read = bytes_watch range Read ∷ []
+watches_for range access.ReadWrite = bytes_watch range Read ∷ bytes_watch range Write ∷ []
+watches_for range access.Write = bytes_watch range Change ∷ []
 
-abbrev pub watches_at : Option ℕ → Access → List Watch
-watches_at (Some address) access = watches_for address access
+abbrev pub watches_at : Option ByteRange → Access → List Watch
+watches_at (Some range) access = watches_for range access
 watches_at None access = []
 
 abbrev pub watches_of : DataBreakpoint → List Watch
-watches_of wanted = watches_at wanted.address wanted.access
+watches_of wanted = watches_at wanted.range wanted.access
 
 abbrev pub watches_in : List DataBreakpoint → List Watch
 watches_in listed = flat_map watches_of listed
@@ -100,23 +113,32 @@ SetsWatches listed old new
 
 -- ---- what is answered
 
--- Whether a byte is watched for an access.
-abbrev pub is_watched : List Watch → ℕ → Access → Bool
-is_watched watches address access.Read = has_access Read address watches
-is_watched watches address access.ReadWrite
-    = has_access Read address watches && has_access Write address watches
-is_watched watches address access.Write = has_access Change address watches
+-- Whether an access of a kind to each of so many bytes from an address on stops a run.
+unfoldable pub has_all : WatchKind → List Watch → ℕ → ℕ → Bool
+has_all kind watches zero address = true
+has_all kind watches (suc n) address
+    = has_access kind address watches && has_all kind watches n (address + 1)
 
--- A byte that a client wants watched is told to be watched, or why it is not.
-abbrev pub told_at : List Watch → Option ℕ → Access → SeenItem
-told_at watches (Some address) access = if is_watched watches address access then data_watched
+-- Whether bytes are watched for an access.
+abbrev pub all_watched : List Watch → ByteRange → WatchKind → Bool
+all_watched watches range kind = has_all kind watches ((range.last + 1) - range.first) range.first
+
+abbrev pub is_watched : List Watch → ByteRange → Access → Bool
+is_watched watches range access.Read = all_watched watches range Read
+is_watched watches range access.ReadWrite
+    = all_watched watches range Read && all_watched watches range Write
+is_watched watches range access.Write = all_watched watches range Change
+
+-- Bytes that a client wants watched together are told to be watched, or why they are not.
+abbrev pub told_at : List Watch → Option ByteRange → Access → SeenItem
+told_at watches (Some range) access = if is_watched watches range access then data_watched
     else data_unwatched NOT_WATCHED.now
 told_at watches None access = data_unwatched NO_DATA.now
 
 abbrev pub told_of : List Watch → DataBreakpoint → SeenItem
-told_of watches wanted = told_at watches wanted.address wanted.access
+told_of watches wanted = told_at watches wanted.range wanted.access
 
--- Each byte of the list is told of, in the order of the list.
+-- Each entry of the list is told of, in the order of the list.
 abbrev pub TellsWatches : List DataBreakpoint → List Watch → SeenAnswer → Type 0
 TellsWatches listed watches v = v ≡ breakpoints_body (map (told_of watches) listed)
 

@@ -1,16 +1,17 @@
 //! Bytes that are watched: each list of them replaces the one before.
 
-ghost use Rattle.std.specs.Prelude.{◌≡◌, IfOk, OnOk, Some, map as each};
+ghost use Rattle.std.specs.Prelude.{◌≡◌, ◌+◌, ◌-◌, IfOk, OnOk, Some, map as each};
 ghost use Rattle.dap_messages.specs.SeenAnswers.{breakpoints_body};
 ghost use Rattle.dap_views.specs.Watches.{KeepsBreaks, SetsWatches, TellsWatches, all_unset};
-ghost use Rattle.dap_views.specs.Watches.{data_shown, has_bytes, is_watched, told_of};
+ghost use Rattle.dap_views.specs.Watches.{data_shown, has_all, has_bytes, is_watched, place_if};
+ghost use Rattle.dap_views.specs.Watches.{place_meant, range_from, told_of};
 ghost use Rattle.dap_views.specs.Watches.{watched_of, watches_of, with_all};
 ghost use Rattle.dap_messages.specs.SeenAnswers.{answer_view, item_view};
 
 use crate::looks::place_named;
 use dap_messages::{
-    Access, Answer, DataBreakpoint, Item, ItemList, Listed, Scope, breakpoints_body,
-    data_unwatched, no_data,
+    Access, Answer, ByteRange, DataBreakpoint, Item, ItemList, Listed, Scope, address_of,
+    breakpoints_body, data_unwatched, no_data, range_of,
 };
 use mon_lines::{Stretch, WatchKind};
 use mon_runs::{Session, Stops, Watch};
@@ -21,8 +22,8 @@ use std::alloc::{AllocError, Global};
 /// What is said of a name that stands for no byte.
 pub const NO_DATA: &str = "this is no byte of memory";
 
-/// What is said of a byte that cannot be watched.
-pub const NOT_WATCHED: &str = "this byte cannot be watched";
+/// What is said of bytes that cannot be watched.
+pub const NOT_WATCHED: &str = "these bytes cannot be watched";
 
 /// Returns whether the variables of a scope can be bytes. Without a scope a name is a place.
 fn has_bytes(scope: Option<Scope>) -> bool
@@ -34,22 +35,53 @@ fn has_bytes(scope: Option<Scope>) -> bool
     }
 }
 
-/// Returns what can be watched of the byte that a name of a scope stands for.
+/// Returns the address of the byte that a name of a scope stands for, if it stands for one.
+fn byte_named(mon: &MonState, scope: Option<Scope>, name: &str) -> Option<u16>
+    ensures { result ≡ place_if (has_bytes scope) mon.now name.now }
+{
+    if has_bytes(scope) {
+        place_named(mon, name)
+    } else {
+        None
+    }
+}
+
+/// Returns the address that a name is, or else that of the byte that it stands for.
+fn place_meant(mon: &MonState, scope: Option<Scope>, name: &str, is_address: bool) -> Option<u16>
+    ensures { result ≡ place_meant mon.now scope name.now is_address }
+{
+    if is_address {
+        address_of(name.as_bytes())
+    } else {
+        byte_named(mon, scope, name)
+    }
+}
+
+/// Returns so many bytes from an address on: one where no number is named.
+fn range_from(address: Option<u16>, count: Option<u64>) -> Option<ByteRange>
+    ensures { result ≡ range_from address count }
+{
+    match address {
+        Some(address) => range_of(address, count.unwrap_or(1)),
+        None => None,
+    }
+}
+
+/// Returns what can be watched of the bytes that a name of a scope stands for, or that begin at the
+/// address that it is.
 pub fn data_shown(
     alloc: Global,
     mon: &MonState,
     scope: Option<Scope>,
     name: &str,
+    count: Option<u64>,
+    is_address: bool,
 ) -> Result<Answer, AllocError>
-    ensures { IfOk result (λ v. answer_view v ≡ data_shown mon.now scope name.now) }
+    ensures { IfOk result
+        (λ v. answer_view v ≡ data_shown mon.now scope name.now count is_address) }
 {
-    let found = if has_bytes(scope) {
-        place_named(mon, name)
-    } else {
-        None
-    };
-    match found {
-        Some(address) => Ok(Answer::DataAt(address)),
+    match range_from(place_meant(mon, scope, name, is_address), count) {
+        Some(range) => Ok(Answer::DataAt(range)),
         None => no_data(alloc, NO_DATA),
     }
 }
@@ -63,19 +95,19 @@ fn unset_all(session: &mut Session, addresses: &[u16])
     }
 }
 
-/// Sets the watches that a client wants of one byte, if it names one. Those that cannot be set are
-/// not.
+/// Sets the watches that a client wants of some bytes, if it names some. Those that cannot be set
+/// are not.
 fn set_wanted(mon: &mut MonState, wanted: &DataBreakpoint) -> Result<(), AllocError>
     ensures watched { OnOk result
         (watched_of mon.new ≡ with_all (watches_of wanted.now) (watched_of mon.old)) }
     ensures kept { KeepsBreaks mon.old mon.new }
 {
-    let Some(address) = wanted.address else {
+    let Some(range) = wanted.range else {
         return Ok(());
     };
     let stretch = Stretch {
-        first: address,
-        last: address,
+        first: range.first,
+        last: range.last,
     };
     let kind = match wanted.access {
         Access::Read => WatchKind::Read,
@@ -89,30 +121,43 @@ fn set_wanted(mon: &mut MonState, wanted: &DataBreakpoint) -> Result<(), AllocEr
     set_watch(mon, Watch::Bytes { stretch, kind })
 }
 
-/// Returns whether a byte is watched for an access.
-fn is_watched(stops: &Stops, address: u16, access: Access) -> bool
-    ensures { result ≡ is_watched stops.now.watches.items address access }
+/// Returns whether an access of a kind to each of some bytes stops a run.
+fn has_all(stops: &Stops, kind: WatchKind, range: ByteRange) -> bool
+    ensures { result
+        ≡ has_all kind stops.now.watches.items ((range.last + 1) - range.first) range.first }
+{
+    for address in range.first as u32..range.last as u32 + 1 {
+        if !stops.has_access(kind, address as u16) {
+            return false;
+        }
+    }
+    true
+}
+
+/// Returns whether bytes are watched for an access.
+fn is_watched(stops: &Stops, range: ByteRange, access: Access) -> bool
+    ensures { result ≡ is_watched stops.now.watches.items range access }
 {
     match access {
-        Access::Read => stops.has_access(WatchKind::Read, address),
+        Access::Read => has_all(stops, WatchKind::Read, range),
         Access::ReadWrite => {
-            if stops.has_access(WatchKind::Read, address) {
-                stops.has_access(WatchKind::Write, address)
+            if has_all(stops, WatchKind::Read, range) {
+                has_all(stops, WatchKind::Write, range)
             } else {
                 false
             }
         }
-        Access::Write => stops.has_access(WatchKind::Change, address),
+        Access::Write => has_all(stops, WatchKind::Change, range),
     }
 }
 
-/// Returns what is answered of a byte that a client wants watched.
+/// Returns what is answered of bytes that a client wants watched together.
 fn told(alloc: Global, stops: &Stops, wanted: &DataBreakpoint) -> Result<Item, AllocError>
     ensures { IfOk result (λ v. item_view v ≡ told_of stops.now.watches.items wanted.now) }
 {
-    match wanted.address {
-        Some(address) => {
-            if is_watched(stops, address, wanted.access) {
+    match wanted.range {
+        Some(range) => {
+            if is_watched(stops, range, wanted.access) {
                 Ok(Item::Watched)
             } else {
                 data_unwatched(alloc, NOT_WATCHED)
