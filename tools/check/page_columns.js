@@ -8,7 +8,7 @@
 // steps to which the viewer's moves and its search lead, without a document. Or it has `places`,
 // addresses, with `names` and `labels`: what is printed is how the viewer names each.
 const path = require("path");
-for (const name of ["run", "now", "names", "moves", "find"]) {
+for (const name of ["run", "now", "lines", "names", "moves", "find"]) {
   Object.assign(globalThis, require(path.join(__dirname, "..", "..", "viewer", `${name}.js`)));
 }
 globalThis.draw = globalThis.choose = () => {};
