@@ -9,6 +9,8 @@ mod routes;
 use crate::command_line::tell_whole;
 use crate::pipe::{Piped, Quiet, UNREAD};
 use crate::routes::{Route, route_of};
+use arguments::{Refusal, refuse};
+use debug_images::{asks_for_program, image_words};
 use program::{process_words, program, unreadable_words, words_of};
 use standard_streams::{Retrying, take_closed};
 use std::cell::Cell;
@@ -66,7 +68,7 @@ fn debug_on_image(rt: &HostRuntime, words: &[&str]) -> u8 {
 }
 
 /// Serves a word that runs a program with the standard input, and returns the exit status.
-fn play(rt: &HostRuntime, route: Route, words: &[&str], unread: &Cell<bool>) -> u8 {
+fn play_words(rt: &HostRuntime, route: Route, words: &[&str], unread: &Cell<bool>) -> u8 {
     let mut input = Retrying::new(rt.reader());
     let mut output = Piped::new(io::writer(rt), unread);
     let mut errors = Quiet::new(rt.stderr(), unread);
@@ -80,6 +82,32 @@ fn play(rt: &HostRuntime, route: Route, words: &[&str], unread: &Cell<bool>) -> 
             &mut errors,
         ),
         _ => trace_program(rt, words, &mut input, &mut output, &mut errors),
+    }
+}
+
+/// Serves a word that runs the program of the debug file which stands first, and returns the exit
+/// status: as with the files of that program.
+fn play_program(rt: &HostRuntime, route: Route, words: &[&str], unread: &Cell<bool>) -> u8 {
+    let file = match words {
+        [file, ..] => *file,
+        [] => "",
+    };
+    let made = match image_words(rt, words) {
+        Ok(made) => made,
+        Err(fault) => return fault.tell(file, &mut Quiet::new(rt.stderr(), unread)),
+    };
+    match words_of(rt.alloc(), &made) {
+        Ok(all) => play_words(rt, route, &all, unread),
+        Err(_) => refuse(Refusal::OutOfMemory, &mut Quiet::new(rt.stderr(), unread)),
+    }
+}
+
+/// Serves a word that runs a program, and returns the exit status.
+fn play(rt: &HostRuntime, route: Route, words: &[&str], unread: &Cell<bool>) -> u8 {
+    if asks_for_program(words) {
+        play_program(rt, route, words, unread)
+    } else {
+        play_words(rt, route, words, unread)
     }
 }
 
