@@ -1,10 +1,11 @@
 //! Debug information of another tool, read from its file, with the sources that it names.
 //!
-//! `load_places` reads a debug file of ld65 or a listing of 64tass (`specs/Forms.antt`) and tells its
-//! first fault, or makes of it what stands where in a program with these bytes (`specs/Loads.antt`);
-//! `load_places_of` does so for a program that was loaded into a session (`specs/Loaded.antt`).
-//! Which texts the files have, no clause can say: a source that cannot be read, or whose size is not
-//! that of which the debug file tells, has lines without text; `tell_changed` tells of the latter.
+//! `load_places` reads a debug file of ld65 or a listing of 64tass (`specs/Forms.antt`) and tells
+//! its first fault, or makes of it what stands where in a program with these bytes
+//! (`specs/Loads.antt`); `load_places_of` does so for a program that was loaded into a session
+//! (`specs/Loaded.antt`). Which texts the files have, no clause can say: a source that cannot be
+//! read, or whose size is not that of which the debug file tells, has lines without text;
+//! `tell_changed` tells of the latter.
 #![tactic(auto)]
 
 mod changed;

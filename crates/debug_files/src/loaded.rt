@@ -47,8 +47,8 @@ fn bytes_of(alloc: Global, session: &Session, loaded: &Written) -> Result<Image,
 }
 
 /// Reads a debug file and the sources that it names, and returns what stands where in a program
-/// that was loaded, with the names of the file: by its bytes at the addresses of `loaded`. Relative names of
-/// sources begin in `root`, if it is given, and otherwise in the folder of the debug file.
+/// that was loaded, with the names of the file: by its bytes at the addresses of `loaded`. Relative
+/// names of sources begin in `root`, if it is given, otherwise in the folder of the debug file.
 ///
 /// # Errors
 ///

@@ -34,8 +34,8 @@ pub struct Span {
     pub is_data: bool,
 }
 
-/// What was read so far: whether the columns were named, and if so whether there is one of addresses
-/// where bytes run; the number of the file that is read, the bytes that were read last, and the
+/// What was read so far: whether the columns were named, and if so whether there is one of the
+/// addresses where bytes run; the number of the file that is read, the bytes that were read last, and the
 /// records of the lines before them.
 #[derive(Drop)]
 pub struct Reading<'a> {
