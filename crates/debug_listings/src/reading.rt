@@ -35,7 +35,7 @@ pub struct Span {
 }
 
 /// What was read so far: whether the columns were named, and if so whether there is one of the
-/// addresses where bytes run; the number of the file that is read, the bytes that were read last, and the
+/// addresses where bytes run; the file that is read; the bytes that were read last; and the
 /// records of the lines before them.
 #[derive(Drop)]
 pub struct Reading<'a> {
