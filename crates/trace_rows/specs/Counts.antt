@@ -1,5 +1,5 @@
 -- What was counted, as tables of text. Source: mos65.
-use Rattle.std.specs.Prelude.{ℕ, zero, suc, ◌+◌, ◌-◌, ◌%◌, ◌==◌, nat_lt, Bool, false, ◌&&◌, ◌||◌, if◌then◌else◌, List, [], ◌∷◌, ◌++◌, Option, None, Some, codes, decimal, length, map, slice_index, slice_index_or, slice_set, is_none}
+use Rattle.std.specs.Prelude.{ℕ, zero, suc, ◌+◌, ◌-◌, ◌%◌, ◌==◌, nat_lt, not, Bool, false, ◌&&◌, ◌||◌, if◌then◌else◌, List, [], ◌∷◌, ◌++◌, Option, None, Some, codes, decimal, length, map, slice_index, slice_index_or, slice_set, is_none}
 use Rattle.std.specs.List.{flat_map}
 use Rattle.model.specs.Text.{hex_address}
 use Rattle.accesses.specs.Tallies.{Counts, count_at, saturated}
@@ -103,18 +103,39 @@ line_text line = number_text line.file.items line.number ++ codes ": " ++ line.t
 abbrev pub reached_row : SourceLine → Count → List ℕ
 reached_row line count = if was_reached count then columns_text count ++ line_text line else []
 
-abbrev pub line_row : Counts → SourceLine → List ℕ
-line_row counts line = reached_row line (count_of_line counts line)
+-- Cycles, and those of the lines that come next, as far as they continue one line: the bytes of a
+-- line of C, or of a macro's call, are several instructions.
+unfoldable pub cycles_with : Counts → ℕ → List SourceLine → ℕ
+cycles_with counts cycles [] = cycles
+cycles_with counts cycles (line ∷ lines) = if line.continues
+    then cycles_with counts (saturated (cycles + (count_of_line counts line).cycles)) lines
+    else cycles
+
+-- The visits of a line's first byte, and the cycles of the whole line, by the lines behind it.
+abbrev pub whole_count : Counts → SourceLine → List SourceLine → Count
+whole_count counts line lines = record {
+  visits = (count_of_line counts line).visits;
+  cycles = cycles_with counts (count_of_line counts line).cycles lines;
+}
+
+-- A row for each line that was reached, where the line begins.
+abbrev pub line_row : Counts → SourceLine → List SourceLine → List ℕ
+line_row counts line lines
+    = if line.continues then [] else reached_row line (whole_count counts line lines)
+
+unfoldable pub line_rows : Counts → List SourceLine → List ℕ
+line_rows counts [] = []
+line_rows counts (line ∷ lines) = line_row counts line lines ++ line_rows counts lines
 
 abbrev pub with_lines : Sites → Counts → List ℕ → List ℕ
 with_lines sites counts text
-    = with_head (codes "line") text ++ flat_map (line_row counts) sites.lines.items
+    = with_head (codes "line") text ++ line_rows counts sites.lines.items
 
 -- ---- what was never reached, and what the source does not have
 
 abbrev pub is_unreached : Counts → SourceLine → Bool
-is_unreached counts line
-    = line.is_instruction && (slice_index counts.visits line.address == 0)
+is_unreached counts line = line.is_instruction && not line.continues
+    && (slice_index counts.visits line.address == 0)
 
 unfoldable pub unreached_rows : Counts → List SourceLine → List (List ℕ)
 unreached_rows counts [] = []

@@ -1,5 +1,5 @@
 -- The lines that are shown for the bytes of a program: of its source, or by places. Source: mos65.
-use Rattle.std.specs.Prelude.{ℕ, ◌&&◌, min, nat_le, nat_lt, Bool, if◌then◌else◌, List, [], ◌∷◌, map, unwrap_or}
+use Rattle.std.specs.Prelude.{ℕ, ◌==◌, ◌&&◌, min, nat_le, nat_lt, not, Bool, false, if◌then◌else◌, List, [], ◌∷◌, Option, None, Some, unwrap_or}
 use Rattle.std.specs.List.{flat_map}
 use Rattle.assembler.specs.Assembly.{AssemblyView, source_lines}
 use Rattle.assembler.specs.Lines.{LineView}
@@ -15,6 +15,7 @@ pub record Listed : Type 0 where
   pub count : ℕ
   pub text : List ℕ
   pub is_instruction : Bool
+  pub continues : Bool
 
 abbrev pub listed : SourceLine → Listed
 listed line = record {
@@ -24,6 +25,7 @@ listed line = record {
   count = line.len;
   text = line.text.items;
   is_instruction = line.is_instruction;
+  continues = line.continues;
 }
 
 -- ---- of a source, which is one file
@@ -37,6 +39,7 @@ line_of line = if nat_lt 0 line.count && nat_le line.address 65535 then record {
   count = min line.count 3;
   text = line.text;
   is_instruction = line.is_instruction;
+  continues = false;
 } ∷ [] else []
 
 -- The lines of an assembled source that have bytes, in their order.
@@ -48,17 +51,30 @@ lines_in assembly = lines_of (source_lines assembly)
 
 -- ---- by places
 
+-- Whether a row has further bytes of the line that is shown for the row before it.
+abbrev pub continues : Option Row → Row → Bool
+continues None row = false
+continues (Some before) row
+    = before.file == row.file && before.line == row.line && not row.begins_line
+
 -- The line that is shown for bytes, with three of them at most, and the text that its file has there.
-abbrev pub line_by : List SourceView → Row → Listed
-line_by sources row = record {
+abbrev pub line_by : List SourceView → Option Row → Row → Listed
+line_by sources before row = record {
   file = file_name sources row.file;
   number = row.line;
   address = row.address;
   count = min row.count 3;
   text = unwrap_or (text_of (texts_at sources row.file) row.line) [];
   is_instruction = row.is_instruction;
+  continues = continues before row;
 }
+
+-- The lines of rows, behind a row.
+unfoldable pub lines_behind : List SourceView → Option Row → List Row → List Listed
+lines_behind sources before [] = []
+lines_behind sources before (row ∷ rows)
+    = line_by sources before row ∷ lines_behind sources (Some row) rows
 
 -- The lines of all rows, in their order.
 abbrev pub lines_by : PlacesView → List Listed
-lines_by places = map (line_by places.sources) places.lines
+lines_by places = lines_behind places.sources None places.lines

@@ -7,6 +7,7 @@ ghost use Rattle.trace_rows.specs.Counts.{add_cycles, address_row, is_elsewhere,
 ghost use Rattle.trace_rows.specs.Counts.{is_unreached, label_row, label_rows, line_row, line_text};
 ghost use Rattle.trace_rows.specs.Counts.{number_text};
 ghost use Rattle.trace_rows.specs.Counts.{with_counts, with_elsewhere, with_head};
+ghost use Rattle.trace_rows.specs.Counts.{cycles_with, whole_count};
 ghost use Rattle.trace_rows.specs.Counts.{with_labels, with_lines, with_sums};
 ghost use Rattle.trace_rows.specs.Counts.{with_unreached};
 
@@ -192,11 +193,47 @@ fn push_line(text: &mut Vec<u8>, line: &SourceLine) -> Result<(), AllocError>
     Ok(())
 }
 
-/// Appends the row of a line, if the line was reached.
-fn push_reached(text: &mut Vec<u8>, tally: &Tally, line: &SourceLine) -> Result<(), AllocError>
-    ensures { OnOk result (text.new.items ≡ text.old.items ++ line_row tally.now line.now) }
+/// Returns cycles, and those of the lines that come next, as far as they continue one line.
+#[tactic(auto, unfolding(crate::specs::Counts::cycles_with))]
+fn cycles_with(tally: &Tally, first: u64, lines: &[SourceLine]) -> u64
+    ensures { result ≡ cycles_with tally.now first lines.now }
+{
+    let mut cycles = first;
+    for line in lines {
+        if !line.continues {
+            return cycles;
+        }
+        cycles = cycles.saturating_add(count_of_line(tally, line).cycles);
+    }
+    cycles
+}
+
+/// Returns the visits of a line's first byte, and the cycles of the whole line, by the lines behind
+/// it.
+fn whole_count(tally: &Tally, line: &SourceLine, behind: &[SourceLine]) -> Count
+    ensures { result ≡ whole_count tally.now line.now behind.now }
 {
     let count = count_of_line(tally, line);
+    Count {
+        visits: count.visits,
+        cycles: cycles_with(tally, count.cycles, behind),
+    }
+}
+
+/// Appends the row of a line, if the line begins there and was reached.
+fn push_reached(
+    text: &mut Vec<u8>,
+    tally: &Tally,
+    line: &SourceLine,
+    behind: &[SourceLine],
+) -> Result<(), AllocError>
+    ensures { OnOk result
+        (text.new.items ≡ text.old.items ++ line_row tally.now line.now behind.now) }
+{
+    if line.continues {
+        return Ok(());
+    }
+    let count = whole_count(tally, line, behind);
     if count.visits > 0 || count.cycles > 0 {
         push_columns(text, count)?;
         push_line(text, line)?;
@@ -205,12 +242,15 @@ fn push_reached(text: &mut Vec<u8>, tally: &Tally, line: &SourceLine) -> Result<
 }
 
 /// Appends the table of lines that were reached.
+#[tactic(auto, unfolding(crate::specs::Counts::line_rows))]
 fn push_lines(text: &mut Vec<u8>, sites: &Sites, tally: &Tally) -> Result<(), AllocError>
     ensures { OnOk result (text.new.items ≡ with_lines sites.now tally.now text.old.items) }
 {
     push_head(text, b"line")?;
-    for line in sites.lines() {
-        push_reached(text, tally, line)?;
+    let mut lines = sites.lines();
+    while let [line, behind @ ..] = lines {
+        push_reached(text, tally, line, behind)?;
+        lines = behind;
     }
     Ok(())
 }
@@ -219,7 +259,7 @@ fn push_lines(text: &mut Vec<u8>, sites: &Sites, tally: &Tally) -> Result<(), Al
 fn is_unreached(tally: &Tally, line: &SourceLine) -> bool
     ensures { result ≡ is_unreached tally.now line.now }
 {
-    line.is_instruction && tally.at(line.address).visits == 0
+    line.is_instruction && !line.continues && tally.at(line.address).visits == 0
 }
 
 /// Appends what stands before the first instruction that was never reached.

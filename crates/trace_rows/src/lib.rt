@@ -3,11 +3,12 @@
 //!
 //! Each call appends to a text, and changes no session. `Sites` says which label and which line of
 //! the source an address belongs to, found by the address, so that a row takes no search. `lcov`
-//! appends the record of a source (`specs/Records.antt`).
+//! appends the record of a source, or those of the files that debug information names
+//! (`specs/Records.antt`).
 #![tactic(auto)]
 
 pub use counts::push_counts;
-pub use lcov::push_record;
+pub use lcov::{push_record, push_records};
 pub use lines::SourceLine;
 pub use sites::{Label, Sites};
 pub use steps::{Step, push_step};

@@ -5,8 +5,8 @@ ghost use Rattle.std.specs.Option.{option_to_list, unwrap_or};
 ghost use Rattle.source_map.specs.Lines.{text_of, texts_at};
 ghost use Rattle.assembler.specs.Assembly.{source_lines};
 ghost use Rattle.assembler.specs.Lines.{line_view};
-ghost use Rattle.trace_rows.specs.SourceLines.{line_by, line_of, lines_by, lines_in, lines_of};
-ghost use Rattle.trace_rows.specs.SourceLines.{listed};
+ghost use Rattle.trace_rows.specs.SourceLines.{continues, line_by, line_of, lines_by, lines_in};
+ghost use Rattle.trace_rows.specs.SourceLines.{lines_of, listed};
 
 use assembler::Assembly;
 use source_map::{Places, Row};
@@ -25,6 +25,8 @@ pub struct SourceLine {
     pub len: u16,
     /// Whether it is an instruction, and no directive.
     pub is_instruction: bool,
+    /// Whether these are further bytes of the line before it.
+    pub continues: bool,
     /// The line as written.
     pub text: Vec<u8>,
 }
@@ -46,6 +48,7 @@ fn push_line(
             address: line.address as u16,
             len: line.count.min(3) as u16,
             is_instruction: line.is_instruction,
+            continues: false,
             text,
         })?;
     }
@@ -93,9 +96,24 @@ fn text_of_row(places: &Places, row: Row) -> &[u8]
     }
 }
 
-/// Returns the line that is shown for the bytes of a row.
-fn line_of_row(alloc: Global, places: &Places, row: Row) -> Result<SourceLine, AllocError>
-    ensures { IfOk result (λ line. listed line ≡ line_by places.now.sources row) }
+/// Returns whether a row has further bytes of the line that is shown for the row before it.
+fn continues(before: Option<Row>, row: Row) -> bool
+    ensures { result ≡ continues before row }
+{
+    match before {
+        None => false,
+        Some(before) => before.file == row.file && before.line == row.line && !row.begins_line,
+    }
+}
+
+/// Returns the line that is shown for the bytes of a row, behind another row.
+fn line_of_row(
+    alloc: Global,
+    places: &Places,
+    before: Option<Row>,
+    row: Row,
+) -> Result<SourceLine, AllocError>
+    ensures { IfOk result (λ line. listed line ≡ line_by places.now.sources before row) }
 {
     Ok(SourceLine {
         file: Vec::from_slice(alloc, places.file_name(row.file))?,
@@ -103,6 +121,7 @@ fn line_of_row(alloc: Global, places: &Places, row: Row) -> Result<SourceLine, A
         address: row.address,
         len: row.count.min(3) as u16,
         is_instruction: row.is_instruction,
+        continues: continues(before, row),
         text: Vec::from_slice(alloc, text_of_row(places, row))?,
     })
 }
@@ -110,13 +129,16 @@ fn line_of_row(alloc: Global, places: &Places, row: Row) -> Result<SourceLine, A
 /// Returns the lines that are shown for the bytes of all rows.
 ///
 /// Errors: `AllocError` if an allocation fails.
+#[tactic(auto, unfolding(crate::specs::SourceLines::lines_behind))]
 pub fn lines_by(alloc: Global, places: &Places) -> Result<Vec<SourceLine>, AllocError>
     ensures { IfOk result (λ lines. map listed lines.items ≡ lines_by places.now) }
 {
     let mut lines = Vec::new(alloc);
+    let mut before: Option<Row> = None;
     for row in places.rows() {
-        let line = line_of_row(alloc, places, *row)?;
+        let line = line_of_row(alloc, places, before, *row)?;
         lines.push(line)?;
+        before = Some(*row);
     }
     Ok(lines)
 }

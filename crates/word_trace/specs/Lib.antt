@@ -3,3 +3,4 @@ pub mod Traces
 pub mod Notes
 pub mod Gathered
 pub mod Texts
+pub mod Lines

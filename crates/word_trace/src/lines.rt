@@ -1,16 +1,18 @@
-//! How often the lines of a source were run, written to a file for lcov.
+//! How often the lines of a program were run, written to a file for lcov.
 
-ghost use Rattle.std.specs.Prelude.{IfErr, IfOk};
+ghost use Rattle.std.specs.Prelude.{◌≡◌, IfErr, IfOk, option_map};
 ghost use Rattle.arguments_play.specs.Trace.{trace_view};
+ghost use Rattle.word_trace.specs.Lines.{lines_text};
 ghost use Rattle.word_trace.specs.Traces.{IsApart, IsOfStreams};
 
 use accesses::Tally;
 use arguments::{Refusal, check_outputs, name_of, write_file};
 use arguments_play::TraceWords;
 use assembler::Assembly;
+use source_map::Places;
 use std::alloc::{AllocError, Global};
 use std::rt::Files;
-use trace_rows::push_record;
+use trace_rows::{push_record, push_records};
 
 /// Returns the name of another file of the machine, if there is one.
 fn name_in(word: Option<&str>) -> Option<&str> {
@@ -48,16 +50,26 @@ pub fn check_lines<H: Files + AllocGlobal>(rt: &H, words: &TraceWords<'_>) -> Re
     Ok(())
 }
 
-/// Returns the record of a source; no byte where there is none.
+/// Returns how often the lines of a program were run: of the files of its debug information, if it
+/// has some, and otherwise of its source; no byte where it has neither.
 fn lines_text(
     alloc: Global,
     file: &str,
     assembly: Option<&Assembly>,
+    debug: Option<&Places>,
     tally: &Tally,
-) -> Result<Vec<u8>, AllocError> {
+) -> Result<Vec<u8>, AllocError>
+    ensures { IfOk result (λ text. text.items
+        ≡ lines_text file.now (option_map (λ a. a.now) assembly.entry)
+        (option_map (λ p. p.now) debug.entry) tally.now) }
+{
     let mut text = Vec::new(alloc);
-    if let Some(assembly) = assembly {
-        push_record(&mut text, alloc, file.as_bytes(), assembly, tally)?;
+    match debug {
+        Some(places) => push_records(&mut text, alloc, places, tally)?,
+        None => match assembly {
+            Some(assembly) => push_record(&mut text, alloc, file.as_bytes(), assembly, tally)?,
+            None => {}
+        },
     }
     Ok(text)
 }
@@ -71,6 +83,7 @@ pub fn write_lines<H: Files + AllocGlobal>(
     rt: &H,
     words: &TraceWords<'_>,
     assembly: Option<&Assembly>,
+    debug: Option<&Places>,
     tally: Option<&Tally>,
 ) -> Result<(), Refusal>
     ensures { IfErr result IsOfStreams }
@@ -78,7 +91,7 @@ pub fn write_lines<H: Files + AllocGlobal>(
     let (Some(path), Some(tally)) = (words.lcov, tally) else {
         return Ok(());
     };
-    let text = lines_text(rt.alloc(), words.file.file, assembly, tally).map_err(
+    let text = lines_text(rt.alloc(), words.file.file, assembly, debug, tally).map_err(
         |_| Refusal::OutOfMemory,
     )?;
     write_file(rt, path, &text)?;

@@ -453,7 +453,7 @@ fn trace_span<H: Files + AllocGlobal, R: Read, O: Write, E: Write>(
         output,
         errors,
     )?;
-    write_lines(rt, words, loaded.assembly.as_ref(), tracer.tally())?;
+    write_lines(rt, words, loaded.assembly.as_ref(), debug, tracer.tally())?;
     Ok(traced)
 }
 

@@ -1,7 +1,9 @@
-use Rattle.std.proofs.Common.{◌≡◌, ◌++◌, drop}
-use Rattle.std.specs.List.{flat_map}
-use Rattle.trace_rows.specs.Counts.{line_row, with_lines}
+use Rattle.std.proofs.Common.{◌≡◌, ◌++◌, length}
+use Rattle.trace_rows.specs.Counts.{line_rows, with_lines}
 use Rattle.trace_rows.proofs.counts.push_lines.Given as goal
 
-abbrev pub invariant-loop-line : goal.invariant-loop-line
-invariant-loop-line l = l.text.items ++ flat_map (line_row l.tally) (drop l.line-index l.sites.lines.items) ≡ with_lines l.sites l.tally l.fn.text.items
+abbrev pub invariant-loop-lines : goal.invariant-loop-lines
+invariant-loop-lines l = l.text.items ++ line_rows l.tally l.lines ≡ with_lines l.sites l.tally l.fn.text.items
+
+abbrev pub decreases-loop-lines : goal.decreases-loop-lines
+decreases-loop-lines l = length l.lines
