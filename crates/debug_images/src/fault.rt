@@ -1,0 +1,64 @@
+//! Why a program is not found by its debug file.
+
+use arguments::{LoadFault, Refusal, put_named, refuse_file};
+use std::alloc::AllocError;
+use std::io::Write;
+
+/// What is said of a debug file whose segments have no bytes in files.
+const NO_FILE: &str = ": no segment has bytes in a file";
+
+/// What is said of a file of the linker, behind its name.
+const NO_PLACE: &str = " stands at no one address; say it as FILE@HHHH, beside --debug-info";
+
+/// What is said of a file that has fewer bytes than its segments, behind its name.
+const SHORT: &str = " has fewer bytes than its segments";
+
+/// Why a program is not found by its debug file.
+#[derive(Drop)]
+pub enum ImageFault {
+    /// The debug file is not read.
+    Unread(LoadFault),
+    /// The name of a file of the linker is no text.
+    Unreadable,
+    /// The segments of this file do not agree on where it stands.
+    NoPlace(Vec<u8>),
+    /// This file has fewer bytes than its segments.
+    Short(Vec<u8>),
+    /// No segment has bytes in a file.
+    NoFile,
+    /// An allocation failed.
+    OutOfMemory,
+}
+
+impl From<AllocError> for ImageFault {
+    ghost use Rattle.debug_images.specs.declared.fault.ImageFault.TheVariants.{OutOfMemory};
+
+    ghost from_gives = { λ _ fault. fault ≡ OutOfMemory };
+
+    fn from(_error: AllocError) -> ImageFault {
+        ImageFault::OutOfMemory
+    }
+}
+
+/// Writes what is said of a file of the linker, and returns the exit status 1.
+fn tell_of<E: Write>(file: &str, name: &[u8], what: &str, errors: &mut E) -> u8 {
+    put_named(file, &[b": ", name, what.as_bytes(), b"\n"], errors);
+    1
+}
+
+impl ImageFault {
+    /// Writes why the program of a debug file is not found, and returns the exit status, even if
+    /// that cannot be written.
+    pub fn tell<E: Write>(self, file: &str, errors: &mut E) -> u8 {
+        match self {
+            ImageFault::Unread(fault) => fault.tell(file, errors),
+            ImageFault::NoPlace(name) => tell_of(file, name.as_slice(), NO_PLACE, errors),
+            ImageFault::Short(name) => tell_of(file, name.as_slice(), SHORT, errors),
+            ImageFault::NoFile | ImageFault::Unreadable => {
+                put_named(file, &[NO_FILE.as_bytes(), b"\n"], errors);
+                1
+            }
+            ImageFault::OutOfMemory => refuse_file(Refusal::OutOfMemory, file, errors),
+        }
+    }
+}

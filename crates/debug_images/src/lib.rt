@@ -1,0 +1,17 @@
+//! A program by its debug file: the files that ld65 wrote, and where each stands.
+//!
+//! A debug file of ld65 names the files that it wrote, and which bytes of them each segment has.
+//! `parts_of` finds the address of each such file (`specs/Parts.antt`). `image_words` replaces the
+//! debug file among words by these files, and by itself as debug information, so that a word takes
+//! it as an image (`specs/Words.antt`).
+#![tactic(auto)]
+
+mod bases;
+mod expanding;
+mod fault;
+mod parts;
+mod words;
+
+pub use expanding::image_words;
+pub use fault::ImageFault;
+pub use words::asks_for_program;
