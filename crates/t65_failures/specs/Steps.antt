@@ -11,7 +11,8 @@ use Rattle.model.specs.Session.{Session}
 use Rattle.model.specs.State.{State}
 use Rattle.model.specs.declared.registers.Regs.{Regs}
 use Rattle.model.specs.declared.session_fault.SessionFault.{SessionFault}
-use Rattle.source_map.specs.Lines.{PlacesView, file_name, line_at}
+use Rattle.source_map.specs.Lines.{PlacesView, SourceView, file_name, row_at}
+use Rattle.source_map.specs.declared.rows.Row.{Row}
 use Rattle.t65_failures.specs.declared.wording.TheConstants.{A_IS, IRQ, LAST_STEPS, NMI, P_IS, S_IS, X_IS, Y_IS}
 use Rattle.t65_reader.specs.declared.row.Request.{Request}
 use Rattle.t65_reader.specs.declared.row.Signal.{Signal}
@@ -46,14 +47,15 @@ regs_text regs = named_byte A_IS.now regs.a ++ named_byte X_IS.now regs.x
     ++ named_byte Y_IS.now regs.y ++ named_byte S_IS.now regs.s
     ++ named_byte P_IS.now (status false regs.flags)
 
--- A line of the source's file, if there is one.
-abbrev pub source_by : List ℕ → Option ℕ → List ℕ
-source_by file None = []
-source_by file (Some line) = codes "  " ++ visible_text file ++ codes ":" ++ decimal line
+-- The line of a row with its file, if there is one.
+abbrev pub source_by : List SourceView → Option Row → List ℕ
+source_by sources None = []
+source_by sources (Some row) = codes "  " ++ visible_text (file_name sources row.file) ++ codes ":"
+    ++ decimal row.line
 
 -- The line of the source whose bytes stand at an address.
 abbrev pub source_text : PlacesView → ℕ → List ℕ
-source_text places address = source_by (file_name places.sources 0) (line_at places.lines address)
+source_text places address = source_by places.sources (row_at places.lines address)
 
 -- A step from one state to another: the instruction that came next in the first, the registers in
 -- the second, and the line of the source.

@@ -123,11 +123,11 @@ fn push_source_line(text: &mut String, places: &Places, address: u16) -> Result<
     ensures { OnOk result (string_bytes text.new
         ≡ string_bytes text.old ++ source_text places.now address) }
 {
-    match places.line_at(address) {
-        Some(line) => {
+    match places.row_at(address) {
+        Some(row) => {
             text.push_str("  ")?;
-            push_visible_text(text, places.file())?;
-            write!(text, ":{line}")
+            push_visible_text(text, places.file_name(row.file))?;
+            write!(text, ":{}", row.line)
         }
         None => Ok(()),
     }
