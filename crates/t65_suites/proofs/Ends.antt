@@ -14,7 +14,10 @@ use Rattle.model.specs.Names.{Definitions}
 use Rattle.t65_suites.specs.HeadText.{SeenHead, head_from}
 use Rattle.t65_reader.specs.RowText.{SeenAsking, SeenLine, points_of, rows_from}
 use Rattle.t65_values.specs.declared.fault.TextFault.{TextFault}
-use Rattle.t65_suites.specs.Ends.{EndsAnyTest, EndsFile, EndsRows, EndsTest, HeadedFile}
+use Rattle.t65_suites.specs.Ends.{EndsAnyTest, EndsFile, EndsPlaced, EndsRows, EndsTest, HeadedFile}
+use Rattle.t65_suites.specs.FaultTexts.{fault_at}
+use Rattle.t65_suites.specs.declared.fault.Unplaced.{Unplaced}
+use Rattle.t65_suites.specs.declared.fault.Unplaced.TheVariants.{Debug, Program}
 use Rattle.t65_suites.specs.Programs.{EndsProgram, IsProgram, file_asked}
 use Rattle.t65_suites.specs.Suites.{ReadingAsked, asking_of}
 use Rattle.t65_runner.specs.Parts.{tests_of}
@@ -54,6 +57,17 @@ pub program_ends : (reading : ReadingAsked) (text : List ℕ) (head : SeenHead) 
     → EndsFile reading points (InProgram path fault)
 program_ends reading text head next lines path name fault points headed named ends are =
     (headed_file text head next lines headed, subst (λ n. EndsProgram (file_asked reading head n) reading.symbols fault) named ends, are)
+
+-- A fault of what rows are run on.
+pub placed_ends : (reading : ReadingAsked) (text : List ℕ) (head : SeenHead) (next : ℕ) (lines : List (List ℕ)) (path : String Global)
+    (name : List ℕ) (fault : Unplaced) (points : ℕ)
+    → head_from 1 (lines_of text) ≡ Ok (head, next, lines) → name ≡ string_bytes path
+    → EndsPlaced (file_asked reading head name) reading fault → points ≡ points_of reading.only lines
+    → EndsFile reading points (fault_at path fault)
+placed_ends reading text head next lines path name (Program fault) points headed named ends are =
+    program_ends reading text head next lines path name fault points headed named ends are
+placed_ends reading text head next lines path name (Debug fault) points headed named ends are =
+    (headed_file text head next lines headed, ends, are)
 
 pub rows_end : (reading : ReadingAsked) (text : List ℕ) (head : SeenHead) (next : ℕ) (lines : List (List ℕ)) (path : List ℕ) (assembly : AssemblyView)
     (steps : ℕ) (fault : TestFault) (points : ℕ)

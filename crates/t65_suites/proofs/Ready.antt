@@ -1,17 +1,17 @@
 -- What was prepared.
-use Rattle.std.proofs.Common.{◌≡◌, ℕ, List, Option, map, refl, sym, ap, ◌∙◌}
+use Rattle.std.proofs.Common.{◌≡◌, ℕ, List, Option, map, refl, sym, ap}
 use Rattle.std.specs.Prelude.{Ok}
 use Rattle.assembler.specs.Assembly.{AssemblyView}
 use Rattle.model.specs.State.{Map}
 use Rattle.model.specs.TextLines.{lines_of}
-use Rattle.source_map.specs.Lines.{PlacesView, places_of}
+use Rattle.source_map.specs.Lines.{PlacesView}
 use Rattle.t65_suites.specs.HeadText.{SeenHead, head_from}
 use Rattle.t65_reader.specs.RowText.{SeenLine, line_view, rows_from}
 use Rattle.t65_reader.specs.declared.row.Part.TheVariants.{Setup, Teardown}
 use Rattle.t65_suites.specs.Programs.{IsProgram, file_asked}
 use Rattle.t65_suites.specs.Suites.{SuiteAsked, asking_of}
 use Rattle.t65_runner.specs.Parts.{rows_of}
-use Rattle.t65_suites.specs.Prepared.{Ground, IsPrepared, map_of, path_of}
+use Rattle.t65_suites.specs.Prepared.{ArePlaces, Ground, IsPrepared, map_of, path_of}
 use Rattle.t65_suites.specs.declared.prepared.Prepared.{Prepared}
 
 abbrev ground_at : Map → AssemblyView → PlacesView → List SeenLine → Ground
@@ -27,7 +27,8 @@ ground_at bus_map assembly places rows = record {
 pub ready : (prepared : Prepared) (steps : ℕ) (suite : SuiteAsked) (text : List ℕ) (head : SeenHead) (next : ℕ) (lines : List (List ℕ)) (path : List ℕ)
     → head_from 1 (lines_of text) ≡ Ok (head, next, lines) → text ≡ prepared.text.items
     → prepared.map ≡ map_of head → path ≡ path_of suite head.source
-    → IsProgram (file_asked suite.reading head path) suite.reading.symbols prepared.assembly → prepared.places ≡ places_of path prepared.assembly
+    → IsProgram (file_asked suite.reading head path) suite.reading.symbols prepared.assembly
+    → ArePlaces suite.reading.debug head.profile path prepared.assembly prepared.places
     → rows_from (asking_of steps suite.reading) prepared.assembly.names next lines ≡ Ok (map line_view prepared.rows.items)
     → prepared.form ≡ suite.reading.form → IsPrepared steps suite prepared
 ready prepared steps suite text head next lines path headed same mapped named program placed read form = record {
@@ -41,12 +42,13 @@ ready prepared steps suite text head next lines path headed same mapped named pr
     path_is = named;
     assembly = prepared.assembly;
     program = program;
+    places = prepared.places;
+    placed = placed;
     rows = map line_view prepared.rows.items;
     read = read;
   };
   text_is = same;
-  ground_is = ap (λ (m : Map). ground_at m prepared.assembly (places_of path prepared.assembly) (map line_view prepared.rows.items)) (sym mapped)
-      ∙ ap (λ (p : PlacesView). ground_at prepared.map prepared.assembly p (map line_view prepared.rows.items)) (sym placed);
+  ground_is = ap (λ (m : Map). ground_at m prepared.assembly prepared.places (map line_view prepared.rows.items)) (sym mapped);
   rows_are = refl;
   form_is = form;
 }

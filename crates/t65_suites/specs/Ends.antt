@@ -1,11 +1,15 @@
 -- Why a file of rows cannot be tested. No clause can say whether memory is there, nor what is in a
 -- file. Source: mos65.
-use Rattle.std.specs.Prelude.{◌≡◌, ◌⊎◌, ⊤, ℕ, false, List, [], Ok, Err, string_bytes}
+use Rattle.std.specs.Prelude.{◌≡◌, ◌⊎◌, ⊤, ℕ, false, List, [], Option, None, Some, Ok, Err, string_bytes}
+use Rattle.arguments.specs.Asked.{FileAsked}
 use Rattle.arguments.specs.Values.{base_of}
 use Rattle.arguments.specs.declared.refusal.Refusal.{Refusal}
 use Rattle.arguments.specs.declared.refusal.Refusal.TheVariants.{Map as NoMap, OutOfMemory, Read}
+use Rattle.arguments.specs.declared.load_fault.LoadFault.{LoadFault}
+use Rattle.arguments.specs.declared.load_fault.LoadFault.TheVariants as load
 use Rattle.assembler.specs.Assembly.{AssemblyView}
 use Rattle.clap.specs.Words.{Text}
+use Rattle.debug_files.specs.Loads.{EndsDebug}
 use Rattle.model.specs.Names.{Definitions}
 use Rattle.model.specs.State.{is_map}
 use Rattle.model.specs.TextLines.{lines_of}
@@ -16,7 +20,9 @@ use Rattle.t65_runner.specs.Parts.{tests_of}
 use Rattle.t65_suites.specs.Programs.{EndsProgram, IsProgram, file_asked}
 use Rattle.t65_suites.specs.Suites.{ReadingAsked, asking_of}
 use Rattle.t65_suites.specs.declared.fault.FileFault.{FileFault}
-use Rattle.t65_suites.specs.declared.fault.FileFault.TheVariants.{InProgram, InRows}
+use Rattle.t65_suites.specs.declared.fault.FileFault.TheVariants.{InDebug, InProgram, InRows}
+use Rattle.t65_suites.specs.declared.fault.Unplaced.{Unplaced}
+use Rattle.t65_suites.specs.declared.fault.Unplaced.TheVariants.{Debug, Program}
 use Rattle.t65_suites.specs.declared.fault.TestFault.{TestFault}
 use Rattle.t65_suites.specs.declared.fault.TestFault.TheVariants.{Rows as NotRows, TooLarge, NoRow, Refused}
 
@@ -64,12 +70,25 @@ EndsTest reading points (Refused refusal) = EndsRefused points refusal
 abbrev pub EndsAnyTest : TestFault → Type 0
 EndsAnyTest fault = (reading : ReadingAsked) → EndsTest reading 0 fault
 
+-- Why it is not known what stands where in a program: its debug information is not loaded.
+abbrev pub EndsPlaces : Option Text → LoadFault → Type 0
+EndsPlaces None fault = fault ≡ load.Refused OutOfMemory
+EndsPlaces (Some file) fault = EndsDebug fault
+
+-- Why there is nothing to run rows on: the file is not loaded, or its debug information.
+abbrev pub EndsPlaced : FileAsked → ReadingAsked → Unplaced → Type 0
+EndsPlaced asked reading (Program fault) = EndsProgram asked reading.symbols fault
+EndsPlaced asked reading (Debug fault) = EndsPlaces reading.debug fault
+
 -- Why a suite cannot be tested, and how many points its rows are worth together: its file of rows
--- cannot, or the file that its rows are run on is not loaded on the map of its head.
+-- cannot, or the file that its rows are run on is not loaded on the map of its head, or its debug
+-- information is not.
 abbrev pub EndsFile : ReadingAsked → ℕ → FileFault → Type 0
 EndsFile reading points (InRows fault) = EndsTest reading points fault
 EndsFile reading points (InProgram path fault) = (file : HeadedFile)
     × EndsProgram (file_asked reading file.head (string_bytes path)) reading.symbols fault
+    × (points ≡ points_of reading.only file.lines)
+EndsFile reading points (InDebug fault) = (file : HeadedFile) × EndsPlaces reading.debug fault
     × (points ≡ points_of reading.only file.lines)
 
 -- Why rows are not read under some names.

@@ -1,5 +1,6 @@
 -- Why a suite cannot be tested, in words. Source: mos65.
-use Rattle.std.specs.Prelude.{◌≡◌, ℕ, ◌==◌, Bool, true, false, if◌then◌else◌, List, [], ◌∷◌, ◌++◌, codes, decimal, flat_map}
+use Rattle.std.specs.Prelude.{◌≡◌, ℕ, ◌==◌, Bool, true, false, if◌then◌else◌, List, [], ◌∷◌, ◌++◌, String, codes, decimal, flat_map}
+use Rattle.std.specs.declared.alloc.Global.{Global}
 use Rattle.arguments.specs.declared.load_fault.LoadFault.{LoadFault}
 use Rattle.arguments.specs.declared.load_fault.LoadFault.TheVariants as load
 use Rattle.arguments.specs.declared.refusal.Refusal.{Refusal}
@@ -10,7 +11,9 @@ use Rattle.t65_values.specs.FaultWords.{fault_words}
 use Rattle.t65_values.specs.declared.fault.TextFault.{TextFault}
 use Rattle.t65_values.specs.Visible.{characters, visible_character}
 use Rattle.t65_suites.specs.declared.fault.FileFault.{FileFault}
-use Rattle.t65_suites.specs.declared.fault.FileFault.TheVariants.{InProgram, InRows}
+use Rattle.t65_suites.specs.declared.fault.FileFault.TheVariants.{InDebug, InProgram, InRows}
+use Rattle.t65_suites.specs.declared.fault.Unplaced.{Unplaced}
+use Rattle.t65_suites.specs.declared.fault.Unplaced.TheVariants.{Debug, Program}
 use Rattle.t65_suites.specs.declared.fault.TestFault.{TestFault}
 use Rattle.t65_suites.specs.declared.fault.TestFault.TheVariants.{Rows, TooLarge, NoRow, Refused}
 use Rattle.t65_suites.specs.declared.wording.TheConstants.{NO_ROW, TOO_LARGE}
@@ -38,6 +41,7 @@ is_out_of_program HasSource = false
 abbrev pub is_memory : FileFault → Bool
 is_memory (InRows fault) = is_out_of_rows fault
 is_memory (InProgram path fault) = is_out_of_program fault
+is_memory (InDebug fault) = is_out_of_file fault
 
 -- ---- places
 
@@ -51,6 +55,12 @@ line_in_rows (Refused refusal) = 1
 abbrev pub line_of : FileFault → ℕ
 line_of (InRows fault) = line_in_rows fault
 line_of (InProgram path fault) = 1
+line_of (InDebug fault) = 1
+
+-- Where a fault of what rows are run on is, which has this path.
+abbrev pub fault_at : String Global → Unplaced → FileFault
+fault_at path (Program fault) = InProgram path fault
+fault_at path (Debug fault) = InDebug fault
 
 -- ---- texts
 
@@ -79,3 +89,4 @@ IsRowsTitle (Refused refusal) title = IsShown title
 abbrev pub IsTitle : FileFault → List ℕ → Type 0
 IsTitle (InRows fault) title = IsRowsTitle fault title
 IsTitle (InProgram path fault) title = IsShown title
+IsTitle (InDebug fault) title = IsShown title

@@ -3,9 +3,11 @@ use Rattle.std.specs.Prelude.{◌≡◌, ℕ, List, Option, Some, None, Ok, map}
 use Rattle.arguments.specs.Values.{base_of}
 use Rattle.assembler.specs.Assembly.{AssemblyView}
 use Rattle.clap.specs.Words.{Text}
+use Rattle.debug_files.specs.Loads.{AreDebugPlaces}
 use Rattle.model.specs.Names.{Definitions}
 use Rattle.model.specs.State.{Map}
 use Rattle.model.specs.TextLines.{lines_of}
+use Rattle.model.specs.declared.instruction.Profile.{Profile}
 use Rattle.source_map.specs.Lines.{PlacesView, places_of}
 use Rattle.t65_suites.specs.HeadText.{SeenHead, head_from}
 use Rattle.t65_reader.specs.RowText.{SeenLine, SeenRow, line_view, rows_from}
@@ -29,8 +31,14 @@ path_by rows (Some source) name = source
 abbrev pub path_of : SuiteAsked → Text → Text
 path_of suite name = path_by suite.rows suite.source name
 
+-- What stands where in a program: by the debug information of a file, or by its own source.
+abbrev pub ArePlaces : Option Text → Profile → Text → AssemblyView → PlacesView → Type 0
+ArePlaces None profile path assembly places = places ≡ places_of path assembly
+ArePlaces (Some file) profile path assembly places
+    = AreDebugPlaces (record { profile = profile; image = assembly.image }) places
+
 -- The text of a file of rows, its head, the path of the file that they are run on, what is loaded
--- of that, and what the lines ask for under its names.
+-- of that, what stands where in it, and what the lines ask for under its names.
 pub record TestedFile (steps : ℕ) (suite : SuiteAsked) : Type 0 where
   pub text : List ℕ
   pub head : SeenHead
@@ -41,6 +49,8 @@ pub record TestedFile (steps : ℕ) (suite : SuiteAsked) : Type 0 where
   pub path_is : path ≡ path_of suite head.source
   pub assembly : AssemblyView
   pub program : IsProgram (file_asked suite.reading head path) suite.reading.symbols assembly
+  pub places : PlacesView
+  pub placed : ArePlaces suite.reading.debug head.profile path assembly places
   pub rows : List SeenLine
   pub read : rows_from (asking_of steps suite.reading) assembly.names next lines ≡ Ok rows
 
@@ -60,7 +70,7 @@ abbrev pub ground_of : (steps : ℕ) → (suite : SuiteAsked) → TestedFile ste
 ground_of steps suite file = record {
   bus_map = map_of file.head;
   image = file.assembly.image;
-  places = places_of file.path file.assembly;
+  places = file.places;
   names = file.assembly.names;
   before = rows_of Setup file.rows;
   after = rows_of Teardown file.rows;

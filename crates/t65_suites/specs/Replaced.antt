@@ -11,7 +11,7 @@ use Rattle.t65_suites.specs.Suites.{SuiteAsked}
 -- A report has the name of a suite's file of rows, or of a file that the words name for it.
 abbrev pub is_read : Text → SuiteAsked → Bool
 is_read report suite = bytes_eq suite.rows report || is_named report suite.source
-    || is_named report suite.reading.symbols
+    || (is_named report suite.reading.symbols || is_named report suite.reading.debug)
 
 -- A report, if there is one, has the name of a file that is read for some suites.
 abbrev pub replaces_any : Option Text → List SuiteAsked → Bool
@@ -23,10 +23,14 @@ replaces_any (Some report) suites = list_any (is_read report) suites
 abbrev pub IsSourceOf : SuiteAsked → Text → Type 0
 IsSourceOf suite path = (name : Text) × (path ≡ path_of suite name)
 
--- A file is read for a suite: its file of rows, the one that they are run on, or that of names.
+-- The file of a suite's names, or of its debug information.
+abbrev pub IsNamedIn : SuiteAsked → Text → Type 0
+IsNamedIn suite path = (suite.reading.symbols ≡ Some path) ⊎ (suite.reading.debug ≡ Some path)
+
+-- A file is read for a suite: its file of rows, the one that they are run on, or one that tells of
+-- that.
 abbrev pub IsReadForOne : SuiteAsked → Text → Type 0
-IsReadForOne suite path = (path ≡ suite.rows) ⊎ (IsSourceOf suite path
-    ⊎ (suite.reading.symbols ≡ Some path))
+IsReadForOne suite path = (path ≡ suite.rows) ⊎ (IsSourceOf suite path ⊎ IsNamedIn suite path)
 
 -- A file is read for one of some suites.
 abbrev pub IsReadFor : List SuiteAsked → Text → Type 0

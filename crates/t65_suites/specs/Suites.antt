@@ -7,12 +7,13 @@ use Rattle.t65_reader.specs.RowText.{SeenAsking}
 use Rattle.t65_suites.specs.declared.suites.Reading.{Reading}
 use Rattle.t65_suites.specs.declared.suites.Suite.{Suite}
 
--- How a file is read that rows are run on: its form, and the file whose names an image has, where
--- one is named; where random numbers begin, if not where the rows say; and the routine whose rows
--- alone are run: those of all routines, where this is no byte.
+-- How a file is read that rows are run on: its form, the file whose names an image has and that of
+-- its debug information, where these are named; where random numbers begin, if not where the rows
+-- say; and the routine whose rows alone are run: those of all routines, where this is no byte.
 pub record ReadingAsked : Type 0 where
   pub form : FileForm
   pub symbols : Option Text
+  pub debug : Option Text
   pub seed : Option ℕ
   pub only : Text
 
@@ -55,6 +56,7 @@ abbrev pub reading_view : Reading → ReadingAsked
 reading_view reading = record {
   form = reading.form;
   symbols = option_map (λ s. s.now) reading.symbols;
+  debug = option_map (λ s. s.now) reading.debug;
   seed = reading.seed;
   only = reading.only.now;
 }

@@ -2,7 +2,7 @@
 
 ghost use Rattle.std.specs.Prelude.{◌≡◌};
 ghost use Rattle.t65_suites.specs.FaultTexts.{is_memory, is_out, is_out_of_rows};
-ghost use Rattle.t65_suites.specs.FaultTexts.{line_in_rows, line_of};
+ghost use Rattle.t65_suites.specs.FaultTexts.{fault_at, line_in_rows, line_of};
 ghost use Rattle.t65_suites.specs.FaultTexts.{is_out_of_file, is_out_of_program};
 ghost use Rattle.t65_suites.specs.declared.fault.FileFault.TheVariants.{InRows};
 ghost use Rattle.t65_suites.specs.declared.fault.TestFault.TheVariants.{Refused};
@@ -32,11 +32,31 @@ impl From<Refusal> for TestFault {
     }
 }
 
-/// Where a fault is: in the file of rows, or in the file of that path, which its rows are run on.
+/// Where a fault is: in the file of rows, in the file of that path, which its rows are run on, or
+/// in the file of debug information.
 #[derive(Drop)]
 pub enum FileFault {
     InRows(TestFault),
     InProgram(String, NamedFault),
+    InDebug(LoadFault),
+}
+
+/// Why there is nothing to run rows on: the program is not loaded, or what stands where in it is
+/// not found.
+#[derive(Drop)]
+pub enum Unplaced {
+    Program(NamedFault),
+    Debug(LoadFault),
+}
+
+/// Returns where a fault of what rows are run on is, which has this path.
+pub fn fault_at(path: String, fault: Unplaced) -> FileFault
+    ensures { result ≡ fault_at path fault }
+{
+    match fault {
+        Unplaced::Program(fault) => FileFault::InProgram(path, fault),
+        Unplaced::Debug(fault) => FileFault::InDebug(fault),
+    }
 }
 
 /// Why a suite cannot be tested, what is told of a row that cannot be read, and how many points its
@@ -116,7 +136,7 @@ pub fn line_of(fault: &FileFault) -> u32
 {
     match fault {
         FileFault::InRows(fault) => line_in_rows(*fault),
-        FileFault::InProgram(_, _) => 1,
+        FileFault::InProgram(_, _) | FileFault::InDebug(_) => 1,
     }
 }
 
@@ -127,5 +147,6 @@ pub fn is_memory(fault: &FileFault) -> bool
     match fault {
         FileFault::InRows(fault) => is_out_of_rows(*fault),
         FileFault::InProgram(_, fault) => is_out_of_program(fault),
+        FileFault::InDebug(fault) => is_out_of_file(fault),
     }
 }

@@ -7,7 +7,7 @@ ghost use Rattle.t65_suites.specs.FaultTexts.{shown_character, shown_text};
 use crate::fault::{FileFault, TestFault, Unprepared};
 use crate::names::text_of;
 use crate::suites::Suite;
-use crate::wording::{AT_PORT, NO_IMAGE, NO_ROW, NO_SOURCE, TOO_LARGE};
+use crate::wording::{AT_PORT, NO_DEBUG, NO_IMAGE, NO_ROW, NO_SOURCE, TOO_LARGE};
 use arguments::{
     LoadFault, Refusal, put_fault_line, refuse_file, refuse_image_file, shown_name, tell_noted,
 };
@@ -183,6 +183,15 @@ fn program_words(
     }
 }
 
+/// Returns why the debug information of a suite is not loaded, in a few words.
+fn debug_words(alloc: Global, suite: Suite<'_>, fault: &LoadFault) -> Result<Vec<u8>, AllocError> {
+    let words = match fault {
+        LoadFault::Refused(refusal) => refusal_words(alloc, *refusal)?,
+        _ => Vec::from_slice(alloc, NO_DEBUG.as_bytes())?,
+    };
+    blamed(alloc, suite, suite.reading.debug.unwrap_or(""), words)
+}
+
 /// Returns why a suite cannot be tested, in a few words: those of `check` for a fault of a source,
 /// and the file that is to blame where it is not the one that names the suite.
 ///
@@ -194,6 +203,10 @@ pub fn title_of(alloc: Global, suite: Suite<'_>, fault: &FileFault) -> Result<St
         FileFault::InRows(fault) => rows_title(alloc, *fault),
         FileFault::InProgram(path, fault) => {
             let words = program_words(alloc, suite, path, fault)?;
+            shown_text(alloc, &words)
+        }
+        FileFault::InDebug(fault) => {
+            let words = debug_words(alloc, suite, fault)?;
             shown_text(alloc, &words)
         }
     }
@@ -332,6 +345,10 @@ pub fn remarks_of(alloc: Global, suite: Suite<'_>, why: &Unprepared) -> Result<S
         FileFault::InProgram(path, fault) => {
             let path = shown_name(alloc, path)?;
             tell_program(&path, suite.reading.symbols, fault, &mut told);
+        }
+        FileFault::InDebug(fault) => {
+            let path = shown_name(alloc, suite.reading.debug.unwrap_or(""))?;
+            tell_file(&path, fault, &mut told);
         }
     }
     shown_text(alloc, &told)

@@ -6,24 +6,24 @@ ghost use Rattle.arguments.specs.Asked.{file_view};
 ghost use Rattle.arguments.specs.Values.{base_of};
 ghost use Rattle.model.specs.State.{is_map};
 ghost use Rattle.model.specs.TextLines.{lines_of};
-ghost use Rattle.source_map.specs.Lines.{places_of};
 ghost use Rattle.t65_suites.specs.HeadText.{head_from, head_view};
 ghost use Rattle.t65_reader.specs.RowText.{asking_view, line_view, points_of, rows_from};
-ghost use Rattle.t65_suites.specs.Ends.{EndsAnyTest, EndsFile, EndsRows};
-ghost use Rattle.t65_suites.specs.Prepared.{IsPrepared, map_of};
+ghost use Rattle.t65_suites.specs.Ends.{EndsAnyTest, EndsFile, EndsPlaced, EndsPlaces, EndsRows};
+ghost use Rattle.t65_suites.specs.Prepared.{ArePlaces, IsPrepared, map_of};
 ghost use Rattle.t65_suites.specs.Programs.{EndsProgram, IsProgram, file_asked};
 ghost use Rattle.t65_suites.specs.Suites.{asking_of, reading_view, suite_view};
 
-use crate::fault::{FileFault, TestFault, Unprepared};
+use crate::fault::{FileFault, TestFault, Unplaced, Unprepared, fault_at};
 use crate::head::{Head, Opened, read_head};
 use crate::names::{path_of, read_rows_text};
 use crate::program::program_of;
 use crate::suites::{Reading, Suite};
 use arguments::{FileForm, FileWords, LoadFault, Refusal};
 use assembler::Assembly;
+use debug_files::{DebugPlaces, load_places};
 use loading::NamedFault;
 use memory_map::{MapSpec, Port};
-use model::BusFault;
+use model::{BusFault, Profile};
 use source_map::Places;
 use std::alloc::Global;
 use std::rt::Files;
@@ -107,32 +107,60 @@ fn loaded<H: Files + AllocGlobal>(
     program_of(rt, &words, reading.symbols, map)
 }
 
+/// Returns what stands where in what was loaded of the file of a path: by the debug information
+/// that is named, and otherwise by its source.
+///
+/// Errors: those of `load_places`, and `OutOfMemory`.
+fn places_for<H: Files + AllocGlobal>(
+    rt: &H,
+    reading: Reading<'_>,
+    profile: Profile,
+    path: &str,
+    assembly: &Assembly,
+) -> Result<Places, LoadFault>
+    ensures places { IfOk result (ArePlaces (reading_view reading.entry).debug profile path.now
+        assembly.now) }
+    ensures refused { IfErr result (EndsPlaces (reading_view reading.entry).debug) }
+{
+    match reading.debug {
+        None => match Places::of_source(rt.alloc(), path.as_bytes(), assembly) {
+            Ok(places) => Ok(places),
+            Err(_) => Err(LoadFault::Refused(Refusal::OutOfMemory)),
+        },
+        Some(file) => match load_places(rt, file, reading.root, profile, assembly.image()) {
+            Ok(DebugPlaces { places, changed: _ }) => Ok(places),
+            Err(fault) => Err(fault),
+        },
+    }
+}
+
 /// Returns what is loaded of the file of a path on the map of a head, and its places.
 ///
-/// Errors: those of `program_of`, and `OutOfMemory`.
+/// Errors: those of `program_of` and of `places_for`.
 fn placed<H: Files + AllocGlobal>(
     rt: &H,
     reading: Reading<'_>,
     head: Head<'_>,
     path: &str,
     map: &MapSpec,
-) -> Result<(Assembly, Places), NamedFault>
+) -> Result<(Assembly, Places), Unplaced>
     requires map { map.now ≡ map_of (head_view head) }
     requires is_map { is_map (head_view head).rom (base_of (head_view head).port) ≡ true }
     ensures program { IfOk result (λ found. IsProgram
         (file_asked (reading_view reading.entry) (head_view head.entry) path.now)
         (reading_view reading.entry).symbols found.0) }
-    ensures places { IfOk result (λ found. found.1 ≡ places_of path.now found.0) }
-    ensures refused { IfErr result (EndsProgram
+    ensures places { IfOk result (λ found. ArePlaces (reading_view reading.entry).debug
+        (head_view head.entry).profile path.now found.0 found.1) }
+    ensures refused { IfErr result (EndsPlaced
         (file_asked (reading_view reading.entry) (head_view head.entry) path.now)
-        (reading_view reading.entry).symbols) }
+        (reading_view reading.entry)) }
 {
     match loaded(rt, reading, head, path, map) {
-        Ok(assembly) => match Places::of_source(rt.alloc(), path.as_bytes(), &assembly) {
+        Ok(assembly) => match places_for(rt, reading, head.profile, path, &assembly) {
             Ok(places) => Ok((assembly, places)),
-            Err(_) => Err(NamedFault::OfFile(LoadFault::Refused(Refusal::OutOfMemory))),
+            Err(fault) => Err(Unplaced::Debug(fault)),
         },
-        Err(fault) => Err(fault),
+        Err(fault) => Err(Unplaced::Program(fault)),
     }
 }
 
@@ -226,6 +254,7 @@ fn told_row(
 ///   fault, or a row that is run before or after each test; its head asks for a map that is none;
 ///   no line is a test.
 /// - `InProgram`: what the rows are run on is not loaded, as `program_of` says.
+/// - `InDebug`: the debug information of that is not loaded, as `load_places` says.
 ///
 /// An allocation that fails is `OutOfMemory` in one of them. Where the map is one, what the rows
 /// are worth together is told too.
@@ -271,7 +300,7 @@ pub fn prepare<H: Files + AllocGlobal>(
             }
         }
         Err(fault) => Err(Unprepared {
-            fault: FileFault::InProgram(path, fault),
+            fault: fault_at(path, fault),
             told: None,
             points,
         }),

@@ -5,7 +5,8 @@ ghost use Rattle.std.specs.Prelude.{◌≡◌, ◌||◌, None, Some, IfOk, IfSom
 ghost use Rattle.std.specs.Prelude.{string_bytes};
 ghost use Rattle.std.specs.Str.{bytes_eq};
 ghost use Rattle.arguments.specs.Outputs.{is_named};
-ghost use Rattle.t65_suites.specs.Replaced.{IsReadFor, IsReadForOne, IsSourceOf, is_read};
+ghost use Rattle.t65_suites.specs.Replaced.{IsNamedIn, IsReadFor, IsReadForOne, IsSourceOf};
+ghost use Rattle.t65_suites.specs.Replaced.{is_read};
 ghost use Rattle.t65_suites.specs.Replaced.{replaces_any};
 ghost use Rattle.t65_suites.specs.Suites.{reading_view, suite_view, suites_of};
 
@@ -114,7 +115,29 @@ fn replaced_source<H: Files + AllocGlobal>(
     }
 }
 
-/// Returns the path of the file whose names a suite's image has, if there is one and a report would
+/// Returns the path of a file that the words name, if there is one and a report would replace it.
+///
+/// Errors: `OutOfMemory` if an allocation fails.
+fn replaced_named<H: Files + AllocGlobal>(
+    rt: &H,
+    file: Option<&str>,
+    report: &str,
+) -> Result<Option<String>, TestFault>
+    ensures spared { IfOk result (λ found. found ≡ None
+        → is_named report.now (option_map (λ f. f.now) file.entry) ≡ false) }
+    ensures found { IfOk result (λ found. IfSome found
+        (λ path. option_map (λ f. f.now) file.entry ≡ Some (string_bytes path))) }
+{
+    match file {
+        Some(file) => match replaced_file(rt, file, report)? {
+            Some(path) => Ok(Some(path)),
+            None => Ok(None),
+        },
+        None => Ok(None),
+    }
+}
+
+/// Returns the path of the file of a suite's names, or of its debug information, if a report would
 /// replace it.
 ///
 /// Errors: `OutOfMemory` if an allocation fails.
@@ -124,21 +147,22 @@ fn replaced_names<H: Files + AllocGlobal>(
     report: &str,
 ) -> Result<Option<String>, TestFault>
     ensures spared { IfOk result (λ found. found ≡ None
-        → is_named report.now (suite_view suite.entry).reading.symbols ≡ false) }
+        → (is_named report.now (suite_view suite.entry).reading.symbols
+        || is_named report.now (suite_view suite.entry).reading.debug) ≡ false) }
     ensures found { IfOk result (λ found. IfSome found
-        (λ path. (suite_view suite.entry).reading.symbols ≡ Some (string_bytes path))) }
+        (λ path. IsNamedIn (suite_view suite.entry) (string_bytes path))) }
 {
-    match suite.reading.symbols {
-        Some(names) => match replaced_file(rt, names, report)? {
+    match replaced_named(rt, suite.reading.symbols, report)? {
+        Some(path) => Ok(Some(path)),
+        None => match replaced_named(rt, suite.reading.debug, report)? {
             Some(path) => Ok(Some(path)),
             None => Ok(None),
         },
-        None => Ok(None),
     }
 }
 
 /// Returns which of the files that a suite's rows are run on a report would replace, if it would
-/// one: the program, or the file whose names it has.
+/// one: the program, or a file that tells of it.
 ///
 /// Errors: `OutOfMemory` if an allocation fails.
 fn replaced_program<H: Files + AllocGlobal>(
@@ -148,7 +172,8 @@ fn replaced_program<H: Files + AllocGlobal>(
 ) -> Result<Option<String>, TestFault>
     ensures spared { IfOk result (λ found. found ≡ None
         → (is_named report.now (suite_view suite.entry).source
-        || is_named report.now (suite_view suite.entry).reading.symbols) ≡ false) }
+        || (is_named report.now (suite_view suite.entry).reading.symbols
+        || is_named report.now (suite_view suite.entry).reading.debug)) ≡ false) }
     ensures found { IfOk result (λ found. IfSome found
         (λ path. IsReadForOne (suite_view suite.entry) (string_bytes path))) }
 {
@@ -222,7 +247,7 @@ pub fn replaced_by<H: Files + AllocGlobal>(
         → replaces_any (option_map (λ r. r.now) report.entry)
         (suites_of (reading_view reading.entry) (map (λ s. s.now) sources.now)
         (map (λ f. f.now) files.now)) ≡ false) }
-    // The path is that of a file of rows, of what it is run on, or of names.
+    // The path is that of a file of rows, of what it is run on, or of one that tells of that.
     ensures found { IfOk result (λ found. IfSome found (λ path. IsReadFor
         (suites_of (reading_view reading.entry) (map (λ s. s.now) sources.now)
         (map (λ f. f.now) files.now)) (string_bytes path))) }

@@ -15,6 +15,10 @@ pub struct Reading<'a> {
     pub form: FileForm,
     /// The file whose names an image has, if one is named.
     pub symbols: Option<&'a str>,
+    /// The file of an image's debug information, if one is named.
+    pub debug: Option<&'a str>,
+    /// Where relative names of sources begin, if not in the folder of that file.
+    pub root: Option<&'a str>,
     /// Where random numbers begin, if not where the rows say.
     pub seed: Option<u32>,
     /// The routine whose rows alone are run; those of all, where this is empty.

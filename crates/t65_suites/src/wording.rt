@@ -8,4 +8,6 @@ pub const NO_SOURCE: &str = "no source";
 
 pub const NO_IMAGE: &str = "no image";
 
+pub const NO_DEBUG: &str = "no debug information";
+
 pub const AT_PORT: &str = "IMAGE PortAddress 5";

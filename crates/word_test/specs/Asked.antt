@@ -1,6 +1,6 @@
 -- What the words of `test` ask for, by the values that clap's definition of a parse finds among
 -- them. Source: mos65.
-use Rattle.std.specs.Prelude.{ℕ, nat_lt, Bool, true, false, ◌||◌, if◌then◌else◌, List, [], ◌∷◌, Option, Some, None, codes}
+use Rattle.std.specs.Prelude.{ℕ, nat_lt, Bool, true, false, not, ◌&&◌, ◌||◌, if◌then◌else◌, List, [], ◌∷◌, Option, Some, None, codes}
 use Rattle.std.specs.List.{list_any}
 use Rattle.std.specs.Str.{bytes_eq}
 use Rattle.arguments.specs.Asked.{form_by, is_flag}
@@ -40,11 +40,12 @@ are_one (Some report) (Some other) = bytes_eq report other
 are_one report other = false
 
 -- A report has the name of a file that is read, or of the other report.
-abbrev pub clash : Option Text → Option Text → Option Text → List Text → List Text → Bool
-clash junit coverage symbols sources files
-    = replaces junit files || replaces junit sources || are_one junit symbols
+abbrev pub clash : Option Text → Option Text → Option Text → Option Text → List Text → List Text
+    → Bool
+clash junit coverage symbols debug sources files
+    = replaces junit files || replaces junit sources || are_one junit symbols || are_one junit debug
     || replaces coverage files || replaces coverage sources || are_one coverage symbols
-    || are_one junit coverage
+    || are_one coverage debug || are_one junit coverage
 
 -- At most 4,294,967,295.
 abbrev pub limit_of : Option ℕ → Option ℕ
@@ -73,31 +74,37 @@ abbrev pub only_asked : Option Text → Text
 only_asked None = []
 only_asked (Some word) = word
 
-abbrev pub reading_in : FileForm → Option Text → Option ℕ → Text → ReadingAsked
-reading_in form symbols seed only
-    = record { form = form; symbols = symbols; seed = seed; only = only }
-
--- A source has its own names: a file of names is for an image.
+-- A source has its own names and lines: files that tell of them are for an image.
 abbrev pub takes_names : FileForm → Bool
 takes_names Source = false
 takes_names form = true
 
-abbrev pub reading_as : FileForm → Option Text → Option (Option ℕ) → Text → Option ReadingAsked
-reading_as form symbols None only = None
-reading_as form None (Some seed) only = Some (reading_in form None seed only)
-reading_as form (Some names) (Some seed) only = if takes_names form
-    then Some (reading_in form (Some names) seed only) else None
+abbrev pub are_named : Option Text → Option Text → Bool
+are_named None None = false
+are_named symbols debug = true
 
-abbrev pub reading_by : Option FileForm → Option Text → Option (Option ℕ) → Text
+abbrev pub reading_as : FileForm → Option Text → Option Text → Option (Option ℕ) → Text
     → Option ReadingAsked
-reading_by None symbols seed only = None
-reading_by (Some form) symbols seed only = reading_as form symbols seed only
+reading_as form symbols debug None only = None
+reading_as form symbols debug (Some seed) only
+    = if are_named symbols debug && not (takes_names form) then None else Some (record {
+      form = form;
+      symbols = symbols;
+      debug = debug;
+      seed = seed;
+      only = only;
+    })
+
+abbrev pub reading_by : Option FileForm → Option Text → Option Text → Option (Option ℕ) → Text
+    → Option ReadingAsked
+reading_by None symbols debug seed only = None
+reading_by (Some form) symbols debug seed only = reading_as form symbols debug seed only
 
 -- How the files are read that rows are run on: as images with `--image`, `--bin HHHH` or `--prg`;
 -- and which rows are run.
 abbrev pub reading_asked : (Text → Option Text) → Option ReadingAsked
 reading_asked value = reading_by (form_by value) (value (codes "symbols"))
-    (seed_asked (value (codes "seed"))) (only_asked (value (codes "only")))
+    (value (codes "debug-info")) (seed_asked (value (codes "seed"))) (only_asked (value (codes "only")))
 
 -- TAP, unless something else is asked for; CSV has no line that sums up, and no row.
 abbrev pub telling_asked : Bool → Bool → Bool → Option Telling
@@ -111,7 +118,8 @@ test_of junit coverage (Some steps) None telling sources files = None
 test_of junit coverage (Some steps) (Some reading) None sources files = None
 test_of junit coverage (Some steps) (Some reading) (Some telling) sources [] = None
 test_of junit coverage (Some steps) (Some reading) (Some telling) sources (file ∷ files)
-    = if clash junit coverage reading.symbols sources (file ∷ files) then None else Some (record {
+    = if clash junit coverage reading.symbols reading.debug sources (file ∷ files) then None
+    else Some (record {
       files = file ∷ files;
       sources = sources;
       reading = reading;

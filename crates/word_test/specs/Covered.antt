@@ -4,7 +4,7 @@ use Rattle.accesses.specs.Tallies.{Counts, no_counts}
 use Rattle.arguments.specs.declared.file_options.FileForm.{FileForm}
 use Rattle.arguments.specs.declared.file_options.FileForm.TheVariants.{Source}
 use Rattle.source_map.specs.Lines.{file_name}
-use Rattle.trace_rows.specs.Records.{record_text}
+use Rattle.trace_rows.specs.Records.{record_text, records_text}
 use Rattle.word_test.specs.declared.report.Report.{Report}
 use Rattle.t65_reports.specs.Junit.{ReportTold, report_told}
 use Rattle.t65_suites.specs.declared.prepared.Prepared.{Prepared}
@@ -18,13 +18,13 @@ abbrev pub counts_begun : Bool → Option Counts
 counts_begun true = Some (record { visits = no_counts; cycles = no_counts })
 counts_begun false = None
 
--- An image has no lines, and so no record.
-abbrev pub of_source : FileForm → List ℕ → List ℕ
-of_source Source text = text
-of_source form text = []
+-- The record of a source, or those of the files that the debug information of an image names.
+abbrev pub record_by : FileForm → Prepared → Counts → List ℕ
+record_by Source prepared counts
+    = record_text (file_name prepared.places.sources 0) prepared.assembly counts
+record_by form prepared counts = records_text prepared.places counts
 
--- The record of a suite, where its steps were counted.
+-- The records of a suite, where its steps were counted.
 abbrev pub record_of : Prepared → Option Counts → List ℕ
 record_of prepared None = []
-record_of prepared (Some counts) = of_source prepared.form
-    (record_text (file_name prepared.places.sources 0) prepared.assembly counts)
+record_of prepared (Some counts) = record_by prepared.form prepared counts

@@ -1,9 +1,10 @@
-//! Which lines of the sources were run, as lcov reads it. An image has no lines.
+//! Which lines of the sources were run, as lcov reads it. Those of an image are of the files that
+//! its debug information names.
 
 ghost use Rattle.std.specs.Prelude.{◌≡◌, ◌++◌, [], IfOk, None, OnOk, is_some};
 ghost use Rattle.std.specs.Option.{option_map};
 ghost use Rattle.source_map.specs.Lines.{file_name};
-ghost use Rattle.trace_rows.specs.Records.{record_text};
+ghost use Rattle.trace_rows.specs.Records.{record_text, records_text};
 ghost use Rattle.word_test.specs.Covered.{counts_begun, record_of};
 ghost use Rattle.t65_reader.specs.RowText.{row_view};
 ghost use Rattle.t65_runner.specs.Counting.{test_counted};
@@ -19,7 +20,7 @@ use std::rt::Files;
 use t65_reader::Row;
 use t65_runner::{Values, count_test};
 use t65_suites::{Prepared, text_of};
-use trace_rows::push_record;
+use trace_rows::{push_record, push_records};
 
 /// What is written for lcov: a record for each suite that was tested; nothing is counted where no
 /// file is asked for.
@@ -75,8 +76,17 @@ fn source_record(alloc: Global, prepared: &Prepared, counts: &Tally) -> Result<V
     Ok(text)
 }
 
-/// Returns the record of a suite whose steps were counted; no byte where they were not, or where an
-/// image was run.
+/// Returns the records of the files that the debug information of an image names.
+fn image_records(alloc: Global, prepared: &Prepared, counts: &Tally) -> Result<Vec<u8>, AllocError>
+    ensures { IfOk result (λ text. text.items
+        ≡ records_text prepared.now.places counts.now) }
+{
+    let mut text = Vec::new(alloc);
+    push_records(&mut text, alloc, &prepared.places, counts)?;
+    Ok(text)
+}
+
+/// Returns the records of a suite whose steps were counted; no byte where they were not.
 fn record_of(
     alloc: Global,
     prepared: &Prepared,
@@ -89,7 +99,9 @@ fn record_of(
         None => Ok(Vec::new(alloc)),
         Some(counts) => match prepared.form {
             FileForm::Source => source_record(alloc, prepared, counts),
-            FileForm::Records | FileForm::Raw(_) | FileForm::Prg => Ok(Vec::new(alloc)),
+            FileForm::Records | FileForm::Raw(_) | FileForm::Prg => {
+                image_records(alloc, prepared, counts)
+            }
         },
     }
 }

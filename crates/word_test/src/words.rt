@@ -6,12 +6,12 @@ ghost use Rattle.std.specs.List.{list_any};
 ghost use Rattle.arguments.specs.Words.{Fits, IsRefusalOf, all_values, texts};
 ghost use Rattle.clap.specs.Words.{app_of, first_value, found_of, kind_of};
 ghost use Rattle.clap.specs.declared.builder.command.Command.TheViews.{out-Command};
-ghost use Rattle.word_test.specs.Asked.{are_one, clash, has_name, limit_asked, only_asked};
+ghost use Rattle.word_test.specs.Asked.{are_named, are_one, clash, has_name, limit_asked, only_asked};
 ghost use Rattle.word_test.specs.Asked.{reading_as, reading_asked, replaces, seed_asked};
 ghost use Rattle.word_test.specs.Asked.{sources_asked, takes_names, telling_asked, telling_in};
 ghost use Rattle.word_test.specs.Asked.{test_asked, test_of};
 ghost use Rattle.word_test.specs.CommandLine.{test, test_files, with_files, with_rows};
-ghost use Rattle.word_test.specs.CommandLine.{with_telling};
+ghost use Rattle.word_test.specs.CommandLine.{with_telling, with_told};
 ghost use Rattle.word_test.specs.CommandLine.{words_asked};
 ghost use Rattle.word_test.specs.Views.{test_view};
 ghost use Rattle.t65_suites.specs.Suites.{reading_view};
@@ -73,20 +73,35 @@ fn files_command<'a>(alloc: Global) -> Result<Command<'a>, Error>
     Ok(command)
 }
 
-/// Returns a command with the options added of the file of names, of files that are written, and of
-/// the steps of a call.
+/// Returns a command with the options added of the files that tell of an image.
+fn with_told<'a>(alloc: Global, command: Command<'a>) -> Result<Command<'a>, Error>
+    ensures shape { IfOk result (λ c. app_of c ≡ with_told (app_of command.entry)) }
+    ensures local { IfOk result (λ c. (out-Command command.entry).has_globals ≡ false
+        → (out-Command c).has_globals ≡ false) }
+    ensures memory { IfErr result (λ e. kind_of e ≡ ErrorKind.OutOfMemory) }
+{
+    let symbols = "A file of names for an image, as asm --symbols writes it [default: none]";
+    let debug =
+        "A file of debug information for an image, as ld65 --dbgfile writes it [default: none]";
+    let root = "The folder in which names of sources begin [default: that of the debug file]";
+    let command = command
+        .arg(option(alloc, "symbols", "FILE", symbols))?
+        .arg(option(alloc, "debug-info", "FILE", debug))?
+        .arg(option(alloc, "source-root", "FOLDER", root))?;
+    Ok(command)
+}
+
+/// Returns a command with the options added of files that are written, and of the steps of a call.
 fn with_files<'a>(alloc: Global, command: Command<'a>) -> Result<Command<'a>, Error>
     ensures shape { IfOk result (λ c. app_of c ≡ with_files (app_of command.entry)) }
     ensures local { IfOk result (λ c. (out-Command command.entry).has_globals ≡ false
         → (out-Command c).has_globals ≡ false) }
     ensures memory { IfErr result (λ e. kind_of e ≡ ErrorKind.OutOfMemory) }
 {
-    let symbols = "A file of names for an image, as asm --symbols writes it [default: none]";
     let junit = "The file to write a report for JUnit to [default: none]";
     let coverage = "The file to write for lcov: how often each line was run [default: none]";
     let steps = "The most steps of a call [default: 10000000]";
     let command = command
-        .arg(option(alloc, "symbols", "FILE", symbols))?
         .arg(option(alloc, "junit", "FILE", junit))?
         .arg(option(alloc, "coverage", "FILE", coverage))?
         .arg(option(alloc, "steps", "N", steps))?;
@@ -134,7 +149,7 @@ pub fn test_command<'a>(alloc: Global) -> Result<Command<'a>, Error>
     let raw = "What rows are run on is a raw image, from this address on, four hex digits";
     let prg = "What rows are run on is a PRG file: its address in two bytes, and bytes from it on";
     let command = with_image_options(alloc, files_command(alloc)?, raw, prg)?;
-    let command = with_files(alloc, command)?;
+    let command = with_files(alloc, with_told(alloc, command)?)?;
     with_telling(alloc, with_rows(alloc, command)?)
 }
 
@@ -177,19 +192,23 @@ fn clash(
     junit: Option<&str>,
     coverage: Option<&str>,
     symbols: Option<&str>,
+    debug: Option<&str>,
     sources: &[&str],
     files: &[&str],
 ) -> bool
     ensures { result ≡ clash (option_map (λ f. f.now) junit.entry)
         (option_map (λ f. f.now) coverage.entry) (option_map (λ f. f.now) symbols.entry)
+        (option_map (λ f. f.now) debug.entry)
         (map (λ f. f.now) sources.now) (map (λ f. f.now) files.now) }
 {
     replaces(junit, files)
         || replaces(junit, sources)
         || are_one(junit, symbols)
+        || are_one(junit, debug)
         || replaces(coverage, files)
         || replaces(coverage, sources)
         || are_one(coverage, symbols)
+        || are_one(coverage, debug)
         || are_one(junit, coverage)
 }
 
@@ -250,42 +269,46 @@ fn takes_names(form: FileForm) -> bool
     }
 }
 
-/// Returns how files are read in a form, with the names of a file if one is named, and which rows
-/// are run; `None` if the seed is wrong, or a source is given names.
+/// Returns whether a file of names is named, or one of debug information.
+fn are_named(symbols: Option<&str>, debug: Option<&str>) -> bool
+    ensures { result ≡ are_named (option_map (λ f. f.now) symbols.entry)
+        (option_map (λ f. f.now) debug.entry) }
+{
+    match (symbols, debug) {
+        (None, None) => false,
+        _ => true,
+    }
+}
+
+/// Returns how files are read in a form, with the files that tell of an image, if such are named,
+/// and which rows are run; `None` if the seed is wrong, or a source is given names or lines.
 fn reading_as<'a>(
     form: FileForm,
     symbols: Option<&'a str>,
+    debug: Option<&'a str>,
+    root: Option<&'a str>,
     seed: Option<Option<u32>>,
     only: Option<&'a str>,
 ) -> Option<Reading<'a>>
     ensures { option_map reading_view result
-        ≡ reading_as form (option_map (λ f. f.now) symbols.entry) seed
+        ≡ reading_as form (option_map (λ f. f.now) symbols.entry)
+        (option_map (λ f. f.now) debug.entry) seed
         (only_asked (option_map (λ w. w.now) only.entry)) }
 {
     let Some(seed) = seed else {
         return None;
     };
-    let only = only_asked(only);
-    match symbols {
-        None => Some(Reading {
-            form,
-            symbols: None,
-            seed,
-            only,
-        }),
-        Some(names) => {
-            if takes_names(form) {
-                Some(Reading {
-                    form,
-                    symbols: Some(names),
-                    seed,
-                    only,
-                })
-            } else {
-                None
-            }
-        }
+    if are_named(symbols, debug) && !takes_names(form) {
+        return None;
     }
+    Some(Reading {
+        form,
+        symbols,
+        debug,
+        root,
+        seed,
+        only: only_asked(only),
+    })
 }
 
 /// Returns how files are read, and which rows are run, or `None` if a value is wrong or a source is
@@ -299,6 +322,8 @@ fn reading_asked<'a>(matches: &ArgMatches<'a>) -> Option<Reading<'a>>
         Some(form) => reading_as(
             form,
             matches.get_str("symbols"),
+            matches.get_str("debug-info"),
+            matches.get_str("source-root"),
             seed_asked(matches.get_str("seed")),
             matches.get_str("only"),
         ),
@@ -361,7 +386,16 @@ fn test_of<'a>(
     let Some(telling) = telling else {
         return Ok(None);
     };
-    if files.is_empty() || clash(junit, coverage, reading.symbols, sources, files) {
+    if files.is_empty()
+        || clash(
+            junit,
+            coverage,
+            reading.symbols,
+            reading.debug,
+            sources,
+            files,
+        )
+    {
         return Ok(None);
     }
     Ok(Some(TestWords {
@@ -408,12 +442,14 @@ fn given<'a, 'b>(matches: &'b ArgMatches<'a>, name: &str) -> &'b [&'a str] {
 fn clashing_words(matches: &ArgMatches<'_>) -> &'static str {
     let junit = matches.get_str("junit");
     let symbols = matches.get_str("symbols");
+    let debug = matches.get_str("debug-info");
     if are_one(junit, matches.get_str("coverage")) {
         "--junit and --coverage name one file"
     } else if clash(
         junit,
         None,
         symbols,
+        debug,
         given(matches, "source"),
         given(matches, "FILE"),
     ) {
@@ -432,7 +468,7 @@ fn wrong_words(matches: &ArgMatches<'_>) -> &'static str {
     } else if seed_asked(matches.get_str("seed")).is_none() {
         "--seed takes a decimal number up to 4294967295"
     } else if reading_asked(matches).is_none() {
-        "--symbols is for an image; a source has its own names"
+        "--symbols and --debug-info are for an image; a source has its own names and lines"
     } else if telling_in(matches).is_none() {
         "--csv has no rows and no line that sums up: leave --summary and --quiet out"
     } else {
@@ -447,9 +483,9 @@ fn wrong_words(matches: &ArgMatches<'_>) -> &'static str {
 /// - `Help` if they ask for help, and `Usage` if they do not fit the command line, with `clap`'s
 ///   text.
 /// - `Wrong` if they name no file, a number of steps or a seed is wrong, more than one form of an
-///   image is said, an address is wrong, a file of names is named and no form of an image is said,
-///   CSV is asked for with another flag of what is written, or a report has the name of a file that
-///   is read or of the other report.
+///   image is said, an address is wrong, a file of names or of debug information is named and no
+///   form of an image is said, CSV is asked for with another flag of what is written, or a report
+///   has the name of a file that is read or of the other report.
 /// - `OutOfMemory` if an allocation failed.
 pub fn read_words<'a>(alloc: Global, words: &'a [&'a str]) -> Result<TestWords<'a>, WordsFault>
     ensures asked { IfOk result

@@ -1,8 +1,9 @@
-use Rattle.std.proofs.Common.{◌∙◌, refl}
+use Rattle.std.proofs.Common.{◌∙◌, refl, subst, sym}
 use Rattle.model.specs.TextLines.{lines_of}
+use Rattle.t65_suites.specs.Ends.{EndsFile}
 use Rattle.t65_suites.specs.HeadText.{head_view}
 use Rattle.t65_suites.specs.Suites.{suite_view}
-use Rattle.t65_suites.proofs.Ends.{map_ends, passed_on, program_ends, rows_end}
+use Rattle.t65_suites.proofs.Ends.{map_ends, passed_on, placed_ends, rows_end}
 use Rattle.t65_suites.proofs.Ready.{ready}
 use Rattle.t65_suites.proofs.prepared.prepare.Goals as goal
 
@@ -40,6 +41,8 @@ returns-in-Err-rows_in-clause-refused g c =
     c.in_ok-opened.ensures.head c.in-Ok.ensures.program c.in-Err-rows_in.ensures.refused c.worth_of-points.ensures
 
 pub returns-in-Err-clause-refused : goal.returns-in-Err-clause-refused
-returns-in-Err-clause-refused g c = program_ends (suite_view c.args.suite).reading c.deref.result.now (head_view c.in_ok-opened.opened.head)
+returns-in-Err-clause-refused g c =
+    let ends = placed_ends (suite_view c.args.suite).reading c.deref.result.now (head_view c.in_ok-opened.opened.head)
     c.in_ok-opened.opened.next (lines_of c.in_ok-opened.opened.rest.now) c.in_ok-path.path _ c.in-Err.fault c.worth_of-points.result
-    c.in_ok-opened.ensures.head c.deref-2.ensures c.in-Err.ensures.refused c.worth_of-points.ensures
+    c.in_ok-opened.ensures.head c.deref-2.ensures c.in-Err.ensures.refused c.worth_of-points.ensures in
+    subst (λ f. EndsFile (suite_view c.args.suite).reading c.worth_of-points.result f) (sym c.fault_at.ensures) ends

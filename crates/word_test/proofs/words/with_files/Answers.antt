@@ -5,12 +5,10 @@ use Rattle.word_test.proofs.words.with_files.Goals as goal
 
 pub returns-clause-shape : goal.returns-clause-shape
 returns-clause-shape c =
-    let rule_0 : rule_of c.option.result ≡ option_rule (codes "symbols") = search rules in
-    let rule_1 : rule_of c.option-2.result ≡ option_rule (codes "junit") = search rules in
-    let rule_2 : rule_of c.option-3.result ≡ option_rule (codes "coverage") = search rules in
-    let rule_3 : rule_of c.option-4.result ≡ option_rule (codes "steps") = search rules in
-    let with_0 : app_of c.in_ok-arg.field-0 ≡ with_rule (app_of c.args.command) (option_rule (codes "symbols"))
+    let rule_0 : rule_of c.option.result ≡ option_rule (codes "junit") = search rules in
+    let rule_1 : rule_of c.option-2.result ≡ option_rule (codes "coverage") = search rules in
+    let rule_2 : rule_of c.option-3.result ≡ option_rule (codes "steps") = search rules in
+    let with_0 : app_of c.in_ok-arg.field-0 ≡ with_rule (app_of c.args.command) (option_rule (codes "junit"))
     = c.in_ok-arg.ensures.shape (search rules) ∙ ap₂ with_rule refl rule_0 in
     let with_1 = c.in_ok-arg-2.ensures.shape (search rules) ∙ ap₂ with_rule with_0 rule_1 in
-    let with_2 = c.in_ok-arg-3.ensures.shape (search rules) ∙ ap₂ with_rule with_1 rule_2 in
-    c.in_ok-command.ensures.shape (search rules) ∙ ap₂ with_rule with_2 rule_3
+    c.in_ok-command.ensures.shape (search rules) ∙ ap₂ with_rule with_1 rule_2
