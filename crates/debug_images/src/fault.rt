@@ -1,7 +1,7 @@
 //! Why a program is not found by its debug file.
 
 use arguments::{LoadFault, Refusal, put_named, refuse_file};
-use std::alloc::AllocError;
+use std::alloc::{AllocError, AllocFailed};
 use std::io::Write;
 
 /// What is said of a debug file whose segments have no bytes in files.
@@ -36,6 +36,16 @@ impl From<AllocError> for ImageFault {
     ghost from_gives = { λ _ fault. fault ≡ OutOfMemory };
 
     fn from(_error: AllocError) -> ImageFault {
+        ImageFault::OutOfMemory
+    }
+}
+
+impl<T: Drop> From<AllocFailed<T>> for ImageFault {
+    ghost use Rattle.debug_images.specs.declared.fault.ImageFault.TheVariants.{OutOfMemory};
+
+    ghost from_gives = { λ _ fault. fault ≡ OutOfMemory };
+
+    fn from(_refused: AllocFailed<T>) -> ImageFault {
         ImageFault::OutOfMemory
     }
 }
