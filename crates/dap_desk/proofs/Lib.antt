@@ -1,2 +1,1 @@
 mod BreakList
-mod LineRuns

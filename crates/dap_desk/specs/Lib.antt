@@ -1,4 +1,3 @@
 pub mod Breaks
 pub mod Halts
-pub mod Lines
 pub mod Moves

@@ -40,7 +40,6 @@ pub enum QueryName {
     Disassemble,
     GotoTargets,
     BreakpointLocations,
-    LoadedSources,
     DataBreakpointInfo,
     Completions,
     ExceptionInfo,
@@ -74,7 +73,7 @@ pub enum RequestName {
 }
 
 /// The names of requests, each with what it asks for, but for moves by instructions.
-const NAMES: [(&str, RequestName); 37] = [
+const NAMES: [(&str, RequestName); 36] = [
     ("initialize", RequestName::Initialize),
     ("launch", RequestName::Launch),
     ("attach", RequestName::Attach),
@@ -85,7 +84,7 @@ const NAMES: [(&str, RequestName); 37] = [
     ),
     (
         "stepIn",
-        RequestName::InSession(SessionName::Moves(Move::In)),
+        RequestName::InSession(SessionName::Moves(Move::Step)),
     ),
     (
         "stepOut",
@@ -172,10 +171,6 @@ const NAMES: [(&str, RequestName); 37] = [
         RequestName::InSession(SessionName::Shows(QueryName::BreakpointLocations)),
     ),
     (
-        "loadedSources",
-        RequestName::InSession(SessionName::Shows(QueryName::LoadedSources)),
-    ),
-    (
         "dataBreakpointInfo",
         RequestName::InSession(SessionName::Shows(QueryName::DataBreakpointInfo)),
     ),
@@ -208,13 +203,9 @@ const NAMES: [(&str, RequestName); 37] = [
 ];
 
 /// The moves by instructions.
-const MOVES_BY_INSTRUCTIONS: [(&str, RequestName); 3] = [
+const MOVES_BY_INSTRUCTIONS: [(&str, RequestName); 2] = [
     (
         "next",
-        RequestName::InSession(SessionName::Moves(Move::Step)),
-    ),
-    (
-        "stepIn",
         RequestName::InSession(SessionName::Moves(Move::Step)),
     ),
     (

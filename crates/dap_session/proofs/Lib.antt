@@ -5,4 +5,3 @@ mod LogRuns
 mod Outputs
 pub mod Stays
 mod Writable
-mod Sources

@@ -1,5 +1,6 @@
 -- Watches set and cleared one after another.
 use Rattle.std.proofs.Common.{◌≡◌, ◌∙◌, ℕ, zero, suc, Bool, true, false, ◌+◌, ◌<◌, ◌≤◌, List, [], ◌∷◌, ◌++◌, length, get_or, drop, refl, sym, ap, add-one, arith, drop-cons}
+use Rattle.std.proofs.Math.Bool.{and_assoc}
 use Rattle.std.proofs.lemmas.Grind.{common_steps}
 use Rattle.std.proofs.lemmas.List.{drop_all}
 use Rattle.std.specs.Prelude.{◌&&◌, Err, IfErr, Ok, OnOk, Result}
@@ -53,21 +54,28 @@ set_done all i whole p over so_far = so_far ∙ ap (λ (vs : List DataBreakpoint
 
 -- ---- bytes one after another
 
-pub all_more : (kind : WatchKind) (watches : List Watch) (n m address : ℕ) (whole : Bool) → n ≡ m + 1 → whole ≡ has_all kind watches n address
-    → has_access kind address watches ≡ true → whole ≡ has_all kind watches m (address + 1)
+one_more : (kind : WatchKind) (watches : List Watch) (n m address : ℕ) → n ≡ m + 1
+    → has_all kind watches n address ≡ (has_access kind address watches && has_all kind watches m (address + 1))
 unfolding has_all
-all_more kind watches zero m address whole e so_far has = absurd (omega (arith, e))
-all_more kind watches (suc n) m address whole e so_far has =
+one_more kind watches zero m address e = absurd (omega (arith, e))
+one_more kind watches (suc n) m address e =
     let same : n ≡ m = omega (arith, e) in
-    so_far ∙ ap (λ b. b && has_all kind watches n (address + 1)) has ∙ ap (λ (k : ℕ). has_all kind watches k (address + 1)) same
+    ap (λ (k : ℕ). has_access kind address watches && has_all kind watches k (address + 1)) same
 
-pub one_not : (kind : WatchKind) (watches : List Watch) (n m address : ℕ) (whole : Bool) → n ≡ m + 1 → whole ≡ has_all kind watches n address
-    → has_access kind address watches ≡ false → false ≡ whole
-unfolding has_all
-one_not kind watches zero m address whole e so_far none = absurd (omega (arith, e))
-one_not kind watches (suc n) m address whole e so_far none = sym (so_far ∙ ap (λ b. b && has_all kind watches n (address + 1)) none)
+pub all_more : (kind : WatchKind) (watches : List Watch) (n m address : ℕ) (old new whole : Bool) → n ≡ m + 1
+    → new ≡ (old && has_access kind address watches) → (old && has_all kind watches n address) ≡ whole
+    → (new && has_all kind watches m (address + 1)) ≡ whole
+all_more kind watches n m address old new whole e here so_far =
+    let rest = has_all kind watches m (address + 1) in
+    ap (λ (b : Bool). b && rest) here ∙ and_assoc old (has_access kind address watches) rest
+    ∙ sym (ap (λ (b : Bool). old && b) (one_more kind watches n m address e)) ∙ so_far
 
-pub all_over : (kind : WatchKind) (watches : List Watch) (n address : ℕ) (whole : Bool) → n ≡ 0 → whole ≡ has_all kind watches n address → true ≡ whole
+none_left : (b : Bool) → (b && true) ≡ b
+none_left true = refl
+none_left false = refl
+
+pub all_over : (kind : WatchKind) (watches : List Watch) (n address : ℕ) (all whole : Bool) → n ≡ 0 → (all && has_all kind watches n address) ≡ whole
+    → all ≡ whole
 unfolding has_all
-all_over kind watches zero address whole e so_far = sym so_far
-all_over kind watches (suc n) address whole e so_far = absurd (omega (arith, e))
+all_over kind watches zero address all whole e so_far = sym (none_left all) ∙ so_far
+all_over kind watches (suc n) address all whole e so_far = absurd (omega (arith, e))

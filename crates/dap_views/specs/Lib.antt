@@ -1,6 +1,5 @@
 pub mod Answered
 pub mod Breaks
-pub mod Files
 pub mod Found
 pub mod Frames
 pub mod Locations

@@ -119,10 +119,12 @@ has_all kind watches zero address = true
 has_all kind watches (suc n) address
     = has_access kind address watches && has_all kind watches n (address + 1)
 
--- Whether bytes are watched for an access.
+-- The same of the last of some bytes, and of those before it.
 abbrev pub all_watched : List Watch → ByteRange → WatchKind → Bool
-all_watched watches range kind = has_all kind watches ((range.last + 1) - range.first) range.first
+all_watched watches range kind = has_access kind range.last watches
+    && has_all kind watches (range.last - range.first) range.first
 
+-- Whether bytes are watched for an access.
 abbrev pub is_watched : List Watch → ByteRange → Access → Bool
 is_watched watches range access.Read = all_watched watches range Read
 is_watched watches range access.ReadWrite

@@ -1,12 +1,13 @@
 //! Bytes that are watched: each list of them replaces the one before.
 
-ghost use Rattle.std.specs.Prelude.{◌≡◌, ◌+◌, ◌-◌, IfOk, OnOk, Some, map as each};
+ghost use Rattle.std.specs.Prelude.{◌≡◌, ◌&&◌, IfOk, OnOk, Some, map as each};
 ghost use Rattle.dap_messages.specs.SeenAnswers.{breakpoints_body};
 ghost use Rattle.dap_views.specs.Watches.{KeepsBreaks, SetsWatches, TellsWatches, all_unset};
-ghost use Rattle.dap_views.specs.Watches.{data_shown, has_all, has_bytes, is_watched, place_if};
+ghost use Rattle.dap_views.specs.Watches.{all_watched, data_shown, has_bytes, is_watched, place_if};
 ghost use Rattle.dap_views.specs.Watches.{place_meant, range_from, told_of};
 ghost use Rattle.dap_views.specs.Watches.{watched_of, watches_of, with_all};
 ghost use Rattle.dap_messages.specs.SeenAnswers.{answer_view, item_view};
+ghost use Rattle.mon_runs.specs.Stops.{has_access};
 
 use crate::looks::place_named;
 use dap_messages::{
@@ -121,17 +122,22 @@ fn set_wanted(mon: &mut MonState, wanted: &DataBreakpoint) -> Result<(), AllocEr
     set_watch(mon, Watch::Bytes { stretch, kind })
 }
 
+/// Returns whether all holds that held so far, and an access of a kind at an address stops a run.
+fn and_access(all: bool, stops: &Stops, kind: WatchKind, address: u16) -> bool
+    ensures { result ≡ (all && has_access kind address stops.now.watches.items) }
+{
+    all && stops.has_access(kind, address)
+}
+
 /// Returns whether an access of a kind to each of some bytes stops a run.
 fn has_all(stops: &Stops, kind: WatchKind, range: ByteRange) -> bool
-    ensures { result
-        ≡ has_all kind stops.now.watches.items ((range.last + 1) - range.first) range.first }
+    ensures { result ≡ all_watched stops.now.watches.items range kind }
 {
-    for address in range.first as u32..range.last as u32 + 1 {
-        if !stops.has_access(kind, address as u16) {
-            return false;
-        }
+    let mut all = stops.has_access(kind, range.last);
+    for address in range.first..range.last {
+        all = and_access(all, stops, kind, address);
     }
-    true
+    all
 }
 
 /// Returns whether bytes are watched for an access.

@@ -1,7 +1,8 @@
-use Rattle.std.proofs.Common.{◌≡◌, ◌+◌, ◌-◌}
-use Rattle.dap_views.specs.Watches.{has_all}
+use Rattle.std.proofs.Common.{◌≡◌, ◌-◌}
+use Rattle.std.specs.Prelude.{◌&&◌}
+use Rattle.dap_views.specs.Watches.{all_watched, has_all}
 use Rattle.dap_views.proofs.watches.has_all.Given as goal
 
 abbrev pub invariant-loop-address : goal.invariant-loop-address
-invariant-loop-address l = has_all l.kind l.stops.watches.items ((l.range.last + 1) - l.range.first) l.range.first
-    ≡ has_all l.kind l.stops.watches.items ((l.range.last + 1) - l.address) l.address
+invariant-loop-address l = (l.all && has_all l.kind l.stops.watches.items (l.range.last - l.address) l.address)
+    ≡ all_watched l.stops.watches.items l.range l.kind
