@@ -18,7 +18,7 @@ abbrev pub known_view : Known → Option PlacesView
 known_view known = known_by known.file.now (option_map (λ a. a.now) known.assembly)
     (option_map (λ p. p.now) known.debug)
 
--- Debug information has no names: they are those of a file of names, if there is one.
+-- Behind the names of debug information stand those of a file of names, if there is one.
 abbrev pub with_names_of : Option AssemblyView → PlacesView → PlacesView
 with_names_of None places = places
 with_names_of (Some names) places = record places { names = places.names ++ names_in names }
