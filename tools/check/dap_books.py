@@ -292,9 +292,10 @@ class Book:
         self.took("functions", asked, is_good, is_spoiled, body)
 
     def watch(self):
-        name = self.dice.choice(("$10", "A", "none", "$F000", "PC", "C", "$0200"))
-        is_good, _, body, _ = self.sent("dataBreakpointInfo", name=name,
-                                        **self.dice.choice(({}, {"variablesReference": 5})))
+        name = self.dice.choice(("$10", "A", "none", "$F000", "PC", "C", "$0200", "0x0010"))
+        more = ({}, {"variablesReference": 5}, {"bytes": self.dice.choice((0, 1, 3, 70000))},
+                {"asAddress": True, "bytes": 2})
+        is_good, _, body, _ = self.sent("dataBreakpointInfo", name=name, **self.dice.choice(more))
         ways = []
         if is_good and body["dataId"] is not None:
             ways = body.get("accessTypes", ["write"])

@@ -357,16 +357,33 @@ class Session:
         be."""
         places = [it for it in [*self.model.uses(300), 0x10, 0x1FC, 0x1FD, 0xF000]
                   if it not in self.program.image]
-        wanted = [(self.dice.choice(places), self.dice.choice(["write", "read", "readWrite"]))
+        wanted = [(self.stretch(self.dice.choice(places)),
+                   self.dice.choice(["write", "read", "readWrite"]))
                   for _ in range(self.dice.randrange(3))]
-        asked = [{"dataId": f"0x{first:04X}", "accessType": access} for first, access in wanted]
+        asked = [{"dataId": self.data_id(stretch), "accessType": access} for stretch, access in wanted]
         told = self.adapter.ask("setDataBreakpoints", breakpoints=asked)["breakpoints"]
-        good = [access != "write" or not self.model.spec.is_port(first) for first, access in wanted]
+        good = [access != "write" or not any(map(self.model.spec.is_port, stretch))
+                for stretch, access in wanted]
         self.want([it["verified"] for it in told] == good, f"{self.where}: {asked}: {told}")
         for place, _ in self.model.watches:
             self.mon.line(f"delete {place}" if isinstance(place, str) else f"delete ${place:04X}")
         self.model.set_data(wanted)
         self.mon_watches()
+
+    def stretch(self, first):
+        """Up to four bytes from an address on, none of which is the program's but for the first."""
+        most = self.dice.choice((1, 1, 2, 4))
+        end = next((it for it in range(first + 1, first + most) if it in self.program.image or it > 65535),
+                   first + most)
+        return range(first, end)
+
+    def data_id(self, stretch):
+        """The ID that the adapter gives bytes."""
+        told = self.adapter.ask("dataBreakpointInfo", name=f"0x{stretch.start:04X}", asAddress=True,
+                                **({} if len(stretch) == 1 else {"bytes": len(stretch)}))
+        shown = f"${stretch[0]:04X}" + (f"..${stretch[-1]:04X}" if len(stretch) > 1 else "")
+        self.want(told["description"] == shown, f"{self.where}: {stretch}: {told}")
+        return told["dataId"]
 
     def mon_watches(self):
         for place, way in self.model.watches:

@@ -143,10 +143,12 @@ class Model:
         self.breaks.update({address: Break(*words) for address, words in wanted.items()})
 
     def set_data(self, wanted):
-        """Watches, each an address and an access, stand for all watches before."""
+        """Watches, each some addresses and an access, stand for all watches before. One that cannot
+        watch an address watches none."""
         ways = {"write": ["change"], "read": ["read"], "readWrite": ["read", "write"]}
-        self.data = [(address, way) for address, access in wanted for way in ways[access]
-                     if way != "change" or not self.spec.is_port(address)]
+        self.data = [(address, way) for stretch, access in wanted for way in ways[access]
+                     if way != "change" or not any(map(self.spec.is_port, stretch))
+                     for address in stretch]
         self.watches = list(self.data)
 
     def changes(self, before, after, ways=("change", "register")):
