@@ -1,0 +1,9 @@
+pub mod Rises
+pub mod Routines
+pub mod Programs
+pub mod Ways
+pub mod Closures
+pub mod Raising
+pub mod Frames
+pub mod Locals
+pub mod Names
