@@ -1,6 +1,6 @@
 -- What a listing denotes, or which fault is its first. Sources: those of Lines.antt; mos65 for the
 -- limits and the faults.
-use Rattle.std.specs.Prelude.{◌≡◌, ℕ, ◌+◌, ◌^◌, ◌==◌, ◌&&◌, ◌||◌, nat_le, nat_lt, Bool, true, false, is_some, if◌then◌else◌, List, [], ◌∷◌, ◌++◌, codes, length, Option, Some, None, Result, Ok, Err}
+use Rattle.std.specs.Prelude.{◌≡◌, ℕ, ◌+◌, ◌%◌, ◌^◌, ◌==◌, ◌&&◌, ◌||◌, nat_le, nat_lt, Bool, true, false, is_some, if◌then◌else◌, List, [], ◌∷◌, ◌++◌, codes, length, Option, Some, None, Result, Ok, Err}
 use Rattle.model.specs.TextLines.{lines_of}
 use Rattle.debug_listings.specs.Lines.{Said, nothing, head, row, begins, said_by}
 use Rattle.debug_listings.specs.declared.line.Bytes.{Bytes}
@@ -124,9 +124,11 @@ abbrev pub with_numbered : List ℕ → ℕ → Bytes → Reading → Read
 with_numbered line number bytes r
     = flushed line r >>= λ more. with_begun line number more.file bytes more
 
--- A row without a number goes on with the data of the line before it.
+-- A row without a number goes on with the data of the line before it. 64tass writes 8 bytes of a
+-- line into its first row, and 16 into each row that others follow.
 abbrev pub goes_on : Begun → Bytes → Bool
-goes_on begun bytes = begun.is_data && bytes.is_data && (begun.start + begun.size == bytes.start)
+goes_on begun bytes = begun.is_data && bytes.is_data && (begun.size % 16 == 8)
+    && (begun.start + begun.size == bytes.start)
 
 abbrev pub with_more : List ℕ → Option Begun → Bytes → Reading → Read
 with_more line None bytes r = Err (fault_at NoLineNumber line)

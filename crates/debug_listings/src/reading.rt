@@ -187,12 +187,15 @@ fn take_numbered(
     begin(reading, line, number, bytes)
 }
 
-/// Returns whether bytes go on with the data that were read last.
+/// Returns whether bytes go on with the data that were read last, whose rows are full so far.
 fn goes_on(last: Span, bytes: Bytes) -> bool
     ensures more { result ≡ goes_on last bytes }
     ensures small { result ≡ true → last.size < 65536 }
 {
-    last.is_data && bytes.is_data && last.start as u64 + last.size as u64 == bytes.start as u64
+    last.is_data
+        && bytes.is_data
+        && last.size % 16 == 8
+        && last.start as u64 + last.size as u64 == bytes.start as u64
 }
 
 /// Takes bytes without the number of a line.
