@@ -1,5 +1,7 @@
 //! Why a program is not found by its debug file.
 
+ghost use Rattle.std.specs.Prelude.{◌≡◌};
+
 use arguments::{LoadFault, Refusal, put_named, refuse_file};
 use std::alloc::{AllocError, AllocFailed};
 use std::io::Write;
