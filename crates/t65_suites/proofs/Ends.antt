@@ -1,7 +1,7 @@
 -- Why a suite cannot be tested, by what its parts say.
 use Rattle.std.proofs.Common.{◌≡◌, ℕ, List, [], Bool, Ok, Err, false, true, inl, inr, refl, sym, ap, subst}
 use Rattle.std.proofs.lemmas.Bool.{false≢true}
-use Rattle.std.specs.Prelude.{String, Result, IfErr, IsErrAnd, string_bytes}
+use Rattle.std.specs.Prelude.{◌⊎◌, String, Result, IfErr, IsErrAnd, string_bytes}
 use Rattle.std.specs.declared.alloc.Global.{Global}
 use Rattle.arguments.specs.Values.{base_of}
 use Rattle.arguments.specs.declared.refusal.Refusal.TheVariants.{Map as NoMap, OutOfMemory}
@@ -22,6 +22,7 @@ use Rattle.t65_suites.specs.Programs.{EndsProgram, IsProgram, file_asked}
 use Rattle.t65_suites.specs.Suites.{ReadingAsked, asking_of}
 use Rattle.t65_runner.specs.Parts.{tests_of}
 use Rattle.t65_suites.specs.declared.fault.Unprepared.{Unprepared}
+use Rattle.t65_suites.specs.declared.fault.FileFault.{FileFault}
 use Rattle.t65_suites.specs.declared.fault.FileFault.TheVariants.{InProgram, InRows}
 use Rattle.t65_suites.specs.declared.fault.TestFault.{TestFault}
 use Rattle.t65_suites.specs.declared.fault.TestFault.TheVariants.{Rows, TooLarge, NoRow, Refused}
@@ -99,6 +100,15 @@ rows_end reading text head next lines path assembly steps NoRow points headed pr
   ends.2,
 )
 rows_end reading text head next lines path assembly steps (Refused refusal) points headed program ends are = subst (EndsTest reading points) (sym ends) tt
+
+-- Rows that cannot be read, or memory that ran out while that was told.
+pub unread_ends : (reading : ReadingAsked) (points worth : ℕ) (fault : TestFault) (why : FileFault)
+    → (why ≡ InRows fault) ⊎ (why ≡ InRows (Refused OutOfMemory)) → worth ≡ points
+    → EndsTest reading points fault → EndsFile reading worth why
+unread_ends reading points worth fault why (inl is) same ends =
+    subst (λ n. EndsFile reading n why) (sym same) (subst (λ f. EndsFile reading points f) (sym is) ends)
+unread_ends reading points worth fault why (inr is) same ends =
+    subst (λ n. EndsFile reading n why) (sym same) (subst (λ f. EndsFile reading points f) (sym is) tt)
 
 -- The fault of a file of rows, passed on.
 pub passed_on : {X : Type 0} (result : Result X Unprepared) (reading : ReadingAsked) (fault : TestFault)

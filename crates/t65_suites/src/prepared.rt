@@ -1,6 +1,6 @@
 //! A suite read: its rows, what they are run on, and the places of that.
 
-ghost use Rattle.std.specs.Prelude.{◌≡◌, ◌≤◌, ◌<◌, ◌+◌, [], IfErr, IfOk, Ok, false, length, map};
+ghost use Rattle.std.specs.Prelude.{◌≡◌, ◌⊎◌, ◌≤◌, ◌<◌, ◌+◌, [], IfErr, IfOk, Ok, false, length, map};
 ghost use Rattle.std.specs.Prelude.{true};
 ghost use Rattle.arguments.specs.Asked.{file_view};
 ghost use Rattle.arguments.specs.Values.{base_of};
@@ -25,7 +25,7 @@ use loading::NamedFault;
 use memory_map::{MapSpec, Port};
 use model::{BusFault, Profile};
 use source_map::Places;
-use std::alloc::Global;
+use std::alloc::{AllocError, Global};
 use std::rt::Files;
 use t65_failures::faulty_text;
 use t65_reader::{Asking, Line, points_of, read_rows};
@@ -227,22 +227,52 @@ fn rows_in(
 }
 
 /// Returns what is told of a row of a file that cannot be read, with the nearest name of a source,
-/// if that is the fault. Where memory runs out nothing is told.
+/// if that is the fault.
+///
+/// Errors: `AllocError` if an allocation fails.
 fn told_row(
     alloc: Global,
     names: &Assembly,
     rows: &str,
     text: &[u8],
     fault: TestFault,
-) -> Option<Vec<u8>> {
+) -> Result<Option<Vec<u8>>, AllocError> {
     match fault {
         TestFault::Rows(fault) => {
             let mut lines = RowLines::new(text, 1);
             let line = lines.walk_to(fault.line);
-            let told = faulty_text(alloc, names, rows, line, fault).ok()?;
-            Some(told.into_bytes())
+            let told = faulty_text(alloc, names, rows, line, fault)?;
+            Ok(Some(told.into_bytes()))
         }
-        TestFault::TooLarge | TestFault::NoRow | TestFault::Refused(_) => None,
+        TestFault::TooLarge | TestFault::NoRow | TestFault::Refused(_) => Ok(None),
+    }
+}
+
+/// Returns why the rows of a file are not tested, which are worth so many points, with what is told
+/// of a row that cannot be read. If memory runs out, that is why.
+fn unread(
+    alloc: Global,
+    names: &Assembly,
+    rows: &str,
+    text: &[u8],
+    fault: TestFault,
+    points: u64,
+) -> Unprepared
+    ensures fault { (result.fault ≡ FileFault.InRows fault)
+        ⊎ (result.fault ≡ FileFault.InRows (TestFault.Refused Refusal.OutOfMemory)) }
+    ensures points { result.points ≡ points }
+{
+    match told_row(alloc, names, rows, text, fault) {
+        Ok(told) => Unprepared {
+            fault: FileFault::InRows(fault),
+            told,
+            points,
+        },
+        Err(_) => Unprepared {
+            fault: FileFault::InRows(TestFault::Refused(Refusal::OutOfMemory)),
+            told: None,
+            points,
+        },
     }
 }
 
@@ -292,11 +322,7 @@ pub fn prepare<H: Files + AllocGlobal>(
                     rows,
                     places,
                 }),
-                Err(fault) => Err(Unprepared {
-                    fault: FileFault::InRows(fault),
-                    told: told_row(rt.alloc(), &assembly, suite.rows, &text, fault),
-                    points,
-                }),
+                Err(fault) => Err(unread(rt.alloc(), &assembly, suite.rows, &text, fault, points)),
             }
         }
         Err(fault) => Err(Unprepared {

@@ -3,7 +3,7 @@ use Rattle.model.specs.TextLines.{lines_of}
 use Rattle.t65_suites.specs.Ends.{EndsFile}
 use Rattle.t65_suites.specs.HeadText.{head_view}
 use Rattle.t65_suites.specs.Suites.{suite_view}
-use Rattle.t65_suites.proofs.Ends.{map_ends, passed_on, placed_ends, rows_end}
+use Rattle.t65_suites.proofs.Ends.{map_ends, passed_on, placed_ends, rows_end, unread_ends}
 use Rattle.t65_suites.proofs.Ready.{ready}
 use Rattle.t65_suites.proofs.prepared.prepare.Goals as goal
 
@@ -36,9 +36,10 @@ returns-in-Ok-rows_in-clause-prepared g c = ready _ c.args.steps (suite_view c.a
 
 pub returns-in-Err-rows_in-clause-refused : goal.returns-in-Err-rows_in-clause-refused
 returns-in-Err-rows_in-clause-refused g c =
-    rows_end (suite_view c.args.suite).reading c.deref.result.now (head_view c.in_ok-opened.opened.head) c.in_ok-opened.opened.next
+    unread_ends (suite_view c.args.suite).reading c.worth_of-points.result _ c.in-Err-rows_in.fault _ c.unread.ensures.fault c.unread.ensures.points
+    (rows_end (suite_view c.args.suite).reading c.deref.result.now (head_view c.in_ok-opened.opened.head) c.in_ok-opened.opened.next
     (lines_of c.in_ok-opened.opened.rest.now) _ _ c.args.steps c.in-Err-rows_in.fault c.worth_of-points.result
-    c.in_ok-opened.ensures.head c.in-Ok.ensures.program c.in-Err-rows_in.ensures.refused c.worth_of-points.ensures
+    c.in_ok-opened.ensures.head c.in-Ok.ensures.program c.in-Err-rows_in.ensures.refused c.worth_of-points.ensures)
 
 pub returns-in-Err-clause-refused : goal.returns-in-Err-clause-refused
 returns-in-Err-clause-refused g c =
