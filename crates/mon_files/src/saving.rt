@@ -144,7 +144,9 @@ struct Saved {
 fn gaps_in(form: FormName, image: &Image, count: usize) -> usize {
     match (form, ends_of(image)) {
         (FormName::Bin | FormName::Prg, Some((low, high))) => {
-            (high as usize + 1).saturating_sub(low as usize + count)
+            (high as usize + 1)
+                .saturating_sub(low as usize)
+                .saturating_sub(count)
         }
         _ => 0,
     }
