@@ -1,4 +1,4 @@
-use Rattle.std.proofs.Common.{◌-◌, Bool, ap, arith}
+use Rattle.std.proofs.Common.{◌+◌, ◌-◌, Bool, ap, arith}
 use Rattle.std.specs.Prelude.{◌&&◌}
 use Rattle.dap_views.proofs.Watching.{all_more, all_over}
 use Rattle.dap_views.specs.Watches.{has_all}
