@@ -3,6 +3,7 @@
 ghost use Rattle.std.specs.Prelude.{◌≡◌, ◌⊎◌, ℕ, List, IfErr, IfOk, None, Some, false};
 ghost use Rattle.std.specs.Prelude.{OnErr, OnOk, option_map};
 ghost use Rattle.accesses.specs.Writing.{or_everywhere};
+ghost use Rattle.arguments.specs.Files.{EndsWriting};
 ghost use Rattle.arguments.specs.Words.{Fits, Refuses, texts};
 ghost use Rattle.loading.specs.Named.{MayLose};
 ghost use Rattle.loading.specs.Place.{names_of};
@@ -134,6 +135,19 @@ fn said_of(
     Ok(Said { facts, source })
 }
 
+/// Begins a file of the name of a page, unless it is one that was read, or is there and is no page.
+fn created<'a, H: Files + AllocGlobal>(
+    rt: &H,
+    out: &'a str,
+    read: &[Option<&'a str>],
+) -> Result<NewFile<'a, H::File>, Refusal>
+    ensures { IfErr result EndsWriting }
+{
+    check_outputs(rt, read, &[Some(out)])?;
+    check_replaced(rt, out, PAGE_FRONT)?;
+    begin_file(rt, out)
+}
+
 /// Begins the file of the page, unless it is one that was read, or is there and is no page.
 ///
 /// Errors: `WriteFile` if it is, or cannot be made; `OutOfMemory` if an allocation fails.
@@ -152,9 +166,7 @@ fn begun_file<'a, H: Files + AllocGlobal>(
         words.input,
         notes,
     ];
-    check_outputs(rt, &read, &[Some(words.out)])?;
-    check_replaced(rt, words.out, PAGE_FRONT)?;
-    Ok(begin_file(rt, words.out)?)
+    Ok(created(rt, words.out, &read)?)
 }
 
 /// Returns the addresses that count as written when the run begins.
