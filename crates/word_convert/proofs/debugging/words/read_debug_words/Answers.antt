@@ -18,6 +18,14 @@ returns-clause-refused c =
     (sym (c.in-None.ensures ∙ asked_by debug_by (app_of c.in_ok-debug_image_command.field-0) debug (texts c.args.words.now)
     (first_value (found_of c.in_ok-matches.matches)) c.in_ok-debug_image_command.ensures.shape c.in_ok-matches.ensures.values))
 
+pub returns-in-None-clause-refused : goal.returns-in-None-clause-refused
+returns-in-None-clause-refused c = (
+  fits_by (app_of c.in_ok-debug_image_command.field-0) debug (texts c.args.words.now) c.in_ok-debug_image_command.ensures.shape
+      c.in_ok-matches.ensures.fits,
+  sym (c.in-None.ensures ∙ asked_by debug_by (app_of c.in_ok-debug_image_command.field-0) debug (texts c.args.words.now)
+      (first_value (found_of c.in_ok-matches.matches)) c.in_ok-debug_image_command.ensures.shape c.in_ok-matches.ensures.values),
+)
+
 pub returns-in-Some-clause-taken : goal.returns-in-Some-clause-taken
 returns-in-Some-clause-taken c = fits_by (app_of c.in_ok-debug_image_command.field-0) debug (texts c.args.words.now)
     c.in_ok-debug_image_command.ensures.shape c.in_ok-matches.ensures.fits
