@@ -15,6 +15,7 @@ import collections
 import re
 
 FIELD = re.compile(r'(\w+)=("[^"]*"|[^,"]*)(?:,|$)')
+TYPED = re.compile(r"[A-Za-z0-9_@.:]{1,63}")
 C, ASSEMBLER, MACRO, PARAMETER = 1, 0, 2, 3
 # Bytes from `start` on, before `end`, which a line of a file made, and whether they are said to be data.
 Row = collections.namedtuple("Row", "start end file line kind depth is_data")
@@ -105,6 +106,18 @@ class DebugFile(Lines):
         modules, nor where two segments run."""
         mains = [int(it["file"]) for it in self.records["mod"].values()]
         return mains.count(row.file) < 2 and self.segments_at(row) < 2
+
+
+    def names(self):
+        """The names that its symbols give addresses, in the order of their numbers. One that was
+        given for another address is given with this one behind it."""
+        found = {}
+        for _, it in sorted(self.records["sym"].items()):
+            value = number(it["val"]) if "val" in it else None
+            if value is not None and value < 65536 and TYPED.fullmatch(it["name"]):
+                other = found.get(it["name"], value) != value
+                found.setdefault(it["name"] + (f":{value:04X}" if other else ""), value)
+        return found
 
 
 HEAD = re.compile(r":(\d+)\t;\*+  [A-Z][a-z ]+: (.*)")
