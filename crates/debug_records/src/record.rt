@@ -14,7 +14,7 @@ pub struct Output<'a> {
     pub offset: u32,
 }
 
-/// A segment: its name, where it runs, whether it is read only, and where its bytes are in a file that the linker wrote.
+/// A segment: its name, where it runs, whether it is read only, and its bytes in a file of ld65.
 #[derive(Clone, Copy)]
 pub struct Segment<'a> {
     pub name: &'a [u8],

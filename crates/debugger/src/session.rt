@@ -66,7 +66,7 @@ impl Model for Session {
 
 impl Session {
     /// Makes a session whose only state is the start of a machine with this map and image. It holds
-    /// up to `history` earlier states, at most 1,048,576, and allocates all the room that events need.
+    /// up to `history` earlier states, 1,048,576 at most, and allocates all room that events need.
     ///
     /// Errors: `PortAddress` if the image has a byte at a port address, `OutOfMemory` if an
     /// allocation fails.
