@@ -144,7 +144,7 @@ ODD = "<img src=x onerror=alert(1)>&%41.c"
 # Programs that other tools built: the page of tests/ that has their files, the debug file, and the
 # sources that are there.
 BUILT = {"sum.hex": ("page.md", "sum.dbg", ("sum.c", "start.s")),
-         "odd.hex": ("page.md", "odd.dbg", (ODD,)),
+         "odd.hex": ("page.md", "odd.dbg", (ODD, "start.s")),
          "count.hex": ("names.md", "count.dbg", ("count.s",))}
 # Sessions of `mon` that end with a page: the file, the events that are held at most, and lines,
 # each with its events: a number is so many steps, a negative one so many events undone, and a call
