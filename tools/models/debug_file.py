@@ -1,15 +1,17 @@
-"""What a debug file of ld65 or a listing of 64tass says, read once more: by what these tools write, and
-by cc65's own reader (`src/dbginfo` of cc65), not by the definitions of this repository. Which of several
-lines is shown for an address is said in docs/DEFINITIONS.md, and so is how steps by lines go.
+"""What a debug file of ld65 or a listing of 64tass says, read once more: by what these tools write,
+and by cc65's own reader (`src/dbginfo` of cc65), not by the definitions of this repository. Which of
+several lines is shown for an address is said in docs/DEFINITIONS.md, and so is how steps by lines go.
 
-A line of a debug file is a word, a tab, and fields NAME=VALUE with commas between them. Records of a word
-have numbers of their own, `id`, and name each other by these, in any order. A `span` is bytes of a `seg`,
-which says where it runs. A `line` has a file, a number, its spans, a type (none: assembler, 1: C,
-2: a line of a macro or a loop, 3: the text of a macro's parameter) and in `count` how deep it stands.
+A line of a debug file is a word, a tab, and fields NAME=VALUE with commas between them. Records of a
+word have numbers of their own, `id`, and name each other by these, in any order. A `span` is bytes of
+a `seg`, which says where it runs. A `line` has a file, a number, its spans, a type (none: assembler,
+1: C, 2: a line of a macro or a loop, 3: the text of a macro's parameter) and in `count` how deep it
+stands.
 
-A row of a listing has columns with tabs between them: LINE or LINE:FILE; `.` or, of data, `>`, and the
-address where its bytes are loaded; the address where they run, if it is another one; the bytes. A row
-of data goes on in rows without a number. `:FILE` and the file's name stand where a file begins."""
+A row of a listing has columns with tabs between them: LINE or LINE:FILE; `.` or, of data, `>`, and
+the address where its bytes are loaded; the address where they run, if it is another one; the bytes. A
+row of data goes on in rows without a number. `:FILE` and the file's name stand where a file
+begins."""
 
 import collections
 import re
@@ -17,7 +19,8 @@ import re
 FIELD = re.compile(r'(\w+)=("[^"]*"|[^,"]*)(?:,|$)')
 TYPED = re.compile(r"[A-Za-z0-9_@.:]{1,63}")
 C, ASSEMBLER, MACRO, PARAMETER = 1, 0, 2, 3
-# Bytes from `start` on, before `end`, which a line of a file made, and whether they are said to be data.
+# Bytes from `start` on, before `end`, which a line of a file made, and whether they are said to be
+# data.
 Row = collections.namedtuple("Row", "start end file line kind depth is_data")
 
 
@@ -125,8 +128,8 @@ LISTED = r"(\d*)(?::(\d+))?\t([.>])([0-9a-f]+)\t{}((?:[0-9a-f]{{2}} ?)+)(?:\t|$)
 
 
 class Listing(Lines):
-    """A listing of 64tass with numbers of lines. It has a column of addresses where bytes run only if
-    some run elsewhere."""
+    """A listing of 64tass with numbers of lines. It has a column of addresses where bytes run only
+    if some run elsewhere."""
 
     def __init__(self, text):
         rows, files, file = [], {}, None
