@@ -208,6 +208,7 @@ query_by request query.Disassemble = seen.disassemble (memory_in request)
 query_by request query.GotoTargets
     = seen.goto_targets (path_in request) (number_at (codes "/arguments/line") request)
 query_by request query.BreakpointLocations = locations_query request
+query_by request query.LoadedSources = seen.loaded_sources
 query_by request query.DataBreakpointInfo = data_query request
 query_by request query.Completions = seen.completions (text_in (codes "/arguments/text") request)
     (number_at (codes "/arguments/column") request)
@@ -260,6 +261,8 @@ launch_of request = record {
   rom = text_at (codes "/arguments/rom") request;
   profile = text_at (codes "/arguments/profile") request;
   symbols = text_at (codes "/arguments/symbols") request;
+  debug_info = text_at (codes "/arguments/debugInfo") request;
+  source_root = text_at (codes "/arguments/sourceRoot") request;
   history = number_at (codes "/arguments/history") request;
   steps = number_at (codes "/arguments/steps") request;
   stop_on_entry = unwrap_or (flag_at (codes "/arguments/stopOnEntry") request) true;

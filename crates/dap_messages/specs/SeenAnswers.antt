@@ -37,6 +37,8 @@ pub data SeenItem : Type 0 where
   place_on : ℕ → SeenItem
   -- An address that can be gone to, and its line.
   goto_target : ℕ → ℕ → SeenItem
+  -- A file of the source, by its name and its path.
+  source_file : List ℕ → List ℕ → SeenItem
   -- A text, the column that it stands from, and for how many bytes it stands.
   completion_item : List ℕ → ℕ → ℕ → SeenItem
 
@@ -59,6 +61,7 @@ item_view item.Watched = data_watched
 item_view (item.Unwatched words) = data_unwatched (string_bytes words)
 item_view (item.Place line) = place_on line
 item_view (item.GotoTarget address line) = goto_target address line
+item_view (item.Source name path) = source_file (string_bytes name) (string_bytes path)
 item_view (item.Completion text start count) = completion_item (string_bytes text) start count
 
 -- ---- answers
@@ -75,6 +78,7 @@ pub data SeenAnswer : Type 0 where
   breakpoints_body : List SeenItem → SeenAnswer
   targets_body : List SeenItem → SeenAnswer
   instructions_body : List SeenItem → SeenAnswer
+  sources_body : List SeenItem → SeenAnswer
   variables_body : List SeenItem → SeenAnswer
   -- Some frames, and how many there are.
   frames_body : List SeenItem → ℕ → SeenAnswer
@@ -105,6 +109,7 @@ answer_view (answer.Scopes is_first) = scopes is_first
 answer_view (answer.Breakpoints items) = breakpoints_body (map item_view items.items)
 answer_view (answer.Targets items) = targets_body (map item_view items.items)
 answer_view (answer.Instructions items) = instructions_body (map item_view items.items)
+answer_view (answer.Sources items) = sources_body (map item_view items.items)
 answer_view (answer.Variables items) = variables_body (map item_view items.items)
 answer_view (answer.Frames items total) = frames_body (map item_view items.items) total
 answer_view (answer.Memory address text unread) = memory_body address (string_bytes text) unread

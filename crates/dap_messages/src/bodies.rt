@@ -28,6 +28,7 @@ pub fn capabilities(alloc: Global) -> Result<Value, AllocError>
         .flag("supportsGotoTargetsRequest", true)
         .flag("supportsHitConditionalBreakpoints", true)
         .flag("supportsInstructionBreakpoints", true)
+        .flag("supportsLoadedSourcesRequest", true)
         .flag("supportsLogPoints", true)
         .flag("supportsReadMemoryRequest", true)
         .flag("supportsRestartRequest", true)

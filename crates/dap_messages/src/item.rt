@@ -7,7 +7,7 @@ ghost use Rattle.dap_messages.specs.SeenAnswers.{completion_item, data_unwatched
 ghost use Rattle.dap_messages.specs.SeenAnswers.{frame_at_line, frame_without_line, goto_target};
 ghost use Rattle.dap_messages.specs.SeenAnswers.{instruction_at_line, instruction_row, item_view};
 ghost use Rattle.dap_messages.specs.SeenAnswers.{no_instruction, place_on, plain_variable};
-ghost use Rattle.dap_messages.specs.SeenAnswers.{variable, variable_at};
+ghost use Rattle.dap_messages.specs.SeenAnswers.{source_file, variable, variable_at};
 
 use std::alloc::{AllocError, Global};
 
@@ -85,6 +85,11 @@ pub enum Item {
     GotoTarget {
         address: u16,
         line: u64,
+    },
+    /// A file of the source, by its short name and its path.
+    Source {
+        name: String,
+        path: String,
     },
     /// A text that can stand for `count` bytes from a column on.
     Completion {
@@ -265,6 +270,15 @@ pub fn data_unwatched(alloc: Global, words: &str) -> Result<Item, AllocError>
 {
     let words = String::from_str(alloc, words)?;
     Ok(Item::Unwatched(words))
+}
+
+/// Returns a file of the source, by its short name and its path.
+pub fn source_file(alloc: Global, name: &str, path: &str) -> Result<Item, AllocError>
+    ensures { IfOk result (λ v. item_view v ≡ source_file name.now path.now) }
+{
+    let name = String::from_str(alloc, name)?;
+    let path = String::from_str(alloc, path)?;
+    Ok(Item::Source { name, path })
 }
 
 /// Returns a name that can stand for `count` bytes from a column on.

@@ -384,6 +384,7 @@ fn query_by(request: &Value, name: QueryName) -> Query<'_>
             line: number_at(request, "/arguments/line"),
         },
         QueryName::BreakpointLocations => locations_query(request),
+        QueryName::LoadedSources => Query::LoadedSources,
         QueryName::DataBreakpointInfo => data_query(request),
         QueryName::Completions => Query::Completions {
             text: text_or(request, "/arguments/text", ""),
@@ -483,6 +484,8 @@ fn launch_of(alloc: Global, request: &Value) -> Result<Launch, AllocError>
     let rom = own_text(alloc, request, "/arguments/rom")?;
     let profile = own_text(alloc, request, "/arguments/profile")?;
     let symbols = own_text(alloc, request, "/arguments/symbols")?;
+    let debug_info = own_text(alloc, request, "/arguments/debugInfo")?;
+    let source_root = own_text(alloc, request, "/arguments/sourceRoot")?;
     Ok(Launch {
         program,
         tape: flag_or(request, "/arguments/tape", false),
@@ -492,6 +495,8 @@ fn launch_of(alloc: Global, request: &Value) -> Result<Launch, AllocError>
         rom,
         profile,
         symbols,
+        debug_info,
+        source_root,
         history: number_at(request, "/arguments/history"),
         steps: number_at(request, "/arguments/steps"),
         stop_on_entry: flag_or(request, "/arguments/stopOnEntry", true),

@@ -16,7 +16,7 @@ use crate::break_values::{
 use crate::item::{Item, SourcePlace};
 use crate::values::{
     frame_at_line, frame_without_line, frames_body, instruction_at_line, instruction_row,
-    instructions_body, look_body, memory_body, no_instruction,
+    instructions_body, look_body, memory_body, no_instruction, source, sources_body,
 };
 use crate::variable_values::{plain_variable, variable, variable_at, variables_body};
 use json_messages::ValueList;
@@ -88,6 +88,7 @@ impl Item {
             Item::Unwatched(words) => data_unwatched(alloc, words.as_str()),
             Item::Place(line) => place_on(alloc, *line),
             Item::GotoTarget { address, line } => goto_target(alloc, *address, *line),
+            Item::Source { name, path } => source(alloc, name.as_str(), path.as_str()),
             Item::Completion { text, start, count } => {
                 completion_item(alloc, text.as_str(), *start, *count)
             }
@@ -125,6 +126,7 @@ impl Answer {
             Answer::Instructions(items) => {
                 instructions_body(alloc, items_value(alloc, items.as_slice()))
             }
+            Answer::Sources(items) => sources_body(alloc, items_value(alloc, items.as_slice())),
             Answer::Variables(items) => {
                 variables_body(alloc, items_value(alloc, items.as_slice()))
             }

@@ -5,3 +5,4 @@ mod LogRuns
 mod Outputs
 pub mod Stays
 mod Writable
+mod Sources

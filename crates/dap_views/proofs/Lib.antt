@@ -3,10 +3,10 @@ mod Entries
 mod Finding
 mod Following
 mod Joined
+mod Kept
 mod Listing
 mod Locating
 mod Lossy
-mod Matching
 mod Numbered
 pub mod Paging
 mod Symbols

@@ -1,5 +1,5 @@
 -- What is answered of breakpoints. Source: Debug Adapter Protocol 1.65, "Breakpoint"; mos65.
-use Rattle.std.specs.Prelude.{ℕ, nat_eq, if◌then◌else◌, List, [], ◌∷◌, ◌++◌, string_bytes, Option, Some, None, option_map}
+use Rattle.std.specs.Prelude.{ℕ, ◌==◌, nat_eq, not, filter, Bool, false, if◌then◌else◌, List, [], ◌∷◌, ◌++◌, string_bytes, Option, Some, None, option_map}
 use Rattle.std.specs.List.{list_any}
 use Rattle.dap_views.specs.declared.listed.TheConstants.{NO_ROOM, OTHER_SOURCE}
 use Rattle.dap_views.specs.declared.wanted.Wanted.{Wanted}
@@ -36,10 +36,24 @@ answers_of session counting id (wanted ∷ rest) = answer_of session counting id
     ∷ answers_of session counting (next_number id) rest
 
 -- Where those stand that stand somewhere.
-abbrev pub placed_at : ℕ → Option ℕ → List Placed
-placed_at id (Some address) = record { id = id; address = address } ∷ []
-placed_at id None = []
+abbrev pub placed_at : Option ℕ → ℕ → Option ℕ → List Placed
+placed_at file id (Some address) = record { id = id; address = address; file = file } ∷ []
+placed_at file id None = []
 
-unfoldable pub placed_of : ℕ → List Wanted → List Placed
-placed_of id [] = []
-placed_of id (wanted ∷ rest) = placed_at id wanted.address ++ placed_of (next_number id) rest
+-- Of which file they are lines is held, if they are lines.
+unfoldable pub placed_of : Option ℕ → ℕ → List Wanted → List Placed
+placed_of file id [] = []
+placed_of file id (wanted ∷ rest) = placed_at file id wanted.address
+    ++ placed_of file (next_number id) rest
+
+-- ---- those at lines of a file, and all others
+
+abbrev pub is_of : ℕ → Option ℕ → Bool
+is_of file None = false
+is_of file (Some other) = other == file
+
+abbrev pub is_in : Bool → ℕ → Placed → Bool
+is_in inside file placed = if inside then is_of file placed.file else not (is_of file placed.file)
+
+abbrev pub placed_in : Bool → ℕ → List Placed → List Placed
+placed_in inside file placed = filter (is_in inside file) placed

@@ -1,10 +1,9 @@
 -- Where the breakpoints of a list can stand. Source: Debug Adapter Protocol 1.65, "SetBreakpoints
--- Request", "SetInstructionBreakpoints Request", "SetFunctionBreakpoints Request"; that a line without bytes stands for the next that
--- has some, and what a condition is, mos65.
+-- Request", "SetInstructionBreakpoints Request", "SetFunctionBreakpoints Request"; that a line at
+-- which none begins stands for the next, and what a condition is, mos65.
 use Rattle.std.specs.Prelude.{ℕ, ◌≡◌, List, [], ◌∷◌, ◌++◌, map, string_bytes, Option, Some, None, option_map, Result, Ok, Err}
 use Rattle.std.specs.List.{flat_map}
 use Rattle.std.specs.Option.{option_to_list}
-use Rattle.assembler.specs.Assembly.{AssemblyView}
 use Rattle.dap_messages.specs.Counting.{own_line}
 use Rattle.dap_messages.specs.declared.counting.Counting.{Counting}
 use Rattle.dap_messages.specs.declared.request.Condition.{Condition}
@@ -12,7 +11,7 @@ use Rattle.dap_messages.specs.declared.request.FunctionBreakpoint.{FunctionBreak
 use Rattle.dap_messages.specs.declared.request.InstructionBreakpoint.{InstructionBreakpoint}
 use Rattle.dap_messages.specs.declared.request.SourceBreakpoint.{SourceBreakpoint}
 use Rattle.dap_views.specs.Looks.{place_named}
-use Rattle.dap_views.specs.Targets.{row_in}
+use Rattle.dap_views.specs.Wanted.{row_in}
 use Rattle.dap_views.specs.declared.wanted.List.{List as WantedList}
 use Rattle.dap_views.specs.declared.wanted.Wanted.{Wanted}
 use Rattle.mon_line_parts.specs.Reading.{SeenFlaw}
@@ -52,15 +51,15 @@ abbrev pub found_on : PlacesView → ℕ → Condition → Option ℕ → ℕ �
 found_on places pc condition line address
     = (line, stop_at places pc condition address)
 
--- At a line of the source, or at the next that has bytes.
+-- At a line of a file, or at the next that begins.
 abbrev pub found_from : PlacesView → ℕ → Condition → ℕ → Option (ℕ × ℕ) → Found
 found_from places pc condition line (Some row)
     = found_on places pc condition (Some row.0) row.1
 found_from places pc condition line None = (Some line, None)
 
-abbrev pub found_line : PlacesView → ℕ → Counting → Option AssemblyView → SourceBreakpoint → Found
-found_line places pc counting assembly wanted = found_from places pc wanted.condition
-    (own_line counting wanted.line) (row_in (own_line counting wanted.line) assembly)
+abbrev pub found_line : PlacesView → ℕ → Counting → ℕ → SourceBreakpoint → Found
+found_line places pc counting file wanted = found_from places pc wanted.condition
+    (own_line counting wanted.line) (row_in places.lines file (own_line counting wanted.line))
 
 -- At an address.
 abbrev pub found_at : PlacesView → ℕ → Condition → Option ℕ → Found

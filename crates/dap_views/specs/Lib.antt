@@ -1,5 +1,6 @@
 pub mod Answered
 pub mod Breaks
+pub mod Files
 pub mod Found
 pub mod Frames
 pub mod Locations

@@ -1,14 +1,8 @@
 //! The breakpoints that a client wants, read from its list.
 
-ghost use Rattle.std.specs.Prelude.{◌≡◌, MatchResult, None, OnOk, Some, option_map};
-ghost use Rattle.assembler.specs.Assembly.{source_lines};
-ghost use Rattle.assembler.specs.Lines.{line_view};
+ghost use Rattle.std.specs.Prelude.{◌≡◌, MatchResult, None, OnOk, Some};
 ghost use Rattle.dap_views.specs.Found.{HasFound, found_on, stop_at, stop_view};
-ghost use Rattle.dap_views.specs.Targets.{row_in};
-ghost use Rattle.dap_views.specs.Wanted.{first_row, row_with};
 
-use crate::source::Source;
-use assembler::SourceLine;
 use dap_messages::Condition;
 use mon_line_parts::{Flaw, Topic};
 use mon_lines::{Slip, read_tests, read_times};
@@ -33,39 +27,6 @@ pub struct Wanted {
 pub struct List {
     pub told: Vec<Wanted>,
     pub stops: Vec<Break>,
-}
-
-/// Returns the number and the address of a line, if it is at a number or behind it, and has bytes.
-pub fn row_with(row: Option<SourceLine<'_>>, line: u32) -> Option<(u32, u16)>
-    ensures { result ≡ row_with line (option_map line_view row.entry) }
-{
-    let row = row?;
-    if row.number < line {
-        return None;
-    }
-    if row.count == 0 {
-        return None;
-    }
-    if row.address < 65536 {
-        Some((row.number, row.address as u16))
-    } else {
-        None
-    }
-}
-
-/// Returns the first line of a source with bytes at a line or behind it, with its address.
-pub fn row_in(source: &Source<'_>, line: u32) -> Option<(u32, u16)>
-    ensures { result ≡ row_in line (option_map (λ a. a.now) source.now.assembly) }
-{
-    let Some(assembly) = source.assembly else {
-        return None;
-    };
-    for index in 0..assembly.line_count() {
-        if let Some(found) = row_with(assembly.line(index), line) {
-            return Some(found);
-        }
-    }
-    None
 }
 
 /// Appends what is told of a breakpoint that cannot be set, if memory did not run out for words of
