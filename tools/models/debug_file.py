@@ -1,6 +1,7 @@
-"""What a debug file of ld65 or a listing of 64tass says, read once more: by what these tools write,
-and by cc65's own reader (`src/dbginfo` of cc65), not by the definitions of this repository. Which of
-several lines is shown for an address is said in docs/DEFINITIONS.md, and so is how steps by lines go.
+"""What a debug file of ld65, a listing of 64tass or a report of ACME says, read once more: by what
+these tools write, and by cc65's own reader (`src/dbginfo` of cc65), not by the definitions of this
+repository. Which of several lines is shown for an address is said in docs/DEFINITIONS.md, and so is
+how steps by lines go.
 
 A line of a debug file is a word, a tab, and fields NAME=VALUE with commas between them. Records of a
 word have numbers of their own, `id`, and name each other by these, in any order. A `span` is bytes of
@@ -10,11 +11,17 @@ stands.
 
 A row of a listing has columns with tabs between them: LINE or LINE:FILE; `.` or, of data, `>`, and
 the address where its bytes are loaded; the address where they run, if it is another one; the bytes. A
-row of data goes on in rows without a number. `:FILE` and the file's name stand where a file
-begins."""
+row of data goes on in rows without a number, or in one that stands for so many equal ones. `:FILE`
+and the file's name stand where a file begins.
+
+A row of a report has a line's number, the address where its first byte is loaded, up to eight bytes,
+and `...` if there are more. The first line behind a file's head may have bytes of a line that is not
+shown, and behind the sign FF another file may be read whose head is not shown."""
 
 import collections
 import re
+
+from reference import table
 
 FIELD = re.compile(r'(\w+)=("[^"]*"|[^,"]*)(?:,|$)')
 TYPED = re.compile(r"[A-Za-z0-9_@.:]{1,63}")
@@ -93,10 +100,13 @@ class DebugFile(Lines):
             kind = int(line.get("type", "0"))
             for id in filter(None, line.get("span", "").split("+")):
                 span = self.records["span"][int(id)]
-                start = number(self.records["seg"][int(span["seg"])]["start"]) + int(span["start"])
+                segment = self.records["seg"][int(span["seg"])]
+                start = number(segment["start"]) + int(span["start"])
+                has_code = segment.get("type") == "ro" or "oname" in segment
                 if kind != PARAMETER:
                     yield Row(start, start + int(span["size"]), int(line["file"]),
-                              int(line["line"]), kind, int(line.get("count", "0")), "type" in span)
+                              int(line["line"]), kind, int(line.get("count", "0")),
+                              "type" in span or not has_code)
 
     def segments_at(self, row):
         """How many segments have an address of a row."""
@@ -124,6 +134,7 @@ class DebugFile(Lines):
 
 
 HEAD = re.compile(r":(\d+)\t;\*+  [A-Z][a-z ]+: (.*)")
+REPEATED = re.compile(r"\t;\t\t?\.\.\.repeated \d+ times? \((\d+) bytes?\)")
 LISTED = r"(\d*)(?::(\d+))?\t([.>])([0-9a-f]+)\t{}((?:[0-9a-f]{{2}} ?)+)(?:\t|$)"
 
 
@@ -135,10 +146,12 @@ class Listing(Lines):
         rows, files, file = [], {}, None
         shape = re.compile(LISTED.format("([0-9a-f]*)\t" if "\t;PC\t" in text else "()"))
         for line in text.splitlines():
-            head, listed = HEAD.match(line), shape.match(line)
+            head, listed, repeated = (it.match(line) for it in (HEAD, shape, REPEATED))
             if head:
                 file = int(head[1])
                 files[file] = head[2]
+            if repeated:
+                rows[-1] = rows[-1]._replace(end=rows[-1].end + int(repeated[1]))
             if listed:
                 file = int(listed[2] or file)
                 start, count = int(listed[5] or listed[4], 16), len(listed[6].split())
@@ -150,8 +163,42 @@ class Listing(Lines):
         super().__init__(rows, files)
 
 
+REPORTED = re.compile(r" *(\d+)  (?:([0-9a-f]{4}) ([0-9a-f]+)(\.\.\.)?)?")
+SOURCE = "; ******** Source: "
+LENGTHS = {it.opcode: it.length for it in table.ROWS_N}
+
+
+class Report(Lines):
+    """A report of ACME. Bytes of a line are taken to stand one behind another if the next ones stand
+    right behind them, or if they are one instruction; otherwise the first alone."""
+
+    def __init__(self, text):
+        rows, names, file, is_late, is_open = [], [], None, False, False
+        for line in text.split("\n"):
+            row = REPORTED.match(line)
+            if line.startswith(SOURCE):
+                is_late, name = bool(names), line[len(SOURCE):]
+                names += [name] * (name not in names)
+                file = names.index(name)
+            elif row:
+                file = None if "\xFF" in line else file
+                if row[2] and is_open and rows[-1].end != int(row[2], 16):
+                    rows[-1] = rows[-1]._replace(end=rows[-1].start + 1)
+                if row[2]:
+                    start, shown = int(row[2], 16), bytes.fromhex(row[3])
+                    end = start + len(shown) + bool(row[4])
+                    is_taken = file is not None and not is_late
+                    is_open = is_taken and len(shown) != LENGTHS.get(shown[0])
+                    rows += [Row(start, end, file, int(row[1]), ASSEMBLER, 0, False)] * is_taken
+                is_late = False
+        if is_open:
+            rows[-1] = rows[-1]._replace(end=rows[-1].start + 1)
+        super().__init__(rows, dict(enumerate(names)))
+
+
 def lines_in(text):
-    return (DebugFile if text.startswith("version") else Listing)(text)
+    forms = ("version", DebugFile), ("\n" + SOURCE, Report), ("", Listing)
+    return next(form for front, form in forms if text.startswith(front))(text)
 
 
 # A state of a run: what comes next, and the stack pointer.

@@ -60,7 +60,7 @@ pub fn run_command<'a>(alloc: Global) -> Result<Command<'a>, Error>
 {
     let about = "Runs a program: its console is the terminal";
     let symbols = "A file of names for an image, as asm --symbols writes it [default: none]";
-    let until = "Where the run ends: a name, an address, or a sum of both [default: none]";
+    let until = "Where the run ends: a name, an address, or FILE:LINE [default: none]";
     let steps = "The most steps to make [default: no limit]";
     let status = "A: the exit status is the value of A [default: 0]";
     let cycles = "Prints cycles and steps at the end, on the error stream";

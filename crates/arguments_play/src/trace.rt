@@ -69,7 +69,7 @@ pub fn trace_command<'a>(alloc: Global) -> Result<Command<'a>, Error>
 {
     let about = "Shows what a program does, a row for each step";
     let symbols = "A file of names for an image, as asm --symbols writes it [default: none]";
-    let from = "Where the trace begins: a name, an address, or a sum of both [default: the start]";
+    let from = "Where the trace begins: a name, an address, or FILE:LINE [default: the start]";
     let to = "Where the trace ends, likewise [default: where the program ends]";
     let steps = "The most steps from where the trace begins [default: no limit]";
     let stores = "Shows what each step stored, and where";

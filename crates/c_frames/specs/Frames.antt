@@ -90,6 +90,7 @@ base_in p depths at function = option_map (λ rise. base_of p function (entry_of
 abbrev pub frame_at : Program → List Depth → Standing → Frame
 frame_at p depths at = record {
   address = at.pc;
+  s = at.s;
   sp = at.sp;
   function = function_at p.functions at.pc;
   base = option_and_then (base_in p depths at) (function_at p.functions at.pc);

@@ -27,10 +27,11 @@ mod tests;
 mod walk;
 mod ways;
 
-pub use closing::{depths, rests};
+pub use bytes::word_at;
+pub use closing::{depth_at, depths, rests};
 pub use locals::{Local, local_at};
 pub use names::effect_named;
 pub use programs::{Function, Program};
 pub use rises::{Depth, Rise};
 pub use routines::{Effect, Routine};
-pub use walk::{Frame, Standing, frames};
+pub use walk::{Frame, Standing, frames, known, pushed_first};

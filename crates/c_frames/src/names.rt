@@ -195,11 +195,11 @@ fn routine_names() -> &'static [(&'static str, Effect)]
 }
 
 /// Returns what the first of some routines does that has a name.
-fn find_named(name: &str, rows: &[(&str, Effect)]) -> Option<Effect>
+fn find_named(name: &[u8], rows: &[(&str, Effect)]) -> Option<Effect>
     ensures { result ≡ find_named name.now (map row_view rows.now) }
 {
     for (known, effect) in rows {
-        if name == *known {
+        if name == known.as_bytes() {
             return Some(*effect);
         }
     }
@@ -207,7 +207,7 @@ fn find_named(name: &str, rows: &[(&str, Effect)]) -> Option<Effect>
 }
 
 /// Returns what the routine of a name does, if it is known.
-pub fn effect_named(name: &str) -> Option<Effect>
+pub fn effect_named(name: &[u8]) -> Option<Effect>
     ensures { result ≡ effect_named name.now }
 {
     find_named(name, routine_names())

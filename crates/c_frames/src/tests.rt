@@ -26,11 +26,11 @@ fn frames_of_a_call(rt: HostRuntime) -> Result<(), Fail> {
     let routines = [
         Routine {
             address: 0x0220,
-            effect: effect_named("pushax").ok_or("pushax")?,
+            effect: effect_named(b"pushax").ok_or("pushax")?,
         },
         Routine {
             address: 0x0223,
-            effect: effect_named("incsp2").ok_or("incsp2")?,
+            effect: effect_named(b"incsp2").ok_or("incsp2")?,
         },
     ];
     let functions = [

@@ -29,10 +29,11 @@ pub struct Standing {
     pub sp: u16,
 }
 
-/// A frame: the instruction at which it stands, the software stack pointer there, and its function.
+/// A frame: the instruction at which it stands, both stack pointers before it, and its function.
 #[derive(Clone, Copy)]
 pub struct Frame {
     pub address: u16,
+    pub s: u8,
     pub sp: u16,
     pub function: Option<Function>,
     /// What the software stack pointer was once the function's last parameter was pushed.
@@ -177,6 +178,7 @@ fn frame_at(program: &Program<'_>, depths: &[Depth], at: Standing) -> Frame
     };
     Frame {
         address: at.pc,
+        s: at.s,
         sp: at.sp,
         function,
         base,

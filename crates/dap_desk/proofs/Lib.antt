@@ -1,1 +1,2 @@
 mod BreakList
+mod LineRuns

@@ -63,6 +63,11 @@ words_of end.Stuck = STUCK.now
 words_of end.NoHandler = NO_HANDLER.now
 words_of end.Waits = WAITS.now
 
+-- At a line a step has ended.
+abbrev pub line_words : EndWhy → List ℕ
+line_words end.Met = codes "step"
+line_words other = words_of other
+
 abbrev pub run_words : EndWhy → List ℕ
 run_words (end.Stopped why.Limit) = NO_STOP.now
 run_words other = words_of other

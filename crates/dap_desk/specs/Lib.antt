@@ -1,3 +1,4 @@
 pub mod Breaks
 pub mod Halts
+pub mod Lines
 pub mod Moves

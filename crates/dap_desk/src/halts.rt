@@ -2,8 +2,8 @@
 
 ghost use Rattle.std.specs.Prelude.{◌≡◌, None, if◌then◌else◌, nat_eq};
 ghost use Rattle.std.specs.List.{list_any};
-ghost use Rattle.dap_desk.specs.Halts.{back_reason, back_words, fault_of, reason_of, run_reason};
-ghost use Rattle.dap_desk.specs.Halts.{run_words, stop_reason, stop_words, words_of};
+ghost use Rattle.dap_desk.specs.Halts.{back_reason, back_words, fault_of, line_words, reason_of};
+ghost use Rattle.dap_desk.specs.Halts.{run_reason, run_words, stop_reason, stop_words, words_of};
 
 use dap_messages::{Halt, Reason, stand_by};
 use mon_runs::{EndWhy, Session, Why};
@@ -38,6 +38,18 @@ pub fn end_halt(why: EndWhy, to_stop: bool) -> Halt
         EndWhy::Stuck => stand_by(Reason::Pause, STUCK),
         EndWhy::NoHandler => stand_by(Reason::Pause, NO_HANDLER),
         EndWhy::Waits => stand_by(Reason::Pause, WAITS),
+    }
+}
+
+/// Returns why a run to a line has ended.
+pub fn line_halt(why: EndWhy) -> Halt
+    ensures reason { result.reason ≡ reason_of why }
+    ensures words { result.words.now ≡ line_words why }
+    ensures fault { result.fault ≡ fault_of why }
+{
+    match why {
+        EndWhy::Met => stand_by(Reason::Step, "step"),
+        why => end_halt(why, false),
     }
 }
 

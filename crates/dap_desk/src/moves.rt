@@ -1,31 +1,35 @@
 //! Moves of the machine.
 
-ghost use Rattle.std.specs.Prelude.{◌≡◌};
-ghost use Rattle.dap_desk.specs.Moves.{moved, moved_fault, moved_reason, moved_words};
+ghost use Rattle.std.specs.Prelude.{◌≡◌, IfOk, OnOk};
+ghost use Rattle.dap_desk.specs.Moves.{moved, moved_fault, moved_reason, moved_words, plain_fault};
+ghost use Rattle.dap_desk.specs.Moves.{plain_moved, plain_reason, plain_words};
 ghost use Rattle.mon_steps.specs.RunLines.{KeepsWatches, stand_of};
 
 use crate::halts::{back_halt, end_halt};
+use crate::lines::{back_over_line, go_to_line, goes_by_lines};
 use dap_messages::{Halt, Move};
 use mon_runs::{back_over, back_to_stop, go, out, over, run};
 use mon_session::MonState;
+use std::alloc::{AllocError, Global};
 
 /// The opcode of JSR.
 const JSR: u8 = 0x20;
 
-/// Makes a move, a run of at most so many steps, and returns why the machine stands then.
-pub fn make_move(mon: &mut MonState, steps: Option<u32>, way: Move) -> Halt
-    ensures stand { stand_of mon.new ≡ moved steps way mon.old }
+/// Makes a move by instructions, a run of at most so many steps, and returns why the machine stands
+/// then.
+fn move_plainly(mon: &mut MonState, steps: Option<u32>, way: Move) -> Halt
+    ensures stand { stand_of mon.new ≡ plain_moved steps way mon.old }
     ensures watches { KeepsWatches mon.old mon.new }
     ensures text { mon.new.text ≡ mon.old.text }
-    ensures reason { result.reason ≡ moved_reason steps way mon.old }
-    ensures words { result.words.now ≡ moved_words steps way mon.old }
-    ensures fault { result.fault ≡ moved_fault steps way mon.old }
+    ensures reason { result.reason ≡ plain_reason steps way mon.old }
+    ensures words { result.words.now ≡ plain_words steps way mon.old }
+    ensures fault { result.fault ≡ plain_fault steps way mon.old }
 {
     let end = match way {
         Move::Over if mon.session.peek(mon.session.regs().pc) == JSR => {
             over(&mut mon.session, &mut mon.stops)
         }
-        Move::Over | Move::Step => run(&mut mon.session, &mut mon.stops, 1),
+        Move::Over | Move::In | Move::Step => run(&mut mon.session, &mut mon.stops, 1),
         Move::Out => out(&mut mon.session, &mut mon.stops),
         Move::Go => match steps {
             Some(count) => run(&mut mon.session, &mut mon.stops, count),
@@ -52,4 +56,51 @@ pub fn make_move(mon: &mut MonState, steps: Option<u32>, way: Move) -> Halt
     };
     mon.events.note_steps(end.did);
     end_halt(end.why, matches!(way, Move::Go))
+}
+
+/// Makes a move, a run of at most so many steps, and returns why the machine stands then. `next`,
+/// `stepIn` and `stepBack` go by lines, where they can.
+///
+/// Errors: `AllocError` if an allocation fails; nothing is changed then.
+pub fn make_move(
+    alloc: Global,
+    mon: &mut MonState,
+    steps: Option<u32>,
+    way: Move,
+) -> Result<Halt, AllocError>
+    ensures stand { OnOk result (stand_of mon.new ≡ moved steps way mon.old) }
+    ensures watches { KeepsWatches mon.old mon.new }
+    ensures text { mon.new.text ≡ mon.old.text }
+    ensures reason { IfOk result (λ halt. halt.reason ≡ moved_reason steps way mon.old) }
+    ensures words { IfOk result (λ halt. halt.words.now ≡ moved_words steps way mon.old) }
+    ensures fault { IfOk result (λ halt. halt.fault ≡ moved_fault steps way mon.old) }
+{
+    match way {
+        Move::Over => {
+            if goes_by_lines(mon) {
+                go_to_line(alloc, mon, false)
+            } else {
+                Ok(move_plainly(mon, steps, Move::Over))
+            }
+        }
+        Move::In => {
+            if goes_by_lines(mon) {
+                go_to_line(alloc, mon, true)
+            } else {
+                Ok(move_plainly(mon, steps, Move::In))
+            }
+        }
+        Move::BackOver => {
+            if goes_by_lines(mon) {
+                back_over_line(alloc, mon)
+            } else {
+                Ok(move_plainly(mon, steps, Move::BackOver))
+            }
+        }
+        Move::Step => Ok(move_plainly(mon, steps, Move::Step)),
+        Move::Out => Ok(move_plainly(mon, steps, Move::Out)),
+        Move::Go => Ok(move_plainly(mon, steps, Move::Go)),
+        Move::Back => Ok(move_plainly(mon, steps, Move::Back)),
+        Move::BackToStop => Ok(move_plainly(mon, steps, Move::BackToStop)),
+    }
 }

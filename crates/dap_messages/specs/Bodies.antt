@@ -1,5 +1,5 @@
 -- The bodies of answers. Source: Debug Adapter Protocol 1.65.
-use Rattle.std.specs.Prelude.{ℕ, Bool, true, false, if◌then◌else◌, List, [], ◌∷◌, codes, map}
+use Rattle.std.specs.Prelude.{ℕ, ◌+◌, Bool, true, false, if◌then◌else◌, List, [], ◌∷◌, ◌++◌, codes, map, Option, None, Some}
 use Rattle.json_messages.specs.Values.{count, flag, list_of, object_of, word}
 use Rattle.serde_json.specs.Data.{Data, array, item, no_items}
 
@@ -34,7 +34,8 @@ capabilities = all_true (codes "supportsBreakpointLocationsRequest"
     ∷ codes "supportsEvaluateForHovers" ∷ codes "supportsExceptionInfoRequest"
     ∷ codes "supportsFunctionBreakpoints" ∷ codes "supportsGotoTargetsRequest"
     ∷ codes "supportsHitConditionalBreakpoints"
-    ∷ codes "supportsInstructionBreakpoints" ∷ codes "supportsLogPoints"
+    ∷ codes "supportsInstructionBreakpoints" ∷ codes "supportsLoadedSourcesRequest"
+    ∷ codes "supportsLogPoints"
     ∷ codes "supportsReadMemoryRequest" ∷ codes "supportsRestartRequest"
     ∷ codes "supportsSetExpression"
     ∷ codes "supportsSetVariable" ∷ codes "supportsStepBack"
@@ -53,15 +54,27 @@ abbrev pub scope : List ℕ → ℕ → Data
 scope name n = object_of ((codes "expensive", flag false) ∷ (codes "name", word name)
     ∷ (codes "variablesReference", count n) ∷ [])
 
-unfoldable pub first_scopes : Data
-first_scopes = list_body (codes "scopes") (scope (codes "Registers") 1 ∷ scope (codes "Flags") 2
+-- The locals of the frame of a number have a number of their own.
+abbrev pub locals_scope : ℕ → Data
+locals_scope frame = object_of ((codes "expensive", flag false)
+    ∷ (codes "name", word (codes "Locals"))
+    ∷ (codes "presentationHint", word (codes "locals"))
+    ∷ (codes "variablesReference", count (131072 + frame)) ∷ [])
+
+abbrev pub locals_scopes : Option ℕ → List Data
+locals_scopes None = []
+locals_scopes (Some frame) = locals_scope frame ∷ []
+
+unfoldable pub first_scopes : List Data
+first_scopes = scope (codes "Registers") 1 ∷ scope (codes "Flags") 2
     ∷ scope (codes "Symbols") 3 ∷ scope (codes "Stack") 4 ∷ scope (codes "Zero page") 5
-    ∷ scope (codes "Machine") 6 ∷ [])
+    ∷ scope (codes "Machine") 6 ∷ []
 
 -- The registers of a frame that was left by a call or an interrupt are not known.
-unfoldable pub other_scopes : Data
-other_scopes = list_body (codes "scopes") (scope (codes "Symbols") 3 ∷ scope (codes "Stack") 4
-    ∷ scope (codes "Zero page") 5 ∷ scope (codes "Machine") 6 ∷ [])
+unfoldable pub other_scopes : List Data
+other_scopes = scope (codes "Symbols") 3 ∷ scope (codes "Stack") 4
+    ∷ scope (codes "Zero page") 5 ∷ scope (codes "Machine") 6 ∷ []
 
-abbrev pub scopes : Bool → Data
-scopes is_first = if is_first then first_scopes else other_scopes
+abbrev pub scopes : Bool → Option ℕ → Data
+scopes is_first locals = list_body (codes "scopes")
+    (locals_scopes locals ++ (if is_first then first_scopes else other_scopes))

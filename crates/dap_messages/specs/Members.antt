@@ -20,6 +20,8 @@ path_of member.Port = codes "/arguments/port"
 path_of member.Rom = codes "/arguments/rom"
 path_of member.Profile = codes "/arguments/profile"
 path_of member.Symbols = codes "/arguments/symbols"
+path_of member.DebugInfo = codes "/arguments/debugInfo"
+path_of member.SourceRoot = codes "/arguments/sourceRoot"
 path_of member.History = codes "/arguments/history"
 path_of member.Steps = codes "/arguments/steps"
 path_of member.StopOnEntry = codes "/arguments/stopOnEntry"
@@ -37,11 +39,14 @@ form_of member.Port = form.Text
 form_of member.Rom = form.Text
 form_of member.Profile = form.Text
 form_of member.Symbols = form.Text
+form_of member.DebugInfo = form.Text
+form_of member.SourceRoot = form.Text
 
 -- All of them, in the order in which they are looked at.
 unfoldable pub members : List Member
 members = member.Program ∷ member.Tape ∷ member.Bin ∷ member.Prg ∷ member.Port ∷ member.Rom
-    ∷ member.Profile ∷ member.Symbols ∷ member.History ∷ member.Steps ∷ member.StopOnEntry ∷ []
+    ∷ member.Profile ∷ member.Symbols ∷ member.DebugInfo ∷ member.SourceRoot ∷ member.History
+    ∷ member.Steps ∷ member.StopOnEntry ∷ []
 
 -- ---- values
 

@@ -44,7 +44,7 @@ shows name kind = in_session name (session.Shows kind)
 unfoldable pub names : List Row
 names = (codes "initialize", to.Initialize) ∷ (codes "launch", to.Launch)
     ∷ (codes "attach", to.Attach) ∷ (codes "disconnect", to.Disconnect)
-    ∷ moves (codes "next") move.Over ∷ moves (codes "stepIn") move.Step
+    ∷ moves (codes "next") move.Over ∷ moves (codes "stepIn") move.In
     ∷ moves (codes "stepOut") move.Out ∷ moves (codes "stepBack") move.BackOver
     ∷ moves (codes "continue") move.Go ∷ moves (codes "reverseContinue") move.BackToStop
     ∷ sets (codes "setBreakpoints") list.Source
@@ -59,6 +59,7 @@ names = (codes "initialize", to.Initialize) ∷ (codes "launch", to.Launch)
     ∷ shows (codes "readMemory") query.ReadMemory ∷ shows (codes "disassemble") query.Disassemble
     ∷ shows (codes "gotoTargets") query.GotoTargets
     ∷ shows (codes "breakpointLocations") query.BreakpointLocations
+    ∷ shows (codes "loadedSources") query.LoadedSources
     ∷ shows (codes "dataBreakpointInfo") query.DataBreakpointInfo
     ∷ shows (codes "completions") query.Completions
     ∷ shows (codes "exceptionInfo") query.ExceptionInfo
@@ -69,7 +70,8 @@ names = (codes "initialize", to.Initialize) ∷ (codes "launch", to.Launch)
     ∷ in_session (codes "terminate") session.Terminate ∷ []
 
 unfoldable pub moves_by_instructions : List Row
-moves_by_instructions = moves (codes "next") move.Step ∷ moves (codes "stepBack") move.Back ∷ []
+moves_by_instructions = moves (codes "next") move.Step ∷ moves (codes "stepIn") move.Step
+    ∷ moves (codes "stepBack") move.Back ∷ []
 
 -- The first of some requests that has a name, or else what is given.
 abbrev pub find : RequestName → List ℕ → List Row → RequestName

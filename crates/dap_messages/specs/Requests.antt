@@ -51,9 +51,13 @@ target_in request
 
 -- A word of the zero page has the number of its address, behind all 16-bit numbers. The last byte has
 -- none behind it.
+abbrev pub locals_of : ℕ → Option Scope
+locals_of number = if nat_le 131072 number && nat_lt number 196608
+    then Some (scope.Locals (number - 131072)) else None
+
 abbrev pub word_of : ℕ → Option Scope
 word_of number = if nat_le 65536 number && nat_lt number 65791
-    then Some (scope.Word (number - 65536)) else None
+    then Some (scope.Word (number - 65536)) else locals_of number
 
 -- A scope has a number, by which its variables are asked for.
 unfoldable pub scope_of : ℕ → Option Scope
@@ -166,6 +170,7 @@ expression_change request = seen.set_variable
 abbrev pub change_by : Data → ChangeName → SeenChange
 change_by request change.Evaluate
     = seen.evaluate (text_in (codes "/arguments/expression") request) (is_console request)
+    (number_at (codes "/arguments/frameId") request)
 change_by request change.SetVariable = seen.set_variable (scope_in request)
     (text_in (codes "/arguments/name") request) (text_in (codes "/arguments/value") request)
 change_by request change.SetExpression = expression_change request
@@ -208,6 +213,7 @@ query_by request query.Disassemble = seen.disassemble (memory_in request)
 query_by request query.GotoTargets
     = seen.goto_targets (path_in request) (number_at (codes "/arguments/line") request)
 query_by request query.BreakpointLocations = locations_query request
+query_by request query.LoadedSources = seen.loaded_sources
 query_by request query.DataBreakpointInfo = data_query request
 query_by request query.Completions = seen.completions (text_in (codes "/arguments/text") request)
     (number_at (codes "/arguments/column") request)
@@ -260,6 +266,8 @@ launch_of request = record {
   rom = text_at (codes "/arguments/rom") request;
   profile = text_at (codes "/arguments/profile") request;
   symbols = text_at (codes "/arguments/symbols") request;
+  debug_info = text_at (codes "/arguments/debugInfo") request;
+  source_root = text_at (codes "/arguments/sourceRoot") request;
   history = number_at (codes "/arguments/history") request;
   steps = number_at (codes "/arguments/steps") request;
   stop_on_entry = unwrap_or (flag_at (codes "/arguments/stopOnEntry") request) true;

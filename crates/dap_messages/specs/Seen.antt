@@ -76,13 +76,13 @@ breakpoints_view (list.Data listed) = of_bytes listed.items
 -- ---- changes and questions
 
 pub data SeenChange : Type 0 where
-  evaluate : List ℕ → Bool → SeenChange
+  evaluate : List ℕ → Bool → Option ℕ → SeenChange
   set_variable : Option Scope → List ℕ → List ℕ → SeenChange
   goto : Option ℕ → SeenChange
   write_memory : Option ℕ → List ℕ → Bool → SeenChange
 
 abbrev pub change_view : Change → SeenChange
-change_view (change.Evaluate text is_console) = evaluate text.now is_console
+change_view (change.Evaluate text is_console frame) = evaluate text.now is_console frame
 change_view (change.SetVariable scope name value) = set_variable scope name.now value.now
 change_view (change.Goto address) = goto address
 change_view (change.WriteMemory address data_text is_partial)
@@ -97,6 +97,7 @@ pub data SeenQuery : Type 0 where
   disassemble : Option ℕ → ℤ → ℕ → SeenQuery
   goto_targets : List ℕ → Option ℕ → SeenQuery
   breakpoint_locations : List ℕ → Option ℕ → Option ℕ → SeenQuery
+  loaded_sources : SeenQuery
   data_breakpoint_info : Option Scope → List ℕ → Option ℕ → Bool → SeenQuery
   completions : List ℕ → Option ℕ → SeenQuery
   exception_info : SeenQuery
@@ -113,6 +114,7 @@ query_view (query.ReadMemory address count) = read_memory address count
 query_view (query.Disassemble address offset count) = disassemble address offset count
 query_view (query.GotoTargets path line) = goto_targets path.now line
 query_view (query.BreakpointLocations path line end) = breakpoint_locations path.now line end
+query_view query.LoadedSources = loaded_sources
 query_view (query.DataBreakpointInfo scope name count is_address)
     = data_breakpoint_info scope name.now count is_address
 query_view (query.Completions text column) = completions text.now column
@@ -156,6 +158,8 @@ pub record SeenLaunch : Type 0 where
   pub rom : Option (List ℕ)
   pub profile : Option (List ℕ)
   pub symbols : Option (List ℕ)
+  pub debug_info : Option (List ℕ)
+  pub source_root : Option (List ℕ)
   pub history : Option ℕ
   pub steps : Option ℕ
   pub stop_on_entry : Bool
@@ -173,6 +177,8 @@ launch_view l = record {
   rom = text_view l.rom;
   profile = text_view l.profile;
   symbols = text_view l.symbols;
+  debug_info = text_view l.debug_info;
+  source_root = text_view l.source_root;
   history = l.history;
   steps = l.steps;
   stop_on_entry = l.stop_on_entry;

@@ -16,6 +16,8 @@ pub data SeenItem : Type 0 where
   plain_variable : List ℕ → List ℕ → SeenItem
   -- The byte at an address, under a name, with its value.
   variable_at : List ℕ → ℕ → List ℕ → SeenItem
+  -- A local of C at an address, under its name, with its value.
+  local_at : List ℕ → ℕ → List ℕ → SeenItem
   -- A number, an address and words, a line, a column, and the name and the path of a source.
   frame_at_line : ℕ → ℕ → List ℕ → ℕ → ℕ → List ℕ → List ℕ → SeenItem
   -- A number, an address and words.
@@ -37,6 +39,8 @@ pub data SeenItem : Type 0 where
   place_on : ℕ → SeenItem
   -- An address that can be gone to, and its line.
   goto_target : ℕ → ℕ → SeenItem
+  -- A file of the source, by its name and its path.
+  source_file : List ℕ → List ℕ → SeenItem
   -- A text, the column that it stands from, and for how many bytes it stands.
   completion_item : List ℕ → ℕ → ℕ → SeenItem
 
@@ -45,6 +49,8 @@ item_view (item.Variable name value) = variable (string_bytes name) (string_byte
 item_view (item.PlainVariable name value) = plain_variable (string_bytes name) (string_bytes value)
 item_view (item.Byte name address value)
     = variable_at (string_bytes name) address (string_bytes value)
+item_view (item.Local name address value)
+    = local_at (string_bytes name) address (string_bytes value)
 item_view (item.FrameAtLine id address words line column name path) = frame_at_line id address
     (string_bytes words) line column (string_bytes name) (string_bytes path)
 item_view (item.Frame id address words) = frame_without_line id address (string_bytes words)
@@ -59,6 +65,7 @@ item_view item.Watched = data_watched
 item_view (item.Unwatched words) = data_unwatched (string_bytes words)
 item_view (item.Place line) = place_on line
 item_view (item.GotoTarget address line) = goto_target address line
+item_view (item.Source name path) = source_file (string_bytes name) (string_bytes path)
 item_view (item.Completion text start count) = completion_item (string_bytes text) start count
 
 -- ---- answers
@@ -70,11 +77,12 @@ pub data SeenAnswer : Type 0 where
   -- The machine runs.
   continued : SeenAnswer
   threads : SeenAnswer
-  -- Of the first frame, or of another.
-  scopes : Bool → SeenAnswer
+  -- Of the first frame, or of another, with the number of the frame if it has locals.
+  scopes : Bool → Option ℕ → SeenAnswer
   breakpoints_body : List SeenItem → SeenAnswer
   targets_body : List SeenItem → SeenAnswer
   instructions_body : List SeenItem → SeenAnswer
+  sources_body : List SeenItem → SeenAnswer
   variables_body : List SeenItem → SeenAnswer
   -- Some frames, and how many there are.
   frames_body : List SeenItem → ℕ → SeenAnswer
@@ -101,10 +109,11 @@ answer_view answer.Nothing = nothing
 answer_view answer.Capabilities = capabilities
 answer_view answer.Continued = continued
 answer_view answer.Threads = threads
-answer_view (answer.Scopes is_first) = scopes is_first
+answer_view (answer.Scopes is_first locals) = scopes is_first locals
 answer_view (answer.Breakpoints items) = breakpoints_body (map item_view items.items)
 answer_view (answer.Targets items) = targets_body (map item_view items.items)
 answer_view (answer.Instructions items) = instructions_body (map item_view items.items)
+answer_view (answer.Sources items) = sources_body (map item_view items.items)
 answer_view (answer.Variables items) = variables_body (map item_view items.items)
 answer_view (answer.Frames items total) = frames_body (map item_view items.items) total
 answer_view (answer.Memory address text unread) = memory_body address (string_bytes text) unread

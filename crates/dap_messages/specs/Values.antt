@@ -32,6 +32,10 @@ abbrev pub frames_body : List Data → ℕ → Data
 frames_body ds total = object_of ((codes "stackFrames", list_of ds)
     ∷ (codes "totalFrames", count total) ∷ [])
 
+-- The files of the program's source.
+abbrev pub sources_body : List Data → Data
+sources_body ds = list_body (codes "sources") ds
+
 -- ---- a disassembly
 
 -- An instruction has an address, its bytes and its text.

@@ -3,7 +3,7 @@
 use Rattle.std.specs.Prelude.{ℕ, ◌+◌, nat_lt, if◌then◌else◌, List, [], ◌∷◌, codes}
 use Rattle.dap_messages.specs.Bodies.{list_body}
 use Rattle.dap_messages.specs.Texts.{reference}
-use Rattle.json_messages.specs.Values.{count, object_of, word}
+use Rattle.json_messages.specs.Values.{count, list_of, object_of, word}
 use Rattle.serde_json.specs.Data.{Data}
 
 -- A variable of a name, with its value. It has no variables of its own.
@@ -28,6 +28,17 @@ variable_with name address value number = object_of ((codes "evaluateName", word
 
 abbrev pub variable_at : List ℕ → ℕ → List ℕ → Data
 variable_at name address value = variable_with name address value (word_number address)
+
+-- That a value cannot be set.
+abbrev pub read_only : Data
+read_only = object_of ((codes "attributes", list_of (word (codes "readOnly") ∷ [])) ∷ [])
+
+-- A local of C has a reference to its first byte. It is not set under its name: its bytes are.
+abbrev pub local_at : List ℕ → ℕ → List ℕ → Data
+local_at name address value = object_of ((codes "evaluateName", word name)
+    ∷ (codes "memoryReference", word (reference address)) ∷ (codes "name", word name)
+    ∷ (codes "presentationHint", read_only) ∷ (codes "value", word value)
+    ∷ (codes "variablesReference", count 0) ∷ [])
 
 abbrev pub variables_body : List Data → Data
 variables_body ds = list_body (codes "variables") ds

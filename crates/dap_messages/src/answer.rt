@@ -5,7 +5,7 @@ ghost use Rattle.dap_messages.specs.ItemLists.{HasItems};
 ghost use Rattle.dap_messages.specs.SeenAnswers.{SeenItem, answer_view, breakpoints_body};
 ghost use Rattle.dap_messages.specs.SeenAnswers.{exception_body, frames_body, instructions_body};
 ghost use Rattle.dap_messages.specs.SeenAnswers.{item_view, look_body, memory_body, no_data};
-ghost use Rattle.dap_messages.specs.SeenAnswers.{targets_body, variables_body};
+ghost use Rattle.dap_messages.specs.SeenAnswers.{sources_body, targets_body, variables_body};
 
 use crate::item::Item;
 use crate::item_list::ItemList;
@@ -21,14 +21,18 @@ pub enum Answer {
     /// The machine runs.
     Continued,
     Threads,
-    /// The scopes of the first frame, or of another.
+    /// The scopes of the first frame, or of another. The locals are those of the frame of a
+    /// number, if there are some.
     Scopes {
         is_first: bool,
+        locals: Option<u16>,
     },
     Breakpoints(Vec<Item>),
     /// Addresses that can be gone to, or what can stand for what is typed.
     Targets(Vec<Item>),
     Instructions(Vec<Item>),
+    /// The files of the program's source.
+    Sources(Vec<Item>),
     Variables(Vec<Item>),
     /// Some frames, and how many there are.
     Frames {
@@ -83,6 +87,15 @@ pub fn instructions_body(list: ItemList) -> Result<Answer, AllocError>
 {
     let items = list.build()?;
     Ok(Answer::Instructions(items))
+}
+
+/// Returns the answer that has the files of the program's source.
+pub fn sources_body(list: ItemList) -> Result<Answer, AllocError>
+    ensures { (ds : List SeenItem) → HasItems ds list
+        → IfOk result (λ v. answer_view v ≡ sources_body ds) }
+{
+    let items = list.build()?;
+    Ok(Answer::Sources(items))
 }
 
 /// Returns the answer that has variables, if memory did not run out for them.

@@ -6,8 +6,9 @@ ghost use Rattle.dap_messages.specs.SeenAnswers.{breakpoint_set, breakpoint_unse
 ghost use Rattle.dap_messages.specs.SeenAnswers.{completion_item, data_unwatched, data_watched};
 ghost use Rattle.dap_messages.specs.SeenAnswers.{frame_at_line, frame_without_line, goto_target};
 ghost use Rattle.dap_messages.specs.SeenAnswers.{instruction_at_line, instruction_row, item_view};
+ghost use Rattle.dap_messages.specs.SeenAnswers.{local_at};
 ghost use Rattle.dap_messages.specs.SeenAnswers.{no_instruction, place_on, plain_variable};
-ghost use Rattle.dap_messages.specs.SeenAnswers.{variable, variable_at};
+ghost use Rattle.dap_messages.specs.SeenAnswers.{source_file, variable, variable_at};
 
 use std::alloc::{AllocError, Global};
 
@@ -26,6 +27,12 @@ pub enum Item {
     },
     /// The byte at an address, as a variable.
     Byte {
+        name: String,
+        address: u16,
+        value: String,
+    },
+    /// A local of C that begins at an address, as a variable.
+    Local {
         name: String,
         address: u16,
         value: String,
@@ -86,6 +93,11 @@ pub enum Item {
         address: u16,
         line: u64,
     },
+    /// A file of the source, by its short name and its path.
+    Source {
+        name: String,
+        path: String,
+    },
     /// A text that can stand for `count` bytes from a column on.
     Completion {
         text: String,
@@ -145,6 +157,26 @@ pub fn variable_at(
     let value = value?;
     let name = String::from_str(alloc, name)?;
     Ok(Item::Byte {
+        name,
+        address,
+        value,
+    })
+}
+
+/// Returns a local of C that begins at an address as a variable, if memory did not run out for its
+/// name and its value.
+pub fn local_at(
+    name: Result<String, AllocError>,
+    address: u16,
+    value: Result<String, AllocError>,
+) -> Result<Item, AllocError>
+    ensures { (n bytes : List ℕ) → IfOk name (λ s. string_bytes s ≡ n)
+        → IfOk value (λ s. string_bytes s ≡ bytes)
+        → IfOk result (λ v. item_view v ≡ local_at n address bytes) }
+{
+    let name = name?;
+    let value = value?;
+    Ok(Item::Local {
         name,
         address,
         value,
@@ -265,6 +297,15 @@ pub fn data_unwatched(alloc: Global, words: &str) -> Result<Item, AllocError>
 {
     let words = String::from_str(alloc, words)?;
     Ok(Item::Unwatched(words))
+}
+
+/// Returns a file of the source, by its short name and its path.
+pub fn source_file(alloc: Global, name: &str, path: &str) -> Result<Item, AllocError>
+    ensures { IfOk result (λ v. item_view v ≡ source_file name.now path.now) }
+{
+    let name = String::from_str(alloc, name)?;
+    let path = String::from_str(alloc, path)?;
+    Ok(Item::Source { name, path })
 }
 
 /// Returns a name that can stand for `count` bytes from a column on.

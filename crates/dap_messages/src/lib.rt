@@ -46,20 +46,20 @@ mod written;
 
 pub use answer::{
     Answer, breakpoints_body, exception, frames_body, instructions_body, look_body, memory_body,
-    no_data, targets_body, variables_body,
+    no_data, sources_body, targets_body, variables_body,
 };
 pub use client_event::{Category, ClientEvent};
 pub use counting::Counting;
 pub use halt::{Halt, Reason, stand_by};
 pub use item::{
     Item, SourcePlace, breakpoint_unset, completion_item, data_unwatched, frame_at_line,
-    frame_without_line, instruction_at_line, instruction_row, no_instruction, plain_variable,
-    variable, variable_at,
+    frame_without_line, instruction_at_line, instruction_row, local_at, no_instruction,
+    plain_variable, source_file, variable, variable_at,
 };
 pub use item_list::ItemList;
 pub use listed::{
-    AddressList, FunctionList, LineList, Listed, Placed, Told, number_addresses, number_functions,
-    number_lines,
+    AddressList, FileLines, FunctionList, LineList, Listed, Placed, Told, number_addresses,
+    number_functions, number_lines,
 };
 pub use members::{Form, Member};
 pub use message::{Message, message_value, next_number};

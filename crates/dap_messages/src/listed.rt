@@ -9,11 +9,13 @@ use crate::message::next_number;
 use crate::request::{DataBreakpoint, FunctionBreakpoint, InstructionBreakpoint, SourceBreakpoint};
 use std::alloc::Global;
 
-/// A breakpoint that stands at an address, with its number.
+/// A breakpoint that stands at an address, with its number, and the file of the source of which it
+/// stands at a line, if it was listed so.
 #[derive(Clone, Copy)]
 pub struct Placed {
     pub id: u64,
     pub address: u16,
+    pub file: Option<usize>,
 }
 
 /// Breakpoints at lines, as a client has listed them. The first has this number, and each other the
@@ -22,6 +24,13 @@ pub struct Placed {
 pub struct LineList {
     pub first: u64,
     pub list: Vec<SourceBreakpoint>,
+}
+
+/// Breakpoints at lines of a file of the source.
+#[derive(Drop)]
+pub struct FileLines {
+    pub file: usize,
+    pub lines: LineList,
 }
 
 /// Breakpoints at addresses, as a client has listed them, numbered so too.
@@ -41,14 +50,15 @@ pub struct FunctionList {
 /// The breakpoints that a client has listed.
 #[derive(Drop)]
 pub struct Listed {
-    /// Where those of the source stand that are set.
+    /// Where those at lines stand that are set.
     pub lines: Vec<Placed>,
     /// Where those at addresses stand that are set.
     pub addresses: Vec<Placed>,
     /// Where those at names stand that are set.
     pub functions: Vec<Placed>,
-    /// What the last request for each kind has listed, if there was one.
-    pub last_lines: Option<LineList>,
+    /// What the last request for each file of the source has listed.
+    pub last_lines: Vec<FileLines>,
+    /// What the last request for each other kind has listed, if there was one.
     pub last_addresses: Option<AddressList>,
     pub last_functions: Option<FunctionList>,
     pub last_bytes: Option<Vec<DataBreakpoint>>,
@@ -62,12 +72,13 @@ impl Listed {
         ensures lines { result.lines.items ≡ [] }
         ensures addresses { result.addresses.items ≡ [] }
         ensures functions { result.functions.items ≡ [] }
+        ensures last { result.last_lines.items ≡ [] }
     {
         Listed {
             lines: Vec::new(alloc),
             addresses: Vec::new(alloc),
             functions: Vec::new(alloc),
-            last_lines: None,
+            last_lines: Vec::new(alloc),
             last_addresses: None,
             last_functions: None,
             last_bytes: None,

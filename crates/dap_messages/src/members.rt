@@ -22,6 +22,8 @@ pub enum Member {
     Rom,
     Profile,
     Symbols,
+    DebugInfo,
+    SourceRoot,
     History,
     Steps,
     StopOnEntry,
@@ -38,7 +40,7 @@ pub enum Form {
 }
 
 /// All members, in the order in which they are looked at.
-const MEMBERS: [Member; 11] = [
+const MEMBERS: [Member; 13] = [
     Member::Program,
     Member::Tape,
     Member::Bin,
@@ -47,6 +49,8 @@ const MEMBERS: [Member; 11] = [
     Member::Rom,
     Member::Profile,
     Member::Symbols,
+    Member::DebugInfo,
+    Member::SourceRoot,
     Member::History,
     Member::Steps,
     Member::StopOnEntry,
@@ -64,6 +68,8 @@ impl Member {
             Member::Rom => "rom takes a text: two addresses, as C000-FFFF",
             Member::Profile => "profile takes a text: N or C",
             Member::Symbols => "symbols takes a text: the path of a file of names",
+            Member::DebugInfo => "debugInfo takes a text: the path of a file of debug information",
+            Member::SourceRoot => "sourceRoot takes a text: the path of a folder",
             Member::History => "history takes a number from 0 to 1048576",
             Member::Steps => "steps takes a number from 1 to 4294967295",
             Member::StopOnEntry => "stopOnEntry takes true or false",
@@ -92,6 +98,8 @@ fn path_of(member: Member) -> &'static str
         Member::Rom => "/arguments/rom",
         Member::Profile => "/arguments/profile",
         Member::Symbols => "/arguments/symbols",
+        Member::DebugInfo => "/arguments/debugInfo",
+        Member::SourceRoot => "/arguments/sourceRoot",
         Member::History => "/arguments/history",
         Member::Steps => "/arguments/steps",
         Member::StopOnEntry => "/arguments/stopOnEntry",
@@ -114,6 +122,7 @@ fn form_of(member: Member) -> Form
         },
         Member::Program | Member::Bin | Member::Port => Form::Text,
         Member::Rom | Member::Profile | Member::Symbols => Form::Text,
+        Member::DebugInfo | Member::SourceRoot => Form::Text,
     }
 }
 

@@ -40,6 +40,7 @@ pub enum QueryName {
     Disassemble,
     GotoTargets,
     BreakpointLocations,
+    LoadedSources,
     DataBreakpointInfo,
     Completions,
     ExceptionInfo,
@@ -73,7 +74,7 @@ pub enum RequestName {
 }
 
 /// The names of requests, each with what it asks for, but for moves by instructions.
-const NAMES: [(&str, RequestName); 36] = [
+const NAMES: [(&str, RequestName); 37] = [
     ("initialize", RequestName::Initialize),
     ("launch", RequestName::Launch),
     ("attach", RequestName::Attach),
@@ -84,7 +85,7 @@ const NAMES: [(&str, RequestName); 36] = [
     ),
     (
         "stepIn",
-        RequestName::InSession(SessionName::Moves(Move::Step)),
+        RequestName::InSession(SessionName::Moves(Move::In)),
     ),
     (
         "stepOut",
@@ -171,6 +172,10 @@ const NAMES: [(&str, RequestName); 36] = [
         RequestName::InSession(SessionName::Shows(QueryName::BreakpointLocations)),
     ),
     (
+        "loadedSources",
+        RequestName::InSession(SessionName::Shows(QueryName::LoadedSources)),
+    ),
+    (
         "dataBreakpointInfo",
         RequestName::InSession(SessionName::Shows(QueryName::DataBreakpointInfo)),
     ),
@@ -203,9 +208,13 @@ const NAMES: [(&str, RequestName); 36] = [
 ];
 
 /// The moves by instructions.
-const MOVES_BY_INSTRUCTIONS: [(&str, RequestName); 2] = [
+const MOVES_BY_INSTRUCTIONS: [(&str, RequestName); 3] = [
     (
         "next",
+        RequestName::InSession(SessionName::Moves(Move::Step)),
+    ),
+    (
+        "stepIn",
         RequestName::InSession(SessionName::Moves(Move::Step)),
     ),
     (

@@ -6,7 +6,7 @@ ghost use Rattle.dap_messages.specs.Requests.{condition_of, is_of_thread, needs_
 ghost use Rattle.dap_messages.specs.Requests.{scope_in, scope_of};
 ghost use Rattle.dap_messages.specs.Requests.{count_in, data_of, data_query, function_of};
 ghost use Rattle.dap_messages.specs.Requests.{instruction_of};
-ghost use Rattle.dap_messages.specs.Requests.{is_console};
+ghost use Rattle.dap_messages.specs.Requests.{is_console, locals_of};
 ghost use Rattle.dap_messages.specs.Requests.{end_in, expression_change, is_register};
 ghost use Rattle.dap_messages.specs.Requests.{locations_query, scope_expressed};
 ghost use Rattle.dap_messages.specs.Requests.{items_in, listed_in, launch_asked};
@@ -30,14 +30,26 @@ use json_messages::{flag_or, number_at, text_at, text_or};
 use serde_json::Value;
 use std::alloc::{AllocError, Global};
 
-/// Returns the scope of a word of the zero page by its number, if it is that of one.
+/// Returns the scope of the locals of a frame by its number, if it is that of one.
+fn locals_of(number: u64) -> Option<Scope>
+    ensures { result ≡ locals_of number }
+{
+    if number >= 131_072 && number < 196_608 {
+        Some(Scope::Locals((number - 131_072) as u16))
+    } else {
+        None
+    }
+}
+
+/// Returns the scope of a word of the zero page, or that of the locals of a frame, by its number,
+/// if it is that of one.
 fn word_of(number: u64) -> Option<Scope>
     ensures { result ≡ word_of number }
 {
     if number >= 65536 && number < 65791 {
         Some(Scope::Word((number - 65536) as u16))
     } else {
-        None
+        locals_of(number)
     }
 }
 
@@ -302,6 +314,7 @@ fn change_by(request: &Value, name: ChangeName) -> Change<'_>
         ChangeName::Evaluate => Change::Evaluate {
             text: text_or(request, "/arguments/expression", ""),
             is_console: is_console(request),
+            frame: number_at(request, "/arguments/frameId"),
         },
         ChangeName::SetVariable => Change::SetVariable {
             scope: scope_in(request),
@@ -384,6 +397,7 @@ fn query_by(request: &Value, name: QueryName) -> Query<'_>
             line: number_at(request, "/arguments/line"),
         },
         QueryName::BreakpointLocations => locations_query(request),
+        QueryName::LoadedSources => Query::LoadedSources,
         QueryName::DataBreakpointInfo => data_query(request),
         QueryName::Completions => Query::Completions {
             text: text_or(request, "/arguments/text", ""),
@@ -483,6 +497,8 @@ fn launch_of(alloc: Global, request: &Value) -> Result<Launch, AllocError>
     let rom = own_text(alloc, request, "/arguments/rom")?;
     let profile = own_text(alloc, request, "/arguments/profile")?;
     let symbols = own_text(alloc, request, "/arguments/symbols")?;
+    let debug_info = own_text(alloc, request, "/arguments/debugInfo")?;
+    let source_root = own_text(alloc, request, "/arguments/sourceRoot")?;
     Ok(Launch {
         program,
         tape: flag_or(request, "/arguments/tape", false),
@@ -492,6 +508,8 @@ fn launch_of(alloc: Global, request: &Value) -> Result<Launch, AllocError>
         rom,
         profile,
         symbols,
+        debug_info,
+        source_root,
         history: number_at(request, "/arguments/history"),
         steps: number_at(request, "/arguments/steps"),
         stop_on_entry: flag_or(request, "/arguments/stopOnEntry", true),

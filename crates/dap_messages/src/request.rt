@@ -10,15 +10,19 @@ use std::alloc::{AllocError, Global};
 /// A move of the machine.
 #[derive(Clone, Copy)]
 pub enum Move {
-    /// One instruction, or a subroutine as one: `next`.
+    /// One instruction, or a subroutine as one; where lines of another tool are known, to another
+    /// line: `next`.
     Over,
-    /// One instruction: `stepIn`, and `next` by instructions.
+    /// One instruction, or, where lines of another tool are known, to another line: `stepIn`.
+    In,
+    /// One instruction: `stepIn` and `next` by instructions.
     Step,
     /// To the end of the subroutine: `stepOut`.
     Out,
     /// To a stop: `continue`.
     Go,
-    /// Back over one instruction, or a subroutine as one: `stepBack`.
+    /// Back over one instruction, or a subroutine as one; where lines of another tool are known, to
+    /// where a line begins: `stepBack`.
     BackOver,
     /// Back by one event: `stepBack` by instructions.
     Back,
@@ -112,6 +116,8 @@ pub enum Scope {
     Machine,
     /// The word at an address, and the byte that it points to.
     Word(u16),
+    /// The parameters and locals of a frame of C, by its number.
+    Locals(u16),
 }
 
 /// Which values of a list a client wants: those from one on, of which 0 is the first, at most so
@@ -125,10 +131,12 @@ pub struct Page {
 /// A change that can be undone.
 #[derive(Clone, Copy)]
 pub enum Change<'a> {
-    /// What a line of the console does. A text elsewhere is only looked at.
+    /// What a line of the console does. A text elsewhere is only looked at: in a frame, if its
+    /// number is named.
     Evaluate {
         text: &'a str,
         is_console: bool,
+        frame: Option<u64>,
     },
     /// Another value of a variable of a scope.
     SetVariable {
@@ -183,6 +191,8 @@ pub enum Query<'a> {
         line: Option<u64>,
         end: Option<u64>,
     },
+    /// The files of the program's source.
+    LoadedSources,
     /// Whether what a name of a scope stands for can be watched, or what a number names as an
     /// address: one byte, or so many.
     DataBreakpointInfo {
@@ -242,6 +252,10 @@ pub struct Launch {
     pub profile: Option<String>,
     /// The path of a file of names.
     pub symbols: Option<String>,
+    /// The path of a file of debug information, and of the folder in which relative names of its
+    /// sources begin.
+    pub debug_info: Option<String>,
+    pub source_root: Option<String>,
     /// How many events can be undone.
     pub history: Option<u64>,
     /// How many steps a run makes at most.
@@ -276,6 +290,8 @@ impl Launch {
         let rom = copy_of(alloc, &self.rom)?;
         let profile = copy_of(alloc, &self.profile)?;
         let symbols = copy_of(alloc, &self.symbols)?;
+        let debug_info = copy_of(alloc, &self.debug_info)?;
+        let source_root = copy_of(alloc, &self.source_root)?;
         Ok(Launch {
             program,
             tape: self.tape,
@@ -285,6 +301,8 @@ impl Launch {
             rom,
             profile,
             symbols,
+            debug_info,
+            source_root,
             history: self.history,
             steps: self.steps,
             stop_on_entry: self.stop_on_entry,

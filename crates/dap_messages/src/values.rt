@@ -5,7 +5,8 @@ ghost use Rattle.dap_messages.specs.Halts.{word_of};
 ghost use Rattle.dap_messages.specs.Values.{frame_at_line, frame_without_line, frames_body};
 ghost use Rattle.dap_messages.specs.Values.{instruction_at_line, instruction_row, instructions_body};
 ghost use Rattle.dap_messages.specs.Values.{invalidated_body, look_body, memory_body};
-ghost use Rattle.dap_messages.specs.Values.{no_instruction, output_body, stopped_body};
+ghost use Rattle.dap_messages.specs.Values.{no_instruction, output_body, source, sources_body};
+ghost use Rattle.dap_messages.specs.Values.{stopped_body};
 ghost use Rattle.json_messages.specs.Values.{count, list_of};
 ghost use Rattle.serde_json.specs.Data.{Data};
 ghost use Rattle.serde_json.specs.View.{view};
@@ -18,6 +19,25 @@ use json_messages::{Object, ValueList};
 use serde_json::Value;
 use std::alloc::{AllocError, Global};
 
+/// Returns a file of the source.
+pub fn source(alloc: Global, name: &str, path: &str) -> Result<Value, AllocError>
+    ensures { IfOk result (λ v. view v ≡ source name.now path.now) }
+{
+    Object::new(alloc)
+        .word("name", name)
+        .word("path", path)
+        .build()
+}
+
+/// Returns the answer that has the files of the program's source, if memory did not run out for
+/// them.
+pub fn sources_body(alloc: Global, files: Result<Value, AllocError>) -> Result<Value, AllocError>
+    ensures { (ds : List Data) → IfOk files (λ v. view v ≡ list_of ds)
+        → IfOk result (λ v. view v ≡ sources_body ds) }
+{
+    list_body(alloc, "sources", files)
+}
+
 /// Returns a frame at a line of a source.
 pub fn frame_at_line(
     alloc: Global,
@@ -29,17 +49,13 @@ pub fn frame_at_line(
     ensures { IfOk result (λ v. view v ≡ frame_at_line id address words.now place.entry.line
         place.entry.column place.entry.name.now place.entry.path.now) }
 {
-    let source = Object::new(alloc)
-        .word("name", place.name)
-        .word("path", place.path)
-        .build();
     Object::new(alloc)
         .count("column", place.column)
         .count("id", id)
         .text("instructionPointerReference", reference(alloc, address))
         .count("line", place.line)
         .word("name", words)
-        .member("source", source)
+        .member("source", source(alloc, place.name, place.path))
         .build()
 }
 

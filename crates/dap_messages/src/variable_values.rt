@@ -1,7 +1,8 @@
 //! The values of variables.
 
 ghost use Rattle.std.specs.Prelude.{◌≡◌, IfOk, List};
-ghost use Rattle.dap_messages.specs.VariableValues.{plain_variable, variable, variable_at};
+ghost use Rattle.dap_messages.specs.VariableValues.{local_at, plain_variable, read_only, variable};
+ghost use Rattle.dap_messages.specs.VariableValues.{variable_at};
 ghost use Rattle.dap_messages.specs.VariableValues.{variable_with, variables_body, word_number};
 ghost use Rattle.json_messages.specs.Values.{list_of};
 ghost use Rattle.serde_json.specs.Data.{Data};
@@ -9,7 +10,7 @@ ghost use Rattle.serde_json.specs.View.{view};
 
 use crate::break_values::list_body;
 use crate::texts::reference;
-use json_messages::Object;
+use json_messages::{Object, ValueList};
 use serde_json::Value;
 use std::alloc::{AllocError, Global};
 
@@ -78,6 +79,30 @@ pub fn variable_at(
     ensures { IfOk result (λ v. view v ≡ variable_at name.now address value.now) }
 {
     variable_with(alloc, name, address, value, word_number(address))
+}
+
+/// Returns that a value cannot be set.
+fn read_only(alloc: Global) -> Result<Value, AllocError>
+    ensures { IfOk result (λ v. view v ≡ read_only) }
+{
+    let attributes = ValueList::new(alloc)
+        .with(Value::try_from_str(alloc, "readOnly"))
+        .build();
+    Object::new(alloc).member("attributes", attributes).build()
+}
+
+/// Returns a local of C that begins at an address as a variable.
+pub fn local_at(alloc: Global, name: &str, address: u16, value: &str) -> Result<Value, AllocError>
+    ensures { IfOk result (λ v. view v ≡ local_at name.now address value.now) }
+{
+    Object::new(alloc)
+        .word("evaluateName", name)
+        .text("memoryReference", reference(alloc, address))
+        .word("name", name)
+        .member("presentationHint", read_only(alloc))
+        .word("value", value)
+        .count("variablesReference", 0)
+        .build()
 }
 
 /// Returns the answer that has variables, if memory did not run out for them.

@@ -16,9 +16,9 @@ use crate::break_values::{
 use crate::item::{Item, SourcePlace};
 use crate::values::{
     frame_at_line, frame_without_line, frames_body, instruction_at_line, instruction_row,
-    instructions_body, look_body, memory_body, no_instruction,
+    instructions_body, look_body, memory_body, no_instruction, source, sources_body,
 };
-use crate::variable_values::{plain_variable, variable, variable_at, variables_body};
+use crate::variable_values::{local_at, plain_variable, variable, variable_at, variables_body};
 use json_messages::ValueList;
 use serde_json::Value;
 use std::alloc::{AllocError, Global};
@@ -38,6 +38,11 @@ impl Item {
                 address,
                 value,
             } => variable_at(alloc, name.as_str(), *address, value.as_str()),
+            Item::Local {
+                name,
+                address,
+                value,
+            } => local_at(alloc, name.as_str(), *address, value.as_str()),
             Item::FrameAtLine {
                 id,
                 address,
@@ -88,6 +93,7 @@ impl Item {
             Item::Unwatched(words) => data_unwatched(alloc, words.as_str()),
             Item::Place(line) => place_on(alloc, *line),
             Item::GotoTarget { address, line } => goto_target(alloc, *address, *line),
+            Item::Source { name, path } => source(alloc, name.as_str(), path.as_str()),
             Item::Completion { text, start, count } => {
                 completion_item(alloc, text.as_str(), *start, *count)
             }
@@ -117,7 +123,7 @@ impl Answer {
             Answer::Capabilities => capabilities(alloc),
             Answer::Continued => continued(alloc),
             Answer::Threads => threads(alloc),
-            Answer::Scopes { is_first } => scopes(alloc, *is_first),
+            Answer::Scopes { is_first, locals } => scopes(alloc, *is_first, *locals),
             Answer::Breakpoints(items) => {
                 breakpoints_body(alloc, items_value(alloc, items.as_slice()))
             }
@@ -125,6 +131,7 @@ impl Answer {
             Answer::Instructions(items) => {
                 instructions_body(alloc, items_value(alloc, items.as_slice()))
             }
+            Answer::Sources(items) => sources_body(alloc, items_value(alloc, items.as_slice())),
             Answer::Variables(items) => {
                 variables_body(alloc, items_value(alloc, items.as_slice()))
             }

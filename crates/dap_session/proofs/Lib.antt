@@ -1,7 +1,9 @@
 mod Begun
 pub mod Done
+mod FilesAgain
 mod Hits
 mod LogRuns
 mod Outputs
 pub mod Stays
 mod Writable
+mod Sources

@@ -2,10 +2,11 @@
 use Rattle.std.proofs.Common.{◌≡◌, ◌∙◌, ℕ, ◌+◌, ◌-◌, ◌<◌, ◌≤◌, suc, Bool, false, List, [], ◌∷◌, length, drop, get_or, map, Option, refl, sym, ap, add-one, drop-cons, take}
 use Rattle.std.proofs.lemmas.List.{drop_all, length-map, take-map}
 use Rattle.dap_messages.specs.Messages.{Said, next_number, said_of}
+use Rattle.dap_messages.specs.declared.listed.FileLines.{FileLines}
 use Rattle.dap_messages.specs.declared.listed.Placed.{Placed}
 use Rattle.dap_messages.specs.declared.message.Message.{Message}
 use Rattle.dap_messages.specs.declared.request.SourceBreakpoint.{SourceBreakpoint}
-use Rattle.dap_session.specs.Logs.{id_or, last_from, text_from, text_or}
+use Rattle.dap_session.specs.Logs.{id_or, last_from, text_among, text_from, text_of_list, text_or}
 use Rattle.dap_session.specs.Passes.{GoesPast, Passes, but_last, has_ended}
 use Rattle.dap_session.specs.declared.client.Client.{Client}
 use Rattle.dap_session.specs.declared.passing.Further.{Further}
@@ -42,6 +43,23 @@ pub text_done : (all : List SourceBreakpoint) (i id number : ℕ) (found whole :
     → text_from found id number (drop i all) ≡ whole → found ≡ whole
 unfolding text_from
 text_done all i id number found whole past so_far = sym (ap (λ (bs : List SourceBreakpoint). text_from found id number bs) (drop_all i all past)) ∙ so_far
+
+-- ---- of one of some lists
+
+pub list_more : (all : List FileLines) (i : ℕ) (e : FileLines) (id : ℕ) (found new whole : Option (List ℕ)) → i < length all → e ≡ get_or all i e
+    → new ≡ text_of_list e id found → text_among found id (drop i all) ≡ whole → text_among new id (drop (i + 1) all) ≡ whole
+unfolding text_among
+list_more all i e id found new whole within is put so_far =
+    let rest = drop (i + 1) all in
+    let here : drop i all ≡ get_or all i e ∷ rest = rw (add-one, drop-cons all i e within) refl in
+    ap (λ (f : Option (List ℕ)). text_among f id rest) put
+    ∙ ap (λ (l : FileLines). text_among (text_of_list l id found) id rest) is
+    ∙ sym (ap (λ (ls : List FileLines). text_among found id ls) here) ∙ so_far
+
+pub list_done : (all : List FileLines) (i id : ℕ) (found whole : Option (List ℕ)) → length all ≤ i
+    → text_among found id (drop i all) ≡ whole → found ≡ whole
+unfolding text_among
+list_done all i id found whole past so_far = sym (ap (λ (ls : List FileLines). text_among found id ls) (drop_all i all past)) ∙ so_far
 
 -- ---- messages but for the last
 

@@ -2,16 +2,19 @@
 use Rattle.std.specs.Prelude.{ℕ, ◌≡◌, ◌==◌, ◌&&◌, Bool, true, false, if◌then◌else◌, List, [], ◌∷◌, length, string_bytes, Option, Some, None, Vec}
 use Rattle.std.specs.declared.alloc.Global.{Global}
 use Rattle.dap_messages.specs.SeenAnswers.{SeenAnswer, breakpoints_body, continued, exception_body, nothing, scopes, threads}
-use Rattle.dap_views.specs.Breaks.{HoldsAddresses, HoldsFunctions, HoldsLines, SetsAddresses, SetsFunctions, SetsLines, SetsSource}
+use Rattle.dap_views.specs.Breaks.{HoldsAddresses, HoldsFunctions, SetsAddresses, SetsFunctions, SetsSource}
+use Rattle.dap_views.specs.Files.{sources_shown}
+use Rattle.dap_views.specs.declared.source.FilePath.{FilePath}
 use Rattle.dap_session.specs.Completions.{completions}
 use Rattle.dap_views.specs.Targets.{AreTargets}
-use Rattle.dap_views.specs.Watches.{KeepsBreaks, SetsWatches, TellsWatches, data_shown}
+use Rattle.dap_views.specs.Watches.{KeepsBreaks, SetsWatches, TellsWatches}
 use Rattle.dap_messages.specs.Events.{terminated}
 use Rattle.dap_messages.specs.Messages.{Said, done, event}
 use Rattle.dap_messages.specs.declared.halt.Reason.{Reason}
 use Rattle.dap_messages.specs.declared.halt.Reason.TheVariants.{Entry, NoStop}
 use Rattle.dap_messages.specs.Listed.{addresses_of, functions_of, lines_of, reserving}
 use Rattle.dap_messages.specs.declared.listed.AddressList.{AddressList}
+use Rattle.dap_messages.specs.declared.listed.FileLines.{FileLines}
 use Rattle.dap_messages.specs.declared.listed.FunctionList.{FunctionList}
 use Rattle.dap_messages.specs.declared.listed.LineList.{LineList}
 use Rattle.dap_messages.specs.declared.listed.Listed.{Listed}
@@ -32,7 +35,8 @@ use Rattle.dap_session.specs.Changes.{Goes, HasChanged, TellsValue, Writes, chan
 use Rattle.dap_session.specs.Console.{Evaluates}
 use Rattle.dap_desk.specs.Breaks.{KeepsEvents}
 use Rattle.dap_desk.specs.Moves.{KeepsWatches, Stand, moved, moved_fault, moved_reason, moved_words, stand_of}
-use Rattle.dap_session.specs.Options.{program_of, steps_of}
+use Rattle.dap_session.specs.Options.{steps_of}
+use Rattle.dap_session.specs.Paths.{path_at}
 use Rattle.dap_session.specs.Passes.{Makes, PassesLogs, further_of}
 use Rattle.dap_session.specs.Stands.{KeepsProgram, NotesReason, TellsGone, TellsStand}
 use Rattle.dap_session.specs.declared.client.Client.{Client}
@@ -43,7 +47,7 @@ use Rattle.dap_views.specs.Frames.{AreFrames}
 use Rattle.dap_views.specs.Locations.{AreLocations}
 use Rattle.dap_views.specs.Memory.{memory_shown}
 use Rattle.dap_views.specs.Rows.{disassembled}
-use Rattle.dap_views.specs.Scopes.{variables_shown}
+use Rattle.dap_views.specs.Locals.{HasLocals, IsData, ShowsVariables, frame_number}
 use Rattle.model.specs.declared.event.EventFault.{EventFault}
 use Rattle.mon_session.specs.declared.mon_state.MonState.{MonState}
 
@@ -88,24 +92,31 @@ abbrev pub is_first_frame : Option ℕ → Bool
 is_first_frame (Some id) = id == 1
 is_first_frame None = false
 
+-- With its locals, if some of them are there.
+abbrev pub AreScopes : Option ℕ → MonState → SeenAnswer → Type 0
+AreScopes frame mon v = (locals : Option ℕ)
+    × HasLocals mon.session.current mon.places (frame_number frame) locals
+    × (v ≡ scopes (is_first_frame frame) locals)
+
 -- The value that is answered to a question, which changes nothing.
 abbrev pub IsShown : Query → Counting → Client → SeenAnswer → Type 0
 IsShown query.Threads counting client v = v ≡ threads
 IsShown (query.StackTrace page) counting client v = AreFrames client.mon.session.current
-    client.mon.places (program_of (launch_view client.launch)) counting page v
-IsShown (query.Scopes frame) counting client v = v ≡ scopes (is_first_frame frame)
+    client.mon.places client.files.items counting page v
+IsShown (query.Scopes frame) counting client v = AreScopes frame client.mon v
 IsShown (query.Variables scope page) counting client v
-    = v ≡ variables_shown client.mon.session client.mon.places.names scope page
+    = ShowsVariables client.mon.session client.mon.places scope page v
 IsShown (query.ReadMemory address count) counting client v
     = v ≡ memory_shown client.mon.session.current.bus.memory address count
 IsShown (query.Disassemble address offset count) counting client v = v
-    ≡ disassembled client.mon (program_of (launch_view client.launch)) counting address offset count
+    ≡ disassembled client.mon client.files.items counting address offset count
 IsShown (query.GotoTargets path line) counting client v = AreTargets counting
-    (program_of (launch_view client.launch)) client.assembly path.now line v
+    client.mon.places.lines client.files.items path.now line v
 IsShown (query.BreakpointLocations path line end) counting client v = AreLocations counting
-    (program_of (launch_view client.launch)) client.assembly path.now line end v
+    client.mon.places.lines client.files.items path.now line end v
+IsShown query.LoadedSources counting client v = v ≡ sources_shown client.files.items
 IsShown (query.DataBreakpointInfo scope name count is_address) counting client v
-    = v ≡ data_shown client.mon scope name.now count is_address
+    = IsData client.mon scope name.now count is_address v
 IsShown (query.Completions text column) counting client v
     = v ≡ completions counting client.mon.places.names text.now column
 IsShown query.ExceptionInfo counting client v = v ≡ exception_body (string_bytes client.told.words)
@@ -127,11 +138,6 @@ HoldsBytes listed old new = (new.last_bytes ≡ Some listed)
 
 -- Those of a kind are replaced by those of a list, and each of these is told of. Of watches is told
 -- whether their bytes are watched.
-abbrev pub ListsLines : Counting → LineList → Client → Client → SeenAnswer → Type 0
-ListsLines counting listed old new v = SetsLines counting old.assembly listed
-    old.listed.lines.items new.listed.lines.items old.mon new.mon v
-    × KeepsEvents old.mon new.mon × HoldsLines listed old.listed new.listed
-
 abbrev pub ListsAddresses : Counting → AddressList → Client → Client → SeenAnswer → Type 0
 ListsAddresses counting listed old new v = SetsAddresses counting listed
     old.listed.addresses.items new.listed.addresses.items old.mon new.mon v
@@ -148,14 +154,13 @@ ListsBytes listed old new v = SetsWatches listed.items old.mon new.mon
     × TellsWatches listed.items new.mon.stops.watches.items v
     × HoldsBytes listed old.listed new.listed
 
--- They get the next numbers. Those of a source are not set if it is another than that of the session.
+-- They get the next numbers. Those of a file are not set if it is none of the source.
 abbrev pub with_reserved : ℕ → Client → Client
 with_reserved count client = record client { listed = reserving count client.listed }
 
 abbrev pub SetsSourceOf : Counting → List ℕ → LineList → Client → Client → SeenAnswer → Type 0
-SetsSourceOf counting path listed old new v = SetsSource counting
-    (program_of (launch_view old.launch)) old.assembly path listed old.listed new.listed
-    old.mon new.mon v × KeepsEvents old.mon new.mon
+SetsSourceOf counting path listed old new v = SetsSource counting old.files.items path listed
+    old.listed new.listed old.mon new.mon v × KeepsEvents old.mon new.mon
 
 abbrev pub SetsListed : Breakpoints → Counting → Client → Client → SeenAnswer → Type 0
 SetsListed (kind.Source path listed) counting old new v = SetsSourceOf counting path.now
@@ -183,14 +188,25 @@ abbrev pub SetsAgain : {L : Type 0} → (L → Client → Client → SeenAnswer 
 SetsAgain Lists None old new = new ≡ old
 SetsAgain Lists (Some listed) old new = (v : SeenAnswer) × Lists listed old new v
 
+-- So are those of all files that were listed, in their order, in the files with the same paths.
+abbrev pub SetsFileAgain : Counting → List FilePath → FileLines → Client → Client → Type 0
+SetsFileAgain counting files listed old new = (v : SeenAnswer)
+    × SetsSourceOf counting (path_at files listed.file) listed.lines old new v
+
+abbrev pub SetsFilesAgain : Counting → List FilePath → List FileLines → Client → Client → Type 0
+SetsFilesAgain counting files [] old new = new ≡ old
+SetsFilesAgain counting files (listed ∷ rest) old new = (between : Client)
+    × SetsFileAgain counting files listed old between
+    × SetsFilesAgain counting files rest between new
+
 -- So are the last lists of all kinds, with the numbers that they had.
 abbrev pub with_next : ℕ → Client → Client
 with_next n client = record client { listed = record client.listed { next = n } }
 
-abbrev pub SetsAllAgain : Listed → Counting → Client → Client → Type 0
-SetsAllAgain held counting old new = (lines : Client) × (addresses : Client)
+abbrev pub SetsAllAgain : Listed → List FilePath → Counting → Client → Client → Type 0
+SetsAllAgain held files counting old new = (lines : Client) × (addresses : Client)
     × (functions : Client)
-    × SetsAgain (ListsLines counting) held.last_lines (with_next held.next old) lines
+    × SetsFilesAgain counting files held.last_lines.items (with_next held.next old) lines
     × SetsAgain (ListsAddresses counting) held.last_addresses lines addresses
     × SetsAgain (ListsFunctions counting) held.last_functions addresses functions
     × SetsAgain ListsBytes held.last_bytes functions new
@@ -199,7 +215,7 @@ SetsAllAgain held counting old new = (lines : Client) × (addresses : Client)
 -- listed there last.
 abbrev pub BeginsAgain : Counting → Client → Client → Type 0
 BeginsAgain counting old new = (begun : Client) × IsLaunched (launch_view old.launch) begun
-    × SetsAllAgain old.listed counting begun new × KeepsMade begun.mon new.mon
+    × SetsAllAgain old.listed old.files.items counting begun new × KeepsMade begun.mon new.mon
     × (new.launch ≡ begun.launch)
 
 -- The machine stands where a session stands first.
@@ -227,8 +243,8 @@ Moves way old new said = (first : Client) × (so_far : List Said)
 
 -- A change is made, which can be undone, and what it has done is told.
 abbrev pub HasChangedBy : Change → Counting → Client → Client → List Said → Type 0
-HasChangedBy (change.Evaluate text is_console) counting old new said
-    = Evaluates is_console text.now old new said
+HasChangedBy (change.Evaluate text is_console frame) counting old new said
+    = Evaluates is_console frame text.now old new said
 HasChangedBy (change.SetVariable scope name value) counting old new said
     = HasChanged (change_asked scope name.now value.now old.mon) old.mon new.mon
     × TellsValue counting scope name.now old.mon new.mon said

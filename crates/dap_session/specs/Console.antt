@@ -1,5 +1,5 @@
 -- Lines of the console. Source: Debug Adapter Protocol 1.65, "Evaluate Request"; mos65.
-use Rattle.std.specs.Prelude.{ℕ, ◌≡◌, ◌&&◌, ⊤, is_ok, Bool, true, false, List, [], ◌∷◌, string_bytes, Some}
+use Rattle.std.specs.Prelude.{ℕ, ◌≡◌, ⊤, is_ok, Bool, true, false, List, [], ◌∷◌, string_bytes, Option, Some, None}
 use Rattle.std.specs.Str.Lossy.{utf8_lossy}
 use Rattle.dap_messages.specs.SeenAnswers.{SeenAnswer, evaluated_body}
 use Rattle.dap_messages.specs.Events.{terminated}
@@ -8,6 +8,7 @@ use Rattle.dap_session.specs.declared.client.Client.{Client}
 use Rattle.dap_session.specs.declared.fault.Fault.{Fault}
 use Rattle.dap_session.specs.declared.fault.Fault.TheVariants as fault
 use Rattle.dap_session.specs.Told.{IsDone}
+use Rattle.dap_views.specs.Locals.{IsLocalLook, frame_number}
 use Rattle.dap_views.specs.Looks.{look_at}
 use Rattle.mon_dispatch.specs.Lines.{Serves, read_at}
 use Rattle.mon_lines.specs.Lines.{SeenLine}
@@ -48,10 +49,20 @@ EvaluatesAs true text old new said = (is_over : Bool) × (words : List ℕ)
     × IsDone (evaluated_body words) said × (new.told.is_over ≡ is_over)
 EvaluatesAs false text old new said = (new ≡ old) × Looks old.mon text said
 
+-- A local of the frame that is named comes before what the text names otherwise.
+abbrev pub LooksBy : Option SeenAnswer → MonState → List ℕ → List Said → Type 0
+LooksBy (Some v) mon text said = said ≡ done v ∷ []
+LooksBy None mon text said = Looks mon text said
+
+abbrev pub LooksIn : Option ℕ → MonState → List ℕ → List Said → Type 0
+LooksIn frame mon text said = (local : Option SeenAnswer)
+    × IsLocalLook mon.session.current mon.places (frame_number frame) text local
+    × LooksBy local mon text said
+
 -- A text of the console is served as a line if it can be read as one. Any other text is looked at.
-abbrev pub Evaluates : Bool → List ℕ → Client → Client → List Said → Type 0
-Evaluates is_console text old new said
-    = EvaluatesAs (is_console && is_line old.mon text) text old new said
+abbrev pub Evaluates : Bool → Option ℕ → List ℕ → Client → Client → List Said → Type 0
+Evaluates true frame text old new said = EvaluatesAs (is_line old.mon text) text old new said
+Evaluates false frame text old new said = (new ≡ old) × LooksIn frame old.mon text said
 
 -- ---- what a refused request changes: nothing of the session
 

@@ -6,6 +6,7 @@ pub mod Console
 pub mod Logs
 pub mod Options
 pub mod Passes
+pub mod Paths
 pub mod Refusals
 pub mod Stands
 pub mod Told

@@ -1,11 +1,12 @@
 -- Log points: breakpoints of a source at which a run says something and goes on. Source: Debug Adapter
 -- Protocol 1.65, "SourceBreakpoint"; which of several counts, mos65.
 use Rattle.std.specs.Prelude.{ℕ, ◌≡◌, ◌==◌, ◌||◌, is_some, Bool, true, false, if◌then◌else◌, List, [], ◌∷◌, length, string_bytes, Option, Some, None}
+use Rattle.std.specs.Option.{option_or}
 use Rattle.dap_messages.specs.Messages.{Said, next_number}
 use Rattle.dap_messages.specs.declared.client_event.Category.TheVariants.{Console}
 use Rattle.dap_messages.specs.declared.halt.Reason.{Reason}
 use Rattle.dap_messages.specs.declared.halt.Reason.TheVariants.{Breakpoint}
-use Rattle.dap_messages.specs.declared.listed.LineList.{LineList}
+use Rattle.dap_messages.specs.declared.listed.FileLines.{FileLines}
 use Rattle.dap_messages.specs.declared.listed.Listed.{Listed}
 use Rattle.dap_messages.specs.declared.listed.Placed.{Placed}
 use Rattle.dap_messages.specs.declared.request.SourceBreakpoint.{SourceBreakpoint}
@@ -45,11 +46,19 @@ text_from found id number (listed ∷ rest)
 abbrev pub text_numbered : ℕ → ℕ → List SourceBreakpoint → Option (List ℕ)
 text_numbered id first list = text_from None id first list
 
-abbrev pub text_in : Option LineList → ℕ → Option (List ℕ)
-text_in None id = None
-text_in (Some lines) id = text_numbered id lines.first lines.list.items
+-- Of one of some lists.
+abbrev pub text_of_list : FileLines → ℕ → Option (List ℕ) → Option (List ℕ)
+text_of_list listed id found
+    = option_or (text_numbered id listed.lines.first listed.lines.list.items) found
 
-abbrev pub text_by : Option LineList → Option ℕ → Option (List ℕ)
+unfoldable pub text_among : Option (List ℕ) → ℕ → List FileLines → Option (List ℕ)
+text_among found id [] = found
+text_among found id (listed ∷ rest) = text_among (text_of_list listed id found) id rest
+
+abbrev pub text_in : List FileLines → ℕ → Option (List ℕ)
+text_in lists id = text_among None id lists
+
+abbrev pub text_by : List FileLines → Option ℕ → Option (List ℕ)
 text_by lines None = None
 text_by lines (Some id) = text_in lines id
 
@@ -59,7 +68,7 @@ is_other listed pc = is_at listed.addresses.items pc || is_at listed.functions.i
 
 abbrev pub log_at : Listed → ℕ → Option (List ℕ)
 log_at listed pc = if is_other listed pc then None
-    else text_by listed.last_lines (last_at pc listed.lines.items)
+    else text_by listed.last_lines.items (last_at pc listed.lines.items)
 
 -- ---- a session
 

@@ -1,6 +1,7 @@
 -- Moves that go on past log points. Source: Debug Adapter Protocol 1.65, "SourceBreakpoint"; how a
 -- move goes on, mos65.
 use Rattle.std.specs.Prelude.{ℕ, ◌≡◌, ◌⊎◌, ◌+◌, ◌-◌, ◌≤◌, ◌==◌, ◌&&◌, zero, suc, not, nat_lt, Bool, true, false, if◌then◌else◌, List, ◌++◌, length, take, None}
+use Rattle.dap_desk.specs.Lines.{goes_by_lines}
 use Rattle.dap_desk.specs.Moves.{KeepsWatches, moved, moved_fault, moved_reason, moved_words, stand_of}
 use Rattle.dap_messages.specs.Messages.{Said}
 use Rattle.dap_messages.specs.Seen.{launch_view}
@@ -34,13 +35,14 @@ Makes way before old new said
 -- ---- how a move goes on past a log point
 
 -- A run is made again. A subroutine is left, until the stack pointer is what it was before its JSR,
--- or for `stepOut` above what it was. A step is done.
+-- or for `stepOut` above what it was. A step is done, and so is one by lines.
 abbrev pub over_further : MonState → Further
 over_further mon = if opcode_at_pc mon.session.current == 0x20
     then Leaves mon.session.current.regs.s else Ends
 
 abbrev pub further_of : Move → MonState → Further
-further_of to.Over mon = over_further mon
+further_of to.Over mon = if goes_by_lines mon then Ends else over_further mon
+further_of to.In mon = Ends
 further_of to.Step mon = Ends
 further_of to.Out mon = Leaves (mon.session.current.regs.s + 1)
 further_of to.Go mon = Again to.Go

@@ -65,7 +65,7 @@ IsNoLook text is_console mon = ((is_console && is_line mon text) ≡ false)
 
 -- A change that cannot be made.
 abbrev pub MayRefuseChange : Change → MonState → Type 0
-MayRefuseChange (change.Evaluate text is_console) mon = IsNoLook text.now is_console mon
+MayRefuseChange (change.Evaluate text is_console frame) mon = IsNoLook text.now is_console mon
 MayRefuseChange (change.SetVariable scope name value) mon
     = IsNoChange scope name.now value.now mon
 MayRefuseChange (change.Goto target) mon = IsNoTarget target mon

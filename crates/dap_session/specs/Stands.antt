@@ -55,9 +55,9 @@ told_at listed mon told halt = told_of mon told (halt_at listed mon halt)
 
 -- ---- what stays
 
--- The launch, the program, and the breakpoints that are listed, are what they were.
+-- The launch, the files, and the breakpoints that are listed, are what they were.
 abbrev pub KeepsProgram : Client → Client → Type 0
-KeepsProgram old new = (new.launch ≡ old.launch) × (new.assembly ≡ old.assembly)
+KeepsProgram old new = (new.launch ≡ old.launch) × (new.files ≡ old.files)
     × (new.listed ≡ old.listed)
 
 -- So is the machine. More may be told.

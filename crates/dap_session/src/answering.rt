@@ -4,11 +4,13 @@ ghost use Rattle.std.specs.Prelude.{◌≡◌, IfErr, IfOk, Ok, OnOk, map as eac
 ghost use Rattle.dap_messages.specs.SeenAnswers.{answer_view};
 ghost use Rattle.dap_messages.specs.Messages.{said_of};
 ghost use Rattle.dap_messages.specs.declared.answer.Answer.{Answer};
-ghost use Rattle.dap_session.specs.Answered.{AreAnswers, AreOpenAnswers, Begins, BeginsFirst};
+ghost use Rattle.dap_session.specs.Answered.{AreAnswers, AreOpenAnswers, AreScopes, Begins};
+ghost use Rattle.dap_session.specs.Answered.{BeginsFirst};
 ghost use Rattle.dap_session.specs.Answered.{HasChangedBy, IsShown, KeepsMade};
-ghost use Rattle.dap_session.specs.Answered.{ListsAddresses, ListsBytes, ListsFunctions, ListsLines};
+ghost use Rattle.dap_session.specs.Answered.{ListsAddresses, ListsBytes, ListsFunctions};
 ghost use Rattle.dap_session.specs.Answered.{Moves};
-ghost use Rattle.dap_session.specs.Answered.{SetsAgain, SetsAllAgain, SetsListed, begun_fault};
+ghost use Rattle.dap_session.specs.Answered.{SetsAgain, SetsAllAgain, SetsFileAgain, SetsFilesAgain};
+ghost use Rattle.dap_session.specs.Answered.{SetsListed, begun_fault};
 ghost use Rattle.dap_session.specs.Answered.{begun_reason, begun_stand, begun_words, go_answer};
 ghost use Rattle.dap_session.specs.Answered.{goes_on};
 ghost use Rattle.dap_session.specs.Answered.{Restarts, Shows, is_first_frame, lets_run};
@@ -24,6 +26,7 @@ use crate::client::{Client, begin_session, source_of};
 use crate::completion::completions;
 use crate::console::{evaluate, set_variable, with_terminated};
 use crate::fault::{Fault, or_memory, refused};
+use crate::files::path_at;
 use crate::launching::steps_of;
 use crate::passing::{Further, further_of, go, go_on};
 use crate::stands::{all_done, with_halt_at};
@@ -31,13 +34,14 @@ use crate::telling::answered;
 use crate::wording::NOT_BEGUN;
 use dap_desk::make_move;
 use dap_messages::{
-    AddressList, Answer, Breakpoints, Change, Counting, DataBreakpoint, FunctionList, Halt,
-    LineList, Listed, Message, Move, Query, Reason, SessionRequest, exception, number_addresses,
+    AddressList, Answer, Breakpoints, Change, Counting, DataBreakpoint, FileLines, FunctionList,
+    Halt, Listed, Message, Move, Query, Reason, SessionRequest, exception, number_addresses,
     number_functions, number_lines, stand_by,
 };
 use dap_views::{
-    breakpoint_locations, data_shown, disassembled, frames_shown, goto_targets, is_frame,
-    memory_shown, set_addresses, set_data, set_functions, set_lines, set_source, variables_shown,
+    FilePath, breakpoint_locations, data_shown, disassembled, frames_shown, goto_targets, is_frame,
+    local_scope, memory_shown, set_addresses, set_data, set_functions, set_source, sources_shown,
+    variables_shown,
 };
 use mon_session::MonState;
 use std::alloc::{AllocError, Global};
@@ -63,19 +67,19 @@ fn make(alloc: Global, client: &mut Client, way: Move) -> Result<Vec<Message>, A
 
 /// Runs to a stop, unless the machine is to stand before the first instruction, and returns why it
 /// stands.
-fn first_halt(client: &mut Client) -> Halt
-    ensures stand { stand_of client.new.mon ≡ begun_stand client.old }
+fn first_halt(alloc: Global, client: &mut Client) -> Result<Halt, AllocError>
+    ensures stand { OnOk result (stand_of client.new.mon ≡ begun_stand client.old) }
     ensures watches { KeepsWatches client.old.mon client.new.mon }
     ensures program { KeepsProgram client.old client.new }
     ensures told { client.new.told ≡ client.old.told }
-    ensures reason { result.reason ≡ begun_reason client.old }
-    ensures words { result.words.now ≡ begun_words client.old }
-    ensures fault { result.fault ≡ begun_fault client.old }
+    ensures reason { IfOk result (λ halt. halt.reason ≡ begun_reason client.old) }
+    ensures words { IfOk result (λ halt. halt.words.now ≡ begun_words client.old) }
+    ensures fault { IfOk result (λ halt. halt.fault ≡ begun_fault client.old) }
 {
     if client.launch.stop_on_entry {
-        return stand_by(Reason::Entry, NOT_BEGUN);
+        return Ok(stand_by(Reason::Entry, NOT_BEGUN));
     }
-    make_move(&mut client.mon, steps_of(&client.launch), Move::Go)
+    make_move(alloc, &mut client.mon, steps_of(&client.launch), Move::Go)
 }
 
 /// Runs to a stop, unless the machine is to stand before the first instruction, and tells why it
@@ -83,7 +87,7 @@ fn first_halt(client: &mut Client) -> Halt
 fn begun(alloc: Global, client: &mut Client) -> Result<Vec<Message>, AllocError>
     ensures { IfOk result (λ ms. BeginsFirst client.old client.new (each said_of ms.items)) }
 {
-    let halt = first_halt(client);
+    let halt = first_halt(alloc, client)?;
     with_halt_at(alloc, all_done(alloc), client, halt)
 }
 
@@ -110,7 +114,7 @@ fn set_listed<H: Files + AllocGlobal>(
     match listed {
         Breakpoints::Source { path, listed } => {
             let wanted = number_lines(&mut client.listed, listed);
-            let source = source_of(&client.launch, &client.assembly, counting);
+            let source = source_of(&client.files, counting);
             set_source(
                 rt,
                 &mut client.mon,
@@ -145,22 +149,49 @@ fn let_go(told: Result<Answer, AllocError>) -> Result<(), AllocError>
     }
 }
 
-/// Sets the breakpoints of the source that were listed last in an earlier session, if some were.
-fn lines_again(
-    alloc: Global,
+/// Sets the breakpoints that were listed in a file of an earlier session, in that with its path.
+fn file_again<H: Files + AllocGlobal>(
+    rt: &H,
     client: &mut Client,
     counting: Counting,
-    listed: Option<LineList>,
+    files: &[FilePath],
+    listed: FileLines,
 ) -> Result<(), AllocError>
-    ensures set { OnOk result (SetsAgain (ListsLines counting) listed client.old client.new) }
+    ensures set { OnOk result
+        (SetsFileAgain counting files.now listed client.old client.new) }
     ensures kept { KeepsMade client.old.mon client.new.mon }
     ensures launch { client.new.launch ≡ client.old.launch }
 {
-    let Some(listed) = listed else {
-        return Ok(());
-    };
-    let source = source_of(&client.launch, &client.assembly, counting);
-    let_go(set_lines(alloc, &mut client.mon, &mut client.listed, &source, listed))
+    let FileLines { file, lines } = listed;
+    let source = source_of(&client.files, counting);
+    let path = path_at(files, file);
+    let_go(set_source(
+        rt,
+        &mut client.mon,
+        &mut client.listed,
+        &source,
+        path,
+        lines,
+    ))
+}
+
+/// Sets the breakpoints that were listed in files of an earlier session, in their order.
+fn files_again<H: Files + AllocGlobal>(
+    rt: &H,
+    client: &mut Client,
+    counting: Counting,
+    files: &[FilePath],
+    lists: Vec<FileLines>,
+) -> Result<(), AllocError>
+    ensures set { OnOk result
+        (SetsFilesAgain counting files.now lists.items client.old client.new) }
+    ensures kept { KeepsMade client.old.mon client.new.mon }
+    ensures launch { client.new.launch ≡ client.old.launch }
+{
+    for listed in lists {
+        file_again(rt, client, counting, files, listed)?;
+    }
+    Ok(())
 }
 
 /// Sets the breakpoints at addresses that were listed last in an earlier session, if some were.
@@ -215,13 +246,14 @@ fn bytes_again(
 
 /// Sets the breakpoints and the watches of a session in one that has begun again, under the numbers
 /// that they had.
-fn set_all_again(
-    alloc: Global,
+fn set_all_again<H: Files + AllocGlobal>(
+    rt: &H,
     client: &mut Client,
     counting: Counting,
+    files: &[FilePath],
     old: Listed,
 ) -> Result<(), AllocError>
-    ensures set { OnOk result (SetsAllAgain old counting client.old client.new) }
+    ensures set { OnOk result (SetsAllAgain old files.now counting client.old client.new) }
     ensures kept { OnOk result (KeepsMade client.old.mon client.new.mon) }
     ensures launch { client.new.launch ≡ client.old.launch }
 {
@@ -236,7 +268,8 @@ fn set_all_again(
         next,
     } = old;
     client.listed.next = next;
-    lines_again(alloc, client, counting, last_lines)?;
+    let alloc = rt.alloc();
+    files_again(rt, client, counting, files, last_lines)?;
     addresses_again(alloc, client, counting, last_addresses)?;
     functions_again(alloc, client, counting, last_functions)?;
     bytes_again(alloc, client, last_bytes)
@@ -258,11 +291,11 @@ fn restart<H: Files + AllocGlobal>(
     let Client {
         launch: _,
         mon: _,
-        assembly: _,
+        files,
         listed,
         told: _,
     } = old;
-    let set = set_all_again(rt.alloc(), client, counting, listed);
+    let set = set_all_again(rt, client, counting, files.as_slice(), listed);
     match set {
         Ok(()) => or_memory(configured(rt.alloc(), client)),
         Err(_) => Err(Fault::OutOfMemory),
@@ -279,6 +312,17 @@ fn is_first_frame(id: Option<u64>) -> bool
     }
 }
 
+/// Returns the scopes of a frame.
+fn scopes_shown(alloc: Global, mon: &MonState, frame: Option<u64>) -> Result<Answer, AllocError>
+    ensures { IfOk result (λ v. AreScopes frame mon.now (answer_view v)) }
+{
+    let locals = local_scope(alloc, mon, frame)?;
+    Ok(Answer::Scopes {
+        is_first: is_first_frame(frame),
+        locals,
+    })
+}
+
 /// Returns what is shown of a session, if the question names what there is.
 fn shown<H: Files + AllocGlobal>(
     rt: &H,
@@ -289,14 +333,12 @@ fn shown<H: Files + AllocGlobal>(
     ensures { IfOk result (λ v. IsShown query.entry counting client.now (answer_view v)) }
 {
     let alloc = rt.alloc();
-    let source = source_of(&client.launch, &client.assembly, counting);
+    let source = source_of(&client.files, counting);
     let mon = &client.mon;
     match query {
         Query::Threads => Ok(Answer::Threads),
         Query::StackTrace(page) => frames_shown(alloc, mon, &source, page),
-        Query::Scopes(frame) => Ok(Answer::Scopes {
-            is_first: is_first_frame(frame),
-        }),
+        Query::Scopes(frame) => scopes_shown(alloc, mon, frame),
         Query::Variables { scope, page } => variables_shown(alloc, mon, scope, page),
         Query::ReadMemory { address, count } => memory_shown(alloc, mon, address, count),
         Query::Disassemble {
@@ -304,10 +346,11 @@ fn shown<H: Files + AllocGlobal>(
             offset,
             count,
         } => disassembled(alloc, mon, &source, address, offset, count),
-        Query::GotoTargets { path, line } => goto_targets(rt, &source, path, line),
+        Query::GotoTargets { path, line } => goto_targets(rt, &mon.places, &source, path, line),
         Query::BreakpointLocations { path, line, end } => {
-            breakpoint_locations(rt, &source, path, line, end)
+            breakpoint_locations(rt, &mon.places, &source, path, line, end)
         }
+        Query::LoadedSources => sources_shown(alloc, client.files.as_slice()),
         Query::DataBreakpointInfo {
             scope,
             name,
@@ -360,7 +403,7 @@ fn cannot_show(alloc: Global, client: &Client, query: &Query<'_>) -> Result<bool
             ..
         } => Ok(false),
         Query::Threads | Query::StackTrace(_) | Query::GotoTargets { .. } => Ok(false),
-        Query::BreakpointLocations { .. } => Ok(false),
+        Query::BreakpointLocations { .. } | Query::LoadedSources => Ok(false),
         Query::DataBreakpointInfo { .. } | Query::Completions { .. } => Ok(false),
         Query::SetExceptionBreakpoints | Query::Pause | Query::Cancel => Ok(false),
     }
@@ -421,9 +464,11 @@ fn changed(
         (λ f. IfRefused f (MayRefuseChange change.entry client.old.mon)) }
 {
     match change {
-        Change::Evaluate { text, is_console } => {
-            evaluate(alloc, client, counting, text, is_console)
-        }
+        Change::Evaluate {
+            text,
+            is_console,
+            frame,
+        } => evaluate(alloc, client, counting, text, is_console, frame),
         Change::SetVariable { scope, name, value } => {
             set_variable(alloc, &mut client.mon, counting, scope, name, value)
         }

@@ -1,19 +1,24 @@
 //! How a session begins.
 
-ghost use Rattle.std.specs.Prelude.{◌≡◌, IfOk, OnOk, Some, option_map};
+ghost use Rattle.std.specs.Prelude.{◌≡◌, IfOk, OnOk, Some, is_none};
 ghost use Rattle.arguments.specs.Asked.{file_view};
-ghost use Rattle.dap_session.specs.Begun.{AddsNames, IsLaunched, IsNewClient, places_in, with_names};
-ghost use Rattle.dap_session.specs.Options.{program_of};
+ghost use Rattle.arguments_play.specs.Debug.{debug_asked};
+ghost use Rattle.dap_session.specs.Begun.{AddsNames, ArePlaces, HasPlaces, IsLaunched, IsNewClient};
+ghost use Rattle.dap_session.specs.Begun.{places_in, with_names};
 ghost use Rattle.dap_messages.specs.Seen.{launch_view, text_view};
 ghost use Rattle.source_map.specs.Lines.{PlacesView};
 
-use crate::fault::{Fault, refused_by};
+use crate::fault::{Fault, refused, refused_by};
+use crate::files::files_of;
 use crate::launching::{file_words, history_of, text_of};
 use arguments::{FileWords, LoadFault, Refusal};
+use arguments_play::debug_asked;
 use assembler::Assembly;
 use dap_messages::{Counting, Launch, Listed, Reason, Told};
-use dap_views::Source;
+use dap_views::{FilePath, Source};
+use debug_files::{DebugPlaces, load_places_of};
 use loading::{ImageNames, Loaded, load_names, load_with_history};
+use mon_runs::Session;
 use mon_session::MonState;
 use source_map::Places;
 use std::alloc::{AllocError, Global};
@@ -26,8 +31,8 @@ pub struct Client {
     /// What launched it.
     pub launch: Launch,
     pub mon: MonState,
-    /// The source with its lines, if the program is one.
-    pub assembly: Option<Assembly>,
+    /// The files of the source, by number.
+    pub files: Vec<FilePath>,
     /// The breakpoints that the client has listed.
     pub listed: Listed,
     /// What the client was told.
@@ -41,29 +46,13 @@ pub fn put_client(client: &mut Option<Client>, begun: Client)
     drop(mem::replace(client, Some(begun)));
 }
 
-/// Returns the path of the program of a launch: empty if it names none.
-fn program_text(launch: &Launch) -> &str
-    ensures { result.now ≡ program_of (launch_view launch.now) }
-{
-    match &launch.program {
-        Some(path) => path.as_str(),
-        None => "",
-    }
-}
-
-/// Returns the source of a session, as its client counts lines.
-pub fn source_of<'a>(
-    launch: &'a Launch,
-    assembly: &'a Option<Assembly>,
-    counting: Counting,
-) -> Source<'a>
-    ensures path { result.path.now ≡ program_of (launch_view launch.now) }
-    ensures assembly { option_map (λ a. a.now) result.assembly ≡ assembly.now }
+/// Returns the files of a session's source, as its client counts lines.
+pub fn source_of(files: &Vec<FilePath>, counting: Counting) -> Source<'_>
+    ensures files { result.files.now ≡ files.now.items }
     ensures counting { result.counting ≡ counting }
 {
     Source {
-        path: program_text(launch),
-        assembly: assembly.as_ref(),
+        files: files.as_slice(),
         counting,
     }
 }
@@ -122,17 +111,40 @@ fn add_names<H: Files + AllocGlobal>(
     }
 }
 
+/// Returns the places of what was loaded: by its debug information, if a launch names a file of
+/// that.
+fn own_places<H: Files + AllocGlobal>(
+    rt: &H,
+    launch: &Launch,
+    words: &FileWords<'_>,
+    loaded: &Loaded,
+) -> Result<Places, Fault>
+    ensures { IfOk result (ArePlaces (text_view launch.now.debug_info) words.now.file.now
+        loaded.now.session loaded.now.assembly loaded.now.written) }
+{
+    let Some(path) = text_of(&launch.debug_info) else {
+        return Ok(places_of(rt.alloc(), words.file, &loaded.assembly)?);
+    };
+    let root = text_of(&launch.source_root);
+    match load_places_of(rt, path, root, &loaded.session, &loaded.written) {
+        Ok(DebugPlaces { places, sought: _ }) => Ok(places),
+        Err(fault) => Err(unloaded(rt.alloc(), fault, path)),
+    }
+}
+
 /// Returns the places of a program, with the names of a file of names, if a launch names one.
 fn known_places<H: Files + AllocGlobal>(
     rt: &H,
     launch: &Launch,
     words: &FileWords<'_>,
-    assembly: &Option<Assembly>,
+    loaded: &Loaded,
 ) -> Result<Places, Fault>
-    ensures { IfOk result (AddsNames (text_view launch.now.symbols) (file_view words.now)
-        (places_in words.now.file.now assembly.now)) }
+    ensures { IfOk result (λ known. (own : PlacesView)
+        × ArePlaces (text_view launch.now.debug_info) words.now.file.now loaded.now.session
+        loaded.now.assembly loaded.now.written own
+        × AddsNames (text_view launch.now.symbols) (file_view words.now) own known) }
 {
-    let mut places = places_of(rt.alloc(), words.file, assembly)?;
+    let mut places = own_places(rt, launch, words, loaded)?;
     match add_names(rt, launch, words, &mut places) {
         Ok(()) => Ok(places),
         Err(fault) => {
@@ -142,48 +154,31 @@ fn known_places<H: Files + AllocGlobal>(
     }
 }
 
-/// Returns the client of a session for which no request but its launch was served.
+/// Returns the client of a session for which no request but its launch was served, with what stands
+/// where in its program.
 fn client_on(
     alloc: Global,
     launch: &Launch,
-    loaded: Loaded,
+    session: Session,
     places: Places,
-) -> Result<Client, Fault>
-    ensures { IfOk result
-        (IsNewClient (launch_view launch.now) loaded.session loaded.assembly places) }
+) -> Result<Client, AllocError>
+    ensures { IfOk result (IsNewClient (launch_view launch.now) session places) }
 {
-    let Loaded {
-        session,
-        assembly,
-        written: _,
-        lost: _,
-        fill: _,
-    } = loaded;
-    match MonState::new(alloc, session, places, history_of(launch)) {
-        Ok(mon) => match launch.copied(alloc) {
-            Ok(launch) => Ok(Client {
-                launch,
-                mon,
-                assembly,
-                listed: Listed::new(alloc),
-                told: Told {
-                    count: 0,
-                    reason: Reason::Entry,
-                    words: String::new(alloc),
-                    is_over: false,
-                },
-            }),
-            Err(_) => {
-                drop(mon);
-                drop(assembly);
-                Err(Fault::OutOfMemory)
-            }
+    let files = files_of(alloc, launch, &places)?;
+    let copied = launch.copied(alloc)?;
+    let mon = MonState::new(alloc, session, places, history_of(launch))?;
+    Ok(Client {
+        launch: copied,
+        mon,
+        files,
+        listed: Listed::new(alloc),
+        told: Told {
+            count: 0,
+            reason: Reason::Entry,
+            words: String::new(alloc),
+            is_over: false,
         },
-        Err(_) => {
-            drop(assembly);
-            Err(Fault::OutOfMemory)
-        }
-    }
+    })
 }
 
 /// Begins a session on what was loaded.
@@ -194,29 +189,48 @@ fn begin_on<H: Files + AllocGlobal>(
     loaded: Loaded,
 ) -> Result<Client, Fault>
     ensures { IfOk result (λ client. (known : PlacesView)
-        × AddsNames (text_view launch.now.symbols) (file_view words.now)
-        (places_in words.now.file.now loaded.assembly) known
-        × IsNewClient (launch_view launch.now) loaded.session loaded.assembly known client) }
+        × HasPlaces (launch_view launch.now) (file_view words.now) loaded.session
+        loaded.assembly loaded.written known
+        × IsNewClient (launch_view launch.now) loaded.session known client) }
 {
-    match known_places(rt, launch, words, &loaded.assembly) {
-        Ok(places) => client_on(rt.alloc(), launch, loaded, places),
-        Err(fault) => {
-            drop(loaded);
-            Err(fault)
-        }
+    let places = known_places(rt, launch, words, &loaded)?;
+    let Loaded {
+        session,
+        assembly: _,
+        written: _,
+        lost: _,
+        fill: _,
+    } = loaded;
+    Ok(client_on(rt.alloc(), launch, session, places)?)
+}
+
+/// Returns whether debug information is named for a source.
+fn is_debug_wrong(launch: &Launch, words: &FileWords<'_>) -> bool
+    ensures { result ≡ is_none
+        (debug_asked (file_view words.now).form (text_view launch.now.debug_info)) }
+{
+    match debug_asked(words, text_of(&launch.debug_info)) {
+        Some(_) => false,
+        None => true,
     }
 }
 
-/// Begins the session that a launch asks for: loads its file, and the file of names, if one is
-/// named.
+/// What is said where debug information is given for a source.
+const DEBUG_TAKES: &str = "debugInfo is for an image; a source has its own lines";
+
+/// Begins the session that a launch asks for: loads its file, and the files of names and of debug
+/// information, if they are named.
 ///
 /// Errors: `Refused` if the launch names no program, if an option has a value that it cannot have,
-/// or if a file is not loaded, with what `loading` says of it; `OutOfMemory` if an allocation
-/// fails.
+/// if debug information is named for a source, or if a file is not loaded, with what `loading` says
+/// of it; `OutOfMemory` if an allocation fails.
 pub fn begin_session<H: Files + AllocGlobal>(rt: &H, launch: &Launch) -> Result<Client, Fault>
     ensures { IfOk result (IsLaunched (launch_view launch.now)) }
 {
     let words = file_words(rt.alloc(), launch)?;
+    if is_debug_wrong(launch, &words) {
+        return Err(refused(rt.alloc(), DEBUG_TAKES));
+    }
     match load_with_history(rt, &words, history_of(launch)) {
         Ok(loaded) => begin_on(rt, launch, &words, loaded),
         Err(fault) => Err(unloaded(rt.alloc(), fault, words.file)),

@@ -6,7 +6,7 @@ ghost use Rattle.dap_messages.specs.SeenAnswers.{SeenAnswer, evaluated_body};
 ghost use Rattle.dap_messages.specs.Messages.{Said, done, said_of};
 ghost use Rattle.dap_session.specs.Changes.{HasChanged, TellsValue, byte_put, change_asked};
 ghost use Rattle.dap_session.specs.Changes.{change_of, change_to, value_said};
-ghost use Rattle.dap_session.specs.Console.{Evaluates, EvaluatesAs, Looks, ServesRead};
+ghost use Rattle.dap_session.specs.Console.{Evaluates, EvaluatesAs, Looks, LooksIn, ServesRead};
 ghost use Rattle.dap_session.specs.Console.{ShowsIfRefused, is_line, over};
 ghost use Rattle.dap_views.specs.Looks.{look_at};
 ghost use Rattle.mon_lines.specs.Lines.{line_view};
@@ -20,7 +20,7 @@ use crate::fault::{Fault, or_memory, refused, refused_by};
 use crate::stands::with_halt_at;
 use crate::telling::{answered, with_event, with_unmoved};
 use dap_messages::{Answer, ClientEvent, Counting, Message, Reason, Scope, stand_by};
-use dap_views::{Variable, look_at, meant, value_shown, variable_named};
+use dap_views::{Variable, look_at, look_in_frame, meant, value_shown, variable_named};
 use model::Setting;
 use mon_dispatch::serve;
 use mon_line_parts::{Flaw, Topic};
@@ -184,6 +184,29 @@ fn look(
     }
 }
 
+/// Shows what a text names in a frame: a local, if it has one of this name, or else a register, a
+/// flag, the cycles or the byte at a place.
+///
+/// Errors: `Refused` if something else is to be shown.
+#[tactic(auto, using(crate::proofs::Stays::refused_so))]
+fn look_in(
+    alloc: Global,
+    client: &Client,
+    text: &str,
+    frame: Option<u64>,
+) -> Result<Vec<Message>, Fault>
+    ensures done { IfOk result
+        (λ ms. LooksIn frame client.now.mon text.now (each said_of ms.items)) }
+    ensures why { IfErr result (λ f. IfRefused f (look_at client.now.mon.session.current
+        client.now.mon.places text.now ≡ None)) }
+{
+    let local = look_in_frame(alloc, &client.mon, frame, text)?;
+    match local {
+        Some(body) => or_memory(answered(alloc, Ok(body))),
+        None => look(alloc, client, text, None),
+    }
+}
+
 /// Serves a text of the console as a line, or, if it can be read as none, shows what it names: a
 /// register, a flag, the cycles or the byte at a place.
 ///
@@ -219,8 +242,9 @@ pub fn evaluate(
     counting: Counting,
     text: &str,
     is_console: bool,
+    frame: Option<u64>,
 ) -> Result<Vec<Message>, Fault>
-    ensures done { IfOk result (λ ms. Evaluates is_console text.now client.old client.new
+    ensures done { IfOk result (λ ms. Evaluates is_console frame text.now client.old client.new
         (each said_of ms.items)) }
     ensures refused { IfErr result (λ f. ShowsIfRefused f client.old.mon client.new.mon) }
     ensures why { IfErr result (λ f. IfRefused f (IsNoLook text.now is_console client.old.mon)) }
@@ -228,7 +252,7 @@ pub fn evaluate(
     if is_console {
         return evaluate_line(alloc, client, counting, text);
     }
-    look(alloc, client, text, None)
+    look_in(alloc, client, text, frame)
 }
 
 /// Makes an event.

@@ -3,7 +3,7 @@
 ghost use Rattle.std.specs.Prelude.{◌≡◌, ◌++◌, ℕ, IfOk, List, None, map as each, option_map, true};
 ghost use Rattle.dap_messages.specs.Messages.{Said, said_of};
 ghost use Rattle.dap_session.specs.Logs.{SaysIf, id_or, is_log, is_other, last_at, log_at, log_here};
-ghost use Rattle.dap_session.specs.Logs.{text_in, text_numbered, text_of, text_or};
+ghost use Rattle.dap_session.specs.Logs.{text_in, text_numbered, text_of, text_of_list, text_or};
 ghost use Rattle.dap_session.specs.Passes.{GoesPast, IsOver, Makes, Passes, PassesLogs, Rests};
 ghost use Rattle.dap_session.specs.Passes.{SettlesAt, but_last, further_of, has_ended, is_back};
 ghost use Rattle.dap_session.specs.Passes.{is_within};
@@ -14,10 +14,10 @@ use crate::launching::steps_of;
 use crate::stands::{is_at, with_halt_at};
 use crate::telling::with_output;
 use crate::wording::{MANY_LOGS, STEPPED};
-use dap_desk::make_move;
+use dap_desk::{goes_by_lines, make_move};
 use dap_messages::{
-    Category, Halt, LineList, Listed, Message, Move, Placed, Reason, SourceBreakpoint, next_number,
-    stand_by,
+    Category, FileLines, Halt, Listed, Message, Move, Placed, Reason, SourceBreakpoint,
+    next_number, stand_by,
 };
 use dap_views::looked_text;
 use mon_session::MonState;
@@ -57,11 +57,12 @@ pub fn further_of(mon: &MonState, way: Move) -> Further
     ensures { result ≡ further_of way mon.now }
 {
     match way {
+        Move::Over if goes_by_lines(mon) => Further::Ends,
         Move::Over => over_further(mon),
         Move::Out => Further::Leaves(u16::from(mon.session.regs().s) + 1),
         Move::Go => Further::Again(Move::Go),
         Move::BackToStop => Further::Again(Move::BackToStop),
-        Move::Step | Move::BackOver | Move::Back => Further::Ends,
+        Move::In | Move::Step | Move::BackOver | Move::Back => Further::Ends,
     }
 }
 
@@ -133,14 +134,27 @@ fn text_numbered(list: &[SourceBreakpoint], first: u64, id: u64) -> Option<&str>
     found
 }
 
-/// Returns what the breakpoint of a number says, if it is a log point.
-fn text_in(lines: &Option<LineList>, id: u64) -> Option<&str>
-    ensures { option_map (λ t. t.now) result ≡ text_in lines.now id }
+/// Returns what the breakpoint of a number says, if it is a log point of a list, or else what was
+/// found before.
+fn text_of_list<'a>(listed: &'a FileLines, id: u64, found: Option<&'a str>) -> Option<&'a str>
+    ensures { option_map (λ t. t.now) result
+        ≡ text_of_list listed.now id (option_map (λ t. t.now) found.entry) }
 {
-    match lines {
-        Some(lines) => text_numbered(lines.list.as_slice(), lines.first, id),
-        None => None,
+    match text_numbered(listed.lines.list.as_slice(), listed.lines.first, id) {
+        Some(text) => Some(text),
+        None => found,
     }
+}
+
+/// Returns what the breakpoint of a number says, if it is a log point of one of some lists.
+fn text_in(lists: &[FileLines], id: u64) -> Option<&str>
+    ensures { option_map (λ t. t.now) result ≡ text_in lists.now id }
+{
+    let mut found = None;
+    for listed in lists {
+        found = text_of_list(listed, id, found);
+    }
+    found
 }
 
 /// Returns whether a breakpoint stands at an address that is listed by it, or by a name.
@@ -158,7 +172,7 @@ fn log_at(listed: &Listed, pc: u16) -> Option<&str>
         return None;
     }
     match last_at(listed.lines.as_slice(), pc) {
-        Some(id) => text_in(&listed.last_lines, id),
+        Some(id) => text_in(listed.last_lines.as_slice(), id),
         None => None,
     }
 }
@@ -308,7 +322,7 @@ pub fn go(
     ensures { (before : List Said) → IfOk messages (λ ms. each said_of ms.items ≡ before)
         → IfOk result (λ ms. Makes way before client.old client.new (each said_of ms.items)) }
 {
-    let halt = make_move(&mut client.mon, steps_of(&client.launch), way);
+    let halt = make_move(alloc, &mut client.mon, steps_of(&client.launch), way)?;
     with_halt_at(alloc, messages, client, halt)
 }
 

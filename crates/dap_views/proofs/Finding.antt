@@ -3,16 +3,15 @@ use Rattle.std.proofs.Common.{◌≡◌, ◌∙◌, Option, ℕ, ◌+◌, ◌<�
 use Rattle.std.proofs.lemmas.Grind.{flat_map-append}
 use Rattle.std.proofs.lemmas.List.{map-append, take_all, take_more}
 use Rattle.std.specs.List.{flat_map}
-use Rattle.std.specs.Option.{option_to_list}
 use Rattle.dap_views.specs.Found.{AreStops, AreTold, Found, HasFound, Stop, stop_view, told_of, told_view}
 use Rattle.dap_views.specs.declared.wanted.List.{List as WantedList}
 
 module _ {W : Type 0} (find : W → Found) where
-  abbrev tells : W → Option ℕ × Option ℕ
+  abbrev tells : W → Option ℕ × List ℕ
   tells w = told_of (find w)
 
   abbrev sets : W → List Stop
-  sets w = option_to_list (find w).1
+  sets w = (find w).1
 
   -- the first of a list were looked for
   unfoldable pub AreFound : List W → ℕ → WantedList → Type 0
@@ -29,7 +28,7 @@ module _ {W : Type 0} (find : W → Found) where
   one_found all i e old new within found so_far =
       let v = get_or all i e in
       let more : take (i + 1) all ≡ take i all ++ v ∷ [] = take_more all i e within in (
-        found.0 ∙ ap (λ (l : List (Option ℕ × Option ℕ)). l ++ tells v ∷ []) so_far.0 ∙ sym (map-append tells (take i all) (v ∷ []))
+        found.0 ∙ ap (λ (l : List (Option ℕ × List ℕ)). l ++ tells v ∷ []) so_far.0 ∙ sym (map-append tells (take i all) (v ∷ []))
             ∙ sym (ap (map tells) more),
         found.1 ∙ ap (λ (l : List Stop). l ++ sets v) so_far.1 ∙ ap (λ (l : List Stop). flat_map sets (take i all) ++ l) (sym (append-nil (sets v)))
             ∙ sym (flat_map-append sets (take i all) (v ∷ [])) ∙ sym (ap (flat_map sets) more),

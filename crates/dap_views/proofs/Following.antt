@@ -4,6 +4,7 @@ use Rattle.std.proofs.lemmas.Bool.{le-ltb, lt-ltb}
 use Rattle.std.specs.Prelude.{codes, decimal, min, nat_lt}
 use Rattle.dap_messages.specs.declared.counting.Counting.{Counting}
 use Rattle.dap_messages.specs.SeenAnswers.{SeenItem, no_instruction}
+use Rattle.dap_views.specs.declared.source.FilePath.{FilePath}
 use Rattle.dap_views.specs.Rows.{behind_row, first, found, lacking_rows, next_row, row_at, row_len, row_of, row_shown, rows, rows_around, rows_on, rows_to}
 use Rattle.mon_session.specs.declared.mon_state.MonState.{MonState}
 
@@ -53,39 +54,39 @@ picked true f d at len whole past e = let same : len ≡ whole = omega (arith, e
 picked false f d at len whole past e = refl
 
 -- a row has as many bytes as there are to the next
-pub row_here : (mon : MonState) (path : List ℕ) (counting : Counting) (end at len : ℕ) → behind_row at len ≡ next_row mon end at
-    → row_of mon path counting at len ≡ row_at mon path counting end at
-row_here mon path counting end at len e = picked (nat_lt at 65536) (λ (n : ℕ). row_shown mon path counting at n) (no_instruction (decimal at)) at len
+pub row_here : (mon : MonState) (files : List FilePath) (counting : Counting) (end at len : ℕ) → behind_row at len ≡ next_row mon end at
+    → row_of mon files counting at len ≡ row_at mon files counting end at
+row_here mon files counting end at len e = picked (nat_lt at 65536) (λ (n : ℕ). row_shown mon files counting at n) (no_instruction (decimal at)) at len
     (row_len mon end at) _ e
 
-pub rows_more : (mon : MonState) (path : List ℕ) (counting : Counting) (end n m at next : ℕ) (found whole : List SeenItem) (d : SeenItem) → n ≡ suc m
-    → next ≡ next_row mon end at → d ≡ row_at mon path counting end at
-    → found ++ rows mon path counting end n at ≡ whole → (found ++ d ∷ []) ++ rows mon path counting end m next ≡ whole
+pub rows_more : (mon : MonState) (files : List FilePath) (counting : Counting) (end n m at next : ℕ) (found whole : List SeenItem) (d : SeenItem) → n ≡ suc m
+    → next ≡ next_row mon end at → d ≡ row_at mon files counting end at
+    → found ++ rows mon files counting end n at ≡ whole → (found ++ d ∷ []) ++ rows mon files counting end m next ≡ whole
 unfolding rows
-rows_more mon path counting end n m at next found whole d e is shown so_far =
-    let rest = rows mon path counting end m next in
-    let step : rows mon path counting end n at ≡ row_at mon path counting end at ∷ rest
-    = ap (λ k. rows mon path counting end k at) e ∙ ap (λ a. row_at mon path counting end at ∷ rows mon path counting end m a) (sym is) in
+rows_more mon files counting end n m at next found whole d e is shown so_far =
+    let rest = rows mon files counting end m next in
+    let step : rows mon files counting end n at ≡ row_at mon files counting end at ∷ rest
+    = ap (λ k. rows mon files counting end k at) e ∙ ap (λ a. row_at mon files counting end at ∷ rows mon files counting end m a) (sym is) in
     append_assoc found (d ∷ []) rest ∙ ap (λ (x : SeenItem). found ++ x ∷ rest) shown ∙ sym (ap (λ (ds : List SeenItem). found ++ ds) step) ∙ so_far
 
-pub rows_done : (mon : MonState) (path : List ℕ) (counting : Counting) (end n at : ℕ) (found whole : List SeenItem) → n ≡ 0
-    → found ++ rows mon path counting end n at ≡ whole → found ≡ whole
+pub rows_done : (mon : MonState) (files : List FilePath) (counting : Counting) (end n at : ℕ) (found whole : List SeenItem) → n ≡ 0
+    → found ++ rows mon files counting end n at ≡ whole → found ≡ whole
 unfolding rows
-rows_done mon path counting end n at found whole e so_far =
-    sym (append-nil found) ∙ sym (ap (λ k. found ++ rows mon path counting end k at) e) ∙ so_far
+rows_done mon files counting end n at found whole e so_far =
+    sym (append-nil found) ∙ sym (ap (λ k. found ++ rows mon files counting end k at) e) ∙ so_far
 
 -- ---- rows in front of the memory, and the rows behind them
 
-pub around : (mon : MonState) (path : List ℕ) (counting : Counting) (end back on count steps_back steps_on lacking begun less left : ℕ)
+pub around : (mon : MonState) (files : List FilePath) (counting : Counting) (end back on count steps_back steps_on lacking begun less left : ℕ)
     → steps_back ≡ back → steps_on ≡ on
     → lacking ≡ steps_back - found mon end steps_back → begun ≡ first mon end steps_back steps_on → less ≡ min lacking count → left ≡ count - lacking
-    → lacking_rows less lacking ++ rows mon path counting end left begun ≡ rows_around mon path counting end back on count
-around mon path counting end back on count steps_back steps_on lacking begun less left is_back is_on is_lacking is_begun is_less is_left =
+    → lacking_rows less lacking ++ rows mon files counting end left begun ≡ rows_around mon files counting end back on count
+around mon files counting end back on count steps_back steps_on lacking begun less left is_back is_on is_lacking is_begun is_less is_left =
     let none : lacking ≡ back - found mon end back = is_lacking ∙ ap (λ b. b - found mon end b) is_back in
     let start : begun ≡ first mon end back on = is_begun ∙ (λ i. first mon end (is_back i) (is_on i)) in
     let few : less ≡ min (back - found mon end back) count = is_less ∙ ap (λ k. min k count) none in
     let many : left ≡ count - (back - found mon end back) = is_left ∙ ap (λ k. count - k) none in
-    λ i. lacking_rows (few i) (none i) ++ rows mon path counting end (many i) (start i)
+    λ i. lacking_rows (few i) (none i) ++ rows mon files counting end (many i) (start i)
 
 pub lacking_more : (n m before next : ℕ) (found whole : List SeenItem) (d : SeenItem) → n ≡ suc m → next ≡ before - 1
     → d ≡ no_instruction (codes "-" ++ decimal before)

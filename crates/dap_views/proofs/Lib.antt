@@ -3,10 +3,11 @@ mod Entries
 mod Finding
 mod Following
 mod Joined
+mod Kept
 mod Listing
+mod NamedLocals
 mod Locating
 mod Lossy
-mod Matching
 mod Numbered
 pub mod Paging
 mod Symbols

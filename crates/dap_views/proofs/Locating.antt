@@ -1,36 +1,18 @@
--- Lines at which breakpoints can stand, one after another.
-use Rattle.std.proofs.Common.{◌≡◌, ◌∙◌, ℕ, zero, suc, ◌+◌, ◌≤◌, List, [], ◌∷◌, ◌++◌, length, drop, Some, refl, sym, ap, add-one, append_assoc, append-nil}
+-- Items one after another, where each element of a list has some.
+use Rattle.std.proofs.Common.{◌≡◌, ◌∙◌, ℕ, ◌+◌, ◌<◌, ◌≤◌, List, [], ◌∷◌, ◌++◌, length, drop, get_or, refl, sym, ap, add-one, append_assoc, append-nil, drop-cons}
 use Rattle.std.proofs.lemmas.List.{drop_all}
-use Rattle.std.specs.Prelude.{slice_get}
-use Rattle.assembler.specs.Lines.{LineView}
-use Rattle.dap_messages.specs.declared.counting.Counting.{Counting}
+use Rattle.std.specs.List.{flat_map}
 use Rattle.dap_messages.specs.SeenAnswers.{SeenItem}
-use Rattle.dap_views.specs.Locations.{location_at, locations_of}
 
-pub located_all : (counting : Counting) (first last : ℕ) (rows : List LineView)
-    → [] ++ locations_of counting first last (drop 0 rows) ≡ locations_of counting first last rows
-located_all counting first last rows = refl
+module _ {A : Type 0} (f : A → List SeenItem) where
+  pub located_more : (all : List A) (i : ℕ) (d : A) (found whole : List SeenItem) → i < length all
+      → found ++ flat_map f (drop i all) ≡ whole → (found ++ f (get_or all i d)) ++ flat_map f (drop (i + 1) all) ≡ whole
+  located_more all i d found whole within so_far =
+      let rest = drop (i + 1) all in
+      let here : drop i all ≡ get_or all i d ∷ rest = rw (add-one, drop-cons all i d within) refl in
+      append_assoc found (f (get_or all i d)) (flat_map f rest) ∙ sym (ap (λ (xs : List A). found ++ flat_map f xs) here) ∙ so_far
 
--- the line at an index, and those behind it
-one_located : (counting : Counting) (first last : ℕ) (rows : List LineView) (i : ℕ)
-    → locations_of counting first last (drop i rows) ≡ location_at counting first last (slice_get rows i)
-    ++ locations_of counting first last (drop (suc i) rows)
-one_located counting first last [] zero = refl
-one_located counting first last [] (suc i) = refl
-one_located counting first last (row ∷ rows) zero = refl
-one_located counting first last (row ∷ rows) (suc i) = one_located counting first last rows i
-
-pub located_more : (counting : Counting) (first last : ℕ) (rows : List LineView) (i : ℕ) (found whole : List SeenItem)
-    → found ++ locations_of counting first last (drop i rows) ≡ whole
-    → (found ++ location_at counting first last (slice_get rows i)) ++ locations_of counting first last (drop (i + 1) rows) ≡ whole
-located_more counting first last rows i found whole so_far =
-    let here = location_at counting first last (slice_get rows i) in
-    let behind = locations_of counting first last (drop (i + 1) rows) in
-    let one : locations_of counting first last (drop i rows) ≡ here ++ behind = rw add-one (one_located counting first last rows i) in
-    append_assoc found here behind ∙ sym (ap (λ (ds : List SeenItem). found ++ ds) one) ∙ so_far
-
-pub located_done : (counting : Counting) (first last : ℕ) (rows : List LineView) (i : ℕ) (found whole : List SeenItem) → length rows ≤ i
-    → found ++ locations_of counting first last (drop i rows) ≡ whole → found ≡ whole
-located_done counting first last rows i found whole past so_far =
-    let none : locations_of counting first last (drop i rows) ≡ [] = ap (locations_of counting first last) (drop_all i rows past) in
-    sym (append-nil found) ∙ sym (ap (λ (ds : List SeenItem). found ++ ds) none) ∙ so_far
+  pub located_done : (all : List A) (i : ℕ) (found whole : List SeenItem) → length all ≤ i → found ++ flat_map f (drop i all) ≡ whole → found ≡ whole
+  located_done all i found whole past so_far =
+      let none : flat_map f (drop i all) ≡ [] = ap (flat_map f) (drop_all i all past) in
+      sym (append-nil found) ∙ sym (ap (λ (ds : List SeenItem). found ++ ds) none) ∙ so_far

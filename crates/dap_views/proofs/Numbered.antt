@@ -1,5 +1,5 @@
 -- Breakpoints of a list, each with the number behind that of the one before.
-use Rattle.std.proofs.Common.{◌≡◌, ◌∙◌, ℕ, ◌+◌, ◌<◌, ◌≤◌, List, [], ◌∷◌, ◌++◌, length, drop, get_or, refl, sym, ap, append_assoc, append-nil, add-one, drop-cons}
+use Rattle.std.proofs.Common.{◌≡◌, ◌∙◌, Option, ℕ, ◌+◌, ◌<◌, ◌≤◌, List, [], ◌∷◌, ◌++◌, length, drop, get_or, refl, sym, ap, append_assoc, append-nil, add-one, drop-cons}
 use Rattle.std.proofs.lemmas.List.{drop_all}
 use Rattle.dap_messages.specs.Messages.{next_number}
 use Rattle.dap_messages.specs.declared.counting.Counting.{Counting}
@@ -30,17 +30,18 @@ unfolding answers_of
 answers_done session counting all i id found whole past so_far =
     sym (append-nil found) ∙ sym (ap (λ (ws : List Wanted). found ++ answers_of session counting id ws) (drop_all i all past)) ∙ so_far
 
-pub placed_more : (all : List Wanted) (i id next : ℕ) (e : Wanted) (found new whole : List Placed) → i < length all → e ≡ get_or all i e
-    → next ≡ next_number id → new ≡ found ++ placed_at id e.address
-    → found ++ placed_of id (drop i all) ≡ whole → new ++ placed_of next (drop (i + 1) all) ≡ whole
+pub placed_more : (file : Option ℕ) (all : List Wanted) (i id next : ℕ) (e : Wanted) (found new whole : List Placed) → i < length all → e ≡ get_or all i e
+    → next ≡ next_number id → new ≡ found ++ placed_at file id e.addresses.items
+    → found ++ placed_of file id (drop i all) ≡ whole → new ++ placed_of file next (drop (i + 1) all) ≡ whole
 unfolding placed_of
-placed_more all i id next e found new whole within is number put so_far =
+placed_more file all i id next e found new whole within is number put so_far =
     let rest = drop (i + 1) all in
     let here : drop i all ≡ e ∷ rest = cut all i e within ∙ ap (λ (w : Wanted). w ∷ rest) (sym is) in
-    (λ j. put j ++ placed_of (number j) rest) ∙ append_assoc found (placed_at id e.address) (placed_of (next_number id) rest)
-    ∙ sym (ap (λ (ws : List Wanted). found ++ placed_of id ws) here) ∙ so_far
+    (λ j. put j ++ placed_of file (number j) rest) ∙ append_assoc found (placed_at file id e.addresses.items) (placed_of file (next_number id) rest)
+    ∙ sym (ap (λ (ws : List Wanted). found ++ placed_of file id ws) here) ∙ so_far
 
-pub placed_done : (all : List Wanted) (i id : ℕ) (found whole : List Placed) → length all ≤ i → found ++ placed_of id (drop i all) ≡ whole → found ≡ whole
+pub placed_done : (file : Option ℕ) (all : List Wanted) (i id : ℕ) (found whole : List Placed) → length all ≤ i
+    → found ++ placed_of file id (drop i all) ≡ whole → found ≡ whole
 unfolding placed_of
-placed_done all i id found whole past so_far =
-    sym (append-nil found) ∙ sym (ap (λ (ws : List Wanted). found ++ placed_of id ws) (drop_all i all past)) ∙ so_far
+placed_done file all i id found whole past so_far =
+    sym (append-nil found) ∙ sym (ap (λ (ws : List Wanted). found ++ placed_of file id ws) (drop_all i all past)) ∙ so_far

@@ -1,14 +1,16 @@
 -- The frames of the stack: where the program is, and the calls and interrupts that have led there.
 -- Source: Debug Adapter Protocol 1.65, "StackTrace Request"; what is taken for a call or an
 -- interrupt, mos65: what `where` of `mon` takes for one.
-use Rattle.std.specs.Prelude.{ℕ, zero, suc, ◌+◌, ◌==◌, nat_le, ◌≡◌, Bool, true, false, if◌then◌else◌, List, [], ◌∷◌, ◌++◌, length, map, Option, Some, None}
+use Rattle.std.specs.Prelude.{ℕ, zero, suc, ◌+◌, ◌==◌, nat_le, ◌≡◌, Bool, true, false, if◌then◌else◌, List, [], ◌∷◌, ◌++◌, length, map, slice_get, string_bytes, Option, Some, None}
 use Rattle.std.specs.List.{flat_map, list_any}
 use Rattle.std.specs.Str.Lossy.{utf8_lossy}
+use Rattle.call_frames.specs.Found.{function_at}
 use Rattle.dap_messages.specs.Counting.{first_column, shown_line}
 use Rattle.dap_messages.specs.declared.counting.Counting.{Counting}
 use Rattle.dap_messages.specs.declared.request.Page.{Page}
 use Rattle.dap_views.specs.Pages.{page_of}
 use Rattle.dap_messages.specs.SeenAnswers.{SeenAnswer, SeenItem, frame_at_line, frame_without_line, frames_body}
+use Rattle.dap_views.specs.declared.source.FilePath.{FilePath}
 use Rattle.dap_views.specs.declared.stack.Frame.{Frame}
 use Rattle.model.specs.State.{State}
 use Rattle.mon_instructions.specs.Places.{place_text}
@@ -17,7 +19,8 @@ use Rattle.mon_texts.specs.Pushed.{entry_len, pushed_at}
 use Rattle.mon_texts.specs.declared.pushed.Pushed.{Pushed}
 use Rattle.mon_texts.specs.declared.pushed.Pushed.TheVariants.{Call, Break, Interrupt, Byte}
 use Rattle.mon_texts.specs.declared.wording.TheConstants.{CALLED_FROM, INTERRUPTED_AT}
-use Rattle.source_map.specs.Lines.{PlacesView, line_at}
+use Rattle.source_map.specs.Functions.{FunctionView}
+use Rattle.source_map.specs.Lines.{PlacesView, row_at}
 use Rattle.source_map.specs.Names.{Named}
 use Rattle.source_map.specs.declared.rows.Row.{Row}
 
@@ -69,24 +72,40 @@ FramesAreThoseOfWhere = (s : State) (places : PlacesView) → calls_text s place
 
 -- ---- what is shown of a frame
 
--- An address, and the name that stands there or nearest below it.
-abbrev pub frame_words : List Named → Frame → List ℕ
-frame_words names frame = if frame.is_interrupted
-    then INTERRUPTED_AT.now ++ place_text names frame.address
-    else place_text names frame.address
+-- The name of the function of C that has an address, or else the address, and the name that stands
+-- there or nearest below it.
+abbrev pub words_in : List Named → ℕ → Option FunctionView → List ℕ
+words_in names address (Some function) = function.name
+words_in names address None = place_text names address
 
--- A frame with these words, which may stand in a line. The source has a short name.
-abbrev pub frame_on : List ℕ → Counting → List ℕ → Frame → List ℕ → Option ℕ → SeenItem
-frame_on path counting name frame words (Some line) = frame_at_line frame.id frame.address words
-    (shown_line counting line) (first_column counting) name path
-frame_on path counting name frame words None = frame_without_line frame.id frame.address words
+abbrev pub where_words : PlacesView → ℕ → List ℕ
+where_words places address
+    = words_in places.names address (function_at places.functions address)
 
-abbrev pub frame_shown : PlacesView → List ℕ → Counting → List ℕ → Frame → SeenItem
-frame_shown places path counting name frame = frame_on path counting name frame
-    (utf8_lossy (frame_words places.names frame)) (line_at places.lines frame.address)
+abbrev pub frame_words : PlacesView → Frame → List ℕ
+frame_words places frame = if frame.is_interrupted
+    then INTERRUPTED_AT.now ++ where_words places frame.address
+    else where_words places frame.address
 
--- Those that are asked for, and how many there are. The source has some short name.
-abbrev pub AreFrames : State → PlacesView → List ℕ → Counting → Page → SeenAnswer → Type 0
-AreFrames s places path counting asked v = (name : List ℕ) × (v ≡ frames_body
-    (page_of asked (map (frame_shown places path counting name) (stack_frames s places.lines)))
-    (length (stack_frames s places.lines)))
+-- A frame with these words at a line of a file, if the file is known.
+abbrev pub frame_in : Counting → Frame → List ℕ → Option FilePath → ℕ → SeenItem
+frame_in counting frame words (Some file) line = frame_at_line frame.id frame.address words
+    (shown_line counting line) (first_column counting) (string_bytes file.name)
+    (string_bytes file.path)
+frame_in counting frame words None line = frame_without_line frame.id frame.address words
+
+-- A row has a line of one of the files.
+abbrev pub frame_on : List FilePath → Counting → Frame → List ℕ → Option Row → SeenItem
+frame_on files counting frame words (Some row)
+    = frame_in counting frame words (slice_get files row.file) row.line
+frame_on files counting frame words None = frame_without_line frame.id frame.address words
+
+abbrev pub frame_shown : PlacesView → List FilePath → Counting → Frame → SeenItem
+frame_shown places files counting frame = frame_on files counting frame
+    (utf8_lossy (frame_words places frame)) (row_at places.lines frame.address)
+
+-- Those that are asked for, and how many there are.
+abbrev pub AreFrames : State → PlacesView → List FilePath → Counting → Page → SeenAnswer → Type 0
+AreFrames s places files counting asked v = v ≡ frames_body
+    (page_of asked (map (frame_shown places files counting) (stack_frames s places.lines)))
+    (length (stack_frames s places.lines))

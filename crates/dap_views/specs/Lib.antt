@@ -1,7 +1,9 @@
 pub mod Answered
 pub mod Breaks
+pub mod Files
 pub mod Found
 pub mod Frames
+pub mod Locals
 pub mod Locations
 pub mod Looks
 pub mod Memory

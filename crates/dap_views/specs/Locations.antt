@@ -1,44 +1,37 @@
 -- Lines at which breakpoints can stand. Source: Debug Adapter Protocol 1.65, "BreakpointLocations
--- Request"; that only a line with bytes is one, mos65.
-use Rattle.std.specs.Prelude.{ℕ, ◌≡◌, ◌⊎◌, nat_le, false, if◌then◌else◌, List, [], ◌∷◌, Option, Some, None}
+-- Request"; that only a line that begins at an address is one, mos65.
+use Rattle.std.specs.Prelude.{ℕ, ◌≡◌, ◌&&◌, nat_le, Bool, if◌then◌else◌, List, [], ◌∷◌, Option, Some, None}
 use Rattle.std.specs.List.{flat_map}
-use Rattle.std.specs.Str.{bytes_eq}
-use Rattle.assembler.specs.Assembly.{AssemblyView, source_lines}
-use Rattle.assembler.specs.Lines.{LineView}
 use Rattle.dap_messages.specs.SeenAnswers.{SeenAnswer, SeenItem, breakpoints_body, place_on}
 use Rattle.dap_messages.specs.Counting.{own_line, shown_line}
 use Rattle.dap_messages.specs.declared.counting.Counting.{Counting}
-use Rattle.dap_views.specs.Wanted.{row_with}
+use Rattle.dap_views.specs.Files.{IsNamed}
+use Rattle.dap_views.specs.Wanted.{is_from}
+use Rattle.dap_views.specs.declared.source.FilePath.{FilePath}
+use Rattle.source_map.specs.declared.rows.Row.{Row}
 
--- A line with bytes is one, if it is from the first line to the last one.
-abbrev pub location_if : Counting → ℕ → ℕ → List SeenItem
-location_if counting last line
-    = if nat_le line last then place_on (shown_line counting line) ∷ [] else []
+-- A line that a row begins is one, if it is from the first line to the last one.
+abbrev pub is_location : ℕ → ℕ → ℕ → Row → Bool
+is_location file first last row = is_from file first row && nat_le row.line last
 
-abbrev pub location_of : Counting → ℕ → Option (ℕ × ℕ) → List SeenItem
-location_of counting last (Some row) = location_if counting last row.0
-location_of counting last None = []
+abbrev pub location_of : Counting → ℕ → ℕ → ℕ → Row → List SeenItem
+location_of counting file first last row = if is_location file first last row
+    then place_on (shown_line counting row.line) ∷ [] else []
 
-abbrev pub location_at : Counting → ℕ → ℕ → Option LineView → List SeenItem
-location_at counting first last row = location_of counting last (row_with first row)
+-- Of a file: one for each address at which a line begins.
+abbrev pub locations_of : Counting → ℕ → ℕ → ℕ → List Row → List SeenItem
+locations_of counting file first last rows = flat_map (location_of counting file first last) rows
 
-abbrev pub locations_of : Counting → ℕ → ℕ → List LineView → List SeenItem
-locations_of counting first last rows
-    = flat_map (λ row. location_at counting first last (Some row)) rows
+abbrev pub own_locations : Counting → List Row → ℕ → Option ℕ → Option ℕ → List SeenItem
+own_locations counting rows file line end
+    = locations_of counting file (own_line counting line) (own_line counting end) rows
 
-abbrev pub locations_in : Counting → ℕ → ℕ → Option AssemblyView → List SeenItem
-locations_in counting first last (Some assembly)
-    = locations_of counting first last (source_lines assembly)
-locations_in counting first last None = []
+abbrev pub locations_in : Counting → List Row → Option ℕ → Option ℕ → Option ℕ → List SeenItem
+locations_in counting rows (Some file) line end = own_locations counting rows file line end
+locations_in counting rows None line end = []
 
-abbrev pub own_locations : Counting → Option AssemblyView → Option ℕ → Option ℕ → List SeenItem
-own_locations counting assembly line end
-    = locations_in counting (own_line counting line) (own_line counting end) assembly
-
--- Those of the source of the session, which has this path. Another source has none: the path that is
--- named is another.
-abbrev pub AreLocations : Counting → List ℕ → Option AssemblyView → List ℕ → Option ℕ → Option ℕ
-    → SeenAnswer → Type 0
-AreLocations counting path assembly named line end v
-    = (v ≡ breakpoints_body (own_locations counting assembly line end))
-    ⊎ ((bytes_eq named path ≡ false) × (v ≡ breakpoints_body []))
+-- Those of a file that is named.
+abbrev pub AreLocations : Counting → List Row → List FilePath → List ℕ → Option ℕ → Option ℕ → SeenAnswer
+    → Type 0
+AreLocations counting rows files named line end v = (file : Option ℕ) × IsNamed files named file
+    × (v ≡ breakpoints_body (locations_in counting rows file line end))

@@ -24,13 +24,17 @@ is_of_processor scope.Registers = true
 is_of_processor scope.Flags = true
 is_of_processor other = false
 
+abbrev pub is_of_locals : Scope → Bool
+is_of_locals (scope.Locals frame) = true
+is_of_locals other = false
+
 -- A flag or a register has its own name.
 abbrev pub flag_or_register : Option Flag → Option Register → Option Variable
 flag_or_register (Some flag) register = Some (variable.Flag flag)
 flag_or_register None (Some register) = Some (variable.Register register)
 flag_or_register None None = None
 
--- A byte has the name of its place.
+-- A byte has the name of its place. No local is set.
 abbrev pub at_place : Result ℕ SeenFlaw → Option Variable
 at_place (Ok address) = Some (variable.Byte address)
 at_place (Err why) = None
@@ -38,7 +42,7 @@ at_place (Err why) = None
 abbrev pub variable_in : PlacesView → ℕ → Scope → List ℕ → Option Variable
 variable_in places pc scope name = if is_of_processor scope
     then flag_or_register (flag_of name) (register_of name)
-    else at_place (place_in places pc name)
+    else if is_of_locals scope then None else at_place (place_in places pc name)
 
 -- No scope has no variable.
 abbrev pub variable_named : PlacesView → ℕ → Option Scope → List ℕ → Option Variable

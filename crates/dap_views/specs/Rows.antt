@@ -1,16 +1,18 @@
 -- The rows of a disassembly: those of the list of `mon`, instructions and data. Source: Debug Adapter
 -- Protocol 1.65, "Disassemble Request"; where rows before an address begin, mos65.
-use Rattle.std.specs.Prelude.{ℕ, ℤ, zero, suc, pos, negsuc, ◌+◌, ◌-◌, ◌*◌, ◌==◌, ◌&&◌, min, nat_lt, Bool, if◌then◌else◌, List, [], ◌∷◌, ◌++◌, codes, decimal, take, Option, Some, None}
+use Rattle.std.specs.Prelude.{ℕ, ℤ, zero, suc, pos, negsuc, ◌+◌, ◌-◌, ◌*◌, ◌==◌, ◌&&◌, min, nat_lt, Bool, if◌then◌else◌, List, [], ◌∷◌, ◌++◌, codes, decimal, take, slice_get, string_bytes, Option, Some, None}
 use Rattle.std.specs.List.{flat_map}
 use Rattle.std.specs.Str.Lossy.{utf8_lossy}
 use Rattle.dap_messages.specs.SeenAnswers.{SeenAnswer, SeenItem, instruction_at_line, instruction_row, instructions_body, no_instruction}
 use Rattle.dap_messages.specs.Counting.{shown_line}
 use Rattle.dap_messages.specs.declared.counting.Counting.{Counting}
+use Rattle.dap_views.specs.declared.source.FilePath.{FilePath}
 use Rattle.mon_instructions.specs.Instructions.{bytes_at, instruction_at, instruction_text}
 use Rattle.mon_instructions.specs.Listed.{listed_len}
 use Rattle.mon_session.specs.declared.mon_state.MonState.{MonState}
 use Rattle.model.specs.Text.{hex_byte}
-use Rattle.source_map.specs.Lines.{data_left, line_at}
+use Rattle.source_map.specs.Lines.{data_left, row_at as line_row}
+use Rattle.source_map.specs.declared.rows.Row.{Row}
 
 -- ---- where rows begin
 
@@ -68,31 +70,37 @@ row_text mon address len = if is_instruction mon address len
     then instruction_text mon.session.current mon.places.names address
     else joined (codes ".BYTE $") (codes ",$") (row_bytes mon address len)
 
--- A row of bytes and a text, which may begin a line of the source.
-abbrev pub row_on : List ℕ → Counting → ℕ → List ℕ → List ℕ → Option ℕ → SeenItem
-row_on path counting address bytes text (Some line)
-    = instruction_at_line address bytes text (shown_line counting line) path
-row_on path counting address bytes text None = instruction_row address bytes text
+-- A row of bytes and a text at a line of a file, if the file is known.
+abbrev pub row_in : Counting → ℕ → List ℕ → List ℕ → Option FilePath → ℕ → SeenItem
+row_in counting address bytes text (Some file) line
+    = instruction_at_line address bytes text (shown_line counting line) (string_bytes file.path)
+row_in counting address bytes text None line = instruction_row address bytes text
 
-abbrev pub row_shown : MonState → List ℕ → Counting → ℕ → ℕ → SeenItem
-row_shown mon path counting address len = row_on path counting address
+-- It may stand at a line of one of the files.
+abbrev pub row_on : List FilePath → Counting → ℕ → List ℕ → List ℕ → Option Row → SeenItem
+row_on files counting address bytes text (Some row)
+    = row_in counting address bytes text (slice_get files row.file) row.line
+row_on files counting address bytes text None = instruction_row address bytes text
+
+abbrev pub row_shown : MonState → List FilePath → Counting → ℕ → ℕ → SeenItem
+row_shown mon files counting address len = row_on files counting address
     (utf8_lossy (joined [] (codes " ") (row_bytes mon address len)))
-    (utf8_lossy (row_text mon address len)) (line_at mon.places.lines address)
+    (utf8_lossy (row_text mon address len)) (line_row mon.places.lines address)
 
 -- Where no memory is, a row says so.
-abbrev pub row_of : MonState → List ℕ → Counting → ℕ → ℕ → SeenItem
-row_of mon path counting address len = if nat_lt address 65536
-    then row_shown mon path counting address len else no_instruction (decimal address)
+abbrev pub row_of : MonState → List FilePath → Counting → ℕ → ℕ → SeenItem
+row_of mon files counting address len = if nat_lt address 65536
+    then row_shown mon files counting address len else no_instruction (decimal address)
 
-abbrev pub row_at : MonState → List ℕ → Counting → ℕ → ℕ → SeenItem
-row_at mon path counting end address
-    = row_of mon path counting address (row_len mon end address)
+abbrev pub row_at : MonState → List FilePath → Counting → ℕ → ℕ → SeenItem
+row_at mon files counting end address
+    = row_of mon files counting address (row_len mon end address)
 
 -- So many rows from an address on.
-unfoldable pub rows : MonState → List ℕ → Counting → ℕ → ℕ → ℕ → List SeenItem
-rows mon path counting end zero address = []
-rows mon path counting end (suc n) address = row_at mon path counting end address
-    ∷ rows mon path counting end n (next_row mon end address)
+unfoldable pub rows : MonState → List FilePath → Counting → ℕ → ℕ → ℕ → List SeenItem
+rows mon files counting end zero address = []
+rows mon files counting end (suc n) address = row_at mon files counting end address
+    ∷ rows mon files counting end n (next_row mon end address)
 
 -- Rows in front of the memory, of which the first is so many bytes before it.
 unfoldable pub lacking_rows : ℕ → ℕ → List SeenItem
@@ -124,18 +132,18 @@ first mon end back on
     = rows_on mon end ((found mon end back - back) + on) (begin end back)
 
 -- Rows in front of the memory, as many as were not found, and the rows behind them.
-abbrev pub rows_around : MonState → List ℕ → Counting → ℕ → ℕ → ℕ → ℕ → List SeenItem
-rows_around mon path counting end back on count
+abbrev pub rows_around : MonState → List FilePath → Counting → ℕ → ℕ → ℕ → ℕ → List SeenItem
+rows_around mon files counting end back on count
     = lacking_rows (min (back - found mon end back) count) (back - found mon end back)
-    ++ rows mon path counting end (count - (back - found mon end back))
+    ++ rows mon files counting end (count - (back - found mon end back))
     (first mon end back on)
 
 -- Where no address is named, no memory is.
-abbrev pub rows_at : MonState → List ℕ → Counting → ℤ → ℕ → Option ℕ → List SeenItem
-rows_at mon path counting offset count None = rows mon path counting 0 count 65536
-rows_at mon path counting offset count (Some end)
-    = rows_around mon path counting end (behind offset) (ahead offset) count
+abbrev pub rows_at : MonState → List FilePath → Counting → ℤ → ℕ → Option ℕ → List SeenItem
+rows_at mon files counting offset count None = rows mon files counting 0 count 65536
+rows_at mon files counting offset count (Some end)
+    = rows_around mon files counting end (behind offset) (ahead offset) count
 
-abbrev pub disassembled : MonState → List ℕ → Counting → Option ℕ → ℤ → ℕ → SeenAnswer
-disassembled mon path counting address offset count
-    = instructions_body (rows_at mon path counting offset count address)
+abbrev pub disassembled : MonState → List FilePath → Counting → Option ℕ → ℤ → ℕ → SeenAnswer
+disassembled mon files counting address offset count
+    = instructions_body (rows_at mon files counting offset count address)

@@ -65,6 +65,7 @@ scope_shown session names scope.Stack = stack_shown session.current
 scope_shown session names scope.ZeroPage = cells session.current.bus.memory 0 256
 scope_shown session names scope.Machine = machine_shown session
 scope_shown session names (scope.Word address) = word_shown session.current.bus.memory address
+scope_shown session names (scope.Locals frame) = []
 
 -- No scope has no variables.
 abbrev pub listed : Session → List Named → Option Scope → List SeenItem

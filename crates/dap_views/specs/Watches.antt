@@ -30,6 +30,7 @@ abbrev pub has_bytes : Option Scope → Bool
 has_bytes (Some scope.Registers) = false
 has_bytes (Some scope.Flags) = false
 has_bytes (Some scope.Machine) = false
+has_bytes (Some (scope.Locals frame)) = false
 has_bytes other = true
 
 -- The address of the byte that a name stands for.

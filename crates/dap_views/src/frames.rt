@@ -1,54 +1,49 @@
 //! The frames of the stack as they are shown.
 
 ghost use Rattle.std.specs.Prelude.{◌≡◌, ◌++◌, ℕ, IfOk, List, OnOk, map as each, string_bytes};
-ghost use Rattle.dap_views.specs.Frames.{AreFrames, frame_on, frame_shown, frame_words};
+ghost use Rattle.std.specs.Option.{option_copied};
+ghost use Rattle.dap_views.specs.Frames.{AreFrames, frame_in, frame_on, frame_shown, frame_words};
+ghost use Rattle.dap_views.specs.Frames.{where_words};
 ghost use Rattle.dap_views.specs.Pages.{page_of};
 ghost use Rattle.dap_messages.specs.SeenAnswers.{answer_view, item_view};
 
 use crate::paged::Paged;
-use crate::source::Source;
+use crate::source::{FilePath, Source, file_at};
 use crate::stack::{Frame, stack_frames};
 use crate::texts::as_text;
+use call_frames::function_at;
 use dap_messages::{
-    Answer, Item, Page, SourcePlace, frame_at_line, frame_without_line, frames_body,
+    Answer, Counting, Item, Page, SourcePlace, frame_at_line, frame_without_line, frames_body,
 };
 use formatting::push_text;
 use mon_instructions::push_place;
 use mon_session::MonState;
 use mon_texts::wording::INTERRUPTED_AT;
-use source_map::Places;
+use source_map::{Places, Row};
 use std::alloc::{AllocError, Global};
 
-/// Returns the last part of a path.
-fn last_part(path: &str) -> &str {
-    match path.rsplit_once('/') {
-        Some((_, name)) => name,
-        None => path,
-    }
-}
-
-/// Returns a frame that may have a line of the source, if memory did not run out for the words of
-/// it. The source has a short name.
-fn frame_on(
+/// Returns a frame at a line of a file, if the file is known and memory did not run out for the
+/// words of it.
+fn frame_in(
     alloc: Global,
-    file: &Source<'_>,
-    name: &str,
+    counting: Counting,
     frame: Frame,
     words: Result<String, AllocError>,
-    line: Option<u32>,
+    file: Option<&FilePath>,
+    line: u32,
 ) -> Result<Item, AllocError>
     ensures { (w : List ℕ) → IfOk words (λ s. string_bytes s ≡ w)
         → IfOk result (λ v. item_view v
-        ≡ frame_on file.now.path.now file.now.counting name.now frame w line) }
+        ≡ frame_in counting frame w (option_copied file.entry) line) }
 {
     let id = u64::from(frame.id);
-    match line {
-        Some(line) => {
+    match file {
+        Some(file) => {
             let place = SourcePlace {
-                name,
-                path: file.path,
-                line: file.counting.shown_line(line),
-                column: file.counting.first_column(),
+                name: file.name.as_str(),
+                path: file.path.as_str(),
+                line: counting.shown_line(line),
+                column: counting.first_column(),
             };
             frame_at_line(alloc, id, frame.address, words, place)
         }
@@ -56,58 +51,91 @@ fn frame_on(
     }
 }
 
+/// Returns a frame that may have a row, and so a line of a file, if memory did not run out for the
+/// words of it.
+fn frame_on(
+    alloc: Global,
+    source: &Source<'_>,
+    frame: Frame,
+    words: Result<String, AllocError>,
+    row: Option<Row>,
+) -> Result<Item, AllocError>
+    ensures { (w : List ℕ) → IfOk words (λ s. string_bytes s ≡ w)
+        → IfOk result (λ v. item_view v
+        ≡ frame_on source.now.files.now source.now.counting frame w row) }
+{
+    match row {
+        Some(row) => {
+            let file = file_at(source.files, row.file);
+            frame_in(alloc, source.counting, frame, words, file, row.line)
+        }
+        None => frame_without_line(u64::from(frame.id), frame.address, words),
+    }
+}
+
+/// Appends the name of the function of C at an address, or else the address, and the name that
+/// stands there or nearest below it.
+fn push_where(text: &mut Vec<u8>, places: &Places, address: u16) -> Result<(), AllocError>
+    ensures { OnOk result
+        (text.new.items ≡ text.old.items ++ where_words places.now address) }
+{
+    match function_at(places, address) {
+        Some(function) => text.extend_from_slice(function.name.as_slice()),
+        None => push_place(text, places, address),
+    }
+}
+
+/// Appends where a frame stands that was interrupted there, and that it was.
+fn push_interrupted(text: &mut Vec<u8>, places: &Places, address: u16) -> Result<(), AllocError>
+    ensures { OnOk result (text.new.items
+        ≡ text.old.items ++ (INTERRUPTED_AT.now ++ where_words places.now address)) }
+{
+    push_text(text, INTERRUPTED_AT)?;
+    push_where(text, places, address)
+}
+
 /// Appends where a frame stands, and whether it was interrupted there.
 fn push_words(text: &mut Vec<u8>, places: &Places, frame: Frame) -> Result<(), AllocError>
-    ensures { OnOk result
-        (text.new.items ≡ text.old.items ++ frame_words places.now.names frame) }
+    ensures { OnOk result (text.new.items ≡ text.old.items ++ frame_words places.now frame) }
 {
-    if !frame.is_interrupted {
-        return push_place(text, places, frame.address);
+    if frame.is_interrupted {
+        push_interrupted(text, places, frame.address)
+    } else {
+        push_where(text, places, frame.address)
     }
-    push_text(text, INTERRUPTED_AT)?;
-    push_place(text, places, frame.address)
 }
 
 /// Returns a frame: the name that stands at its address or nearest below it, and the line.
 fn frame_shown(
     alloc: Global,
     places: &Places,
-    file: &Source<'_>,
-    name: &str,
+    source: &Source<'_>,
     frame: Frame,
 ) -> Result<Item, AllocError>
-    ensures { IfOk result (λ v. item_view v ≡ frame_shown places.now file.now.path.now
-        file.now.counting name.now frame) }
+    ensures { IfOk result (λ v. item_view v ≡ frame_shown places.now source.now.files.now
+        source.now.counting frame) }
 {
     let mut text = Vec::new(alloc);
     let grown = push_words(&mut text, places, frame);
     let words = as_text(alloc, text, grown);
-    frame_on(
-        alloc,
-        file,
-        name,
-        frame,
-        words,
-        places.line_at(frame.address),
-    )
+    frame_on(alloc, source, frame, words, places.row_at(frame.address))
 }
 
 /// Returns those of some frames that are asked for.
 fn frames_listed(
     alloc: Global,
     places: &Places,
-    file: &Source<'_>,
-    name: &str,
+    source: &Source<'_>,
     asked: Page,
     frames: &[Frame],
 ) -> Result<Vec<Item>, AllocError>
     ensures { IfOk result (λ items. each item_view items.items ≡ page_of asked
-        (each (frame_shown places.now file.now.path.now file.now.counting name.now)
+        (each (frame_shown places.now source.now.files.now source.now.counting)
         frames.now)) }
 {
     let mut page = Paged::new(alloc, asked);
     for frame in frames {
-        page = page.with(frame_shown(alloc, places, file, name, *frame));
+        page = page.with(frame_shown(alloc, places, source, *frame));
     }
     page.build()
 }
@@ -121,11 +149,10 @@ pub fn frames_shown(
     asked: Page,
 ) -> Result<Answer, AllocError>
     ensures { IfOk result (λ v. AreFrames mon.now.session.current mon.now.places
-        source.now.path.now source.now.counting asked (answer_view v)) }
+        source.now.files.now source.now.counting asked (answer_view v)) }
 {
     let frames = stack_frames(alloc, &mon.session, &mon.places)?;
     let all = frames.as_slice();
-    let name = last_part(source.path);
-    let shown = frames_listed(alloc, &mon.places, source, name, asked, all);
+    let shown = frames_listed(alloc, &mon.places, source, asked, all);
     frames_body(shown, all.len() as u64)
 }

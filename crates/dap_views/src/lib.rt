@@ -2,13 +2,15 @@
 //!
 //! `stack` finds the frames of the stack, by what `mon_texts` takes to have pushed something;
 //! `frames` shows them. `variables` shows the variables of a scope, `memory` bytes, `rows`
-//! instructions, `looks` what a text names. `named` finds the variable that a client names. `paged`
-//! is a page of a list. `texts` makes texts of bytes, `source` is the source that a client sees.
-//! These change nothing. `laws` has what holds of all frames.
+//! instructions, `locals` the locals of a frame of C, `looks` what a text names. `named` finds the
+//! variable that a client names. `paged` is a page of a list. `texts` makes texts of bytes,
+//! `source` has the files that a client sees. These change nothing. `laws` has what holds of all
+//! frames.
 //!
 //! Each list of breakpoints replaces the one before: `wanted` reads the breakpoints of a list,
-//! `listed` sets them and answers, `watches` watches bytes. `locations` has the lines at which they
-//! can stand, `targets` the addresses at which a line can be gone to.
+//! `listed` sets them and answers, `watches` watches bytes. `lines` says where lines begin,
+//! `locations` at which lines breakpoints can stand, `targets` the addresses at which a line can be
+//! gone to.
 //!
 //! What is shown and answered are values of `dap_messages`, which alone writes them as JSON.
 //!
@@ -21,7 +23,9 @@
 
 mod frames;
 mod laws;
+mod lines;
 mod listed;
+mod locals;
 mod locations;
 mod looks;
 mod memory;
@@ -39,12 +43,13 @@ mod watches;
 pub use frames::frames_shown;
 pub use laws::frames_are_those_of_where;
 pub use listed::{set_addresses, set_functions, set_lines, set_source};
+pub use locals::{local_scope, look_in_frame};
 pub use locations::breakpoint_locations;
 pub use looks::{look_at, looked_text};
 pub use memory::memory_shown;
 pub use named::{Variable, meant, value_shown, variable_named};
 pub use rows::disassembled;
-pub use source::Source;
+pub use source::{FilePath, Source, sources_shown};
 pub use stack::is_frame;
 pub use targets::goto_targets;
 pub use texts::as_text;

@@ -1,9 +1,11 @@
 //! Lists of breakpoints: each replaces the one before.
 
-ghost use Rattle.std.specs.Prelude.{◌≡◌, ◌++◌, [], IfOk, OnOk, map as each, option_map};
+ghost use Rattle.std.specs.Prelude.{◌≡◌, ◌∷◌, ◌++◌, [], IfOk, OnOk, if◌then◌else◌, map as each};
+ghost use Rattle.std.specs.Prelude.{option_map, slice_get};
 ghost use Rattle.dap_messages.specs.Counting.{shown_line};
-ghost use Rattle.dap_views.specs.Answered.{answer_elsewhere, answer_of, answers_of, placed_at};
-ghost use Rattle.dap_views.specs.Answered.{placed_of};
+ghost use Rattle.dap_views.specs.Answered.{answer_by, answer_elsewhere, answer_of, answers_of};
+ghost use Rattle.dap_views.specs.Answered.{are_breaks, is_in, is_of};
+ghost use Rattle.dap_views.specs.Answered.{placed_at, placed_in, placed_of};
 ghost use Rattle.dap_views.specs.Breaks.{Finds, HoldsAddresses, HoldsFunctions, HoldsLines};
 ghost use Rattle.dap_views.specs.Breaks.{SetsAddresses, SetsFunctions, SetsLines, SetsSource};
 ghost use Rattle.dap_views.specs.Found.{HasFound, found_address, found_line, found_name};
@@ -11,15 +13,15 @@ ghost use Rattle.dap_desk.specs.Breaks.{KeepsEvents, all_cleared, all_set, place
 ghost use Rattle.dap_messages.specs.SeenAnswers.{breakpoints_body};
 ghost use Rattle.dap_messages.specs.SeenAnswers.{answer_view, item_view};
 
+use crate::lines::file_number;
 use crate::looks::place_named;
-use crate::source::Source;
-use crate::wanted::{List, Wanted, push_at, push_unset, row_in};
-use arguments::is_one_file;
+use crate::source::{Source, file_named};
+use crate::wanted::{List, Wanted, push_at, push_unset};
 use dap_desk::{is_break, replace};
 use dap_messages::{
-    AddressList, Answer, Counting, FunctionBreakpoint, FunctionList, InstructionBreakpoint, Item,
-    ItemList, LineList, Listed, Placed, SourceBreakpoint, breakpoint_unset, breakpoints_body,
-    data_unwatched, next_number,
+    AddressList, Answer, Counting, FileLines, FunctionBreakpoint, FunctionList,
+    InstructionBreakpoint, Item, ItemList, LineList, Listed, Placed, SourceBreakpoint,
+    breakpoint_unset, breakpoints_body, data_unwatched, next_number,
 };
 use mon_runs::Session;
 use mon_session::MonState;
@@ -38,24 +40,27 @@ pub const NO_ROOM: &str = "256 breakpoints are set";
 /// What is said of a breakpoint of another source.
 pub const OTHER_SOURCE: &str = "this is not the source of the session";
 
-/// Appends a breakpoint that a client wants at a line of the source.
+/// Appends a breakpoint that a client wants at a line of a file.
 fn push_line(
     alloc: Global,
     list: &mut List,
     mon: &MonState,
-    source: &Source<'_>,
+    counting: Counting,
+    file: usize,
     wanted: &SourceBreakpoint,
 ) -> Result<(), AllocError>
     ensures { OnOk result (HasFound (found_line mon.now.places
-        mon.now.session.current.regs.pc source.now.counting
-        (option_map (λ a. a.now) source.now.assembly) wanted.now) list.old list.new) }
+        mon.now.session.current.regs.pc counting file wanted.now) list.old list.new) }
 {
-    let line = source.counting.own_line(wanted.line);
-    match row_in(source, line) {
-        Some((line, address)) => {
-            push_at(alloc, list, mon, &wanted.condition, Some(line), address)
+    let line = counting.own_line(wanted.line);
+    let number = file_number(file);
+    let addresses = mon.places.sites_of_line(alloc, number, line)?;
+    match mon.places.line_from(number, line) {
+        Some(moved) => {
+            let all = addresses.as_slice();
+            push_at(alloc, list, mon, &wanted.condition, Some(moved), all)
         }
-        None => push_unset(list, Some(line), String::from_str(alloc, NO_BYTES)),
+        None => push_unset(alloc, list, Some(line), String::from_str(alloc, NO_BYTES)),
     }
 }
 
@@ -72,9 +77,14 @@ fn push_address(
     match wanted.address {
         Some(address) => {
             let line = mon.places.line_at(address);
-            push_at(alloc, list, mon, &wanted.condition, line, address)
+            push_at(alloc, list, mon, &wanted.condition, line, &[address])
         }
-        None => push_unset(list, None, String::from_str(alloc, "this is no address")),
+        None => push_unset(
+            alloc,
+            list,
+            None,
+            String::from_str(alloc, "this is no address"),
+        ),
     }
 }
 
@@ -91,9 +101,9 @@ fn push_name(
     match place_named(mon, wanted.name.as_str()) {
         Some(address) => {
             let line = mon.places.line_at(address);
-            push_at(alloc, list, mon, &wanted.condition, line, address)
+            push_at(alloc, list, mon, &wanted.condition, line, &[address])
         }
-        None => push_unset(list, None, String::from_str(alloc, NO_NAME)),
+        None => push_unset(alloc, list, None, String::from_str(alloc, NO_NAME)),
     }
 }
 
@@ -108,20 +118,20 @@ fn new_list(alloc: Global) -> List
     }
 }
 
-/// Looks for the breakpoints of lines that a client wants.
+/// Looks for the breakpoints of lines of a file that a client wants.
 fn lines_wanted(
     alloc: Global,
     mon: &MonState,
-    source: &Source<'_>,
+    counting: Counting,
+    file: usize,
     all: &[SourceBreakpoint],
 ) -> Result<List, AllocError>
     ensures { IfOk result (Finds (found_line mon.now.places
-        mon.now.session.current.regs.pc source.now.counting
-        (option_map (λ a. a.now) source.now.assembly)) all.now) }
+        mon.now.session.current.regs.pc counting file) all.now) }
 {
     let mut list = new_list(alloc);
     for wanted in all {
-        push_line(alloc, &mut list, mon, source, wanted)?;
+        push_line(alloc, &mut list, mon, counting, file, wanted)?;
     }
     Ok(list)
 }
@@ -168,8 +178,54 @@ fn shown(counting: Counting, line: Option<u32>) -> Option<u64>
     }
 }
 
-/// Returns what is answered of a breakpoint of a number: whether it is set, if it stands at an
-/// address.
+/// Returns whether a session has a breakpoint at each of some addresses.
+fn are_breaks(session: &Session, addresses: &[u16]) -> bool
+    ensures { result ≡ are_breaks session.now addresses.now }
+{
+    for address in addresses {
+        if !is_break(session, *address) {
+            return false;
+        }
+    }
+    true
+}
+
+/// Returns the first of some addresses, if there is one.
+fn first_of(addresses: &[u16]) -> Option<u16>
+    ensures { result ≡ slice_get addresses.now 0 }
+{
+    match addresses.get(0) {
+        Some(address) => Some(*address),
+        None => None,
+    }
+}
+
+/// Returns what is answered of a breakpoint of a number that stands at some addresses: whether it
+/// is set, if there is one.
+fn answer_at(
+    alloc: Global,
+    session: &Session,
+    id: u64,
+    line: Option<u64>,
+    words: &str,
+    addresses: &[u16],
+) -> Result<Item, AllocError>
+    ensures { IfOk result (λ v. item_view v ≡ answer_by session.now id line words.now
+        addresses.now (slice_get addresses.now 0)) }
+{
+    match first_of(addresses) {
+        Some(address) => {
+            if are_breaks(session, addresses) {
+                Ok(Item::BreakpointSet { id, address, line })
+            } else {
+                breakpoint_unset(alloc, id, line, NO_ROOM)
+            }
+        }
+        None => breakpoint_unset(alloc, id, line, words),
+    }
+}
+
+/// Returns what is answered of a breakpoint of a number.
 fn answer(
     alloc: Global,
     session: &Session,
@@ -180,16 +236,8 @@ fn answer(
     ensures { IfOk result (λ v. item_view v ≡ answer_of session.now counting id wanted.now) }
 {
     let line = shown(counting, wanted.line);
-    match wanted.address {
-        Some(address) => {
-            if is_break(session, address) {
-                Ok(Item::BreakpointSet { id, address, line })
-            } else {
-                breakpoint_unset(alloc, id, line, NO_ROOM)
-            }
-        }
-        None => breakpoint_unset(alloc, id, line, wanted.words.as_str()),
-    }
+    let addresses = wanted.addresses.as_slice();
+    answer_at(alloc, session, id, line, wanted.words.as_str(), addresses)
 }
 
 /// Returns what is answered of breakpoints, of which the first has this number.
@@ -212,27 +260,40 @@ fn answers(
     breakpoints_body(list)
 }
 
-/// Appends where a breakpoint stands, if it stands somewhere.
-fn push_placed(placed: &mut Vec<Placed>, id: u64, address: Option<u16>) -> Result<(), AllocError>
-    ensures { OnOk result (placed.new.items ≡ placed.old.items ++ placed_at id address) }
+/// Appends where a breakpoint stands: each of its addresses.
+fn push_placed(
+    placed: &mut Vec<Placed>,
+    file: Option<usize>,
+    id: u64,
+    addresses: &[u16],
+) -> Result<(), AllocError>
+    ensures { OnOk result
+        (placed.new.items ≡ placed.old.items ++ placed_at file id addresses.now) }
 {
-    match address {
-        Some(address) => {
-            placed.push(Placed { id, address })?;
-            Ok(())
-        }
-        None => Ok(()),
+    for address in addresses {
+        placed.push(Placed {
+            id,
+            address: *address,
+            file,
+        })?;
     }
+    Ok(())
 }
 
-/// Returns where those of some breakpoints stand that stand somewhere. The first has this number.
-fn placed_of(alloc: Global, first: u64, told: &[Wanted]) -> Result<Vec<Placed>, AllocError>
-    ensures { IfOk result (λ placed. placed.items ≡ placed_of first told.now) }
+/// Returns where those of some breakpoints stand that stand somewhere, and of which file they are
+/// lines, if they are lines. The first has this number.
+fn placed_of(
+    alloc: Global,
+    file: Option<usize>,
+    first: u64,
+    told: &[Wanted],
+) -> Result<Vec<Placed>, AllocError>
+    ensures { IfOk result (λ placed. placed.items ≡ placed_of file first told.now) }
 {
     let mut placed = Vec::new(alloc);
     let mut id = first;
     for wanted in told {
-        push_placed(&mut placed, id, wanted.address)?;
+        push_placed(&mut placed, file, id, wanted.addresses.as_slice())?;
         id = next_number(id);
     }
     Ok(placed)
@@ -245,25 +306,75 @@ fn set_list(
     mon: &mut MonState,
     held: &mut Vec<Placed>,
     counting: Counting,
+    file: Option<usize>,
     first: u64,
     list: List,
 ) -> Result<Answer, AllocError>
     ensures place { OnOk result (place_of mon.new
         ≡ all_set list.stops.items (all_cleared held.old.items (place_of mon.old))) }
-    ensures held { OnOk result (held.new.items ≡ placed_of first list.told.items) }
+    ensures held { OnOk result (held.new.items ≡ placed_of file first list.told.items) }
     ensures kept { KeepsEvents mon.old mon.new }
     ensures answer { IfOk result (λ v. answer_view v
         ≡ breakpoints_body (answers_of mon.new.session counting first list.told.items)) }
 {
     let List { told, stops } = list;
-    let placed = placed_of(alloc, first, told.as_slice())?;
+    let placed = placed_of(alloc, file, first, told.as_slice())?;
     replace(mon, held.as_slice(), stops)?;
     *held = placed;
     answers(alloc, &mon.session, counting, first, told.as_slice())
 }
 
-/// Sets the breakpoints of the source that a client wants, in place of those before, and returns
-/// what is answered.
+/// Returns whether a breakpoint that is listed so is at a line of a file.
+fn is_of(file: usize, other: Option<usize>) -> bool
+    ensures { result ≡ is_of file other }
+{
+    match other {
+        Some(other) => other == file,
+        None => false,
+    }
+}
+
+/// Returns whether a breakpoint is at a line of a file, or is not, as is asked.
+fn is_in(placed: Placed, file: usize, inside: bool) -> bool
+    ensures { result ≡ is_in inside file placed }
+{
+    if inside {
+        is_of(file, placed.file)
+    } else {
+        !is_of(file, placed.file)
+    }
+}
+
+/// Appends a breakpoint, if it is to be.
+fn push_if(list: &mut Vec<Placed>, placed: Placed, is_one: bool) -> Result<(), AllocError>
+    ensures { OnOk result (list.new.items
+        ≡ list.old.items ++ (if is_one then placed ∷ [] else [])) }
+{
+    if is_one {
+        list.push(placed)?;
+    }
+    Ok(())
+}
+
+/// Returns those of some breakpoints that are at lines of a file, or those that are not, as is
+/// asked.
+fn placed_in(
+    alloc: Global,
+    placed: &[Placed],
+    file: usize,
+    inside: bool,
+) -> Result<Vec<Placed>, AllocError>
+    ensures { IfOk result (λ list. list.items ≡ placed_in inside file placed.now) }
+{
+    let mut list = Vec::new(alloc);
+    for one in placed {
+        push_if(&mut list, *one, is_in(*one, file, inside))?;
+    }
+    Ok(list)
+}
+
+/// Sets the breakpoints of a file that a client wants, in place of those before at its lines, and
+/// returns what is answered.
 ///
 /// Errors: `AllocError` if an allocation fails; the old ones are cleared then, and some of the new
 /// ones may be set.
@@ -271,21 +382,26 @@ pub fn set_lines(
     alloc: Global,
     mon: &mut MonState,
     listed: &mut Listed,
-    source: &Source<'_>,
-    wanted: LineList,
+    counting: Counting,
+    wanted: FileLines,
 ) -> Result<Answer, AllocError>
-    ensures sets { IfOk result (λ v. SetsLines source.now.counting
-        (option_map (λ a. a.now) source.now.assembly) wanted listed.old.lines.items
+    ensures sets { IfOk result (λ v. SetsLines counting wanted listed.old.lines.items
         listed.new.lines.items mon.old mon.new (answer_view v)) }
     ensures kept { KeepsEvents mon.old mon.new }
     ensures addresses { listed.new.addresses ≡ listed.old.addresses }
     ensures functions { listed.new.functions ≡ listed.old.functions }
     ensures held { OnOk result (HoldsLines wanted listed.old listed.new) }
 {
-    let first = wanted.first;
-    let list = lines_wanted(alloc, mon, source, wanted.list.as_slice())?;
-    listed.last_lines = Some(wanted);
-    set_list(alloc, mon, &mut listed.lines, source.counting, first, list)
+    let file = wanted.file;
+    let first = wanted.lines.first;
+    let list = lines_wanted(alloc, mon, counting, file, wanted.lines.list.as_slice())?;
+    let mut held = placed_in(alloc, listed.lines.as_slice(), file, true)?;
+    let mut lines = placed_in(alloc, listed.lines.as_slice(), file, false)?;
+    listed.last_lines.push(wanted)?;
+    let answer = set_list(alloc, mon, &mut held, counting, Some(file), first, list)?;
+    lines.extend_from_slice(held.as_slice())?;
+    listed.lines = lines;
+    Ok(answer)
 }
 
 /// Sets the breakpoints at addresses that a client wants, in place of those before, and returns
@@ -310,7 +426,15 @@ pub fn set_addresses(
     let first = wanted.first;
     let list = addresses_wanted(alloc, mon, wanted.list.as_slice())?;
     listed.last_addresses = Some(wanted);
-    set_list(alloc, mon, &mut listed.addresses, counting, first, list)
+    set_list(
+        alloc,
+        mon,
+        &mut listed.addresses,
+        counting,
+        None,
+        first,
+        list,
+    )
 }
 
 /// Sets the breakpoints at names that a client wants, in place of those before, and returns what is
@@ -335,7 +459,15 @@ pub fn set_functions(
     let first = wanted.first;
     let list = names_wanted(alloc, mon, wanted.list.as_slice())?;
     listed.last_functions = Some(wanted);
-    set_list(alloc, mon, &mut listed.functions, counting, first, list)
+    set_list(
+        alloc,
+        mon,
+        &mut listed.functions,
+        counting,
+        None,
+        first,
+        list,
+    )
 }
 
 /// Returns what is answered of breakpoints of another source than that of the session.
@@ -350,8 +482,8 @@ fn none_set(alloc: Global, listed: &[SourceBreakpoint]) -> Result<Answer, AllocE
     breakpoints_body(list)
 }
 
-/// Sets the breakpoints that a client wants in the source with a path, in place of those before, if
-/// the source is that of the session. Returns what is answered: of another source none is set.
+/// Sets the breakpoints that a client wants in the file with a path, in place of those before, if
+/// the file is one of the source. Returns what is answered: of another file none is set.
 ///
 /// Errors: as those of `set_lines`.
 pub fn set_source<H: Files + AllocGlobal>(
@@ -362,16 +494,21 @@ pub fn set_source<H: Files + AllocGlobal>(
     path: &str,
     wanted: LineList,
 ) -> Result<Answer, AllocError>
-    ensures sets { IfOk result (λ v. SetsSource source.now.counting source.now.path.now
-        (option_map (λ a. a.now) source.now.assembly) path.now wanted listed.old listed.new
-        mon.old mon.new (answer_view v)) }
+    ensures sets { IfOk result (λ v. SetsSource source.now.counting source.now.files.now path.now
+        wanted listed.old listed.new mon.old mon.new (answer_view v)) }
     ensures kept { KeepsEvents mon.old mon.new }
     ensures addresses { listed.new.addresses ≡ listed.old.addresses }
     ensures functions { listed.new.functions ≡ listed.old.functions }
 {
     let alloc = rt.alloc();
-    if is_one_file(rt, path, source.path) {
-        return set_lines(alloc, mon, listed, source, wanted);
+    match file_named(rt, source.files, path) {
+        Some(file) => {
+            let lines = FileLines {
+                file,
+                lines: wanted,
+            };
+            set_lines(alloc, mon, listed, source.counting, lines)
+        }
+        None => none_set(alloc, wanted.list.as_slice()),
     }
-    none_set(alloc, wanted.list.as_slice())
 }

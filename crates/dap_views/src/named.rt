@@ -1,7 +1,8 @@
 //! A variable that a client names.
 
 ghost use Rattle.std.specs.Prelude.{◌≡◌, IfOk, MatchResult, None, Some, string_bytes};
-ghost use Rattle.dap_views.specs.Named.{flag_or_register, is_of_processor, meant, register_value};
+ghost use Rattle.dap_views.specs.Named.{flag_or_register, is_of_locals, is_of_processor, meant};
+ghost use Rattle.dap_views.specs.Named.{register_value};
 ghost use Rattle.dap_views.specs.Named.{value_byte, value_shown, variable_in, variable_named};
 ghost use Rattle.dap_views.specs.Named.{without_behind};
 ghost use Rattle.dap_views.specs.Variables.{behind_text};
@@ -33,7 +34,18 @@ fn is_of_processor(scope: Scope) -> bool
     match scope {
         Scope::Registers | Scope::Flags => true,
         Scope::Symbols | Scope::Stack | Scope::ZeroPage => false,
-        Scope::Machine | Scope::Word(_) => false,
+        Scope::Machine | Scope::Word(_) | Scope::Locals(_) => false,
+    }
+}
+
+/// Returns whether a scope is that of the locals of a frame.
+fn is_of_locals(scope: Scope) -> bool
+    ensures { result ≡ is_of_locals scope }
+{
+    match scope {
+        Scope::Locals(_) => true,
+        Scope::Registers | Scope::Flags | Scope::Symbols | Scope::Stack => false,
+        Scope::ZeroPage | Scope::Machine | Scope::Word(_) => false,
     }
 }
 
@@ -56,7 +68,8 @@ pub fn flag_or_register(name: &[u8]) -> Result<Variable, Slip<'_>>
     }
 }
 
-/// Returns the variable of a scope that has a name. The name of a byte is that of its place.
+/// Returns the variable of a scope that has a name. The name of a byte is that of its place. A
+/// local is none: its bytes are set.
 fn variable_in<'a>(mon: &MonState, scope: Scope, name: &'a str) -> Result<Variable, Slip<'a>>
     ensures { MatchResult result
         (λ variable. variable_in mon.now.places mon.now.session.current.regs.pc
@@ -67,6 +80,12 @@ fn variable_in<'a>(mon: &MonState, scope: Scope, name: &'a str) -> Result<Variab
     let name = name.as_bytes();
     if is_of_processor(scope) {
         return flag_or_register(name);
+    }
+    if is_of_locals(scope) {
+        return Err(Slip {
+            topic: Some(Topic::Put),
+            flaw: Flaw::Unreadable(name),
+        });
     }
     match read_place(name, &mon.places, mon.session.regs().pc) {
         Ok(address) => Ok(Variable::Byte(address)),

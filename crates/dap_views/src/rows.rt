@@ -3,20 +3,24 @@
 ghost use Rattle.std.specs.Prelude.{◌≡◌, ◌+◌, ◌≤◌, ◌++◌, ◌-◌, [], ℕ, IfOk, List, OnOk, codes};
 ghost use Rattle.std.specs.Prelude.{string_bytes};
 ghost use Rattle.dap_views.specs.Rows.{ahead, behind, behind_row, disassembled, joined};
-ghost use Rattle.dap_views.specs.Rows.{lacking_rows, next_row, row_bytes, row_of, row_on, row_text};
+ghost use Rattle.std.specs.Option.{option_copied};
+ghost use Rattle.dap_views.specs.Rows.{lacking_rows, next_row, row_bytes, row_in, row_of, row_on};
+ghost use Rattle.dap_views.specs.Rows.{row_text};
 ghost use Rattle.dap_views.specs.Rows.{rows, rows_around, rows_on, rows_to};
 ghost use Rattle.dap_messages.specs.ItemLists.{HasItems};
 ghost use Rattle.dap_messages.specs.SeenAnswers.{SeenItem, answer_view, item_view};
 
-use crate::source::Source;
+use crate::source::{FilePath, Source, file_at};
 use crate::texts::as_text;
 use dap_messages::{
-    Answer, Item, ItemList, instruction_at_line, instruction_row, instructions_body, no_instruction,
+    Answer, Counting, Item, ItemList, instruction_at_line, instruction_row, instructions_body,
+    no_instruction,
 };
 use disasm::line_in;
 use formatting::{push_byte, push_text};
 use mon_instructions::{push_instruction, push_listed};
 use mon_session::MonState;
+use source_map::Row;
 use std::alloc::{AllocError, Global};
 
 /// Behind the memory.
@@ -137,25 +141,50 @@ fn push_row(
     }
 }
 
-/// Returns a row of bytes and a text, if memory did not run out for them. It may begin a line of
-/// the source.
+/// Returns a row of bytes and a text at a line of a file, if the file is known and memory did not
+/// run out.
+fn row_in(
+    alloc: Global,
+    counting: Counting,
+    address: u16,
+    bytes: Result<String, AllocError>,
+    text: Result<String, AllocError>,
+    file: Option<&FilePath>,
+    line: u32,
+) -> Result<Item, AllocError>
+    ensures { (b t : List ℕ) → IfOk bytes (λ s. string_bytes s ≡ b)
+        → IfOk text (λ s. string_bytes s ≡ t)
+        → IfOk result (λ v. item_view v
+        ≡ row_in counting address b t (option_copied file.entry) line) }
+{
+    match file {
+        Some(file) => {
+            let line = counting.shown_line(line);
+            instruction_at_line(alloc, address, bytes, text, line, file.path.as_str())
+        }
+        None => instruction_row(address, bytes, text),
+    }
+}
+
+/// Returns a row of bytes and a text, if memory did not run out for them. It may stand at a line of
+/// a file.
 fn row_on(
     alloc: Global,
     source: &Source<'_>,
     address: u16,
     bytes: Result<String, AllocError>,
     text: Result<String, AllocError>,
-    line: Option<u32>,
+    row: Option<Row>,
 ) -> Result<Item, AllocError>
     ensures { (b t : List ℕ) → IfOk bytes (λ s. string_bytes s ≡ b)
         → IfOk text (λ s. string_bytes s ≡ t)
         → IfOk result (λ v. item_view v
-        ≡ row_on source.now.path.now source.now.counting address b t line) }
+        ≡ row_on source.now.files.now source.now.counting address b t row) }
 {
-    match line {
-        Some(line) => {
-            let line = source.counting.shown_line(line);
-            instruction_at_line(alloc, address, bytes, text, line, source.path)
+    match row {
+        Some(row) => {
+            let file = file_at(source.files, row.file);
+            row_in(alloc, source.counting, address, bytes, text, file, row.line)
         }
         None => instruction_row(address, bytes, text),
     }
@@ -170,7 +199,7 @@ fn row_of(
     address: u32,
     len: u8,
 ) -> Result<Item, AllocError>
-    ensures { IfOk result (λ v. item_view v ≡ row_of mon.now source.now.path.now
+    ensures { IfOk result (λ v. item_view v ≡ row_of mon.now source.now.files.now
         source.now.counting address len) }
 {
     if address >= BEHIND {
@@ -182,8 +211,8 @@ fn row_of(
     let grown = push_row(&mut column, &mut words, mon, address, len);
     let bytes = as_text(alloc, column, grown);
     let text = as_text(alloc, words, grown);
-    let line = mon.places.line_at(address);
-    row_on(alloc, source, address, bytes, text, line)
+    let row = mon.places.row_at(address);
+    row_on(alloc, source, address, bytes, text, row)
 }
 
 /// Returns a list with so many rows from an address on behind its items.
@@ -197,7 +226,7 @@ fn with_rows(
     from: u32,
 ) -> Result<ItemList, AllocError>
     ensures { (ds : List SeenItem) → HasItems ds front → IfOk result (HasItems (ds
-        ++ rows mon.now source.now.path.now source.now.counting until count from)) }
+        ++ rows mon.now source.now.files.now source.now.counting until count from)) }
 {
     let mut list = front;
     let mut address = from;
@@ -250,7 +279,7 @@ fn rows_around(
     offset: i64,
     count: u32,
 ) -> Result<ItemList, AllocError>
-    ensures { IfOk result (HasItems (rows_around mon.now source.now.path.now
+    ensures { IfOk result (HasItems (rows_around mon.now source.now.files.now
         source.now.counting until (behind offset) (ahead offset) count)) }
 {
     let until = u32::from(until);
@@ -276,7 +305,7 @@ pub fn disassembled(
     offset: i64,
     count: u32,
 ) -> Result<Answer, AllocError>
-    ensures { IfOk result (λ v. answer_view v ≡ disassembled mon.now source.now.path.now
+    ensures { IfOk result (λ v. answer_view v ≡ disassembled mon.now source.now.files.now
         source.now.counting address offset count) }
 {
     let rows = match address {

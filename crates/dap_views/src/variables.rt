@@ -3,6 +3,7 @@
 ghost use Rattle.std.specs.Prelude.{◌≡◌, ◌-◌, ℕ, [], IfOk, List, map as each, slice_index};
 ghost use Rattle.std.specs.Prelude.{string_bytes};
 ghost use Rattle.dap_messages.specs.declared.request.Page.{Page};
+ghost use Rattle.dap_views.specs.Locals.{ShowsVariables};
 ghost use Rattle.dap_views.specs.Pages.{IsPage};
 ghost use Rattle.dap_views.specs.Scopes.{cell, cells, listed, machine_shown, scope_shown};
 ghost use Rattle.dap_views.specs.Scopes.{symbols_shown, variables_shown, word_at, word_shown};
@@ -12,6 +13,7 @@ ghost use Rattle.dap_views.specs.Variables.{registers_shown};
 ghost use Rattle.dap_messages.specs.SeenAnswers.{answer_view, item_view};
 ghost use Rattle.source_map.specs.Names.{named};
 
+use crate::locals::{frame_of, locals_shown};
 use crate::paged::Paged;
 use crate::texts::{number_text, value_text};
 use dap_messages::{
@@ -201,6 +203,7 @@ fn scope_shown(alloc: Global, page: Paged, mon: &MonState, scope: Scope) -> Page
         Scope::ZeroPage => cells(alloc, page, session, 0, 256),
         Scope::Machine => machine(alloc, page, session),
         Scope::Word(address) => word_shown(alloc, page, session, address),
+        Scope::Locals(_) => page,
     }
 }
 
@@ -215,8 +218,9 @@ fn listed(alloc: Global, page: Paged, mon: &MonState, scope: Option<Scope>) -> P
     }
 }
 
-/// Returns those variables of a scope that are asked for: none if there is no such scope.
-pub fn variables_shown(
+/// Returns those variables of a scope that are asked for, but for locals: none if there is no such
+/// scope.
+fn others_shown(
     alloc: Global,
     mon: &MonState,
     scope: Option<Scope>,
@@ -227,4 +231,20 @@ pub fn variables_shown(
 {
     let page = listed(alloc, Paged::new(alloc, asked), mon, scope);
     variables_body(page.build())
+}
+
+/// Returns those variables of a scope that are asked for: none if there is no such scope.
+pub fn variables_shown(
+    alloc: Global,
+    mon: &MonState,
+    scope: Option<Scope>,
+    asked: Page,
+) -> Result<Answer, AllocError>
+    ensures { IfOk result (λ v. ShowsVariables mon.now.session mon.now.places scope asked
+        (answer_view v)) }
+{
+    match frame_of(scope) {
+        Some(frame) => locals_shown(alloc, mon, frame, asked),
+        None => others_shown(alloc, mon, scope, asked),
+    }
 }

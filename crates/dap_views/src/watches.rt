@@ -2,13 +2,15 @@
 
 ghost use Rattle.std.specs.Prelude.{◌≡◌, ◌&&◌, IfOk, OnOk, Some, map as each};
 ghost use Rattle.dap_messages.specs.SeenAnswers.{breakpoints_body};
+ghost use Rattle.dap_views.specs.Locals.{IsData, local_frame};
 ghost use Rattle.dap_views.specs.Watches.{KeepsBreaks, SetsWatches, TellsWatches, all_unset};
-ghost use Rattle.dap_views.specs.Watches.{all_watched, data_shown, has_bytes, is_watched, place_if};
+ghost use Rattle.dap_views.specs.Watches.{all_watched, data_by, data_shown, has_bytes, is_watched, place_if};
 ghost use Rattle.dap_views.specs.Watches.{place_meant, range_from, told_of};
 ghost use Rattle.dap_views.specs.Watches.{watched_of, watches_of, with_all};
 ghost use Rattle.dap_messages.specs.SeenAnswers.{answer_view, item_view};
 ghost use Rattle.mon_runs.specs.Stops.{has_access};
 
+use crate::locals::{frame_of, local_data};
 use crate::looks::place_named;
 use dap_messages::{
     Access, Answer, ByteRange, DataBreakpoint, Item, ItemList, Listed, Scope, address_of,
@@ -31,7 +33,7 @@ fn has_bytes(scope: Option<Scope>) -> bool
     ensures { result ≡ has_bytes scope }
 {
     match scope {
-        Some(Scope::Registers | Scope::Flags | Scope::Machine) => false,
+        Some(Scope::Registers | Scope::Flags | Scope::Machine | Scope::Locals(_)) => false,
         _ => true,
     }
 }
@@ -68,6 +70,23 @@ fn range_from(address: Option<u16>, count: Option<u64>) -> Option<ByteRange>
     }
 }
 
+/// Returns what can be watched of some bytes, if there are some.
+pub fn data_of(alloc: Global, range: Option<ByteRange>) -> Result<Answer, AllocError>
+    ensures { IfOk result (λ v. answer_view v ≡ data_by range) }
+{
+    match range {
+        Some(range) => Ok(Answer::DataAt(range)),
+        None => no_data(alloc, NO_DATA),
+    }
+}
+
+/// Returns the frame of whose locals a name of a scope is one, if it is of some and is no address.
+fn local_frame(scope: Option<Scope>, is_address: bool) -> Option<u16>
+    ensures { result ≡ local_frame scope is_address }
+{
+    if is_address { None } else { frame_of(scope) }
+}
+
 /// Returns what can be watched of the bytes that a name of a scope stands for, or that begin at the
 /// address that it is.
 pub fn data_shown(
@@ -79,12 +98,31 @@ pub fn data_shown(
     is_address: bool,
 ) -> Result<Answer, AllocError>
     ensures { IfOk result
+        (λ v. IsData mon.now scope name.now count is_address (answer_view v)) }
+{
+    match local_frame(scope, is_address) {
+        Some(frame) => local_data(alloc, mon, frame, name, count),
+        None => place_data(alloc, mon, scope, name, count, is_address),
+    }
+}
+
+/// Returns what can be watched of the bytes at the place that a name of a scope stands for, or that
+/// begin at the address that it is.
+fn place_data(
+    alloc: Global,
+    mon: &MonState,
+    scope: Option<Scope>,
+    name: &str,
+    count: Option<u64>,
+    is_address: bool,
+) -> Result<Answer, AllocError>
+    ensures { IfOk result
         (λ v. answer_view v ≡ data_shown mon.now scope name.now count is_address) }
 {
-    match range_from(place_meant(mon, scope, name, is_address), count) {
-        Some(range) => Ok(Answer::DataAt(range)),
-        None => no_data(alloc, NO_DATA),
-    }
+    data_of(
+        alloc,
+        range_from(place_meant(mon, scope, name, is_address), count),
+    )
 }
 
 /// Ends the watch of changes in the session at some addresses.

@@ -4,3 +4,4 @@ pub mod Told
 pub mod Changed
 pub mod Loaded
 pub mod Forms
+pub mod Written

@@ -77,8 +77,8 @@ fn number_of(kind: DebugFaultKind) -> u8
     }
 }
 
-/// What is said of a file that begins as neither form does.
-const NO_FORM: &str = ": this is no debug file of ld65 and no listing of 64tass";
+/// What is said of a file that begins as no form does.
+const NO_FORM: &str = ": this is no debug file of ld65, no listing of 64tass and no report of ACME";
 
 /// What is said of a listing without numbers of lines.
 const NO_NUMBERS: &str = ": make the listing with --line-numbers";

@@ -15,9 +15,13 @@ mod loaded;
 mod paths;
 mod places;
 mod sources;
+mod written;
 
-pub use changed::tell_changed;
+pub use changed::{Sought, SourceState, state_of, tell_changed};
 pub use faults::load_fault;
+pub use forms::read_info;
 pub use loaded::load_places_of;
 pub use paths::{begins_at_root, folder_of};
 pub use places::{DebugPlaces, load_places};
+pub use sources::source_state;
+pub use written::{check_sources, is_source, replaced_source};

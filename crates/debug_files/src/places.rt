@@ -3,6 +3,7 @@
 ghost use Rattle.std.specs.Prelude.{◌≡◌, IfErr, IfOk};
 ghost use Rattle.debug_files.specs.Loads.{AreDebugPlaces, EndsDebug};
 
+use crate::changed::Sought;
 use crate::faults::load_fault;
 use crate::forms::read_info;
 use crate::sources::{Sources, of_memory, sources_of};
@@ -13,14 +14,13 @@ use source_map::Places;
 use std::rt::Files;
 
 /// One byte more than the longest debug file.
-const MOST: u64 = 16_777_217;
+pub const MOST: u64 = 16_777_217;
 
-/// What stands where in a program by a debug file, and the names of its sources that have changed
-/// since it was made.
+/// What stands where in a program by a debug file, and how its sources were found.
 #[derive(Drop)]
 pub struct DebugPlaces {
     pub places: Places,
-    pub changed: Vec<u8>,
+    pub sought: Sought,
 }
 
 /// Reads a debug file and the sources that it names, and returns what stands where in a program,
@@ -47,7 +47,7 @@ pub fn load_places<H: Files + AllocGlobal>(
         Ok(info) => info,
         Err(error) => return Err(load_fault(error)),
     };
-    let Sources { files, changed } = sources_of(rt, file, root, info.files.as_slice())?;
+    let Sources { files, sought } = sources_of(rt, file, root, info.files.as_slice())?;
     let places = of_memory(Places::of_debug(rt.alloc(), profile, image, &info, files))?;
-    Ok(DebugPlaces { places, changed })
+    Ok(DebugPlaces { places, sought })
 }

@@ -1,11 +1,12 @@
 //! The sources that a debug file names.
 
-ghost use Rattle.std.specs.Prelude.{◌≡◌, ◌∷◌, ◌++◌, [], IfErr, IfOk, Ok, OnOk, map, option_map};
+ghost use Rattle.std.specs.Prelude.{◌≡◌, ◌∷◌, ◌++◌, [], IfErr, IfOk, Ok, OnOk, length, map};
+ghost use Rattle.std.specs.Prelude.{option_map};
 ghost use Rattle.debug_files.specs.Loads.{named, names_in};
 ghost use Rattle.debug_records.specs.Views.{file_view};
 ghost use Rattle.source_map.specs.Lines.{source_view};
 
-use crate::changed::note_changed;
+use crate::changed::{Sought, SourceState, state_of};
 use crate::paths::source_path;
 use arguments::{Refusal, read_most};
 use debug_records::File;
@@ -24,12 +25,21 @@ pub fn of_memory<T>(made: Result<T, AllocError>) -> Result<T, Refusal>
     made.map_err(|_| Refusal::OutOfMemory)
 }
 
-/// Sources with their texts, and the names of those that have changed since the debug file was
-/// made.
+/// Sources with their texts, and how they were found.
 #[derive(Drop)]
 pub struct Sources {
     pub files: Vec<SourceFile>,
-    pub changed: Vec<u8>,
+    pub sought: Sought,
+}
+
+/// Returns the bytes of the name of a folder, if there is one.
+pub fn root_bytes(root: Option<&str>) -> Option<&[u8]>
+    ensures { option_map (λ r. r.now) result ≡ option_map (λ r. r.now) root.entry }
+{
+    match root {
+        Some(root) => Some(root.as_bytes()),
+        None => None,
+    }
 }
 
 /// Returns the bytes of a source, or none if it cannot be read.
@@ -43,11 +53,7 @@ fn bytes_of<H: Files + AllocGlobal>(
 ) -> Result<Option<Vec<u8>>, Refusal>
     ensures { IfErr result (λ fault. fault ≡ Refusal.OutOfMemory) }
 {
-    let root = match root {
-        Some(root) => Some(root.as_bytes()),
-        None => None,
-    };
-    let path = of_memory(source_path(rt.alloc(), file.as_bytes(), root, name))?;
+    let path = of_memory(source_path(rt.alloc(), file.as_bytes(), root_bytes(root), name))?;
     let Ok(path) = String::from_utf8(path) else {
         return Ok(None);
     };
@@ -58,15 +64,36 @@ fn bytes_of<H: Files + AllocGlobal>(
     }
 }
 
-/// Returns whether a text has so many bytes, if that is told.
-fn has_size(text: &[u8], size: Option<u32>) -> bool {
-    match size {
-        None => true,
-        Some(size) => text.len() == size as usize,
+/// Returns how many bytes there are, if there are some at all.
+fn count_of(text: &Option<Vec<u8>>) -> Option<usize>
+    ensures { result ≡ option_map (λ t. length t.items) text.now }
+{
+    match text {
+        Some(text) => Some(text.len()),
+        None => None,
     }
 }
 
-/// Returns the text of a source: none if it cannot be read, or has changed, which is noted.
+/// Returns how a source is found that a debug file names, with the size of which it tells.
+///
+/// # Errors
+///
+/// `OutOfMemory` if an allocation fails.
+pub fn source_state<H: Files + AllocGlobal>(
+    rt: &H,
+    file: &str,
+    root: Option<&str>,
+    name: &[u8],
+    size: Option<u32>,
+) -> Result<SourceState, Refusal>
+    ensures { IfErr result (λ fault. fault ≡ Refusal.OutOfMemory) }
+{
+    let text = bytes_of(rt, file, root, name)?;
+    Ok(state_of(count_of(&text), size))
+}
+
+/// Returns the text of a source, and notes how it was found: none if it cannot be read, or has
+/// changed.
 ///
 /// Errors: `OutOfMemory` if an allocation fails.
 fn text_of<H: Files + AllocGlobal>(
@@ -74,18 +101,17 @@ fn text_of<H: Files + AllocGlobal>(
     file: &str,
     root: Option<&str>,
     source: File<'_>,
-    changed: &mut Vec<u8>,
+    sought: &mut Sought,
 ) -> Result<Vec<u8>, Refusal>
     ensures { IfErr result (λ fault. fault ≡ Refusal.OutOfMemory) }
 {
-    let Some(text) = bytes_of(rt, file, root, source.name)? else {
-        return Ok(Vec::new(rt.alloc()));
-    };
-    if has_size(text.as_slice(), source.size) {
-        return Ok(text);
+    let text = bytes_of(rt, file, root, source.name)?;
+    let state = state_of(count_of(&text), source.size);
+    of_memory(sought.note(source.name, state))?;
+    match (state, text) {
+        (SourceState::Same, Some(text)) => Ok(text),
+        _ => Ok(Vec::new(rt.alloc())),
     }
-    of_memory(note_changed(changed, source.name))?;
-    Ok(Vec::new(rt.alloc()))
 }
 
 /// Returns a source with its text: no name and no text if there is no file of the number.
@@ -96,7 +122,7 @@ fn source_of<H: Files + AllocGlobal>(
     file: &str,
     root: Option<&str>,
     source: Option<File<'_>>,
-    changed: &mut Vec<u8>,
+    sought: &mut Sought,
 ) -> Result<SourceFile, Refusal>
     ensures named { IfOk result
         (λ made. (source_view made).name ≡ named (option_map file_view source.entry)) }
@@ -105,7 +131,7 @@ fn source_of<H: Files + AllocGlobal>(
     match source {
         None => of_memory(SourceFile::of_text(rt.alloc(), b"", b"")),
         Some(source) => {
-            let text = text_of(rt, file, root, source, changed)?;
+            let text = text_of(rt, file, root, source, sought)?;
             of_memory(SourceFile::of_text(rt.alloc(), source.name, text.as_slice()))
         }
     }
@@ -126,14 +152,14 @@ pub fn sources_of<H: Files + AllocGlobal>(
     ensures refused { IfErr result (λ fault. fault ≡ Refusal.OutOfMemory) }
 {
     let mut sources = Vec::new(rt.alloc());
-    let mut changed = Vec::new(rt.alloc());
+    let mut sought = Sought::new(rt.alloc());
     for source in files {
-        let made = source_of(rt, file, root, *source, &mut changed)?;
+        let made = source_of(rt, file, root, *source, &mut sought)?;
         of_memory(pushed(&mut sources, made))?;
     }
     Ok(Sources {
         files: sources,
-        changed,
+        sought,
     })
 }
 

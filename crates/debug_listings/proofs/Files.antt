@@ -3,7 +3,7 @@ use Rattle.std.proofs.Common.{◌≡◌, ◌∙◌, ◌<◌, ℕ, Bool, List, ma
 use Rattle.std.specs.Prelude.{nat_le}
 use Rattle.std.proofs.lemmas.Bool.Decides.{nat_tests}
 use Rattle.std.specs.Option.{option_map}
-use Rattle.debug_listings.specs.Listing.{Reading, file_of, with_file}
+use Rattle.debug_listings.specs.Reading.{Reading, file_of, with_file}
 use Rattle.debug_records.specs.Faults.{fault_at}
 use Rattle.debug_records.specs.Info.{Table, put_at}
 use Rattle.debug_records.specs.Records.{File}

@@ -1,7 +1,8 @@
 -- The way over the lines of a listing.
 use Rattle.std.proofs.Common.{◌≡◌, ℕ, ◌+◌, List, [], ◌∷◌, length, refl, ap, arith, Result, Ok, Err}
 use Rattle.model.specs.TextLines.{lines_from, lines_of}
-use Rattle.debug_listings.specs.Listing.{Reading, lines_read, with_text}
+use Rattle.debug_listings.specs.Reading.{Reading}
+use Rattle.debug_listings.specs.Texts.{lines_read, with_text}
 use Rattle.debug_records.specs.Faults.{◌>>=◌}
 use Rattle.debug_records.specs.Reading.{in_line, place_of}
 use Rattle.debug_records.specs.declared.fault.DebugFault.{DebugFault}

@@ -17,17 +17,19 @@ use Rattle.debug_records.specs.Numbers.{digits_number}
 use Rattle.debug_records.specs.declared.fault.DebugFaultKind.TheVariants.{NoBytes, NoHead, NoNumber}
 use Rattle.debug_records.specs.declared.fault.LineFault.{LineFault}
 
--- A line says nothing of lines; a file of a number is read from here on; or it is a line of a source,
--- with its bytes, if it has some.
+-- A line says nothing of lines; a file of a number is read from here on; it is a line of a source, with
+-- its bytes, if it has some; or it stands for so many bytes that repeat those of the row before it.
 pub data Said : Type 0 where
   nothing : Said
   head : ℕ → List ℕ → Said
   row : Numbers → Option Bytes → Said
+  repeated : ℕ → Said
 
 abbrev pub said_view : HeldSaid → Said
 said_view held.Nothing = nothing
 said_view (held.Head file name) = head file name.now
 said_view (held.Row numbers bytes) = row numbers bytes
+said_view (held.Repeated count) = repeated count
 
 abbrev pub begins : List ℕ → List ℕ → Bool
 begins text front = starts_with (λ a b. a == b) text front
@@ -140,6 +142,21 @@ with_digits line (Some number) rest
 unfoldable pub head_of : List ℕ → Result Said LineFault
 head_of line = with_digits line (decimal_in (column (drop 1 line))) (behind_tab (drop 1 line))
 
+-- ---- rows that are left out, since they repeat the one before: `...repeated 17 times (272 bytes)...`
+
+abbrev pub is_repeated : List ℕ → Bool
+is_repeated line = begins line (codes "\t;\t...repeated ")
+    || begins line (codes "\t;\t\t...repeated ")
+
+abbrev pub repeated_or_fault : List ℕ → Option ℕ → Result Said LineFault
+repeated_or_fault line None = Err (fault_at NoNumber line)
+repeated_or_fault line (Some count) = Ok (repeated count)
+
+-- The number of bytes stands behind `(`, up to a blank.
+unfoldable pub repeated_of : List ℕ → Result Said LineFault
+repeated_of line = repeated_or_fault line
+    (decimal_in (cut (byte " ") (cut (byte "(") line).1).0)
+
 -- ---- a line
 
 abbrev pub is_nothing : List ℕ → Bool
@@ -147,4 +164,6 @@ is_nothing line = length line == 0 || begins line (codes ";")
 
 unfoldable pub said_by : Bool → List ℕ → Result Said LineFault
 said_by has_run line = if is_nothing line then Ok nothing
-    else if begins line (codes ":") then head_of line else row_of has_run line
+    else if begins line (codes ":") then head_of line
+    else if is_repeated line then repeated_of line
+    else row_of has_run line

@@ -1,98 +1,14 @@
--- What a listing denotes, or which fault is its first. Sources: those of Lines.antt; mos65 for the
--- limits and the faults.
-use Rattle.std.specs.Prelude.{◌≡◌, ℕ, ◌+◌, ◌%◌, ◌^◌, ◌==◌, ◌&&◌, ◌||◌, nat_le, nat_lt, Bool, true, false, is_some, if◌then◌else◌, List, [], ◌∷◌, ◌++◌, codes, length, Option, Some, None, Result, Ok, Err}
-use Rattle.model.specs.TextLines.{lines_of}
-use Rattle.debug_listings.specs.Lines.{Said, nothing, head, row, begins, said_by}
+-- What a listing of 64tass adds to what was read, line by line. Sources: those of Lines.antt; mos65 for
+-- the faults.
+use Rattle.std.specs.Prelude.{ℕ, ◌+◌, ◌%◌, ◌==◌, ◌&&◌, ◌||◌, nat_le, Bool, true, false, is_some, if◌then◌else◌, List, codes, Option, Some, None, Ok, Err}
+use Rattle.debug_listings.specs.Lines.{Said, nothing, head, row, repeated, begins}
+use Rattle.debug_listings.specs.Reading.{Read, Reading, flushed, with_file}
 use Rattle.debug_listings.specs.declared.line.Bytes.{Bytes}
-use Rattle.debug_listings.specs.declared.line.Numbers.{Numbers}
-use Rattle.debug_listings.specs.declared.reading.Reading.{Reading as HeldReading}
+use Rattle.debug_listings.specs.declared.reading.Form.TheVariants.{Listing}
 use Rattle.debug_listings.specs.declared.reading.Span.{Span as Begun}
-use Rattle.debug_records.specs.Faults.{◌>>=◌, fault_at, fault_in}
-use Rattle.debug_records.specs.Info.{Info, Table, no_info, put_at, record_at}
-use Rattle.debug_records.specs.Reading.{at_start, in_line, most_files, most_records, place_of}
-use Rattle.debug_records.specs.Records.{File, Segment}
-use Rattle.debug_records.specs.Views.{info_view}
-use Rattle.debug_records.specs.declared.fault.DebugFault.{DebugFault}
-use Rattle.debug_records.specs.declared.fault.DebugFaultKind.TheVariants.{NoColumns, NoLineNumber, NoNumbers, NoRecord, TooLarge, TooMany}
-use Rattle.debug_records.specs.declared.fault.LineFault.{LineFault}
-use Rattle.debug_records.specs.declared.info.Use.{Use}
-use Rattle.debug_records.specs.declared.record.Line.{Line}
-use Rattle.debug_records.specs.declared.record.LineKind.TheVariants.{Assembler}
-use Rattle.debug_records.specs.declared.record.Span.{Span}
-
--- What was read so far: whether the columns were named, and if so whether there is one of addresses
--- where bytes run; the number of the file that is read; the bytes of the line that were read last; and
--- the records of the lines before it.
-pub record Reading : Type 0 where
-  pub columns : Option Bool
-  pub file : Option ℕ
-  pub last : Option Begun
-  pub info : Info
-
-abbrev pub reading_view : HeldReading → Reading
-reading_view reading = record {
-  columns = reading.columns;
-  file = reading.file;
-  last = reading.last;
-  info = info_view reading.info;
-}
-
-abbrev pub nothing_read : Reading
-nothing_read = record {
-  columns = None;
-  file = None;
-  last = None;
-  info = no_info;
-}
-
-abbrev pub Read : Type 0
-Read = Result Reading LineFault
-
--- ---- the bytes of a line become a row: a line, a span, and the use of one by the other, all of one
--- number; 262,144 at most
-
-abbrev pub span_of : Begun → Span
-span_of begun = record {
-  segment = 0;
-  start = begun.start;
-  size = begun.size;
-  is_data = begun.is_data;
-}
-
-abbrev pub line_of : Begun → Line
-line_of begun
-    = record { file = begun.file; line = begun.line; kind = Assembler; depth = 0 }
-
-abbrev pub use_of : ℕ → Use
-use_of number = record { line = number; span = number }
-
-abbrev pub with_row : Begun → Info → Info
-with_row begun info = record info {
-  spans = info.spans ++ Some (span_of begun) ∷ [];
-  lines = info.lines ++ Some (line_of begun) ∷ [];
-  uses = info.uses ++ use_of (length info.uses) ∷ [];
-}
-
-abbrev pub with_last : List ℕ → Option Begun → Reading → Read
-with_last line None r = Ok r
-with_last line (Some begun) r = if nat_le most_records (length r.info.uses)
-    then Err (fault_at TooMany line)
-    else Ok (record r { last = None; info = with_row begun r.info })
-
-abbrev pub flushed : List ℕ → Reading → Read
-flushed line r = with_last line r.last r
-
--- ---- files: 4,096 at most
-
-abbrev pub file_of : List ℕ → File
-file_of name = record { name = name; size = None }
-
-abbrev pub with_file : List ℕ → ℕ → List ℕ → Reading → Read
-with_file line number name r = if nat_le most_files number then Err (fault_at TooMany line)
-    else Ok (record r {
-      file = Some number;
-      info = record r.info { files = put_at r.info.files number (file_of name) };
-    })
+use Rattle.debug_records.specs.Faults.{◌>>=◌, fault_at}
+use Rattle.debug_records.specs.Info.{record_at}
+use Rattle.debug_records.specs.declared.fault.DebugFaultKind.TheVariants.{NoColumns, NoLineNumber, NoNumbers, NoRecord}
 
 abbrev pub with_head : List ℕ → ℕ → List ℕ → Reading → Read
 with_head line number name r = flushed line r >>= with_file line number name
@@ -113,6 +29,7 @@ begun_by file number bytes = record {
   start = bytes.start;
   size = bytes.count;
   is_data = bytes.is_data;
+  is_close = true;
 }
 
 abbrev pub with_begun : List ℕ → ℕ → Option ℕ → Bytes → Reading → Read
@@ -146,6 +63,17 @@ with_bytes_if line number None r = Ok r
 with_bytes_if line number (Some bytes) r = if bytes.count == 0 then Ok r
     else with_bytes line number bytes r
 
+-- Rows that are left out go on with the data before them, behind full rows, as far as memory goes.
+abbrev pub can_repeat : Begun → ℕ → Bool
+can_repeat begun count = begun.is_data && (begun.size % 16 == 8) && nat_le count 65536
+    && nat_le (begun.size + count) 65536
+
+abbrev pub with_repeated : List ℕ → Option Begun → ℕ → Reading → Read
+with_repeated line None count r = Err (fault_at NoLineNumber line)
+with_repeated line (Some begun) count r = if can_repeat begun count
+    then Ok (record r { last = Some (record begun { size = begun.size + count }) })
+    else Err (fault_at NoLineNumber line)
+
 -- ---- a line
 
 abbrev pub with_said : List ℕ → Said → Reading → Read
@@ -153,50 +81,13 @@ with_said line nothing r = Ok r
 with_said line (head number name) r = with_head line number name r
 with_said line (row numbers bytes) r
     = in_file line numbers.file r >>= with_bytes_if line numbers.line bytes
+with_said line (repeated count) r = with_repeated line r.last count r
 
 -- The columns are named once, before the first file: with tabs of 8, and with numbers of lines.
 abbrev pub with_columns : List ℕ → Reading → Read
 with_columns line r = if begins line (codes ";Line\t;Offset\t;PC\t;Hex")
-    then Ok (record r { columns = Some true })
-    else if begins line (codes ";Line\t;Offset\t;Hex") then Ok (record r { columns = Some false })
+    then Ok (record r { form = Listing (Some true) })
+    else if begins line (codes ";Line\t;Offset\t;Hex") then Ok (record r { form = Listing (Some false) })
     else if begins line (codes ";Offset") then Err (fault_at NoNumbers line)
     else if begins line (codes ";Line") then Err (fault_at NoColumns line)
     else Ok r
-
-abbrev pub with_line : Option Bool → List ℕ → Reading → Read
-with_line None line r = with_columns line r
-with_line (Some has_run) line r = said_by has_run line >>= λ said. with_said line said r
-
-unfoldable pub with_text : List ℕ → Reading → Read
-with_text line r = with_line r.columns line r
-
--- ---- a listing
-
-unfoldable pub lines_read : ℕ → List (List ℕ) → Reading → Result Reading DebugFault
-lines_read number [] r = Ok r
-lines_read number (line ∷ lines) r
-    = in_line (place_of number line) (with_text line r) >>= lines_read (number + 1) lines
-
--- A listing has one segment, which is all of memory.
-abbrev pub memory : Segment
-memory
-    = record { name = []; start = 0; size = 65536; is_read_only = false; output = None }
-
-abbrev pub in_memory : Info → Info
-in_memory info = record info { segments = Some memory ∷ [] }
-
-abbrev pub info_in : Reading → Result Info DebugFault
-info_in r = Ok (in_memory r.info)
-
-unfoldable pub finished : Reading → Result Info DebugFault
-finished r = if is_some r.columns then in_line (place_of 1 []) (flushed [] r) >>= info_in
-    else at_start NoColumns
-
--- A listing has 16 MiB at most.
-unfoldable pub listing_info : List ℕ → Result Info DebugFault
-listing_info text = if nat_lt (2 ^ 24) (length text) then at_start TooLarge
-    else lines_read 1 (lines_of text) nothing_read >>= finished
-
--- What a listing begins with, behind an empty line.
-abbrev pub is_listing : List ℕ → Bool
-is_listing text = begins text (codes "\n; 64tass ") || begins text (codes "\r\n; 64tass ")

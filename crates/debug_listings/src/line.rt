@@ -3,8 +3,9 @@
 ghost use Rattle.std.specs.Prelude.{◌≡◌, ◌==◌, drop, position};
 ghost use Rattle.debug_listings.specs.Lines.{address_in, are_bytes, begins, bytes_if, bytes_in};
 ghost use Rattle.debug_listings.specs.Lines.{count_in, cut, decimal_in, head_of, hex_in};
-ghost use Rattle.debug_listings.specs.Lines.{is_byte_sign, is_nothing, is_row, number_at};
-ghost use Rattle.debug_listings.specs.Lines.{numbers_of, row_of, run_address, run_column, said_by};
+ghost use Rattle.debug_listings.specs.Lines.{is_byte_sign, is_nothing, is_repeated, is_row, number_at};
+ghost use Rattle.debug_listings.specs.Lines.{numbers_of, repeated_of, repeated_or_fault, row_of};
+ghost use Rattle.debug_listings.specs.Lines.{run_address, run_column, said_by};
 ghost use Rattle.debug_listings.specs.Lines.{said_view, with_digits};
 ghost use Rattle.debug_records.specs.Faults.{fault_at, seen};
 
@@ -40,6 +41,8 @@ pub enum Said<'a> {
         numbers: Numbers,
         bytes: Option<Bytes>,
     },
+    /// So many bytes that repeat those of the row before it.
+    Repeated(u32),
 }
 
 /// Returns whether a text begins with another.
@@ -60,14 +63,14 @@ pub fn fault_at(kind: DebugFaultKind, text: &[u8]) -> LineFault
 }
 
 /// Returns the index of the first sign of a text.
-fn sign_at(sign: u8, text: &[u8]) -> Option<usize>
+pub fn sign_at(sign: u8, text: &[u8]) -> Option<usize>
     ensures { result ≡ position (λ b. b == sign) text.now }
 {
     text.iter().position(|byte| *byte == sign)
 }
 
 /// Returns what stands before the first sign of a text, and what stands behind it.
-fn cut(sign: u8, text: &[u8]) -> (&[u8], &[u8])
+pub fn cut(sign: u8, text: &[u8]) -> (&[u8], &[u8])
     ensures before { result.0.now ≡ (cut sign text.now).0 }
     ensures behind { result.1.now ≡ (cut sign text.now).1 }
 {
@@ -88,7 +91,7 @@ fn tail(text: &[u8]) -> &[u8]
 }
 
 /// Returns the number that decimal digits write, of which there is one at least.
-fn decimal_in(digits: &[u8]) -> Option<u32>
+pub fn decimal_in(digits: &[u8]) -> Option<u32>
     ensures { result ≡ decimal_in digits.now }
 {
     if digits.is_empty() {
@@ -99,7 +102,7 @@ fn decimal_in(digits: &[u8]) -> Option<u32>
 }
 
 /// Returns the number that hex digits write, of which there is one at least.
-fn hex_in(digits: &[u8]) -> Option<u32>
+pub fn hex_in(digits: &[u8]) -> Option<u32>
     ensures { result ≡ hex_in digits.now }
 {
     if digits.is_empty() {
@@ -134,7 +137,7 @@ fn numbers_of(column: &[u8], line: &[u8]) -> Result<Numbers, LineFault>
 }
 
 /// Returns the address that hex digits of a column write.
-fn address_in(digits: &[u8], text: &[u8]) -> Result<u16, LineFault>
+pub fn address_in(digits: &[u8], text: &[u8]) -> Result<u16, LineFault>
     ensures { address_in digits.now text.now ≡ result }
 {
     match hex_in(digits) {
@@ -288,6 +291,33 @@ fn head_of(line: &[u8]) -> Result<Said<'_>, LineFault>
     with_digits(line, decimal_in(digits), rest)
 }
 
+/// Returns how many bytes a line stands for that repeat those before it.
+fn repeated_or_fault<'a>(line: &[u8], count: Option<u32>) -> Result<Said<'a>, LineFault>
+    ensures { repeated_or_fault line.now count ≡ seen said_view result }
+{
+    match count {
+        None => Err(fault_at(DebugFaultKind::NoNumber, line)),
+        Some(count) => Ok(Said::Repeated(count)),
+    }
+}
+
+/// Returns what a line says that stands for repeated bytes: their number is behind `(`.
+#[tactic(auto, unfolding(crate::specs::Lines::repeated_of))]
+fn repeated_of<'a>(line: &[u8]) -> Result<Said<'a>, LineFault>
+    ensures { repeated_of line.now ≡ seen said_view result }
+{
+    let (_, behind) = cut(b'(', line);
+    let (digits, _) = cut(b' ', behind);
+    repeated_or_fault(line, decimal_in(digits))
+}
+
+/// Returns whether a line stands for repeated bytes, with a column of addresses or without.
+fn is_repeated(line: &[u8]) -> bool
+    ensures { result ≡ is_repeated line.now }
+{
+    begins(line, b"\t;\t...repeated ") || begins(line, b"\t;\t\t...repeated ")
+}
+
 /// Returns whether a line says nothing.
 fn is_nothing(line: &[u8]) -> bool
     ensures { result ≡ is_nothing line.now }
@@ -304,6 +334,8 @@ pub fn said_by(has_run: bool, line: &[u8]) -> Result<Said<'_>, LineFault>
         Ok(Said::Nothing)
     } else if begins(line, b":") {
         head_of(line)
+    } else if is_repeated(line) {
+        repeated_of(line)
     } else {
         row_of(has_run, line)
     }

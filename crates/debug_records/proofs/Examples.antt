@@ -1,17 +1,18 @@
 -- Short debug files, and the rows of three addresses of files that ld65 wrote. Each is computed.
-use Rattle.std.proofs.Common.{◌≡◌, ℕ, List, [], ◌∷◌, ◌++◌, codes, Some, None, Option, Result, Ok, Err, false, true, refl}
+use Rattle.std.proofs.Common.{◌≡◌, ℕ, List, [], ◌∷◌, ◌++◌, codes, pos, negsuc, Some, None, Option, Result, Ok, Err, false, true, refl}
 use Rattle.model.specs.TextLines.{lines_from}
 use Rattle.debug_records.specs.Fields.{field_of, field_with, fields_within, next_field, said_by}
 use Rattle.debug_records.specs.Info.{Info, no_info, with_new}
 use Rattle.debug_records.specs.Numbers.{next_number, number_of, numbers_within}
-use Rattle.debug_records.specs.Reading.{debug_info, finished, lines_read, with_file, with_line, with_module, with_record, with_said, with_segment, with_span, with_symbol, with_text, with_uses, with_version}
-use Rattle.debug_records.specs.Records.{Segment, Symbol, file_of, line_of, segment_of, span_of, symbol_of}
+use Rattle.debug_records.specs.Reading.{debug_info, finished, lines_read, with_c_symbol, with_file, with_line, with_module, with_new_c_symbol, with_new_scope, with_record, with_said, with_scope, with_segment, with_span, with_stored, with_symbol, with_text, with_uses, with_version}
+use Rattle.debug_records.specs.Records.{CSymbol, Scope, Segment, Symbol, c_symbol_of, file_of, line_of, scope_of, segment_of, span_of, symbol_of}
 use Rattle.debug_records.specs.Rows.{begun_at, clear_rows, row_of, rows_at, rows_of, shown_at}
 use Rattle.debug_records.specs.declared.fault.DebugFault.{DebugFault}
 use Rattle.debug_records.specs.declared.fault.DebugFaultKind.{DebugFaultKind}
 use Rattle.debug_records.specs.declared.fault.DebugFaultKind.TheVariants as fault
 use Rattle.debug_records.specs.declared.record.LineKind.{LineKind}
 use Rattle.debug_records.specs.declared.record.LineKind.TheVariants as kind
+use Rattle.debug_records.specs.declared.record.Storage.TheVariants.{Auto, External}
 use Rattle.debug_records.specs.declared.row.Row.{Row}
 
 abbrev version : List ℕ
@@ -69,7 +70,7 @@ row file line kind depth start end = record {
 abbrev while_line : List ℕ
 while_line = version
     ++ codes "line\tid=0,file=0,line=8,type=1,span=1+0\nspan\tid=0,seg=0,start=325,size=3\nspan\tid=1,seg=0,start=376,size=13\nseg\tid=0,name="
-    ++ 34 ∷ codes "CODE" ++ 34 ∷ codes ",start=0x008019,size=0x055E\nfile\tid=0,name=" ++ 34 ∷ codes "bank.c" ++ 34 ∷ codes ",size=9,mtime=0x10\n"
+    ++ 34 ∷ codes "CODE" ++ 34 ∷ codes ",start=0x008019,size=0x055E,type=ro\nfile\tid=0,name=" ++ 34 ∷ codes "bank.c" ++ 34 ∷ codes ",size=9,mtime=0x10\n"
 
 pub two_spans : rows_in (debug_info while_line) ≡ row 0 8 kind.C 0 0x8191 0x819E ∷ row 0 8 kind.C 0 0x815E 0x8161 ∷ []
 unfolding debug_info lines_read lines_from with_text said_by fields_within next_field field_of field_with number_of next_number numbers_within
@@ -136,3 +137,41 @@ in_banks = refl
 
 pub in_one_bank : clear_rows (record no_info { segments = Some bank ∷ None ∷ [] }) (behind ∷ called ∷ []) ≡ behind ∷ called ∷ []
 in_one_bank = refl
+
+-- ---- a function of C with its local, as cc65 wrote it
+
+abbrev names_in : Result Info DebugFault → List (Option CSymbol)
+names_in (Ok info) = info.c_symbols
+names_in (Err fault) = []
+
+abbrev scopes_in : Result Info DebugFault → List (Option Scope)
+scopes_in (Ok info) = info.scopes
+scopes_in (Err fault) = []
+
+abbrev function_lines : List ℕ
+function_lines = version ++ codes "csym\tid=0,name=" ++ 34 ∷ codes "sum_of" ++ 34 ∷ codes ",scope=0,type=1,sc=ext,sym=0\ncsym\tid=1,name="
+    ++ 34 ∷ codes "rest" ++ 34 ∷ codes ",scope=0,type=1,sc=auto,offs=-2\nscope\tid=0,name=" ++ 34 ∷ codes "_sum_of" ++ 34 ∷ codes ",mod=0,type=scope,size=60,sym=0\nsym\tid=0,name="
+    ++ 34 ∷ codes "_sum_of" ++ 34 ∷ codes ",val=0x81AF,type=lab\n"
+
+pub two_names : names_in (debug_info function_lines)
+    ≡ Some (record { name = codes "sum_of"; scope = 0; storage = External; offset = pos 0; symbol = Some 0 })
+    ∷ Some (record { name = codes "rest"; scope = 0; storage = Auto; offset = negsuc 1; symbol = None }) ∷ []
+unfolding debug_info lines_read lines_from with_text said_by fields_within next_field field_of field_with number_of with_said with_version with_record
+    with_symbol symbol_of with_scope scope_of with_new_scope with_c_symbol with_stored c_symbol_of with_new_c_symbol with_new finished
+two_names = refl
+
+pub one_scope : scopes_in (debug_info function_lines) ≡ Some (record { name = codes "_sum_of"; size = Some 60; symbol = Some 0 }) ∷ []
+unfolding debug_info lines_read lines_from with_text said_by fields_within next_field field_of field_with number_of with_said with_version with_record
+    with_symbol symbol_of with_scope scope_of with_new_scope with_c_symbol with_stored c_symbol_of with_new_c_symbol with_new finished
+one_scope = refl
+
+pub no_scope : debug_info (version ++ codes "csym\tid=0,name=" ++ 34 ∷ codes "a" ++ 34 ∷ codes ",scope=3,type=1,sc=auto\n") ≡ fault_in_file 2 26 fault.NoRecord
+unfolding debug_info lines_read lines_from with_text said_by fields_within next_field field_of field_with number_of with_said with_version with_record
+    with_c_symbol with_stored c_symbol_of with_new_c_symbol with_new finished
+no_scope = refl
+
+-- another way to keep a name is skipped
+pub other_storage : debug_info (version ++ codes "csym\tid=0,sc=bank\n") ≡ Ok no_info
+unfolding debug_info lines_read lines_from with_text said_by fields_within next_field field_of field_with number_of with_said with_version with_record
+    with_c_symbol finished
+other_storage = refl

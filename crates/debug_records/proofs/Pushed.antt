@@ -1,17 +1,19 @@
 -- A record that was taken, or refused.
-use Rattle.std.proofs.Common.{◌≡◌, List, codes, map, refl, Result, Ok, Err}
+use Rattle.std.proofs.Common.{◌≡◌, List, ap, codes, map, refl, Result, Ok, Err}
 use Rattle.std.specs.Option.{option_map}
-use Rattle.debug_records.specs.Faults.{Gives}
+use Rattle.debug_records.specs.Faults.{◌>>=◌, Gives}
 use Rattle.debug_records.specs.Fields.{Field}
 use Rattle.debug_records.specs.Info.{Table, with_new}
 use Rattle.debug_records.specs.Numbers.{placed_in}
-use Rattle.debug_records.specs.Reading.{Reading, most_files, most_records, with_file, with_segment, with_symbol}
+use Rattle.debug_records.specs.Reading.{Reading, most_files, most_records, with_file, with_new_c_symbol, with_new_scope, with_segment, with_symbol}
 use Rattle.debug_records.specs.Records.{File, Segment, Symbol, file_of, segment_of, symbol_of}
-use Rattle.debug_records.specs.Views.{file_view, segment_view, symbol_view}
+use Rattle.debug_records.specs.Views.{c_symbol_view, file_view, scope_view, segment_view, symbol_view}
 use Rattle.debug_records.specs.declared.fault.LineError.{LineError}
 use Rattle.debug_records.specs.declared.fault.LineFault.{LineFault}
 use Rattle.debug_records.specs.declared.numbers.Placed.{Placed}
+use Rattle.debug_records.specs.declared.record.CSymbol.{CSymbol as HeldCSymbol}
 use Rattle.debug_records.specs.declared.record.File.{File as HeldFile}
+use Rattle.debug_records.specs.declared.record.Scope.{Scope as HeldScope}
 use Rattle.debug_records.specs.declared.record.Segment.{Segment as HeldSegment}
 use Rattle.debug_records.specs.declared.record.Symbol.{Symbol as HeldSymbol}
 use Rattle.debug_records.proofs.Passing.{passed_on}
@@ -109,3 +111,35 @@ symbol_given (Err why) fields r table new id symbol same h k given =
     rw (← same) (new_refused symbol_view most_records table id symbol fault refused) in
     symbol_refused fields r id (symbol_view symbol) fault h k whole)
     given
+
+-- ---- scopes and names of C
+
+-- what a table of held records gives, that of their views gives
+put_given : {A B H : Type 0} (view : H → B) (whole : Table B → Reading) (result : Result A LineError) (table new : Table H) (id : Placed) (item : H)
+    → Gives (λ (x : A). new) result (with_new most_records table id item)
+    → Gives (λ (x : A). whole (map (option_map view) new)) result
+    (with_new most_records (map (option_map view) table) id (view item) >>= λ more. Ok (whole more))
+put_given view whole (Ok x) table new id item given =
+    ap (λ (r : Result (Table _) LineFault). r >>= λ more. Ok (whole more)) (new_put view most_records table new id item given)
+put_given view whole (Err why) table new id item given =
+    passed_on why (with_new most_records table id item) (with_new most_records (map (option_map view) table) id (view item) >>= λ more. Ok (whole more))
+    (λ (fault : LineFault) (refused : with_new most_records table id item ≡ Err fault).
+    ap (λ (r : Result (Table _) LineFault). r >>= λ more. Ok (whole more)) (new_refused view most_records table id item fault refused))
+    given
+
+pub scope_given : {A : Type 0} (result : Result A LineError) (r : Reading) (table new : Table HeldScope) (id : Placed) (scope : HeldScope)
+    → map (option_map scope_view) table ≡ r.info.scopes
+    → Gives (λ (x : A). new) result (with_new most_records table id scope)
+    → Gives (λ (x : A). record r { info = record r.info { scopes = map (option_map scope_view) new } }) result (with_new_scope id (scope_view scope) r)
+unfolding with_new_scope
+scope_given result r table new id scope same given =
+    rw (← same) (put_given scope_view (λ scopes. record r { info = record r.info { scopes = scopes } }) result table new id scope given)
+
+pub c_symbol_given : {A : Type 0} (result : Result A LineError) (r : Reading) (table new : Table HeldCSymbol) (id : Placed) (name : HeldCSymbol)
+    → map (option_map c_symbol_view) table ≡ r.info.c_symbols
+    → Gives (λ (x : A). new) result (with_new most_records table id name)
+    → Gives (λ (x : A). record r { info = record r.info { c_symbols = map (option_map c_symbol_view) new } }) result
+    (with_new_c_symbol id (c_symbol_view name) r)
+unfolding with_new_c_symbol
+c_symbol_given result r table new id name same given =
+    rw (← same) (put_given c_symbol_view (λ names. record r { info = record r.info { c_symbols = names } }) result table new id name given)

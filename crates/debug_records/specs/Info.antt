@@ -3,7 +3,7 @@
 use Rattle.std.specs.Prelude.{ℕ, ◌+◌, ◌-◌, ◌==◌, nat_le, nat_lt, Bool, false, is_some, if◌then◌else◌, List, [], ◌++◌, length, get_or, set, replicate, Option, Some, None, Result, Ok, Err}
 use Rattle.std.specs.List.{count_by}
 use Rattle.debug_records.specs.Faults.{fault_before}
-use Rattle.debug_records.specs.Records.{File, Segment, Symbol}
+use Rattle.debug_records.specs.Records.{CSymbol, File, Scope, Segment, Symbol}
 use Rattle.debug_records.specs.declared.fault.DebugFaultKind.TheVariants.{IdTwice, TooMany}
 use Rattle.debug_records.specs.declared.fault.LineFault.{LineFault}
 use Rattle.debug_records.specs.declared.info.Use.{Use}
@@ -43,6 +43,8 @@ pub record Info : Type 0 where
   pub spans : Table Span
   pub lines : Table Line
   pub modules : Table ℕ
+  pub scopes : Table Scope
+  pub c_symbols : Table CSymbol
   pub uses : List Use
 
 abbrev pub no_info : Info
@@ -53,6 +55,8 @@ no_info = record {
   spans = [];
   lines = [];
   modules = [];
+  scopes = [];
+  c_symbols = [];
   uses = [];
 }
 

@@ -1,12 +1,13 @@
 -- The values of fields: numbers, numbers with `+` between them, and texts. A number is decimal, or
 -- hexadecimal behind `0x`. Sources: those of Fields.antt; mos65 for the largest number and for the
 -- faults.
-use Rattle.std.specs.Prelude.{ℕ, zero, suc, ◌+◌, ◌-◌, ◌^◌, ◌==◌, nat_lt, Bool, if◌then◌else◌, List, [], ◌∷◌, ◌++◌, codes, length, take, drop, position, Option, Some, None, unwrap_or, Result, Ok, Err}
+use Rattle.std.specs.Prelude.{ℕ, zero, suc, ◌+◌, ◌-◌, ◌^◌, ◌==◌, nat_lt, ℤ, pos, neg_ℤ, Bool, true, false, if◌then◌else◌, List, [], ◌∷◌, ◌++◌, codes, length, take, drop, position, Option, Some, None, unwrap_or, Result, Ok, Err}
 use Rattle.std.specs.List.{starts_with}
+use Rattle.std.specs.Option.{option_and_then}
 use Rattle.std.specs.Str.{byte}
 use Rattle.model.specs.Digits.{decimal_number, hex_number}
 use Rattle.debug_records.specs.Faults.{◌>>=◌, fault_at_end, fault_before}
-use Rattle.debug_records.specs.Fields.{Field, field_in}
+use Rattle.debug_records.specs.Fields.{Field, field_in, is_next}
 use Rattle.debug_records.specs.declared.fault.DebugFaultKind.TheVariants.{Missing, NoNumber, NoText}
 use Rattle.debug_records.specs.declared.fault.LineFault.{LineFault}
 use Rattle.debug_records.specs.declared.numbers.Placed.{Placed}
@@ -58,6 +59,44 @@ number_if (Some field) other = number_value field
 
 abbrev pub number_or : List Field → List ℕ → ℕ → Result ℕ LineFault
 number_or fields name other = number_if (field_in fields name) other
+
+-- A number that a record may have, with its place.
+abbrev pub placed_by : Option Field → Result (Option Placed) LineFault
+placed_by None = Ok None
+placed_by (Some field) = placed_value field >>= λ found. Ok (Some found)
+
+abbrev pub placed_or_none : List Field → List ℕ → Result (Option Placed) LineFault
+placed_or_none fields name = placed_by (field_in fields name)
+
+-- ---- a number that may have `-` before it; none is further from 0 than 2,147,483,647
+
+abbrev pub distance_of : List ℕ → Option ℕ
+distance_of text
+    = option_and_then (λ n. if nat_lt n (2 ^ 31) then Some n else None) (number_of text)
+
+abbrev pub signed_by : Bool → Option ℕ → Option ℤ
+signed_by minus None = None
+signed_by minus (Some n) = Some (if minus then neg_ℤ (pos n) else pos n)
+
+abbrev pub signed_number : List ℕ → Option ℤ
+signed_number text = if is_next (byte "-") text then signed_by true (distance_of (drop 1 text))
+    else signed_by false (distance_of text)
+
+abbrev pub signed_if : ℕ → Option ℤ → Result ℤ LineFault
+signed_if left None = Err (fault_before NoNumber left)
+signed_if left (Some number) = Ok number
+
+abbrev pub signed_value : Field → Result ℤ LineFault
+signed_value field = if field.is_text then Err (fault_before NoNumber field.left)
+    else signed_if field.left (signed_number field.value)
+
+-- A record without the field has 0.
+abbrev pub signed_by_field : Option Field → Result ℤ LineFault
+signed_by_field None = Ok (pos 0)
+signed_by_field (Some field) = signed_value field
+
+abbrev pub signed_or_zero : List Field → List ℕ → Result ℤ LineFault
+signed_or_zero fields name = signed_by_field (field_in fields name)
 
 -- ---- numbers with `+` between them
 

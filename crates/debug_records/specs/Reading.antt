@@ -2,13 +2,14 @@
 -- reference to a record is looked at when all lines were read, since records come in any order.
 -- Sources: those of Fields.antt; mos65 for the limits and the faults.
 use Rattle.std.specs.Prelude.{ℕ, ◌+◌, ◌^◌, ◌==◌, nat_lt, Bool, true, false, is_some, if◌then◌else◌, List, [], ◌∷◌, ◌++◌, codes, length, map, Option, Some, None, Result, Ok, Err}
+use Rattle.std.specs.Option.{option_map}
 use Rattle.std.specs.Str.{bytes_eq}
 use Rattle.model.specs.TextLines.{lines_of}
 use Rattle.debug_records.specs.Faults.{◌>>=◌, column_of, fault_before, fault_in}
 use Rattle.debug_records.specs.Fields.{Field, Said, said_by}
 use Rattle.debug_records.specs.Info.{Info, no_info, record_at, with_new}
-use Rattle.debug_records.specs.Numbers.{numbers_in, placed_in}
-use Rattle.debug_records.specs.Records.{file_of, line_of, segment_of, span_of, symbol_of}
+use Rattle.debug_records.specs.Numbers.{numbers_in, placed_in, placed_or_none}
+use Rattle.debug_records.specs.Records.{CSymbol, Scope, c_symbol_of, file_of, line_of, scope_of, segment_of, span_of, storage_in, symbol_of}
 use Rattle.debug_records.specs.declared.fault.DebugFault.{DebugFault}
 use Rattle.debug_records.specs.declared.fault.DebugFaultKind.{DebugFaultKind}
 use Rattle.debug_records.specs.declared.fault.DebugFaultKind.TheVariants.{NoRecord, NoVersion, OtherVersion, TooLarge, TooMany}
@@ -16,6 +17,7 @@ use Rattle.debug_records.specs.declared.fault.LineFault.{LineFault}
 use Rattle.debug_records.specs.declared.fault.Place.{Place}
 use Rattle.debug_records.specs.declared.info.Use.{Use}
 use Rattle.debug_records.specs.declared.numbers.Placed.{Placed}
+use Rattle.debug_records.specs.declared.record.Storage.{Storage}
 use Rattle.debug_records.specs.declared.reference.Reference.{Reference}
 use Rattle.debug_records.specs.declared.reference.Target.{Target}
 use Rattle.debug_records.specs.declared.reference.Target.TheVariants as target
@@ -45,6 +47,10 @@ reference_of place target id = record {
 abbrev pub with_reference : Place → Target → Placed → Reading → Reading
 with_reference place target id r
     = record r { references = r.references ++ reference_of place target id ∷ [] }
+
+abbrev pub with_reference_if : Place → Target → Option Placed → Reading → Reading
+with_reference_if place target None r = r
+with_reference_if place target (Some id) r = with_reference place target id r
 
 -- ---- records: 4,096 files, and 262,144 of each other word
 
@@ -114,6 +120,47 @@ with_line place fields r =
     with_uses place id spans (with_reference place target.File file
     (record r { info = record r.info { lines = lines } }))
 
+abbrev pub number_of_place : Option Placed → Option ℕ
+number_of_place placed = option_map (λ p. p.number) placed
+
+unfoldable pub with_new_scope : Placed → Scope → Reading → Read
+with_new_scope id scope r =
+    with_new most_records r.info.scopes id scope >>= λ scopes.
+    Ok (record r { info = record r.info { scopes = scopes } })
+
+unfoldable pub with_scope : Place → List Field → Reading → Read
+with_scope place fields r =
+    placed_in fields (codes "id") >>= λ id.
+    placed_or_none fields (codes "sym") >>= λ symbol.
+    scope_of (number_of_place symbol) fields >>= λ scope.
+    with_new_scope id scope r >>= λ more.
+    Ok (with_reference_if place target.Symbol symbol more)
+
+unfoldable pub with_new_c_symbol : Placed → CSymbol → Reading → Read
+with_new_c_symbol id name r =
+    with_new most_records r.info.c_symbols id name >>= λ names.
+    Ok (record r { info = record r.info { c_symbols = names } })
+
+unfoldable pub with_stored : Place → List Field → Storage → Reading → Read
+with_stored place fields storage r =
+    placed_in fields (codes "id") >>= λ id.
+    placed_in fields (codes "scope") >>= λ scope.
+    placed_or_none fields (codes "sym") >>= λ symbol.
+    c_symbol_of storage scope.number (number_of_place symbol) fields >>= λ name.
+    with_new_c_symbol id name r >>= λ more.
+    Ok (with_reference_if place target.Symbol symbol
+    (with_reference place target.Scope scope more))
+
+-- Where a name of C is kept may be a word that is not known, since a minor version may add one. The
+-- record says nothing then.
+abbrev pub with_stored_if : Place → List Field → Option Storage → Reading → Read
+with_stored_if place fields None r = Ok r
+with_stored_if place fields (Some storage) r = with_stored place fields storage r
+
+unfoldable pub with_c_symbol : Place → List Field → Reading → Read
+with_c_symbol place fields r =
+    storage_in fields >>= λ storage. with_stored_if place fields storage r
+
 -- The major version is 2.
 abbrev pub with_major : Placed → Reading → Read
 with_major major r = if major.number == 2 then Ok (record r { is_versioned = true })
@@ -132,6 +179,8 @@ with_record place said r =
     else if bytes_eq said.word (codes "seg") then with_segment said.fields r
     else if bytes_eq said.word (codes "sym") then with_symbol said.fields r
     else if bytes_eq said.word (codes "mod") then with_module place said.fields r
+    else if bytes_eq said.word (codes "scope") then with_scope place said.fields r
+    else if bytes_eq said.word (codes "csym") then with_c_symbol place said.fields r
     else Ok r
 
 unfoldable pub with_said : Place → Said → Reading → Read
@@ -163,6 +212,8 @@ abbrev pub is_there_by : Info → Target → ℕ → Bool
 is_there_by info target.File id = is_some (record_at info.files id)
 is_there_by info target.Segment id = is_some (record_at info.segments id)
 is_there_by info target.Span id = is_some (record_at info.spans id)
+is_there_by info target.Symbol id = is_some (record_at info.symbols id)
+is_there_by info target.Scope id = is_some (record_at info.scopes id)
 
 abbrev pub is_there : Info → Reference → Bool
 is_there info reference = is_there_by info reference.target reference.id

@@ -1,17 +1,19 @@
 -- What a record of a debug file says, by its fields. Other words and other fields say nothing here: a
 -- minor version may add them. Names of a record are looked for in the order in which they stand
 -- here. Sources: those of Fields.antt; mos65 for the faults.
-use Rattle.std.specs.Prelude.{ℕ, ◌==◌, Bool, false, is_some, if◌then◌else◌, List, codes, Option, Some, None, Result, Ok, Err}
+use Rattle.std.specs.Prelude.{ℕ, ℤ, ◌==◌, Bool, false, is_some, if◌then◌else◌, List, codes, Option, Some, None, Result, Ok, Err}
 use Rattle.std.specs.Str.{bytes_eq}
 use Rattle.debug_records.specs.Faults.{◌>>=◌, fault_before}
 use Rattle.debug_records.specs.Fields.{Field, field_in}
-use Rattle.debug_records.specs.Numbers.{number_in, number_or, number_value, text_in, text_value}
+use Rattle.debug_records.specs.Numbers.{number_in, number_or, number_value, required, signed_or_zero, text_in, text_value}
 use Rattle.debug_records.specs.declared.fault.DebugFaultKind.TheVariants.{NoKind}
 use Rattle.debug_records.specs.declared.fault.LineFault.{LineFault}
 use Rattle.debug_records.specs.declared.record.Line.{Line}
 use Rattle.debug_records.specs.declared.record.LineKind.{LineKind}
 use Rattle.debug_records.specs.declared.record.LineKind.TheVariants.{Assembler, C, Macro, Parameter}
 use Rattle.debug_records.specs.declared.record.Span.{Span}
+use Rattle.debug_records.specs.declared.record.Storage.{Storage}
+use Rattle.debug_records.specs.declared.record.Storage.TheVariants.{Auto, Register, Static, External}
 
 -- ---- `file`: a source, with its size when it was assembled, as far as that is told; a debug file has
 -- its time too
@@ -125,3 +127,51 @@ line_of file fields =
     kind_by (field_in fields (codes "type")) >>= λ kind.
     number_or fields (codes "count") 0 >>= λ depth.
     Ok (record { file = file; line = line; kind = kind; depth = depth })
+
+-- ---- `scope`: its name, and its size and the number of its symbol, where it has these
+
+pub record Scope : Type 0 where
+  pub name : List ℕ
+  pub size : Option ℕ
+  pub symbol : Option ℕ
+
+unfoldable pub scope_of : Option ℕ → List Field → Result Scope LineFault
+scope_of symbol fields =
+    text_in fields (codes "name") >>= λ name.
+    value_by (field_in fields (codes "size")) >>= λ size.
+    Ok (record { name = name; size = size; symbol = symbol })
+
+-- ---- `csym`: a name of C, the number of its scope, where it is kept, at which offset, and the number
+-- of its symbol, if it has one
+
+pub record CSymbol : Type 0 where
+  pub name : List ℕ
+  pub scope : ℕ
+  pub storage : Storage
+  pub offset : ℤ
+  pub symbol : Option ℕ
+
+abbrev pub storage_of : List ℕ → Option Storage
+storage_of word =
+    if bytes_eq word (codes "auto") then Some Auto
+    else if bytes_eq word (codes "reg") then Some Register
+    else if bytes_eq word (codes "static") then Some Static
+    else if bytes_eq word (codes "ext") then Some External
+    else None
+
+-- Where a name is kept, if the word for it is known.
+abbrev pub storage_in : List Field → Result (Option Storage) LineFault
+storage_in fields
+    = required (field_in fields (codes "sc")) >>= λ field. Ok (storage_of field.value)
+
+unfoldable pub c_symbol_of : Storage → ℕ → Option ℕ → List Field → Result CSymbol LineFault
+c_symbol_of storage scope symbol fields =
+    text_in fields (codes "name") >>= λ name.
+    signed_or_zero fields (codes "offs") >>= λ offset.
+    Ok (record {
+      name = name;
+      scope = scope;
+      storage = storage;
+      offset = offset;
+      symbol = symbol;
+    })

@@ -1,6 +1,6 @@
 -- Which bytes came from which line: a row for each span of each line, in the order of the file.
 -- Source: mos65.
-use Rattle.std.specs.Prelude.{◌≡◌, ℕ, ◌+◌, ◌-◌, ◌<◌, ◌==◌, ◌&&◌, ◌||◌, nat_le, nat_lt, not, Bool, true, false, if◌then◌else◌, List, [], ◌∷◌, filter, length, Option, Some, None}
+use Rattle.std.specs.Prelude.{◌≡◌, ℕ, ◌+◌, ◌-◌, ◌<◌, ◌==◌, ◌&&◌, ◌||◌, nat_le, nat_lt, not, Bool, true, false, is_some, if◌then◌else◌, List, [], ◌∷◌, filter, length, Option, Some, None}
 use Rattle.std.specs.List.{filter_map}
 use Rattle.std.specs.Option.{option_and_then}
 use Rattle.debug_records.specs.Info.{Info, is_ambiguous, record_at}
@@ -24,6 +24,10 @@ is_parameter kind.C = false
 is_parameter kind.Macro = false
 is_parameter kind.Parameter = true
 
+-- A segment that can be written, and whose bytes are in no file of the linker, has no code.
+abbrev pub has_no_code : Segment → Bool
+has_no_code segment = not segment.is_read_only && not (is_some segment.output)
+
 -- The text of a macro's parameter has no row: its bytes are those of a line of the body.
 abbrev pub row_with : Line → Span → Segment → Option Row
 row_with line span segment = if is_parameter line.kind then None else Some (record {
@@ -33,7 +37,7 @@ row_with line span segment = if is_parameter line.kind then None else Some (reco
   depth = line.depth;
   start = first_address span segment;
   end = first_address span segment + span.size;
-  is_data = span.is_data;
+  is_data = span.is_data || has_no_code segment;
 })
 
 unfoldable pub row_of : Info → Use → Option Row

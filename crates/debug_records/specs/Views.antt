@@ -5,13 +5,15 @@ use Rattle.std.specs.Option.{option_map}
 use Rattle.debug_records.specs.Fields.{Field, Said}
 use Rattle.debug_records.specs.Info.{Info}
 use Rattle.debug_records.specs.Reading.{Reading}
-use Rattle.debug_records.specs.Records.{File, Output, Segment, Symbol}
+use Rattle.debug_records.specs.Records.{CSymbol, File, Output, Scope, Segment, Symbol}
 use Rattle.debug_records.specs.declared.fields.Field.{Field as HeldField}
 use Rattle.debug_records.specs.declared.fields.Said.{Said as HeldSaid}
 use Rattle.debug_records.specs.declared.info.DebugInfo.{DebugInfo}
 use Rattle.debug_records.specs.declared.reading.Reading.{Reading as HeldReading}
+use Rattle.debug_records.specs.declared.record.CSymbol.{CSymbol as HeldCSymbol}
 use Rattle.debug_records.specs.declared.record.File.{File as HeldFile}
 use Rattle.debug_records.specs.declared.record.Output.{Output as HeldOutput}
+use Rattle.debug_records.specs.declared.record.Scope.{Scope as HeldScope}
 use Rattle.debug_records.specs.declared.record.Segment.{Segment as HeldSegment}
 use Rattle.debug_records.specs.declared.record.Symbol.{Symbol as HeldSymbol}
 
@@ -48,6 +50,18 @@ symbol_view symbol = record {
   is_label = symbol.is_label;
 }
 
+abbrev pub scope_view : HeldScope → Scope
+scope_view scope = record { name = scope.name.now; size = scope.size; symbol = scope.symbol }
+
+abbrev pub c_symbol_view : HeldCSymbol → CSymbol
+c_symbol_view name = record {
+  name = name.name.now;
+  scope = name.scope;
+  storage = name.storage;
+  offset = name.offset;
+  symbol = name.symbol;
+}
+
 abbrev pub info_view : DebugInfo → Info
 info_view info = record {
   files = map (option_map file_view) info.files.items;
@@ -56,6 +70,8 @@ info_view info = record {
   spans = info.spans.items;
   lines = info.lines.items;
   modules = info.modules.items;
+  scopes = map (option_map scope_view) info.scopes.items;
+  c_symbols = map (option_map c_symbol_view) info.c_symbols.items;
   uses = info.uses.items;
 }
 

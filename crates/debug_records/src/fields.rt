@@ -45,7 +45,7 @@ pub fn fault_at(kind: DebugFaultKind, text: &[u8]) -> LineFault
 }
 
 /// Returns whether a byte comes next.
-fn is_next(sign: u8, text: &[u8]) -> bool
+pub fn is_next(sign: u8, text: &[u8]) -> bool
     ensures next { result ≡ is_next sign text.now }
     ensures some { result ≡ true → 0 < length text.now }
 {

@@ -8,7 +8,7 @@ ghost use Rattle.debug_records.specs.Views.{info_view};
 
 use crate::fault::{DebugFaultKind, LineError, LineFault};
 use crate::numbers::Placed;
-use crate::record::{File, Line, Segment, Span, Symbol};
+use crate::record::{CSymbol, File, Line, Scope, Segment, Span, Symbol};
 use std::alloc::{AllocError, Global};
 
 /// A line, and a span of it.
@@ -28,6 +28,8 @@ pub struct DebugInfo<'a> {
     pub spans: Vec<Option<Span>>,
     pub lines: Vec<Option<Line>>,
     pub modules: Vec<Option<u32>>,
+    pub scopes: Vec<Option<Scope<'a>>>,
+    pub c_symbols: Vec<Option<CSymbol<'a>>>,
     pub uses: Vec<Use>,
 }
 
@@ -42,6 +44,8 @@ pub fn no_info<'a>(alloc: Global) -> DebugInfo<'a>
         spans: Vec::new(alloc),
         lines: Vec::new(alloc),
         modules: Vec::new(alloc),
+        scopes: Vec::new(alloc),
+        c_symbols: Vec::new(alloc),
         uses: Vec::new(alloc),
     }
 }

@@ -4,7 +4,7 @@
 //! makes a row for each span of each line, `shown_at` picks the one that is shown for an address,
 //! and `table_of` does so for all addresses at once. `specs/Fields.antt` says what a line says,
 //! `specs/Records.antt` what each record has, `specs/Reading.antt` what a file denotes, and
-//! `specs/Rows.antt` what the rows are. Scopes and the names of C are skipped.
+//! `specs/Rows.antt` what the rows are.
 #![tactic(auto)]
 
 mod fault;
@@ -25,7 +25,7 @@ pub use fault::{
 };
 pub use info::{DebugInfo, Use, grow, is_ambiguous, no_info, record_at};
 pub use numbers::{decimal_number, hex_number};
-pub use record::{File, Line, LineKind, Output, Segment, Span, Symbol};
+pub use record::{CSymbol, File, Line, LineKind, Output, Scope, Segment, Span, Storage, Symbol};
 pub use row::{Row, Wanted};
 pub use rows::{clear_rows, rows_at, rows_of, shown_at, size_of};
 pub use table::table_of;

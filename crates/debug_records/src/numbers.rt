@@ -1,6 +1,7 @@
 //! The values of fields.
 
-ghost use Rattle.std.specs.Prelude.{◌≡◌, ◌≤◌, ◌+◌, ◌-◌, ◌*◌, ◌==◌, [], Some, drop, length, map};
+ghost use Rattle.std.specs.Prelude.{◌≡◌, ◌<◌, ◌≤◌, ◌+◌, ◌-◌, ◌*◌, ◌^◌, ◌==◌, [], IfSome, Some};
+ghost use Rattle.std.specs.Prelude.{drop, length, map};
 ghost use Rattle.std.specs.Prelude.{option_map, position};
 ghost use Rattle.std.specs.Str.{byte};
 ghost use Rattle.model.specs.Digits.{decimal_number, hex_number};
@@ -10,10 +11,14 @@ ghost use Rattle.debug_records.specs.Numbers.{number_or, number_value, numbers_i
 ghost use Rattle.debug_records.specs.Numbers.{numbers_within};
 ghost use Rattle.debug_records.specs.Numbers.{placed_if, placed_in, placed_value, plus_in, text_in};
 ghost use Rattle.debug_records.specs.Numbers.{required, text_value};
+ghost use Rattle.debug_records.specs.Fields.{field_in};
+ghost use Rattle.debug_records.specs.Numbers.{distance_of, placed_or_none, signed_if};
+ghost use Rattle.debug_records.specs.Numbers.{signed_number, signed_or_zero, signed_value};
+ghost use Rattle.debug_records.specs.Records.{value_by};
 ghost use Rattle.debug_records.specs.Views.{field_view};
 
 use crate::fault::{DebugFaultKind, LineError, LineFault};
-use crate::fields::{Field, field_in};
+use crate::fields::{Field, field_in, is_next};
 use formatting::{decimal_value, hex_value};
 use std::alloc::Global;
 
@@ -26,6 +31,9 @@ pub struct Placed {
 
 /// One more than the largest number.
 const LIMIT: u64 = 4_294_967_296;
+
+/// One more than the number that is furthest from 0, of those with `-` before them.
+const FAR: u32 = 2_147_483_648;
 
 /// Returns a number with one decimal digit more, if it is not too large.
 fn with_decimal_digit(number: u32, digit: u8) -> Option<u32>
@@ -117,7 +125,7 @@ fn placed_value(field: Field<'_>) -> Result<Placed, LineFault>
 }
 
 /// Returns a field that a record must have.
-fn required<'a>(field: Option<Field<'a>>) -> Result<Field<'a>, LineFault>
+pub fn required<'a>(field: Option<Field<'a>>) -> Result<Field<'a>, LineFault>
     ensures { required (option_map field_view field.entry) ≡ seen field_view result }
 {
     match field {
@@ -160,6 +168,88 @@ pub fn number_or(fields: &[Field<'_>], name: &[u8], other: u32) -> Result<u32, L
     match field_in(fields, name) {
         None => Ok(other),
         Some(field) => number_value(field),
+    }
+}
+
+/// Returns the number of a field that a record may have, and where it begins.
+pub fn placed_or_none(fields: &[Field<'_>], name: &[u8]) -> Result<Option<Placed>, LineFault>
+    ensures { placed_or_none (map field_view fields.now) name.now ≡ result }
+{
+    match field_in(fields, name) {
+        None => Ok(None),
+        Some(field) => {
+            let found = placed_value(field)?;
+            Ok(Some(found))
+        }
+    }
+}
+
+/// Returns the number of a field that a record may have.
+pub fn number_or_none(fields: &[Field<'_>], name: &[u8]) -> Result<Option<u32>, LineFault>
+    ensures { value_by (field_in (map field_view fields.now) name.now) ≡ result }
+{
+    match field_in(fields, name) {
+        None => Ok(None),
+        Some(field) => {
+            let number = number_value(field)?;
+            Ok(Some(number))
+        }
+    }
+}
+
+/// Returns how far a number is from 0, if it is not too far.
+fn distance_of(text: &[u8]) -> Option<u32>
+    ensures known { result ≡ distance_of text.now }
+    ensures near { IfSome result (λ n. n < 2 ^ 31) }
+{
+    let number = number_of(text)?;
+    if number < FAR { Some(number) } else { None }
+}
+
+/// Returns a number that may have `-` before it.
+fn signed_number(text: &[u8]) -> Option<i32>
+    ensures { result ≡ signed_number text.now }
+{
+    if is_next(b'-', text) {
+        let distance = distance_of(&text[1..])?;
+        Some(-(distance as i32))
+    } else {
+        let distance = distance_of(text)?;
+        Some(distance as i32)
+    }
+}
+
+/// Returns the number that is the value of a field, which may have `-` before it.
+fn signed_value(field: Field<'_>) -> Result<i32, LineFault>
+    ensures { signed_value (field_view field.entry) ≡ result }
+{
+    if field.is_text {
+        return signed_if(field.left, None);
+    }
+    signed_if(field.left, signed_number(field.value))
+}
+
+/// Returns a number where it begins, if there is one.
+fn signed_if(left: usize, number: Option<i32>) -> Result<i32, LineFault>
+    ensures { signed_if left number ≡ result }
+{
+    match number {
+        None => Err(LineFault {
+            kind: DebugFaultKind::NoNumber,
+            left,
+        }),
+        Some(number) => Ok(number),
+    }
+}
+
+/// Returns the number of a field that a record may have, which may have `-` before it; 0 if it
+/// does not have the field.
+pub fn signed_or_zero(fields: &[Field<'_>], name: &[u8]) -> Result<i32, LineFault>
+    ensures { signed_or_zero (map field_view fields.now) name.now ≡ result }
+{
+    match field_in(fields, name) {
+        None => Ok(0),
+        Some(field) => signed_value(field),
     }
 }
 

@@ -6,14 +6,21 @@ ghost use Rattle.debug_records.specs.Reading.{nothing_read, use_of, with_file, w
 ghost use Rattle.debug_records.specs.Reading.{with_major, with_module, with_record, with_reference};
 ghost use Rattle.debug_records.specs.Reading.{with_said, with_segment, with_span, with_symbol};
 ghost use Rattle.debug_records.specs.Reading.{reference_of, with_text, with_uses, with_version};
-ghost use Rattle.debug_records.specs.Views.{field_view, reading_view, said_view};
+ghost use Rattle.debug_records.specs.Reading.{number_of_place, with_c_symbol, with_new_c_symbol};
+ghost use Rattle.debug_records.specs.Reading.{with_new_scope, with_reference_if, with_scope};
+ghost use Rattle.debug_records.specs.Reading.{with_stored};
+ghost use Rattle.debug_records.specs.Views.{c_symbol_view, field_view, reading_view, said_view};
+ghost use Rattle.debug_records.specs.Views.{scope_view};
 ghost use Rattle.debug_records.specs.declared.reference.Target.TheVariants as target;
 
 use crate::fault::{DebugFaultKind, LineError, LineFault, Place};
 use crate::fields::{Field, Said, is_same, said_by};
 use crate::info::{DebugInfo, Use, no_info, put_new};
-use crate::numbers::{Placed, numbers_in, placed_in};
-use crate::record_fields::{file_of, line_of, segment_of, span_of, symbol_of};
+use crate::numbers::{Placed, numbers_in, placed_in, placed_or_none};
+use crate::record::{CSymbol, Scope, Storage};
+use crate::record_fields::{
+    c_symbol_of, file_of, line_of, scope_of, segment_of, span_of, storage_in, symbol_of,
+};
 use crate::reference::{Reference, Target, reference_of};
 use std::alloc::{AllocError, Global};
 
@@ -198,6 +205,114 @@ fn push_line(
     Ok(())
 }
 
+/// Appends a reference that stands in a line, if there is one.
+fn push_reference_if(
+    reading: &mut Reading<'_>,
+    place: Place,
+    target: Target,
+    id: Option<Placed>,
+) -> Result<(), AllocError>
+    requires { place.length < 2 ^ 32 }
+    ensures { OnOk result (reading_view reading.new
+        ≡ with_reference_if place target id (reading_view reading.old)) }
+{
+    match id {
+        None => Ok(()),
+        Some(id) => push_reference(reading, place, target, id),
+    }
+}
+
+/// Returns the number of a place, if there is one.
+fn number_of_place(placed: Option<Placed>) -> Option<u32>
+    ensures { result ≡ number_of_place placed }
+{
+    Some(placed?.number)
+}
+
+/// Takes a scope.
+#[tactic(auto, unfolding(crate::specs::Reading::with_new_scope))]
+fn push_new_scope<'a>(
+    reading: &mut Reading<'a>,
+    id: Placed,
+    scope: Scope<'a>,
+) -> Result<(), LineError>
+    ensures { Gives (λ _. reading_view reading.new) result
+        (with_new_scope id (scope_view scope.entry) (reading_view reading.old)) }
+{
+    put_new(&mut reading.info.scopes, MOST_RECORDS, id, scope)
+}
+
+/// Takes a record `scope`.
+#[tactic(auto, unfolding(crate::specs::Reading::with_scope))]
+fn push_scope<'a>(
+    reading: &mut Reading<'a>,
+    place: Place,
+    fields: &[Field<'a>],
+) -> Result<(), LineError>
+    requires { place.length < 2 ^ 32 }
+    ensures { Gives (λ _. reading_view reading.new) result
+        (with_scope place (map field_view fields.now) (reading_view reading.old)) }
+{
+    let id = placed_in(fields, b"id")?;
+    let symbol = placed_or_none(fields, b"sym")?;
+    let scope = scope_of(number_of_place(symbol), fields)?;
+    push_new_scope(reading, id, scope)?;
+    push_reference_if(reading, place, Target::Symbol, symbol)?;
+    Ok(())
+}
+
+/// Takes a name of C.
+#[tactic(auto, unfolding(crate::specs::Reading::with_new_c_symbol))]
+fn push_new_c_symbol<'a>(
+    reading: &mut Reading<'a>,
+    id: Placed,
+    name: CSymbol<'a>,
+) -> Result<(), LineError>
+    ensures { Gives (λ _. reading_view reading.new) result
+        (with_new_c_symbol id (c_symbol_view name.entry) (reading_view reading.old)) }
+{
+    put_new(&mut reading.info.c_symbols, MOST_RECORDS, id, name)
+}
+
+/// Takes a record `csym` whose name is kept in a way that is known.
+#[tactic(auto, unfolding(crate::specs::Reading::with_stored))]
+fn push_stored<'a>(
+    reading: &mut Reading<'a>,
+    place: Place,
+    fields: &[Field<'a>],
+    storage: Storage,
+) -> Result<(), LineError>
+    requires { place.length < 2 ^ 32 }
+    ensures { Gives (λ _. reading_view reading.new) result
+        (with_stored place (map field_view fields.now) storage (reading_view reading.old)) }
+{
+    let id = placed_in(fields, b"id")?;
+    let scope = placed_in(fields, b"scope")?;
+    let symbol = placed_or_none(fields, b"sym")?;
+    let name = c_symbol_of(storage, scope.number, number_of_place(symbol), fields)?;
+    push_new_c_symbol(reading, id, name)?;
+    push_reference(reading, place, Target::Scope, scope)?;
+    push_reference_if(reading, place, Target::Symbol, symbol)?;
+    Ok(())
+}
+
+/// Takes a record `csym`. It says nothing if its name is kept in a way that is not known.
+#[tactic(auto, unfolding(crate::specs::Reading::with_c_symbol))]
+fn push_c_symbol<'a>(
+    reading: &mut Reading<'a>,
+    place: Place,
+    fields: &[Field<'a>],
+) -> Result<(), LineError>
+    requires { place.length < 2 ^ 32 }
+    ensures { Gives (λ _. reading_view reading.new) result
+        (with_c_symbol place (map field_view fields.now) (reading_view reading.old)) }
+{
+    match storage_in(fields)? {
+        None => Ok(()),
+        Some(storage) => push_stored(reading, place, fields, storage),
+    }
+}
+
 /// Takes the major version.
 fn take_major(reading: &mut Reading<'_>, major: Placed) -> Result<(), LineError>
     ensures { Gives (λ _. reading_view reading.new) result
@@ -249,6 +364,10 @@ fn push_record<'a>(
         push_symbol(reading, fields)
     } else if is_same(said.word, b"mod") {
         push_module(reading, place, fields)
+    } else if is_same(said.word, b"scope") {
+        push_scope(reading, place, fields)
+    } else if is_same(said.word, b"csym") {
+        push_c_symbol(reading, place, fields)
     } else {
         Ok(())
     }

@@ -62,3 +62,35 @@ pub struct Line {
     pub kind: LineKind,
     pub depth: u32,
 }
+
+/// A scope: its name, how many bytes it has, and its symbol, where it has these.
+#[derive(Clone, Copy)]
+pub struct Scope<'a> {
+    pub name: &'a [u8],
+    pub size: Option<u32>,
+    pub symbol: Option<u32>,
+}
+
+/// Where a name of C is kept.
+#[derive(Clone, Copy, Debug, PartialEq, Eq)]
+pub enum Storage {
+    /// On the software stack, at an offset of its function's frame.
+    Auto,
+    /// In the bank of registers.
+    Register,
+    /// At an address that its module alone knows.
+    Static,
+    /// At an address that other modules know.
+    External,
+}
+
+/// A name of C: its scope, where it is kept, at which offset, and its symbol, if it has one.
+#[derive(Clone, Copy)]
+pub struct CSymbol<'a> {
+    pub name: &'a [u8],
+    pub scope: u32,
+    pub storage: Storage,
+    /// 0 if none is told.
+    pub offset: i32,
+    pub symbol: Option<u32>,
+}

@@ -5,14 +5,18 @@ ghost use Rattle.debug_records.specs.Faults.{seen};
 ghost use Rattle.debug_records.specs.Fields.{field_in};
 ghost use Rattle.debug_records.specs.Records.{file_of, kind_by, kind_of, kind_or_fault, line_of};
 ghost use Rattle.debug_records.specs.Records.{is_word, output_by, segment_of, span_of};
-ghost use Rattle.debug_records.specs.Records.{symbol_of, value_by};
-ghost use Rattle.debug_records.specs.Views.{field_view, file_view, output_view, segment_view};
-ghost use Rattle.debug_records.specs.Views.{symbol_view};
+ghost use Rattle.debug_records.specs.Records.{c_symbol_of, scope_of, storage_in, storage_of};
+ghost use Rattle.debug_records.specs.Records.{symbol_of};
+ghost use Rattle.debug_records.specs.Views.{c_symbol_view, field_view, file_view, output_view};
+ghost use Rattle.debug_records.specs.Views.{scope_view, segment_view, symbol_view};
 
 use crate::fault::{DebugFaultKind, LineFault};
 use crate::fields::{Field, field_in, is_same};
-use crate::numbers::{number_in, number_or, number_value, text_in, text_value};
-use crate::record::{File, Line, LineKind, Output, Segment, Span, Symbol};
+use crate::numbers::{
+    number_in, number_or, number_or_none, number_value, required, signed_or_zero, text_in,
+    text_value,
+};
+use crate::record::{CSymbol, File, Line, LineKind, Output, Scope, Segment, Span, Storage, Symbol};
 
 /// Returns the file that a record `file` tells of.
 #[tactic(auto, unfolding(crate::specs::Records::file_of))]
@@ -73,26 +77,13 @@ pub fn segment_of<'a>(fields: &[Field<'a>]) -> Result<Segment<'a>, LineFault>
     })
 }
 
-/// Returns the value of a symbol, if its record has one.
-fn value_in(fields: &[Field<'_>]) -> Result<Option<u32>, LineFault>
-    ensures { value_by (field_in (map field_view fields.now) (codes "val")) ≡ result }
-{
-    match field_in(fields, b"val") {
-        None => Ok(None),
-        Some(field) => {
-            let value = number_value(field)?;
-            Ok(Some(value))
-        }
-    }
-}
-
 /// Returns the symbol that a record `sym` tells of.
 #[tactic(auto, unfolding(crate::specs::Records::symbol_of))]
 pub fn symbol_of<'a>(fields: &[Field<'a>]) -> Result<Symbol<'a>, LineFault>
     ensures { symbol_of (map field_view fields.now) ≡ seen symbol_view result }
 {
     let name = text_in(fields, b"name")?;
-    let value = value_in(fields)?;
+    let value = number_or_none(fields, b"val")?;
     let is_label = is_type(fields, b"lab");
     Ok(Symbol {
         name,
@@ -169,5 +160,62 @@ pub fn line_of(file: u32, fields: &[Field<'_>]) -> Result<Line, LineFault>
         line,
         kind,
         depth,
+    })
+}
+
+/// Returns the scope that a record `scope` tells of.
+#[tactic(auto, unfolding(crate::specs::Records::scope_of))]
+pub fn scope_of<'a>(symbol: Option<u32>, fields: &[Field<'a>]) -> Result<Scope<'a>, LineFault>
+    ensures { scope_of symbol (map field_view fields.now) ≡ seen scope_view result }
+{
+    let name = text_in(fields, b"name")?;
+    let size = number_or_none(fields, b"size")?;
+    Ok(Scope { name, size, symbol })
+}
+
+/// Returns where a name of C is kept, by its word.
+fn storage_of(word: &[u8]) -> Option<Storage>
+    ensures { result ≡ storage_of word.now }
+{
+    if is_same(word, b"auto") {
+        Some(Storage::Auto)
+    } else if is_same(word, b"reg") {
+        Some(Storage::Register)
+    } else if is_same(word, b"static") {
+        Some(Storage::Static)
+    } else if is_same(word, b"ext") {
+        Some(Storage::External)
+    } else {
+        None
+    }
+}
+
+/// Returns where a name of C is kept, if the word for it is known.
+pub fn storage_in(fields: &[Field<'_>]) -> Result<Option<Storage>, LineFault>
+    ensures { storage_in (map field_view fields.now) ≡ result }
+{
+    let field = required(field_in(fields, b"sc"))?;
+    Ok(storage_of(field.value))
+}
+
+/// Returns the name of C that a record `csym` tells of.
+#[tactic(auto, unfolding(crate::specs::Records::c_symbol_of))]
+pub fn c_symbol_of<'a>(
+    storage: Storage,
+    scope: u32,
+    symbol: Option<u32>,
+    fields: &[Field<'a>],
+) -> Result<CSymbol<'a>, LineFault>
+    ensures { c_symbol_of storage scope symbol (map field_view fields.now)
+        ≡ seen c_symbol_view result }
+{
+    let name = text_in(fields, b"name")?;
+    let offset = signed_or_zero(fields, b"offs")?;
+    Ok(CSymbol {
+        name,
+        scope,
+        storage,
+        offset,
+        symbol,
     })
 }

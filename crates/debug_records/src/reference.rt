@@ -14,6 +14,8 @@ pub enum Target {
     File,
     Segment,
     Span,
+    Symbol,
+    Scope,
 }
 
 /// A reference to a record, and where it stands.
@@ -46,6 +48,8 @@ fn is_there(info: &DebugInfo<'_>, reference: Reference) -> bool
         Target::File => record_at(&info.files, reference.id).is_some(),
         Target::Segment => record_at(&info.segments, reference.id).is_some(),
         Target::Span => record_at(&info.spans, reference.id).is_some(),
+        Target::Symbol => record_at(&info.symbols, reference.id).is_some(),
+        Target::Scope => record_at(&info.scopes, reference.id).is_some(),
     }
 }
 

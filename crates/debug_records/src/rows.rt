@@ -2,7 +2,7 @@
 
 ghost use Rattle.std.specs.Prelude.{◌≡◌, ◌++◌, IfOk, None, OnOk, false, map, option_map};
 ghost use Rattle.std.specs.Option.{option_to_list};
-ghost use Rattle.debug_records.specs.Rows.{best_of, better, clear_rows, covers, is_better, is_clear};
+ghost use Rattle.debug_records.specs.Rows.{best_of, better, clear_rows, covers, has_no_code, is_better, is_clear};
 ghost use Rattle.debug_records.specs.Rows.{is_narrower, is_parameter, is_shared, meets, passes, rank, row_of};
 ghost use Rattle.debug_records.specs.Rows.{row_with, rows_at, rows_of, shown_at, size_of, with_row};
 ghost use Rattle.debug_records.specs.Views.{info_view, segment_view};
@@ -22,6 +22,13 @@ fn is_parameter(kind: LineKind) -> bool
     }
 }
 
+/// Returns whether a segment has no code: it can be written, and no file has its bytes.
+fn has_no_code(segment: Segment<'_>) -> bool
+    ensures { result ≡ has_no_code (segment_view segment.entry) }
+{
+    !segment.is_read_only && segment.output.is_none()
+}
+
 /// Returns the row of a span of a line, unless it is the text of a parameter.
 fn row_with(line: Line, span: Span, segment: Segment<'_>) -> Option<Row>
     ensures { result ≡ row_with line span (segment_view segment.entry) }
@@ -37,7 +44,7 @@ fn row_with(line: Line, span: Span, segment: Segment<'_>) -> Option<Row>
         depth: line.depth,
         start,
         end: start + span.size as u64,
-        is_data: span.is_data,
+        is_data: span.is_data || has_no_code(segment),
     })
 }
 

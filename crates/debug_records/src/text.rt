@@ -99,8 +99,8 @@ fn finish<'a>(reading: Reading<'a>) -> Result<DebugInfo<'a>, DebugError>
 
 /// Reads a debug file of ld65, version 2.
 ///
-/// The files, segments, symbols, spans, lines and modules are read, in any order. Other records and
-/// fields are skipped. The names in the result are those of the text.
+/// The files, segments, symbols, spans, lines, modules, scopes and names of C are read, in any
+/// order. Other records and fields are skipped. The names in the result are those of the text.
 ///
 /// # Errors
 ///

@@ -1,6 +1,6 @@
 -- What a place is: a name of the source or an address, and a number that is added or subtracted.
 -- Source: mos65.
-use Rattle.std.specs.Prelude.{ℕ, ◌+◌, ◌-◌, ◌%◌, ◌==◌, ◌||◌, nat_le, Bool, if◌then◌else◌, ℤ, pos, negsuc, List, [], ◌∷◌, length, take, drop, position, Option, Some, None}
+use Rattle.std.specs.Prelude.{ℕ, ◌+◌, ◌-◌, ◌%◌, ◌==◌, ◌&&◌, ◌||◌, nat_le, Bool, if◌then◌else◌, ℤ, pos, negsuc, List, [], ◌∷◌, length, take, drop, position, Option, Some, None}
 use Rattle.std.specs.Option.{option_or}
 use Rattle.std.specs.Str.{byte}
 use Rattle.assembler.specs.Assembly.{AssemblyView}
@@ -23,10 +23,23 @@ hex_of digits = if length digits == 0 then None else as_address (hex_number digi
 abbrev pub decimal_of : List ℕ → Option ℕ
 decimal_of digits = if length digits == 0 then None else as_address (decimal_number digits)
 
--- `$` and hex digits, or decimal digits.
+-- The hex digits behind `$` or `0x`.
+abbrev pub behind_mark : ℕ → List ℕ → Option (List ℕ)
+behind_mark first [] = None
+behind_mark first (mark ∷ digits)
+    = if first == byte "0" && (mark == byte "x" || mark == byte "X") then Some digits else None
+
+abbrev pub marked : List ℕ → Option (List ℕ)
+marked [] = None
+marked (b ∷ bytes) = if b == byte "$" then Some bytes else behind_mark b bytes
+
+-- `$` or `0x` and hex digits, or decimal digits.
+abbrev pub number_by : Option (List ℕ) → List ℕ → Option ℕ
+number_by None word = decimal_of word
+number_by (Some digits) word = hex_of digits
+
 abbrev pub number_of : List ℕ → Option ℕ
-number_of [] = None
-number_of (b ∷ bytes) = if b == byte "$" then hex_of bytes else decimal_of (b ∷ bytes)
+number_of word = number_by (marked word) word
 
 -- ---- addresses
 
@@ -36,14 +49,17 @@ named_address None = None
 named_address (Some (pos number)) = if nat_le number 65535 then Some number else None
 named_address (Some (negsuc number)) = None
 
--- `$` and hex digits, or four hex digits.
-abbrev pub written_address : List ℕ → Option ℕ
-written_address [] = None
-written_address (b ∷ bytes) = if b == byte "$" then hex_of bytes else address_of (b ∷ bytes)
+-- `$` or `0x` and hex digits, or four hex digits.
+abbrev pub written_by : Option (List ℕ) → List ℕ → Option ℕ
+written_by None word = address_of word
+written_by (Some digits) word = hex_of digits
 
--- A name that the source defines comes first.
-abbrev pub base_of : Option ℤ → List ℕ → Option ℕ
-base_of value word = option_or (named_address value) (written_address word)
+abbrev pub written_address : List ℕ → Option ℕ
+written_address word = written_by (marked word) word
+
+-- A name's address comes first.
+abbrev pub base_of : Option ℕ → List ℕ → Option ℕ
+base_of named word = option_or named (written_address word)
 
 -- ---- sums, which wrap
 
@@ -55,11 +71,12 @@ abbrev pub minus : Option ℕ → Option ℕ → Option ℕ
 minus (Some address) (Some number) = Some ((address + (65536 - number)) % 65536)
 minus address number = None
 
--- An address, and after a sign a number.
+-- An address, and behind it nothing, or a sign and a number.
 abbrev pub moved : Option ℕ → List ℕ → Option ℕ
 moved address [] = address
 moved address (sign ∷ digits) = if sign == byte "+" then plus address (number_of digits)
-    else minus address (number_of digits)
+    else if sign == byte "-" then minus address (number_of digits)
+    else None
 
 -- ---- places
 
@@ -71,12 +88,26 @@ abbrev pub names_of : Option AssemblyView → Definitions
 names_of None = []
 names_of (Some assembly) = assembly.names
 
--- A sign may stand at this index.
-abbrev pub place_at : Definitions → List ℕ → Option ℕ → Option ℕ
-place_at names word None = base_of (number_in names word) word
-place_at names word (Some at) = moved (base_of (number_in names (take at word)) (take at word))
-    (drop at word)
+-- The name or the address of a word, which its first sign ends.
+abbrev pub front_at : List ℕ → Option ℕ → List ℕ
+front_at word None = word
+front_at word (Some at) = take at word
 
--- The address of a place. The first sign ends its name or address.
+abbrev pub front_of : List ℕ → List ℕ
+front_of word = front_at word (position is_sign word)
+
+-- The sum behind it.
+abbrev pub sum_at : List ℕ → Option ℕ → List ℕ
+sum_at word None = []
+sum_at word (Some at) = drop at word
+
+abbrev pub sum_of : List ℕ → List ℕ
+sum_of word = sum_at word (position is_sign word)
+
+-- The address of a place, whose name may have an address.
+abbrev pub place_by : Option ℕ → List ℕ → Option ℕ
+place_by named word = moved (base_of named (front_of word)) (sum_of word)
+
+-- The address of a place by the names of a source.
 abbrev pub place_of : Definitions → List ℕ → Option ℕ
-place_of names word = place_at names word (position is_sign word)
+place_of names word = place_by (named_address (number_in names (front_of word))) word

@@ -8,7 +8,7 @@
 //! machine (`specs/Machine.antt`). Where the words say so, fill at the port is left out of an image
 //! (`image_files/specs/Fill.antt`). `tell_warnings` tells how many warnings a source has, and what
 //! was left out (`specs/Warned.antt`). `place_of` finds the address of a name, of hex digits or of
-//! a sum (`specs/Place.antt`).
+//! a sum, and `place_by` one whose name another table has (`specs/Place.antt`).
 #![tactic(auto)]
 
 mod digits;
@@ -24,5 +24,5 @@ pub use loaded::{
 };
 pub use machine::{FileFault, MachineFault, load_files, load_machine};
 pub use named::{NamedFault, load_named};
-pub use place::place_of;
+pub use place::{address_in, front_of, moved, place_by, place_of};
 pub use warned::{tell_left_out, tell_warnings};

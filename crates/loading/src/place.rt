@@ -1,8 +1,9 @@
 //! A place by name or by number.
 
 ghost use Rattle.std.specs.Prelude.{◌≡◌, option_map, position};
-ghost use Rattle.loading.specs.Place.{base_of, decimal_of, hex_of, is_sign, moved, named_address};
-ghost use Rattle.loading.specs.Place.{names_of, number_of, place_of, written_address};
+ghost use Rattle.loading.specs.Place.{base_of, decimal_of, front_of, hex_of, is_sign, marked};
+ghost use Rattle.loading.specs.Place.{moved, named_address, names_of, number_of, place_by, place_of};
+ghost use Rattle.loading.specs.Place.{sum_of, written_address};
 ghost use Rattle.model.specs.Names.{number_in};
 
 use crate::digits::{decimal_address, hex_address};
@@ -39,40 +40,50 @@ fn decimal_of(digits: &[u8]) -> Option<u16>
     decimal_address(digits)
 }
 
-/// Returns the number that a word writes as a source does: `$` and hex digits, or decimal digits.
+/// Returns the hex digits behind `$` or `0x`, if one of these comes first.
+fn marked(word: &[u8]) -> Option<&[u8]>
+    ensures { option_map (λ d. d.now) result ≡ marked word.now }
+{
+    match word {
+        [b'$', digits @ ..] => Some(digits),
+        [b'0', mark, digits @ ..] if *mark == b'x' || *mark == b'X' => Some(digits),
+        _ => None,
+    }
+}
+
+/// Returns the number that a word writes: `$` or `0x` and hex digits, or decimal digits.
 fn number_of(word: &[u8]) -> Option<u16>
     ensures { result ≡ number_of word.now }
 {
-    match word {
-        [] => None,
-        [b'$', hex @ ..] => hex_of(hex),
-        decimal => decimal_of(decimal),
+    match marked(word) {
+        Some(digits) => hex_of(digits),
+        None => decimal_of(word),
     }
 }
 
-/// Returns the address that `$` and hex digits write, or four hex digits.
+/// Returns the address that `$` or `0x` and hex digits write, or four hex digits.
 fn written_address(word: &[u8]) -> Option<u16>
     ensures { result ≡ written_address word.now }
 {
-    match word {
-        [] => None,
-        [b'$', hex @ ..] => hex_of(hex),
-        word => address_of(word),
+    match marked(word) {
+        Some(digits) => hex_of(digits),
+        None => address_of(word),
     }
 }
 
-/// Returns the address of a word, which may have a number as a name. The name comes first.
-fn base_of(value: Option<i32>, word: &[u8]) -> Option<u16>
-    ensures { result ≡ base_of value word.now }
+/// Returns the address of a name, or else the one that a word writes.
+fn base_of(named: Option<u16>, word: &[u8]) -> Option<u16>
+    ensures { result ≡ base_of named word.now }
 {
-    match named_address(value) {
+    match named {
         Some(address) => Some(address),
         None => written_address(word),
     }
 }
 
-/// Returns an address with the number added or subtracted that is written after its sign.
-fn moved(address: Option<u16>, text: &[u8]) -> Option<u16>
+/// Returns an address with the number added or subtracted that is written behind it after a sign:
+/// `None` if something else stands behind it.
+pub fn moved(address: Option<u16>, text: &[u8]) -> Option<u16>
     ensures { result ≡ moved address text.now }
 {
     let [sign, digits @ ..] = text else {
@@ -82,8 +93,10 @@ fn moved(address: Option<u16>, text: &[u8]) -> Option<u16>
         (Some(address), Some(number)) => {
             if *sign == b'+' {
                 Some(address.wrapping_add(number))
-            } else {
+            } else if *sign == b'-' {
                 Some(address.wrapping_sub(number))
+            } else {
+                None
             }
         }
         _ => None,
@@ -104,28 +117,51 @@ fn sign_at(word: &[u8]) -> Option<usize>
     word.iter().position(|byte| is_sign(*byte))
 }
 
-/// Returns the number of a name, if there is a source that defines it.
-fn value_of(assembly: Option<&Assembly>, name: &[u8]) -> Option<i32>
-    ensures { result ≡ number_in (names_of (option_map (λ a. a.now) assembly.entry)) name.now }
+/// Returns the name or the address of a word, which its first sign ends.
+pub fn front_of(word: &[u8]) -> &[u8]
+    ensures { result.now ≡ front_of word.now }
 {
-    match assembly {
-        None => None,
-        Some(assembly) => assembly.value_of(name),
+    match sign_at(word) {
+        None => word,
+        Some(at) => word.split_at(at).0,
     }
 }
 
-/// Returns the address of a place, or `None` if a word names none.
-///
-/// A place is a name that the source defines, four hex digits, or `$` and hex digits; a number may
-/// be added or subtracted, as in `loop+3` or `loop-$10`. Addresses wrap.
+/// Returns the sum behind the name or the address of a word: no byte if there is none.
+fn sum_of(word: &[u8]) -> &[u8]
+    ensures { result.now ≡ sum_of word.now }
+{
+    match sign_at(word) {
+        None => b"",
+        Some(at) => word.split_at(at).1,
+    }
+}
+
+/// Returns the address of a place, whose name may have an address: that of the name, or else of
+/// four hex digits, or `$` or `0x` and hex digits; a number may be added or subtracted, as in
+/// `loop+3` or `loop-$10`. Addresses wrap.
+pub fn place_by(named: Option<u16>, word: &[u8]) -> Option<u16>
+    ensures { result ≡ place_by named word.now }
+{
+    moved(base_of(named, front_of(word)), sum_of(word))
+}
+
+/// Returns the address of a name that a source defines, if there is one, and its number is an
+/// address.
+pub fn address_in(assembly: Option<&Assembly>, name: &[u8]) -> Option<u16>
+    ensures { result ≡ named_address
+        (number_in (names_of (option_map (λ a. a.now) assembly.entry)) name.now) }
+{
+    match assembly {
+        None => None,
+        Some(assembly) => named_address(assembly.value_of(name)),
+    }
+}
+
+/// Returns the address of a place, or `None` if a word names none. Its name is one that the source
+/// defines.
 pub fn place_of(assembly: Option<&Assembly>, word: &[u8]) -> Option<u16>
     ensures { result ≡ place_of (names_of (option_map (λ a. a.now) assembly.entry)) word.now }
 {
-    match sign_at(word) {
-        None => base_of(value_of(assembly, word), word),
-        Some(at) => {
-            let (left, right) = word.split_at(at);
-            moved(base_of(value_of(assembly, left), left), right)
-        }
-    }
+    place_by(address_in(assembly, front_of(word)), word)
 }

@@ -52,7 +52,7 @@ fn push_start(starts: &mut Vec<LineStart>, start: Option<LineStart>) -> Result<(
 }
 
 /// Returns where the lines of rows begin.
-fn line_starts(alloc: Global, rows: &[Row]) -> Result<Vec<LineStart>, AllocError>
+pub fn line_starts(alloc: Global, rows: &[Row]) -> Result<Vec<LineStart>, AllocError>
     ensures { IfOk result (λ starts. starts.items ≡ line_starts rows.now) }
 {
     let mut starts = Vec::new(alloc);
@@ -63,7 +63,7 @@ fn line_starts(alloc: Global, rows: &[Row]) -> Result<Vec<LineStart>, AllocError
 }
 
 /// Returns the line whose row stands at an address, if one does.
-fn line_at(places: &Places, address: u16) -> Option<FileLine>
+pub fn line_at(places: &Places, address: u16) -> Option<FileLine>
     ensures { result ≡ line_at places.now.lines address }
 {
     match places.row_at(address) {

@@ -9,4 +9,5 @@
 mod by_line;
 mod line_runs;
 
-pub use by_line::{run_to_line, undo_to_line};
+pub use by_line::{line_at, line_starts, run_to_line, undo_to_line};
+pub use line_runs::line;

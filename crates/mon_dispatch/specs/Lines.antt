@@ -20,6 +20,8 @@ use Rattle.mon_settings.specs.Names.{without_names}
 use Rattle.mon_steps.specs.BackLines.{history_shown, most_remade, remade, undone_by, undone_by_watches}
 use Rattle.mon_steps.specs.RunLines.{KeepsWatches, Stand, ran_by, ran_until, returned, some_steps, stand_of, stepped_over, watches_of}
 use Rattle.mon_session.specs.declared.mon_state.MonState.{MonState}
+use Rattle.mon_calls.specs.Calls.{ShowsCalls}
+use Rattle.mon_calls.specs.Locals.{ShowsLocals}
 use Rattle.mon_dispatch.specs.LineTexts.{behind_text, line_text, slip_line}
 use Rattle.mon_dispatch.specs.declared.lines.Outcome.{Outcome}
 use Rattle.mon_dispatch.specs.declared.lines.Outcome.TheVariants as outcome
@@ -127,6 +129,14 @@ Does line.Nmi old new = Becomes (happened event.Nmi (course_of old)) old new
 Does line.Reset old new = Becomes (happened event.Reset (course_of old)) old new
 Does command old new = ShowsOnly old new
 
+-- What a line says: most lines a text of their own.
+abbrev pub Tells : Command → MonState → MonState → Type 0
+Tells line.Where old new
+    = ShowsCalls old.session.current old.places old.text.items new.text.items
+Tells (line.Locals number) old new
+    = ShowsLocals old.session.current old.places number old.text.items new.text.items
+Tells command old new = Says (line_text command old) old new
+
 -- Whether the session ends with a line, or has moved, so that it stops anew.
 abbrev pub outcome_of : Command → Outcome
 outcome_of line.Quit = outcome.Over
@@ -156,7 +166,7 @@ read_at mon line = seen_line mon.places mon.session.current.regs.pc line
 -- A line that can be read does what it asks for, and says so. Any other only says what is wrong.
 abbrev pub Follows : Result SeenCommand SeenSlip → Outcome → MonState → MonState → Type 0
 Follows (Ok seen) result old new = (command : Command) × (command_view command ≡ seen)
-    × (result ≡ outcome_of command) × Does command old new × Says (line_text command old) old new
+    × (result ≡ outcome_of command) × Does command old new × Tells command old new
 Follows (Err slip) result old new = (result ≡ outcome.Stays) × ShowsOnly old new
     × Says (slip_line slip) old new
 

@@ -5,7 +5,6 @@ use Rattle.model.specs.State.{State}
 use Rattle.model.specs.Text.{hex_byte}
 use Rattle.mon_lines.specs.declared.command.Command.{Command}
 use Rattle.mon_lines.specs.declared.command.Command.TheVariants as line
-use Rattle.mon_texts.specs.Calls.{calls_text}
 use Rattle.mon_texts.specs.Help.{help_text}
 use Rattle.mon_instructions.specs.Listed.{listed_len, listed_line}
 use Rattle.mon_texts.specs.Memory.{memory_text}
@@ -70,7 +69,6 @@ find_text memory bytes names
 
 -- What a line shows that only looks. Other lines show nothing here.
 abbrev pub look_text : Command → State → PlacesView → List ℕ
-look_text line.Where state places = calls_text state places
 look_text line.Regs state places = state_line state places.names None
 look_text line.Flags state places = flags_text state.regs.flags
 look_text (line.Mem stretch) state places = memory_text state.bus.memory stretch

@@ -2,7 +2,7 @@
 
 ghost use Rattle.std.specs.Prelude.{◌≡◌, ◌≤◌, ◌++◌, IfOk, OnOk, Some, length};
 ghost use Rattle.std.specs.Option.{option_copied};
-ghost use Rattle.mon_dispatch.specs.Lines.{Does, Follows, Says, Serves, is_over, outcome_of};
+ghost use Rattle.mon_dispatch.specs.Lines.{Does, Follows, Says, Serves, Tells, is_over, outcome_of};
 ghost use Rattle.mon_dispatch.specs.LineTexts.{behind_text, if_decimal, line_text, moved_text};
 ghost use Rattle.mon_lines.specs.Lines.{asked_view, line_view};
 ghost use Rattle.mon_session.specs.Course.{ShowsOnly};
@@ -12,6 +12,7 @@ use crate::wording::{IS_DECIMAL, IS_HEX};
 use arrayvec::ArrayVec;
 use formatting::push_text;
 use mon_by_line::{run_to_line, undo_to_line};
+use mon_calls::{push_locals, push_where};
 use mon_lines::{Command, ReadLine, Slip, Test};
 use mon_runs::{Break, Watch};
 use mon_session::MonState;
@@ -85,7 +86,7 @@ fn break_of(address: u16, tests: &ArrayVec<Test, 4>, times: u32) -> Break
 /// Does what a line asks for, and says so.
 fn obey(mon: &mut MonState, alloc: Global, command: &Command<'_>) -> Result<(), AllocError>
     ensures does { OnOk result (Does command.now mon.old mon.new) }
-    ensures text { OnOk result (Says (line_text command.now mon.old) mon.old mon.new) }
+    ensures text { OnOk result (Tells command.now mon.old mon.new) }
 {
     match command {
         Command::Nothing => steps(mon, 1),
@@ -99,6 +100,10 @@ fn obey(mon: &mut MonState, alloc: Global, command: &Command<'_>) -> Result<(), 
         Command::Back(undoing) => undo(mon, *undoing),
         Command::Rback => undo_to_stop(mon),
         Command::Redo(count) => redo(mon, *count),
+        Command::Where => push_where(&mut mon.text, alloc, &mon.session, &mon.places),
+        Command::Locals(number) => {
+            push_locals(&mut mon.text, alloc, &mon.session, &mon.places, *number)
+        }
         Command::History(count) => show_history(mon, *count),
         Command::Break {
             address,
@@ -133,7 +138,7 @@ fn obey(mon: &mut MonState, alloc: Global, command: &Command<'_>) -> Result<(), 
 /// Does what a line asks for, says so, and returns what it has made of the session.
 fn execute(mon: &mut MonState, alloc: Global, command: &Command<'_>) -> Result<Outcome, AllocError>
     ensures does { OnOk result (Does command.now mon.old mon.new) }
-    ensures text { OnOk result (Says (line_text command.now mon.old) mon.old mon.new) }
+    ensures text { OnOk result (Tells command.now mon.old mon.new) }
     ensures outcome { IfOk result (λ outcome. outcome ≡ outcome_of command.now) }
 {
     obey(mon, alloc, command)?;

@@ -8,9 +8,7 @@ use crate::finding::find;
 use crate::forms::push_forms;
 use mon_lines::Command;
 use mon_session::MonState;
-use mon_texts::{
-    push_calls, push_flags, push_help, push_memory, push_screen, push_stack, push_state,
-};
+use mon_texts::{push_flags, push_help, push_memory, push_screen, push_stack, push_state};
 use std::alloc::AllocError;
 
 /// The most rows that are shown at once.
@@ -52,7 +50,6 @@ pub fn look(mon: &mut MonState, command: &Command<'_>) -> Result<(), AllocError>
         ++ look_text command.now mon.old.session.current mon.old.places) }
 {
     match command {
-        Command::Where => push_calls(&mut mon.text, &mon.session, &mon.places),
         Command::Regs => push_state(&mut mon.text, &mon.session, &mon.places, None),
         Command::Flags => push_flags(&mut mon.text, &mon.session),
         Command::Mem(stretch) => push_memory(&mut mon.text, &mon.session, *stretch),

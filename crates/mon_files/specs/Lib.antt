@@ -1,3 +1,4 @@
 pub mod Held
 pub mod Pages
 pub mod Saved
+pub mod Own

@@ -1,9 +1,9 @@
 -- The bytes that `save` writes. Source: mos65.
-use Rattle.std.specs.Prelude.{◌≡◌, ◌<◌, ℕ, ◌==◌, ◌&&◌, ◌||◌, not, Bool, if◌then◌else◌, List, length, slice_index, slice_set, Option, Some, None, unwrap_or}
+use Rattle.std.specs.Prelude.{◌≡◌, ◌<◌, ℕ, ◌+◌, ◌-◌, ◌==◌, ◌&&◌, ◌||◌, not, Bool, true, false, if◌then◌else◌, List, length, slice_index, slice_set, Option, Some, None, unwrap_or}
 use Rattle.accesses.specs.Writing.{is_written}
 use Rattle.arguments.specs.FileNames.{form_of_ending}
 use Rattle.arguments.specs.declared.file_names.FormName.{FormName}
-use Rattle.arguments.specs.declared.file_names.FormName.TheVariants.{Tape}
+use Rattle.arguments.specs.declared.file_names.FormName.TheVariants.{Bin, Prg, Tape}
 use Rattle.image_files.specs.Ends.{AreEnds}
 use Rattle.image_files.specs.Written.{ReadsAs}
 use Rattle.model.specs.Image.{cell_at}
@@ -49,3 +49,21 @@ IsTextBetween form (Some ends) image text = ReadsAs form ends.0 ends.1 image tex
 abbrev pub IsSavedAs : FormName → List (Option ℕ) → List ℕ → Type 0
 IsSavedAs form image text = (ends : Option (ℕ × ℕ)) × AreEnds image ends
     × IsTextBetween form ends image text
+
+-- ---- what fills gaps
+
+-- Raw bytes and a PRG file have no address for each byte, so something stands between two that are not
+-- neighbours.
+abbrev pub has_addresses : FormName → Bool
+has_addresses Bin = false
+has_addresses Prg = false
+has_addresses form = true
+
+-- The addresses from the first to the last, less those that have bytes.
+abbrev pub gaps_between : Option (ℕ × ℕ) → ℕ → ℕ
+gaps_between None count = 0
+gaps_between (Some ends) count = ends.1 + 1 - ends.0 - count
+
+abbrev pub AreGaps : FormName → List (Option ℕ) → ℕ → ℕ → Type 0
+AreGaps form image count gaps = (ends : Option (ℕ × ℕ)) × AreEnds image ends
+    × (gaps ≡ (if has_addresses form then 0 else gaps_between ends count))

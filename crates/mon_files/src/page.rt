@@ -127,13 +127,13 @@ fn write_page<H: Files + AllocGlobal>(
     ensures said { OnOk result ((said : List ℕ) × Says said mon.old mon.new) }
     ensures refused { IfErr result (λ fault. fault ≡ Refusal.OutOfMemory) }
 {
-    let outcome = write_new(rt, words, file, page)?;
+    let outcome = write_new(rt, words, &mon.places, file, page)?;
     of_memory(say_outcome(mon, file, outcome, events, page.len()))
 }
 
 /// Writes what the session holds to a file, as one page for a browser, and says how many events and
-/// bytes it has, or that it holds none. A file that the session has read is not overwritten. The
-/// events that are held are undone and made again.
+/// bytes it has, or that it holds none. A file that the session has read is not overwritten, nor a
+/// source that debug information names. The events that are held are undone and made again.
 ///
 /// # Errors
 ///

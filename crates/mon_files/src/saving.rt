@@ -1,10 +1,12 @@
 //! The image that `save` writes.
 
-ghost use Rattle.std.specs.Prelude.{◌≡◌, ℕ, IfErr, IfOk, List, None, OnOk, Option, Some};
+ghost use Rattle.std.specs.Prelude.{◌≡◌, ℕ, IfErr, IfOk, List, None, OnOk, Option, Some, is_some};
+ghost use Rattle.std.specs.List.{count_by};
 ghost use Rattle.model.specs.Image.{empty_image};
 ghost use Rattle.image_files.specs.Ends.{AreEnds};
 ghost use Rattle.mon_dispatch.specs.Lines.{Says};
 ghost use Rattle.mon_files.specs.Saved.{IsSaved, IsSavedAs, is_asked, is_saved};
+ghost use Rattle.mon_files.specs.Saved.{AreGaps, gaps_between, has_addresses};
 ghost use Rattle.mon_files.specs.Saved.{save_form, with_saved};
 ghost use Rattle.mon_session.specs.Course.{ShowsOnly};
 
@@ -140,16 +142,54 @@ struct Saved {
     gaps: usize,
 }
 
-/// Returns how many bytes a form without addresses has between those of an image.
-fn gaps_in(form: FormName, image: &Image, count: usize) -> usize {
-    match (form, ends_of(image)) {
-        (FormName::Bin | FormName::Prg, Some((low, high))) => {
+/// Returns whether a file in a form has an address for each of its bytes.
+fn has_addresses(form: FormName) -> bool
+    ensures { result ≡ has_addresses form }
+{
+    match form {
+        FormName::Bin | FormName::Prg => false,
+        FormName::Tape | FormName::Hex | FormName::SRecord => true,
+    }
+}
+
+/// Returns how many addresses from a first one to a last one are more than so many bytes.
+fn gaps_between(ends: Option<(u16, u16)>, count: usize) -> usize
+    ensures { result ≡ gaps_between ends count }
+{
+    match ends {
+        None => 0,
+        Some((low, high)) => {
             (high as usize + 1)
                 .saturating_sub(low as usize)
                 .saturating_sub(count)
         }
-        _ => 0,
     }
+}
+
+/// Returns how many bytes a form without addresses has between those of an image, which has so many
+/// bytes.
+fn gaps_in(form: FormName, image: &Image, count: usize) -> usize
+    ensures { AreGaps form image.now count result }
+{
+    let ends = ends_of(image);
+    if has_addresses(form) {
+        0
+    } else {
+        gaps_between(ends, count)
+    }
+}
+
+/// Returns how many bytes there are among some cells.
+fn count_of(cells: &[Option<u8>]) -> usize
+    ensures { result ≡ count_by is_some cells.now }
+{
+    let mut count = 0usize;
+    for cell in cells {
+        if cell.is_some() {
+            count += 1;
+        }
+    }
+    count
 }
 
 /// Returns what is saved in a form.
@@ -162,14 +202,15 @@ fn saved_in(
     form: FormName,
     stretch: Option<Stretch>,
 ) -> Result<Saved, AllocError>
-    // It is read again as the image that is saved.
+    // It is read again as the image that is saved; its bytes are counted, and those between them.
     ensures saved { IfOk result (λ saved. (image : List (Option ℕ))
         × IsSaved session.now.current.bus loaded.now stretch image
-        × IsSavedAs form image saved.text.items) }
+        × IsSavedAs form image saved.text.items × (saved.count ≡ count_by is_some image)
+        × AreGaps form image saved.count saved.gaps) }
 {
     let image = saved_image(alloc, session, loaded, stretch)?;
     let text = text_of(alloc, form, &image)?;
-    let count = image.cells().iter().filter(|cell| cell.is_some()).count();
+    let count = count_of(image.cells());
     let gaps = gaps_in(form, &image, count);
     Ok(Saved { text, count, gaps })
 }
@@ -210,7 +251,7 @@ fn say_saved(
 /// Writes a stretch of memory to a file, without a stretch each byte that the session's file has or
 /// that is not 0: in the form that the file's ending tells, or as a tape. Says how many bytes it
 /// has, and how many fill gaps in a form without addresses; or that it is not written: a file that
-/// the session has read is not.
+/// the session has read is not, nor a source that debug information names.
 ///
 /// # Errors
 ///
@@ -230,6 +271,6 @@ pub fn save_image<H: Files + AllocGlobal>(
     let form = save_form(file);
     let saved = saved_in(rt.alloc(), &mon.session, known.written(), form, stretch);
     let saved = of_memory(saved)?;
-    let outcome = write_new(rt, words, file, saved.text.as_slice())?;
+    let outcome = write_new(rt, words, &mon.places, file, saved.text.as_slice())?;
     of_memory(say_saved(mon, file, outcome, saved.count, saved.gaps))
 }

@@ -44,3 +44,4 @@ place_is topic.Save = refl
 place_is topic.Reload = refl
 place_is topic.Page = refl
 place_is topic.Line = refl
+place_is topic.Locals = refl

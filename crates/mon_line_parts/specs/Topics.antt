@@ -89,6 +89,7 @@ place_of topic.Save = 33
 place_of topic.Reload = 34
 place_of topic.Page = 35
 place_of topic.Line = 36
+place_of topic.Locals = 37
 
 abbrev pub is_same : Topic → Topic → Bool
 is_same one other = place_of one == place_of other

@@ -144,6 +144,12 @@ atom_of places kind lack text =
 abbrev pub is_sign : List ℕ → Bool
 is_sign text = is_next (byte "+") text || is_next (byte "-") text
 
+-- The line of the source that stands alone where an address is meant: no name of an image stands
+-- there, and no sum of a line.
+abbrev pub line_alone : PlacesView → List ℕ → Option (ℕ × ℕ)
+line_alone places text = if is_some (image_address places text) || is_sign (after_line text) then None
+    else own_line places text
+
 -- A sum stays within 64 bits.
 abbrev pub plus : ℤ → ℤ → List ℕ → Reads ℤ
 plus total number rest = Ok (saturate_signed w64 (total +ℤ number), rest)

@@ -12,7 +12,7 @@ pub struct Help {
 }
 
 /// The form, the effect and the example of each topic, in the order of `Topic`.
-pub const HELP: [(&str, &str, &str); 37] = [
+pub const HELP: [(&str, &str, &str); 38] = [
     ("step [N]", "makes N steps, or 1", "step 3"),
     ("over", "makes a JSR as one step", "over"),
     (
@@ -141,5 +141,10 @@ pub const HELP: [(&str, &str, &str); 37] = [
         "line [back]",
         "runs to where another line begins, over calls; line back: back to where one begins",
         "line, line back",
+    ),
+    (
+        "locals [N]",
+        "shows parameters and locals of C, of the Nth call or of all",
+        "locals, locals 2",
     ),
 ];

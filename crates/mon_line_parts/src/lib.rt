@@ -19,6 +19,7 @@ pub use lexer::is_next;
 pub use numbers::number_in;
 pub use scan::{after, after_word, file_of, is_empty, is_word, past, skip, without_first, word_of};
 pub use slip::{Flaw, Lack};
+pub use source_lines::{after_line, line_number, own_line};
 pub use source_map::{Places, is_same_word};
 pub use topic::{TOPICS, Topic, all_words, begins_with, nearest_of, subject_of, topic_of};
-pub use values::{address_of, bit_of, byte_of, bytes_of, count_of, word_value};
+pub use values::{address_of, bit_of, byte_of, bytes_of, count_of, line_alone, word_value};

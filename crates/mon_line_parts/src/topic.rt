@@ -49,11 +49,12 @@ pub enum Topic {
     Reload,
     Page,
     Line,
+    Locals,
 }
 
 /// The first words, each with its topic. A word of one letter or two is an abbreviation that two
 /// words would have in common.
-pub const WORDS: [(&[u8], Topic); 58] = [
+pub const WORDS: [(&[u8], Topic); 59] = [
     (b"step", Topic::Step),
     (b"s", Topic::Step),
     (b"over", Topic::Over),
@@ -78,6 +79,7 @@ pub const WORDS: [(&[u8], Topic); 58] = [
     (b"li", Topic::List),
     (b"l", Topic::List),
     (b"line", Topic::Line),
+    (b"locals", Topic::Locals),
     (b"delete", Topic::Delete),
     (b"unbreak", Topic::Delete),
     (b"display", Topic::Display),
@@ -154,7 +156,7 @@ pub const NEAREST: [(&[u8], Topic); 8] = [
 ];
 
 /// What stands behind `info` of gdb, each with the topic of the word that shows it.
-pub const SUBJECTS: [(&[u8], Topic); 9] = [
+pub const SUBJECTS: [(&[u8], Topic); 10] = [
     (b"registers", Topic::Regs),
     (b"regs", Topic::Regs),
     (b"reg", Topic::Regs),
@@ -164,10 +166,11 @@ pub const SUBJECTS: [(&[u8], Topic); 9] = [
     (b"b", Topic::List),
     (b"watchpoints", Topic::List),
     (b"stack", Topic::Where),
+    (b"locals", Topic::Locals),
 ];
 
 /// The topics, in the order in which help lists them.
-pub const TOPICS: [Topic; 36] = [
+pub const TOPICS: [Topic; 37] = [
     Topic::Step,
     Topic::Over,
     Topic::Out,
@@ -178,6 +181,7 @@ pub const TOPICS: [Topic; 36] = [
     Topic::Rback,
     Topic::Redo,
     Topic::Where,
+    Topic::Locals,
     Topic::History,
     Topic::Break,
     Topic::Watch,

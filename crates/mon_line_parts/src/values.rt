@@ -10,7 +10,7 @@ ghost use Rattle.mon_line_parts.specs.Values.{counter_word, quoted_of};
 ghost use Rattle.mon_line_parts.specs.Values.{image_address, image_number, is_place, line_asked};
 ghost use Rattle.mon_line_parts.specs.Values.{line_or, line_or_number, name_or_number, why_none};
 ghost use Rattle.mon_line_parts.specs.Values.{is_sign, lack_of, least_of, marked_number, minus, most_of};
-ghost use Rattle.mon_line_parts.specs.Values.{named_number};
+ghost use Rattle.mon_line_parts.specs.Values.{line_alone, named_number};
 ghost use Rattle.mon_line_parts.specs.Values.{number_of, number_or, piece_of, pieces_of, plus};
 ghost use Rattle.mon_line_parts.specs.Values.{some_bytes, some_count, sum_of, term_of, terms_of, with_piece, within};
 
@@ -321,6 +321,18 @@ fn is_sign(text: &[u8]) -> bool
     ensures { result ≡ is_sign text.now }
 {
     is_next(b'+', text) || is_next(b'-', text)
+}
+
+/// Returns the file and the line of the source that stand alone where an address is meant, if they
+/// do: no name of an image stands there, and no sum of a line.
+pub fn line_alone(places: &Places, text: &[u8]) -> Option<(u32, u32)>
+    ensures { result ≡ line_alone places.now text.now }
+{
+    if image_address(places, text).is_some() || is_sign(after_line(text)) {
+        None
+    } else {
+        own_line(places, text)
+    }
 }
 
 /// Reads a sign and a number, and adds it to what comes before or takes it from that.

@@ -42,6 +42,7 @@ pub data SeenCommand : Type 0 where
   rback : SeenCommand
   redo : Option ℕ → SeenCommand
   calls : SeenCommand
+  locals : Option ℕ → SeenCommand
   history : ℕ → SeenCommand
   break_at : ℕ → List Test → ℕ → SeenCommand
   watch : Stretch → WatchKind → SeenCommand
@@ -88,6 +89,7 @@ command_view (command.Back undoing) = back undoing
 command_view command.Rback = rback
 command_view (command.Redo count) = redo count
 command_view command.Where = calls
+command_view (command.Locals frame) = locals frame
 command_view (command.History count) = history count
 command_view (command.Break address tests times) = break_at address tests.items times
 command_view (command.Watch stretch kind) = watch stretch kind
@@ -281,6 +283,8 @@ putting places pc text _ = Ok (quit, text)
 -- What follows a word that shows something, or sets or clears a stop.
 abbrev pub seeing : PlacesView → ℕ → List ℕ → Topic → Reads SeenCommand
 seeing places pc text topic.Where = Ok (calls, text)
+seeing places pc text topic.Locals =
+    and_then (count_of places text) (λ count rest. Ok (locals count, rest))
 seeing places pc text topic.History =
     and_then (count_of places text) (λ count rest. Ok (history (unwrap_or count 10), rest))
 seeing places pc text topic.Break = break_from places pc text

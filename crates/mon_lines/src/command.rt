@@ -112,6 +112,8 @@ pub enum Command<'a> {
     /// As many events at most, if a number is given.
     Redo(Option<u32>),
     Where,
+    /// The parameters and locals of C of one call, counted from 1, or of all.
+    Locals(Option<u32>),
     History(u32),
     Break {
         address: u16,

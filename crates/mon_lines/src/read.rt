@@ -500,6 +500,10 @@ fn seeing<'a>(
 {
     match topic {
         Topic::Where => Ok((Command::Where, text)),
+        Topic::Locals => {
+            let (count, rest) = count_of(places, text)?;
+            Ok((Command::Locals(count), rest))
+        }
         Topic::History => {
             let (count, rest) = count_of(places, text)?;
             Ok((Command::History(count.unwrap_or(10)), rest))

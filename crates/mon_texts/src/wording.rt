@@ -1,9 +1,9 @@
 //! The words of what `mon` shows, each once. Definitions in `specs` name them.
 
 // Help.
-pub const MORE_WORDS: &str = "more words: out line rback redo where history list delete \
-display\n  undisplay regs flags find stack set put asm type screen irq nmi reset\n  save page \
-reload help\nhelp WORD shows one of them, help all shows all.\n";
+pub const MORE_WORDS: &str = "more words: out line rback redo where locals history list \
+delete\n  display undisplay regs flags find stack set put asm type screen irq\n  nmi reset save \
+page reload help\nhelp WORD shows one of them, help all shows all.\n";
 
 pub const ADDRESS_FORMS: &str =
     "WHERE is a name, NAME+5, :6 for line 6, $0200, or four hex digits as 0200.\n";
@@ -66,7 +66,7 @@ pub const NO_LINE_FROM: &str = "no line from ";
 
 pub const HAS_BYTES: &str = " on has bytes";
 
-pub const OTHER_SOURCE: &str = " is not the source of this session";
+pub const OTHER_SOURCE: &str = " is no source of this session";
 
 pub const NO_SOURCE: &str = "no lines of a source are known here";
 

@@ -85,6 +85,19 @@ fn play_words(rt: &HostRuntime, route: Route, words: &[&str], unread: &Cell<bool
     }
 }
 
+/// Serves a word that runs a program, and returns the exit status.
+fn play_any(rt: &HostRuntime, route: Route, words: &[&str], unread: &Cell<bool>) -> u8 {
+    match route {
+        Route::Page => page(
+            rt,
+            words,
+            &mut Piped::new(io::writer(rt), unread),
+            &mut Quiet::new(rt.stderr(), unread),
+        ),
+        _ => play_words(rt, route, words, unread),
+    }
+}
+
 /// Serves a word that runs the program of the debug file which stands first, and returns the exit
 /// status: as with the files of that program.
 fn play_program(rt: &HostRuntime, route: Route, words: &[&str], unread: &Cell<bool>) -> u8 {
@@ -97,17 +110,17 @@ fn play_program(rt: &HostRuntime, route: Route, words: &[&str], unread: &Cell<bo
         Err(fault) => return fault.tell(file, &mut Quiet::new(rt.stderr(), unread)),
     };
     match words_of(rt.alloc(), &made) {
-        Ok(all) => play_words(rt, route, &all, unread),
+        Ok(all) => play_any(rt, route, &all, unread),
         Err(_) => refuse(Refusal::OutOfMemory, &mut Quiet::new(rt.stderr(), unread)),
     }
 }
 
-/// Serves a word that runs a program, and returns the exit status.
+/// Serves a word that runs a program, or the program of a debug file, and returns the exit status.
 fn play(rt: &HostRuntime, route: Route, words: &[&str], unread: &Cell<bool>) -> u8 {
     if asks_for_program(words) {
         play_program(rt, route, words, unread)
     } else {
-        play_words(rt, route, words, unread)
+        play_any(rt, route, words, unread)
     }
 }
 
@@ -164,8 +177,8 @@ fn serve_route(rt: &HostRuntime, words: &[&str], unread: &Cell<bool>) -> u8 {
         Route::StrictDebug => debug_strictly(rt, rest),
         Route::StrictImage => debug_strictly_on_image(rt, rest),
         Route::DebugImage => debug_on_image(rt, rest),
-        Route::Page => page(rt, rest, &mut output, &mut errors),
-        route @ (Route::Mon | Route::Run | Route::Trace) => play(rt, route, rest, unread),
+        route @ (Route::Mon | Route::Run) => play(rt, route, rest, unread),
+        route @ (Route::Trace | Route::Page) => play(rt, route, rest, unread),
         route @ (Route::Lsp | Route::Dap) => serve_editor(rt, route, rest),
         Route::Program => serve_promised(rt, words),
         Route::Whole => tell_whole(rt.alloc(), words, &mut output, &mut errors),

@@ -11,6 +11,7 @@ use Rattle.model.specs.OpcodeTable.{row_at as opcode_row}
 use Rattle.model.specs.declared.instruction.Profile.{Profile}
 use Rattle.model.specs.declared.instruction.Row.{Row as OpcodeRow}
 use Rattle.source_map.specs.DebugNames.{debug_names}
+use Rattle.source_map.specs.Functions.{functions_of}
 use Rattle.source_map.specs.Lines.{PlacesView, SourceView, bytes_in}
 use Rattle.source_map.specs.declared.rows.Row.{Row}
 use Rattle.source_map.specs.declared.rows.Site.{Site}
@@ -79,18 +80,19 @@ pieces_of program rows = pieces_from program rows 0 65536
 
 -- ---- by line
 
--- Where a row begins, if it has a byte.
+-- Where a row begins and ends, if it has a byte.
 abbrev pub site_in : DebugRow → Option Site
 site_in row = if nat_lt row.start row.end && nat_le row.start 65535
-    then Some (record { file = row.file; line = row.line; address = row.start }) else None
+    then Some (record { file = row.file; line = row.line; address = row.start; end = row.end })
+    else None
 
 abbrev pub sites_in : List DebugRow → List Site
 sites_in rows = filter_map site_in rows
 
 -- ---- the whole
 
--- What stands where in a program by debug information, with these files: by its names, and by the
--- rows that are told apart from others.
+-- What stands where in a program by debug information, with these files: by its names, by the rows
+-- that are told apart from others, and by its functions of C.
 abbrev pub places_by : Program → Info → List DebugRow → List SourceView → PlacesView
 places_by program info rows sources = record {
   names = debug_names program.image info.symbols;
@@ -98,6 +100,7 @@ places_by program info rows sources = record {
   sites = sites_in rows;
   sources = sources;
   is_whole = false;
+  functions = functions_of info;
 }
 
 abbrev pub debug_places : Program → Info → List SourceView → PlacesView

@@ -1,4 +1,5 @@
-pub mod Names
-pub mod Lines
-pub mod Debugged
 pub mod DebugNames
+pub mod Debugged
+pub mod Functions
+pub mod Lines
+pub mod Names

@@ -1,13 +1,14 @@
 -- Rows of bytes with the lines of a source that are shown for them, by address; where bytes of each
 -- line begin, by line; and the files of the source. Source: mos65.
-use Rattle.std.specs.Prelude.{ℕ, zero, suc, ◌+◌, ◌-◌, ◌%◌, ◌==◌, ◌&&◌, ◌||◌, Bool, true, false, not, nat_le, nat_lt, if◌then◌else◌, List, [], ◌∷◌, ◌++◌, codes, decimal, find, map, Option, None, Some, slice_get, unwrap_or}
-use Rattle.std.specs.List.{flat_map}
+use Rattle.std.specs.Prelude.{ℕ, zero, suc, ◌+◌, ◌-◌, ◌%◌, ◌==◌, ◌&&◌, ◌||◌, Bool, true, false, not, nat_le, nat_lt, if◌then◌else◌, List, [], ◌∷◌, ◌++◌, codes, decimal, filter, find, get_or, length, map, Option, None, Some, slice_get, unwrap_or}
+use Rattle.std.specs.List.{flat_map, insert, list_any, prefix_len}
 use Rattle.std.specs.Option.{option_map}
 use Rattle.std.specs.Global.{Vec}
 use Rattle.model.specs.Image.{cell_at}
 use Rattle.assembler.specs.Assembly.{AssemblyView, source_lines}
 use Rattle.assembler.specs.Lines.{LineView}
 use Rattle.debug_records.specs.declared.record.LineKind.TheVariants.{Assembler}
+use Rattle.source_map.specs.Functions.{FunctionView}
 use Rattle.source_map.specs.Names.{Named, names_in}
 use Rattle.source_map.specs.declared.rows.Row.{Row}
 use Rattle.source_map.specs.declared.rows.Site.{Site}
@@ -43,9 +44,14 @@ row_of image line = if nat_lt 0 line.count && nat_le line.address 65535 then rec
 abbrev pub rows_of : List (Option ℕ) → List LineView → List Row
 rows_of image lines = flat_map (row_of image) lines
 
--- Where rows begin.
+-- Where rows begin and end.
 abbrev pub site_of : Row → Site
-site_of row = record { file = row.file; line = row.line; address = row.address }
+site_of row = record {
+  file = row.file;
+  line = row.line;
+  address = row.address;
+  end = row.address + row.count;
+}
 
 abbrev pub sites_of : List Row → List Site
 sites_of rows = map site_of rows
@@ -91,17 +97,25 @@ text_of texts (suc index) = slice_get texts index
 -- ---- names and lines
 
 -- Names; what stands at addresses, with the lines that are shown for it; where bytes of each line
--- begin; the files; and whether each byte of the program is one of a line.
+-- begin and end; the files; whether each byte of the program is one of a line; and the functions of C.
 pub record PlacesView : Type 0 where
   pub names : List Named
   pub lines : List Row
   pub sites : List Site
   pub sources : List SourceView
   pub is_whole : Bool
+  pub functions : List FunctionView
 
 -- What stands where in a program of which nothing is known.
 abbrev pub no_places : PlacesView
-no_places = record { names = []; lines = []; sites = []; sources = []; is_whole = false }
+no_places = record {
+  names = [];
+  lines = [];
+  sites = [];
+  sources = [];
+  is_whole = false;
+  functions = [];
+}
 
 -- What stands where in a source, which is one file.
 abbrev pub places_of : List ℕ → AssemblyView → PlacesView
@@ -111,6 +125,7 @@ places_of file assembly = record {
   sites = sites_of (rows_of assembly.image (source_lines assembly));
   sources = record { name = file; texts = texts_of (source_lines assembly) } ∷ [];
   is_whole = true;
+  functions = [];
 }
 
 -- ---- by address
@@ -153,6 +168,51 @@ site_from file line best (site ∷ sites) = site_from file line (with_site file 
 -- The address of a line of a file, or of the next one that has bytes.
 abbrev pub address_from : List Site → ℕ → ℕ → Option ℕ
 address_from sites file line = option_map (λ site. site.address) (site_from file line None sites)
+
+-- The line itself, or that next one.
+abbrev pub line_from : List Site → ℕ → ℕ → Option ℕ
+line_from sites file line = option_map (λ site. site.line) (site_from file line None sites)
+
+-- ---- all addresses of a line
+
+-- Whether two sites are of one line.
+abbrev pub is_of_line : Site → Site → Bool
+is_of_line one other = other.file == one.file && other.line == one.line
+
+-- Whether the bytes of a site are among those of another one, which begins before it.
+abbrev pub is_within : Site → Site → Bool
+is_within site other = nat_lt other.address site.address && nat_le site.end other.end
+
+abbrev pub is_inner : List Site → Site → Bool
+is_inner sites site = list_any (is_within site) sites
+
+abbrev pub outermost : List Site → List Site
+outermost sites = filter (λ site. not (is_inner sites site)) sites
+
+-- An address stands behind those that are lower, once.
+abbrev pub lower_in : ℕ → List ℕ → ℕ
+lower_in address found = prefix_len (λ other. nat_lt other address) found
+
+abbrev pub is_there : ℕ → List ℕ → Bool
+is_there address found = nat_lt (lower_in address found) (length found)
+    && get_or found (lower_in address found) 0 == address
+
+abbrev pub with_address : ℕ → List ℕ → List ℕ
+with_address address found
+    = if is_there address found then found else insert found (lower_in address found) address
+
+abbrev pub in_order : List ℕ → List Site → List ℕ
+in_order found [] = found
+in_order found (site ∷ sites) = in_order (with_address site.address found) sites
+
+abbrev pub addresses_from : List Site → Option Site → List ℕ
+addresses_from sites None = []
+addresses_from sites (Some first) = in_order [] (outermost (filter (is_of_line first) sites))
+
+-- The addresses at which bytes of a line of a file begin, or of the next one that has bytes, but for
+-- those that are among others of the line. They ascend.
+abbrev pub addresses_of_line : List Site → ℕ → ℕ → List ℕ
+addresses_of_line sites file line = addresses_from sites (site_from file line None sites)
 
 -- ---- data
 

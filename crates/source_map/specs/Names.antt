@@ -3,7 +3,7 @@ use Rattle.std.specs.Prelude.{ℕ, ℤ, pos, negsuc, ◌-◌, ◌==◌, ◌&&◌
 use Rattle.std.specs.List.{flat_map, zip}
 use Rattle.std.specs.Option.{option_map, option_or}
 use Rattle.std.specs.Borrow.{Bor}
-use Rattle.std.specs.Str.{bytes_eq, str_eq_ignore_ascii_case}
+use Rattle.std.specs.Str.{byte, bytes_eq, str_eq_ignore_ascii_case}
 use Rattle.model.specs.Image.{cell_at}
 use Rattle.model.specs.Names.{Definitions}
 use Rattle.assembler.specs.Assembly.{AssemblyView}
@@ -75,11 +75,15 @@ has_letters text name = str_eq_ignore_ascii_case name.text text
 abbrev pub first_address : (Named → Bool) → List Named → Option ℕ
 first_address passes names = option_map (λ name. name.address) (find passes names)
 
+-- A name of C has `_` before its text.
+abbrev pub has_c_text : List ℕ → Named → Bool
+has_c_text text name = bytes_eq name.text (byte "_" ∷ text)
+
 -- The address of a name: of the first that has this text, otherwise of the first that has it but
--- for capitals.
+-- for capitals, otherwise of the first that has it behind `_`.
 abbrev pub address_of : List Named → List ℕ → Option ℕ
-address_of names text
-    = option_or (first_address (has_text text) names) (first_address (has_letters text) names)
+address_of names text = option_or (first_address (has_text text) names)
+    (option_or (first_address (has_letters text) names) (first_address (has_c_text text) names))
 
 -- ---- a name by its address
 

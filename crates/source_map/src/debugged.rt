@@ -128,7 +128,7 @@ pub fn pieces_of(
     Ok(pieces)
 }
 
-/// Returns where a row begins, if it has a byte.
+/// Returns where a row begins and ends, if it has a byte.
 fn site_in(row: DebugRow) -> Option<Site>
     ensures { result ≡ site_in row }
 {
@@ -137,6 +137,7 @@ fn site_in(row: DebugRow) -> Option<Site>
             file: row.file,
             line: row.line,
             address: row.start as u16,
+            end: row.end,
         })
     } else {
         None

@@ -4,7 +4,8 @@ ghost use Rattle.std.specs.Prelude.{◌≡◌, ◌∷◌, ◌++◌, [], ℕ, Lis
 ghost use Rattle.std.specs.Option.{option_copied, option_to_list};
 ghost use Rattle.std.specs.Str.{bytes_eq, str_eq_ignore_ascii_case};
 ghost use Rattle.source_map.specs.Names.{Near, Named, address_of, first_address, first_text};
-ghost use Rattle.source_map.specs.Names.{has_letters, has_text, is_kind, is_label_at, is_name_at};
+ghost use Rattle.source_map.specs.Names.{has_c_text, has_letters, has_text, is_kind, is_label_at};
+ghost use Rattle.source_map.specs.Names.{is_name_at};
 ghost use Rattle.source_map.specs.Names.{is_nearer, name_at, name_near, name_of, named};
 ghost use Rattle.source_map.specs.Names.{named_numbers, names_in, names_of, near_view, nearer};
 ghost use Rattle.source_map.specs.Names.{nearest_from, other_name, other_names};
@@ -66,6 +67,28 @@ fn address_near(names: &[Name], text: &[u8]) -> Option<u16>
 {
     for name in names {
         if is_same_word(name.text.as_slice(), text) {
+            return Some(name.address);
+        }
+    }
+    None
+}
+
+/// Returns whether a name has a text behind `_`, as a name of C.
+fn has_c_text(text: &[u8], name: &Name) -> bool
+    ensures { result ≡ has_c_text text.now (named name.now) }
+{
+    match name.text.as_slice() {
+        [] => false,
+        [first, rest @ ..] => *first == b'_' && rest == text,
+    }
+}
+
+/// Returns the address of the first name that has a text behind `_`.
+fn address_in_c(names: &[Name], text: &[u8]) -> Option<u16>
+    ensures { result ≡ first_address (has_c_text text.now) (map named names.now) }
+{
+    for name in names {
+        if has_c_text(text, name) {
             return Some(name.address);
         }
     }
@@ -281,13 +304,16 @@ impl Names {
     }
 
     /// Returns the address of a name: of the first that has this text, otherwise of the first that
-    /// has it but for capitals.
+    /// has it but for capitals, otherwise of the first that has it behind `_`.
     pub fn address_of(&self, text: &[u8]) -> Option<u16>
         ensures { result ≡ address_of self.now text.now }
     {
         match address_with(self.entries.as_slice(), text) {
             Some(address) => Some(address),
-            None => address_near(self.entries.as_slice(), text),
+            None => match address_near(self.entries.as_slice(), text) {
+                Some(address) => Some(address),
+                None => address_in_c(self.entries.as_slice(), text),
+            },
         }
     }
 

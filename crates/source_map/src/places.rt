@@ -8,11 +8,14 @@ ghost use Rattle.source_map.specs.Debugged.{debug_places};
 ghost use Rattle.source_map.specs.Lines.{address_from, data_left, file_name, is_before, is_data_at};
 ghost use Rattle.source_map.specs.Lines.{left_in, line_at, line_words, no_places, places_of, row_at};
 ghost use Rattle.source_map.specs.Lines.{site_from, site_words, source_view, text_of, texts_at};
-ghost use Rattle.source_map.specs.Lines.{with_site};
+ghost use Rattle.source_map.specs.Functions.{function_view};
+ghost use Rattle.source_map.specs.Lines.{addresses_of_line, line_from, with_site};
 ghost use Rattle.source_map.specs.Names.{named_numbers, names_in, names_of, other_names};
 
 use crate::debug_names::debug_names;
 use crate::debugged::{pieces_of, sites_in, told_rows};
+use crate::functions::{CFunction, functions_of};
+use crate::line_sites::addresses_from;
 use crate::names::Names;
 use crate::rows::{Row, Site, rows_of, sites_of};
 use crate::source_files::{SourceFile, file_name, text_of};
@@ -34,10 +37,12 @@ pub struct Places {
     sites: Vec<Site>,
     sources: Vec<SourceFile>,
     is_whole: bool,
+    functions: Vec<CFunction>,
 }
 
 impl Model for Places {
     ghost use Rattle.std.specs.Prelude.{map};
+    ghost use Rattle.source_map.specs.Functions.{function_view};
     ghost use Rattle.source_map.specs.Lines.{PlacesView, source_view};
 
     ghost Value = { PlacesView };
@@ -48,6 +53,7 @@ impl Model for Places {
       sites = p.sites.items;
       sources = map source_view p.sources.items;
       is_whole = p.is_whole;
+      functions = map function_view p.functions.items;
     } };
 }
 
@@ -148,6 +154,7 @@ impl Places {
             sites: Vec::new(alloc),
             sources: Vec::new(alloc),
             is_whole: false,
+            functions: Vec::new(alloc),
         }
     }
 
@@ -173,10 +180,11 @@ impl Places {
             sites,
             sources,
             is_whole: true,
+            functions: Vec::new(alloc),
         })
     }
 
-    /// Makes the places of a program by debug information, with its names. The image has the bytes
+    /// Makes the places of a program by debug information, with its names and functions. The image has the bytes
     /// of the program where it runs; the files are those of the information, by number.
     ///
     /// Errors: `AllocError` if an allocation fails.
@@ -195,12 +203,14 @@ impl Places {
         let rows = pieces_of(alloc, profile, image, told.as_slice())?;
         let sites = sites_in(alloc, told.as_slice())?;
         let names = debug_names(alloc, image, info.symbols.as_slice())?;
+        let functions = functions_of(alloc, info)?;
         Ok(Places {
             names,
             rows,
             sites,
             sources,
             is_whole: false,
+            functions,
         })
     }
 
@@ -276,6 +286,13 @@ impl Places {
         self.rows.as_slice()
     }
 
+    /// Returns the sites: the addresses at which bytes of lines begin.
+    pub fn sites(&self) -> &[Site]
+        ensures { result.now ≡ self.now.sites }
+    {
+        self.sites.as_slice()
+    }
+
     /// Returns the first row whose first byte stands at an address.
     pub fn row_at(&self, address: u16) -> Option<Row>
         ensures { result ≡ row_at self.now.lines address }
@@ -296,6 +313,32 @@ impl Places {
         ensures { result ≡ address_from self.now.sites file line }
     {
         Some(site_from(self.sites.as_slice(), file, line)?.address)
+    }
+
+    /// Returns a line of a file, counted from 1, if it has bytes, or the next line that has some.
+    pub fn line_from(&self, file: u32, line: u32) -> Option<u32>
+        ensures { result ≡ line_from self.now.sites file line }
+    {
+        Some(site_from(self.sites.as_slice(), file, line)?.line)
+    }
+
+    /// Returns all addresses at which bytes of a line of a file begin, or of the next line with
+    /// bytes, but for those that are among others of the line. They ascend.
+    ///
+    /// Errors: `AllocError` if an allocation fails.
+    pub fn sites_of_line(&self, alloc: Global, file: u32, line: u32) -> Result<Vec<u16>, AllocError>
+        ensures { IfOk result
+            (λ found. found.items ≡ addresses_of_line self.now.sites file line) }
+    {
+        let sites = self.sites.as_slice();
+        addresses_from(alloc, sites, site_from(sites, file, line))
+    }
+
+    /// Returns the functions of C.
+    pub fn functions(&self) -> &[CFunction]
+        ensures { map function_view result.now ≡ self.now.functions }
+    {
+        self.functions.as_slice()
     }
 
     /// Appends the line of a row with its file: `FILE:LINE`.

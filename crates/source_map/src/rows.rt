@@ -43,6 +43,8 @@ pub struct Site {
     /// The number of the line, counted from 1.
     pub line: u32,
     pub address: u16,
+    /// What stands behind the last of them.
+    pub end: u64,
 }
 
 /// Returns what an image has at an address, 0 if that is nothing.
@@ -110,7 +112,7 @@ pub fn rows_of(alloc: Global, assembly: &Assembly) -> Result<Vec<Row>, AllocErro
     Ok(rows)
 }
 
-/// Returns where a row begins.
+/// Returns where a row begins and ends.
 fn site_of(row: Row) -> Site
     ensures { result ≡ site_of row }
 {
@@ -118,6 +120,7 @@ fn site_of(row: Row) -> Site
         file: row.file,
         line: row.line,
         address: row.address,
+        end: row.address as u64 + row.count as u64,
     }
 }
 

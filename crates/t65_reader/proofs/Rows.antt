@@ -3,6 +3,7 @@ use Rattle.std.proofs.Common.{◌≡◌, ℕ, ◌+◌, List, [], ◌∷◌, ◌+
 use Rattle.model.specs.Names.{Definitions}
 use Rattle.model.specs.TextLines.{lines_from, lines_of}
 use Rattle.t65_values.specs.declared.fault.TextFault.{TextFault}
+use Rattle.t65_reader.specs.CPrograms.{SeenProgram}
 use Rattle.t65_reader.specs.RowText.{Rows, SeenAsking, SeenLine, line_before, line_of, one_before, points_of, rows_after, rows_from, worth_of}
 
 pub after_none : (rows : Rows) → rows_after [] rows ≡ rows
@@ -15,20 +16,21 @@ unfolding rows_after
 line_pushed front line (Ok lines) = ap (λ (x : List SeenLine). Ok x) (sym (append_assoc front (line ∷ []) lines))
 line_pushed front line (Err fault) = refl
 
-pub line_more : (asking : SeenAsking) (names : Definitions) (number : ℕ) (line : List ℕ) (lines : List (List ℕ))
-    → rows_from asking names number (line ∷ lines) ≡ line_before number line (line_of asking names line) (rows_from asking names (number + 1) lines)
+pub line_more : (asking : SeenAsking) (names : Definitions) (program : SeenProgram) (number : ℕ) (line : List ℕ) (lines : List (List ℕ))
+    → rows_from asking names program number (line ∷ lines) ≡ line_before number line (line_of asking names program line)
+    (rows_from asking names program (number + 1) lines)
 unfolding rows_from
-line_more asking names number line lines = refl
+line_more asking names program number line lines = refl
 
 pub after_fault : (front : List SeenLine) (rows : Rows) (fault : TextFault) → rows ≡ Err fault → rows_after front rows ≡ Err fault
 unfolding rows_after
 after_fault front rows fault h = rw h refl
 
-pub at_end : (asking : SeenAsking) (names : Definitions) (number : ℕ) (front : List SeenLine) (text : List ℕ) → length text ≡ 0
-    → rows_after front (rows_from asking names number (lines_of text)) ≡ Ok front
+pub at_end : (asking : SeenAsking) (names : Definitions) (program : SeenProgram) (number : ℕ) (front : List SeenLine) (text : List ℕ) → length text ≡ 0
+    → rows_after front (rows_from asking names program number (lines_of text)) ≡ Ok front
 unfolding rows_from rows_after lines_from
-at_end asking names number front (b ∷ text) h = absurd (omega arith)
-at_end asking names number front [] h = ap (λ (x : List SeenLine). Ok x) (append-nil front)
+at_end asking names program number front (b ∷ text) h = absurd (omega arith)
+at_end asking names program number front [] h = ap (λ (x : List SeenLine). Ok x) (append-nil front)
 
 -- ---- points
 

@@ -1,2 +1,5 @@
+pub mod CCalls
+pub mod CPrograms
+pub mod Items
 pub mod RowText
 pub mod Sequences

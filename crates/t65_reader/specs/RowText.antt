@@ -10,7 +10,7 @@ use Rattle.t65_values.specs.declared.fault.RowFault.{RowFault}
 use Rattle.t65_values.specs.declared.fault.RowFaultKind.TheVariants.{Syntax, AddressRange, EmptyRange, SecondSource, NoArrow, NoCall, NoPlace, NoRange, NoRelation, NoSeed, NoTime, NotGiven}
 use Rattle.t65_values.specs.declared.fault.TextFault.{TextFault}
 use Rattle.t65_reader.specs.declared.item.Side.{Side}
-use Rattle.t65_reader.specs.declared.item.Side.TheVariants.{Given, Wanted}
+use Rattle.t65_reader.specs.declared.item.Side.TheVariants.{Given, Alone, Wanted}
 use Rattle.t65_reader.specs.declared.item.StringPlace.{StringPlace}
 use Rattle.t65_reader.specs.declared.item.StringPlace.TheVariants.{InMemory, InInput, InOutput}
 use Rattle.t65_values.specs.declared.fault.Base.{Base}
@@ -43,16 +43,13 @@ use Rattle.t65_values.specs.declared.expression.Value.{Value}
 use Rattle.t65_reader.specs.declared.row.Request.{Request}
 use Rattle.t65_reader.specs.declared.row.Signal.{Signal}
 use Rattle.t65_reader.specs.declared.row.Signal.TheVariants.{Irq, Nmi}
+use Rattle.t65_reader.specs.CCalls.{Arguments, Prepared, arguments_of, pointer_item, prepared_of, result_after}
+use Rattle.t65_reader.specs.CPrograms.{Callee, SeenProgram, callee_of, upper_in}
+use Rattle.t65_reader.specs.Items.{equals, item, value_items}
 use Rattle.t65_reader.specs.Sequences.{just, sequence_of}
 use Rattle.t65_values.specs.ValueText.{Reads, address_of, after_sign, after_word, and_then, ends, fault_at, letter_in, number_of, skip_blanks, value_of, word_of}
 
 -- ---- items
-
-abbrev pub item : Target → Relation → Value → Item
-item place relation value = record { place = place; relation = relation; value = value }
-
-abbrev pub equals : Target → Value → Item
-equals place value = item place Equal value
 
 -- The bytes between two `"`, if they close.
 abbrev pub string_of : List ℕ → Result (List ℕ × List ℕ) RowFault
@@ -110,25 +107,18 @@ abbrev pub base_of : Target → Base
 base_of place.Cycles = Decimal
 base_of place = Hex
 
--- Whether a side of a row may say so: what is given is set, and so is input alone; cycles and
--- output are only looked at.
+-- Whether a place may be given something so: what is given is set, and so is input alone; cycles
+-- and output are only looked at.
+abbrev pub is_gift : Target → Relation → Bool
+is_gift place.Cycles relation = false
+is_gift place Equal = true
+is_gift place relation = false
+
+-- Whether a side of a row may say so.
 unfoldable pub fits : Side → Target → Relation → Bool
-fits Given place.Cycles relation = false
-fits Given place Equal = true
-fits Given place relation = false
+fits Given place relation = is_gift place relation
+fits Alone place relation = is_gift place relation
 fits Wanted place relation = true
-
--- Where the bytes of a string stand.
-abbrev pub place_in : StringPlace → ℕ → Target
-place_in InMemory index = place.Byte index
-place_in InInput index = place.Input
-place_in InOutput index = place.Output index
-
--- An item of each value, at places in order.
-abbrev pub value_items : StringPlace → ℕ → List Value → List Item
-value_items at index [] = []
-value_items at index (value ∷ values)
-    = equals (place_in at index) value ∷ value_items at (index + 1) values
 
 abbrev pub Items : Type 0
 Items = Reads (List Item)
@@ -195,6 +185,7 @@ letter_item place text None = Err (fault_at NoRelation text)
 -- The fault where a side of a row has no item: `->` is missing where the line ends.
 abbrev pub lack_at : Side → List ℕ → RowFault
 lack_at Given text = if ends text then fault_at NoArrow text else fault_at NoPlace text
+lack_at Alone text = fault_at NoPlace text
 lack_at Wanted text = fault_at NoPlace text
 
 abbrev pub place_item : Definitions → Letters → Side → List ℕ → Option Target → Items
@@ -211,10 +202,12 @@ sequence_after names letters at (Err fault) = Err fault
 -- The word before bytes of input or output, and where they stand.
 abbrev pub string_word : Side → List ℕ
 string_word Given = codes "in"
+string_word Alone = codes "in"
 string_word Wanted = codes "out"
 
 abbrev pub string_place : Side → StringPlace
 string_place Given = InInput
+string_place Alone = InInput
 string_place Wanted = InOutput
 
 -- One item of a side of a row: memory in brackets, input or output, or a register, a flag or the
@@ -229,12 +222,14 @@ item_of names letters side text =
 
 -- ---- rows
 
--- `->` ends what is given, the line's end what is wanted.
+-- `->` ends what is given, the line's end what is wanted. Of a call that need not leave anything
+-- the line's end ends what is given too.
 abbrev pub is_arrow : List ℕ → Bool
 is_arrow text = is_next (byte "-") text && is_next (byte ">") (drop 1 text)
 
 abbrev pub is_over : Side → List ℕ → Bool
 is_over Given text = is_arrow text
+is_over Alone text = is_arrow text || ends text
 is_over Wanted text = ends text
 
 -- Items that were read, before more of them.
@@ -253,6 +248,10 @@ items_within (suc n) names letters side text =
 
 abbrev pub items_of : Definitions → Letters → Side → List ℕ → Items
 items_of names letters side text = items_within (length text) names letters side text
+
+-- What stands behind `->`; nothing where the line ends before.
+abbrev pub after_arrow : List ℕ → List ℕ
+after_arrow text = if is_arrow text then skip_blanks (drop 2 text) else text
 
 -- A routine that is called, the interrupt that comes into the call, what is given before, and what is
 -- wanted after it.
@@ -296,11 +295,11 @@ without_rest (Ok read) = Ok read.0
 without_rest (Err fault) = Err fault
 
 -- A call: its address, what is given, `->`, and what is wanted.
-unfoldable pub call_of : Definitions → Letters → Entry → List ℕ → Result SeenCall RowFault
-call_of names letters entry text = without_rest (
+unfoldable pub call_of : Definitions → Letters → Side → Entry → List ℕ → Result SeenCall RowFault
+call_of names letters side entry text = without_rest (
     and_then (address_of names text) (λ address rest.
-    and_then (items_of names letters Given rest) (λ given rest.
-    and_then (items_of names letters Wanted (skip_blanks (drop 2 rest))) (λ wanted rest.
+    and_then (items_of names letters side rest) (λ given rest.
+    and_then (items_of names letters Wanted (after_arrow rest)) (λ wanted rest.
     Ok (
       record {
         entry = entry;
@@ -313,13 +312,82 @@ call_of names letters entry text = without_rest (
       rest,
     )))))
 
+-- ---- calls of functions of C
+
+-- `result`, `=` and what a function has to return, if that comes next.
+unfoldable pub result_items : Definitions → Letters → List ℕ → Items
+result_items names letters text = if bytes_eq (word_of text) (codes "result")
+    then result_after names letters (after_sign (byte "=") (after_word text))
+    else Ok ([], text)
+
+abbrev pub c_call : ℕ → List Item → List Item → SeenCall
+c_call address given wanted = record {
+  entry = Subroutine;
+  address = address;
+  request = None;
+  given = given;
+  wanted = wanted;
+  steps = most_steps;
+}
+
+-- The row that makes a call of a function: the items of its arguments, and those that the row has;
+-- behind `->` the software stack pointer, the result, and what else is wanted.
+unfoldable pub called_function : Definitions → Letters → Callee → Prepared → List ℕ
+    → Result SeenCall RowFault
+called_function names letters callee prepared text = without_rest (
+    and_then (items_of names letters Alone text) (λ given rest.
+    and_then (result_items names letters (after_arrow rest)) (λ results rest.
+    and_then (items_of names letters Wanted rest) (λ wanted rest.
+    Ok (
+      c_call callee.address (prepared.given ++ given)
+          (pointer_item callee.pointer prepared.start ∷ results ++ wanted),
+      rest,
+    )))))
+
+abbrev pub prepared_call : Definitions → Letters → Callee → List ℕ → Result Prepared RowFault
+    → Result SeenCall RowFault
+prepared_call names letters callee rest (Ok prepared)
+    = called_function names letters callee prepared rest
+prepared_call names letters callee rest (Err fault) = Err fault
+
+abbrev pub argued_call : Definitions → Letters → Callee → List ℕ → Arguments
+    → Result SeenCall RowFault
+argued_call names letters callee text (Ok read) = prepared_call names letters callee read.1
+    (prepared_of (upper_in names) callee text read.0.0 read.0.1)
+argued_call names letters callee text (Err fault) = Err fault
+
+abbrev pub callee_call : Definitions → Letters → List ℕ → Result Callee RowFault
+    → Result SeenCall RowFault
+callee_call names letters text (Ok callee) = argued_call names letters callee text
+    (arguments_of names letters [] [] callee.sizes (skip_blanks (drop 1 (after_word text))))
+callee_call names letters text (Err fault) = Err fault
+
+-- The name of a function, its arguments between `(` and `)`, and what else a call has. It need not
+-- leave anything.
+unfoldable pub c_call_of : Definitions → SeenProgram → Letters → List ℕ
+    → Result SeenCall RowFault
+c_call_of names program letters text
+    = callee_call names letters text (callee_of names program text)
+
+-- A call of a function of C has `(` behind its name.
+abbrev pub is_function_next : List ℕ → Bool
+is_function_next text = is_next (byte "(") (after_word text)
+
+-- A subroutine, or a function of C.
+abbrev pub subroutine_of : Definitions → SeenProgram → Letters → Side → List ℕ
+    → Result SeenCall RowFault
+subroutine_of names program letters side text = if is_function_next text
+    then c_call_of names program letters text
+    else call_of names letters side Subroutine text
+
 -- `call` with a subroutine, or `interrupt` with a handler.
-unfoldable pub entered_of : Definitions → Letters → List ℕ → Result SeenCall RowFault
-entered_of names letters text =
+unfoldable pub entered_of : Definitions → SeenProgram → Letters → Side → List ℕ
+    → Result SeenCall RowFault
+entered_of names program letters side text =
     if bytes_eq (word_of text) (codes "call")
-    then call_of names letters Subroutine (after_word text)
+    then subroutine_of names program letters side (after_word text)
     else if bytes_eq (word_of text) (codes "interrupt")
-    then call_of names letters Interrupt (after_word text)
+    then call_of names letters side Interrupt (after_word text)
     else Err (fault_at NoCall text)
 
 -- `cycle` and how many cycles, which are decimal.
@@ -340,30 +408,33 @@ requested signal cycle (Ok call)
     = Ok (record call { request = Some (record { signal = signal; cycle = cycle }) })
 requested signal cycle (Err fault) = Err fault
 
-abbrev pub requested_by : Definitions → Letters → Signal → Value → Result (List ℕ) RowFault
-    → Result SeenCall RowFault
-requested_by names letters signal cycle (Ok rest)
-    = requested signal cycle (entered_of names letters rest)
-requested_by names letters signal cycle (Err fault) = Err fault
+abbrev pub requested_by : Definitions → SeenProgram → Letters → Side → Signal → Value
+    → Result (List ℕ) RowFault → Result SeenCall RowFault
+requested_by names program letters side signal cycle (Ok rest)
+    = requested signal cycle (entered_of names program letters side rest)
+requested_by names program letters side signal cycle (Err fault) = Err fault
 
-abbrev pub requested_in : Definitions → Letters → Signal → Reads Value → Result SeenCall RowFault
-requested_in names letters signal (Ok read)
-    = requested_by names letters signal read.0 (after_sign (byte ":") read.1)
-requested_in names letters signal (Err fault) = Err fault
+abbrev pub requested_in : Definitions → SeenProgram → Letters → Side → Signal → Reads Value
+    → Result SeenCall RowFault
+requested_in names program letters side signal (Ok read)
+    = requested_by names program letters side signal read.0 (after_sign (byte ":") read.1)
+requested_in names program letters side signal (Err fault) = Err fault
 
 -- When an interrupt is asked for, `:` and the call that it comes into.
-unfoldable pub requested_of : Definitions → Letters → Signal → List ℕ → Result SeenCall RowFault
-requested_of names letters signal text
-    = requested_in names letters signal (time_of names letters text)
+unfoldable pub requested_of : Definitions → SeenProgram → Letters → Side → Signal → List ℕ
+    → Result SeenCall RowFault
+requested_of names program letters side signal text
+    = requested_in names program letters side signal (time_of names letters text)
 
 -- A call, and before it `irq` or `nmi` with when that is asked for, if an interrupt comes into it.
-unfoldable pub called_of : Definitions → Letters → List ℕ → Result SeenCall RowFault
-called_of names letters text =
+unfoldable pub called_of : Definitions → SeenProgram → Letters → Side → List ℕ
+    → Result SeenCall RowFault
+called_of names program letters side text =
     if bytes_eq (word_of text) (codes "irq")
-    then requested_of names letters Irq (after_word text)
+    then requested_of names program letters side Irq (after_word text)
     else if bytes_eq (word_of text) (codes "nmi")
-    then requested_of names letters Nmi (after_word text)
-    else entered_of names letters text
+    then requested_of names program letters side Nmi (after_word text)
+    else entered_of names program letters side text
 
 abbrev pub row_with : Part → Ranges → Choice → Result SeenCall RowFault → Result SeenRow RowFault
 row_with part ranges choice (Ok call) = Ok (record {
@@ -425,19 +496,32 @@ ranges_of text =
     and_then (next_range rest) (λ fourth rest.
     Ok (record { first = Some first; second = second; third = third; fourth = fourth }, rest)))))
 
-abbrev pub chosen_by : Definitions → Choice → Ranges → Result (List ℕ) RowFault
-    → Result SeenRow RowFault
-chosen_by names choice ranges (Ok rest)
-    = row_with Test ranges choice (called_of names (letters_of ranges) rest)
-chosen_by names choice ranges (Err fault) = Err fault
+-- What a row has to leave stands behind `->`; a call before or after each row need not leave
+-- anything.
+abbrev pub side_of : Part → Side
+side_of Test = Given
+side_of Setup = Alone
+side_of Teardown = Alone
 
-abbrev pub chosen_in : Definitions → Choice → Reads Ranges → Result SeenRow RowFault
-chosen_in names choice (Ok read) = chosen_by names choice read.0 (after_sign (byte ":") read.1)
-chosen_in names choice (Err fault) = Err fault
+-- A row with the call that a text says.
+abbrev pub row_at : Definitions → SeenProgram → Part → Ranges → Choice → List ℕ
+    → Result SeenRow RowFault
+row_at names program part ranges choice text = row_with part ranges choice
+    (called_of names program (letters_of ranges) (side_of part) text)
+
+abbrev pub chosen_by : Definitions → SeenProgram → Choice → Ranges → Result (List ℕ) RowFault
+    → Result SeenRow RowFault
+chosen_by names program choice ranges (Ok rest) = row_at names program Test ranges choice rest
+chosen_by names program choice ranges (Err fault) = Err fault
+
+abbrev pub chosen_in : Definitions → SeenProgram → Choice → Reads Ranges → Result SeenRow RowFault
+chosen_in names program choice (Ok read)
+    = chosen_by names program choice read.0 (after_sign (byte ":") read.1)
+chosen_in names program choice (Err fault) = Err fault
 
 -- Ranges, `:` and a call for values of them.
-unfoldable pub chosen_of : Definitions → Choice → List ℕ → Result SeenRow RowFault
-chosen_of names choice text = chosen_in names choice (ranges_of text)
+unfoldable pub chosen_of : Definitions → SeenProgram → Choice → List ℕ → Result SeenRow RowFault
+chosen_of names program choice text = chosen_in names program choice (ranges_of text)
 
 -- How often a call is made: once at least.
 unfoldable pub count_of : List ℕ → Reads ℕ
@@ -450,39 +534,41 @@ seed_of text = if bytes_eq (word_of text) (codes "seed") then number_of Decimal 
     else Err (fault_at NoSeed text)
 
 -- A call for values of ranges, or where no letter of a range stands there, a call alone.
-unfoldable pub drawn_of : Definitions → Choice → List ℕ → Result SeenRow RowFault
-drawn_of names choice text = if is_some (range_letter (word_of text))
-    then chosen_of names choice text
-    else row_with Test no_ranges choice (called_of names (letters_of no_ranges) text)
+unfoldable pub drawn_of : Definitions → SeenProgram → Choice → List ℕ → Result SeenRow RowFault
+drawn_of names program choice text = if is_some (range_letter (word_of text))
+    then chosen_of names program choice text
+    else row_at names program Test no_ranges choice text
 
-abbrev pub random_by : Definitions → ℕ → ℕ → Result (List ℕ) RowFault → Result SeenRow RowFault
-random_by names count seed (Ok rest) = drawn_of names (Random count seed) rest
-random_by names count seed (Err fault) = Err fault
+abbrev pub random_by : Definitions → SeenProgram → ℕ → ℕ → Result (List ℕ) RowFault
+    → Result SeenRow RowFault
+random_by names program count seed (Ok rest) = drawn_of names program (Random count seed) rest
+random_by names program count seed (Err fault) = Err fault
 
-abbrev pub random_in : Definitions → Reads (ℕ × ℕ) → Result SeenRow RowFault
-random_in names (Ok read) = random_by names read.0.0 read.0.1 (after_sign (byte ":") read.1)
-random_in names (Err fault) = Err fault
+abbrev pub random_in : Definitions → SeenProgram → Reads (ℕ × ℕ) → Result SeenRow RowFault
+random_in names program (Ok read)
+    = random_by names program read.0.0 read.0.1 (after_sign (byte ":") read.1)
+random_in names program (Err fault) = Err fault
 
 -- How many times, `seed`, where the numbers begin, `:`, and a call, for values of ranges or alone.
-unfoldable pub random_of : Definitions → List ℕ → Result SeenRow RowFault
-random_of names text = random_in names (and_then (count_of text) (λ count rest.
+unfoldable pub random_of : Definitions → SeenProgram → List ℕ → Result SeenRow RowFault
+random_of names program text = random_in names program (and_then (count_of text) (λ count rest.
     and_then (seed_of rest) (λ seed rest. Ok ((count, seed), rest))))
 
 -- A call for all values of ranges or for some, or a call alone.
-unfoldable pub row_of : Definitions → List ℕ → Result SeenRow RowFault
-row_of names text =
-    if bytes_eq (word_of text) (codes "all") then chosen_of names All (after_word text)
-    else if bytes_eq (word_of text) (codes "random") then random_of names (after_word text)
-    else row_with Test no_ranges All (called_of names (letters_of no_ranges) text)
+unfoldable pub row_of : Definitions → SeenProgram → List ℕ → Result SeenRow RowFault
+row_of names program text =
+    if bytes_eq (word_of text) (codes "all") then chosen_of names program All (after_word text)
+    else if bytes_eq (word_of text) (codes "random") then random_of names program (after_word text)
+    else row_at names program Test no_ranges All text
 
 -- A row that is worth so many points.
 abbrev pub worth : ℕ → Result SeenRow RowFault → Result SeenRow RowFault
 worth points (Ok row) = Ok (record row { points = points })
 worth points (Err fault) = Err fault
 
-abbrev pub worth_by : Definitions → Reads ℕ → Result SeenRow RowFault
-worth_by names (Ok read) = worth read.0 (row_of names read.1)
-worth_by names (Err fault) = Err fault
+abbrev pub worth_by : Definitions → SeenProgram → Reads ℕ → Result SeenRow RowFault
+worth_by names program (Ok read) = worth read.0 (row_of names program read.1)
+worth_by names program (Err fault) = Err fault
 
 abbrev pub decimal_after : Result (List ℕ) RowFault → Reads ℕ
 decimal_after (Ok rest) = number_of Decimal rest
@@ -493,31 +579,31 @@ abbrev pub points_after : List ℕ → Reads ℕ
 points_after text = decimal_after (after_sign (byte "=") text)
 
 -- A row, and `points=` with a decimal number before it: otherwise it is worth one point.
-unfoldable pub pointed_row_of : Definitions → List ℕ → Result SeenRow RowFault
-pointed_row_of names text = if bytes_eq (word_of text) (codes "points")
-    then worth_by names (points_after (after_word text))
-    else row_of names text
+unfoldable pub pointed_row_of : Definitions → SeenProgram → List ℕ → Result SeenRow RowFault
+pointed_row_of names program text = if bytes_eq (word_of text) (codes "points")
+    then worth_by names program (points_after (after_word text))
+    else row_of names program text
 
-abbrev pub around_by : Definitions → Part → Result (List ℕ) RowFault → Result SeenRow RowFault
-around_by names part (Ok rest)
-    = row_with part no_ranges All (called_of names (letters_of no_ranges) rest)
-around_by names part (Err fault) = Err fault
+abbrev pub around_by : Definitions → SeenProgram → Part → Result (List ℕ) RowFault
+    → Result SeenRow RowFault
+around_by names program part (Ok rest) = row_at names program part no_ranges All rest
+around_by names program part (Err fault) = Err fault
 
 -- `:` and a call that is made before each row, or after it.
-unfoldable pub around_of : Definitions → Part → List ℕ → Result SeenRow RowFault
-around_of names part text = around_by names part (after_sign (byte ":") text)
+unfoldable pub around_of : Definitions → SeenProgram → Part → List ℕ → Result SeenRow RowFault
+around_of names program part text = around_by names program part (after_sign (byte ":") text)
 
 -- The text of a row behind `hidden`, if that stands before it: of such a row no text is told.
 abbrev pub unhidden : List ℕ → List ℕ
 unhidden text = if bytes_eq (word_of text) (codes "hidden") then after_word text else text
 
 -- A call before each row, one after each, or a row.
-unfoldable pub part_of : Definitions → List ℕ → Result SeenRow RowFault
-part_of names text =
-    if bytes_eq (word_of text) (codes "setup") then around_of names Setup (after_word text)
+unfoldable pub part_of : Definitions → SeenProgram → List ℕ → Result SeenRow RowFault
+part_of names program text =
+    if bytes_eq (word_of text) (codes "setup") then around_of names program Setup (after_word text)
     else if bytes_eq (word_of text) (codes "teardown")
-    then around_of names Teardown (after_word text)
-    else pointed_row_of names (unhidden text)
+    then around_of names program Teardown (after_word text)
+    else pointed_row_of names program (unhidden text)
 
 -- ---- what is asked of rows
 
@@ -573,16 +659,18 @@ abbrev pub some_row : SeenAsking → Result SeenRow RowFault → Result (Option 
 some_row asking (Ok row) = Ok (Some (asked_for asking row))
 some_row asking (Err fault) = Err fault
 
-abbrev pub line_at : SeenAsking → Definitions → List ℕ → Result (Option SeenRow) RowFault
-line_at asking names text =
+abbrev pub line_at : SeenAsking → Definitions → SeenProgram → List ℕ
+    → Result (Option SeenRow) RowFault
+line_at asking names program text =
     if ends text then Ok None
     else if bytes_eq (word_of text) (codes "source") then Err (fault_at SecondSource text)
-    else some_row asking (part_of names text)
+    else some_row asking (part_of names program text)
 
 -- What a line says after the one that names the source: nothing, or a row as it is asked for.
-unfoldable pub line_of : SeenAsking → Definitions → List ℕ → Result (Option SeenRow) RowFault
-line_of asking names line = if is_left_out asking.only line then Ok None
-    else line_at asking names (skip_blanks line)
+unfoldable pub line_of : SeenAsking → Definitions → SeenProgram → List ℕ
+    → Result (Option SeenRow) RowFault
+line_of asking names program line = if is_left_out asking.only line then Ok None
+    else line_at asking names program (skip_blanks line)
 
 -- ---- rows that cannot be read
 
@@ -664,10 +752,11 @@ line_before number line (Ok row) rows = row_before number row rows
 line_before number line (Err fault) rows
     = fault_before (is_around line) (points_in line) (fault_in number line fault) rows
 
-unfoldable pub rows_from : SeenAsking → Definitions → ℕ → List (List ℕ) → Rows
-rows_from asking names number [] = Ok []
-rows_from asking names number (line ∷ lines) = line_before number line (line_of asking names line)
-    (rows_from asking names (number + 1) lines)
+unfoldable pub rows_from : SeenAsking → Definitions → SeenProgram → ℕ → List (List ℕ) → Rows
+rows_from asking names program number [] = Ok []
+rows_from asking names program number (line ∷ lines)
+    = line_before number line (line_of asking names program line)
+    (rows_from asking names program (number + 1) lines)
 
 -- What is asked of rows as the code keeps it.
 abbrev pub asking_view : Asking → SeenAsking

@@ -3,11 +3,12 @@
 ghost use Rattle.std.specs.Prelude.{◌≡◌, ◌≢◌, ◌==◌, ◌+◌, ◌≤◌, ◌++◌, ◌∷◌, [], false, IfErr};
 ghost use Rattle.std.specs.Prelude.{IfOk, length, Some, None, true};
 ghost use Rattle.t65_reader.specs.RowText.{base_of, before, bracket_item, count_items, either_of};
-ghost use Rattle.t65_reader.specs.RowText.{fits, is_over, item_by, item_of, items_of};
-ghost use Rattle.t65_reader.specs.RowText.{lack_at, memory_item, place_in, place_item};
+ghost use Rattle.t65_reader.specs.RowText.{fits, is_arrow, is_over, item_by, item_of, items_of};
+ghost use Rattle.t65_reader.specs.RowText.{lack_at, memory_item, place_item};
+ghost use Rattle.t65_reader.specs.Items.{place_in, value_items};
 ghost use Rattle.t65_reader.specs.RowText.{place_of, relation_at, relation_of};
 ghost use Rattle.t65_reader.specs.RowText.{sequence_at, sign_count, string_of, string_place};
-ghost use Rattle.t65_reader.specs.RowText.{string_word, value_items, word_item};
+ghost use Rattle.t65_reader.specs.RowText.{string_word, word_item};
 ghost use Rattle.t65_values.specs.ValueText.{fault_at, letter_in, word_of};
 
 use crate::row::{Item, Register, Relation, Target};
@@ -25,6 +26,8 @@ use t65_values::{
 #[derive(Clone, Copy)]
 pub enum Side {
     Given,
+    /// The side before `->` of a row that need not have another one.
+    Alone,
     Wanted,
 }
 
@@ -142,13 +145,14 @@ fn fits(side: Side, place: Target, relation: Relation) -> bool
 {
     match (side, place, relation) {
         (Side::Wanted, _, _) => true,
-        (Side::Given, Target::Cycles, _) => false,
-        (Side::Given, _, Relation::Equal) => true,
-        (Side::Given, _, _) => false,
+        (Side::Given | Side::Alone, Target::Cycles, _) => false,
+        (Side::Given | Side::Alone, _, Relation::Equal) => true,
+        (Side::Given | Side::Alone, _, _) => false,
     }
 }
 
-fn push(found: &mut Vec<Item>, item: Item) -> Result<(), RowFault>
+/// Appends an item.
+pub fn push_item(found: &mut Vec<Item>, item: Item) -> Result<(), RowFault>
     ensures ok { IfOk result (λ _. found.new.items ≡ found.old.items ++ item ∷ []) }
     ensures err { IfErr result (λ fault. fault.kind ≡ RowFaultKind.OutOfMemory) }
 {
@@ -156,7 +160,7 @@ fn push(found: &mut Vec<Item>, item: Item) -> Result<(), RowFault>
 }
 
 /// Appends an item for each value, at places in order.
-fn push_items(
+pub fn push_items(
     found: &mut Vec<Item>,
     at: StringPlace,
     start: u16,
@@ -173,7 +177,7 @@ fn push_items(
             relation: Relation::Equal,
             value: values[i],
         };
-        push(found, item)?;
+        push_item(found, item)?;
     }
     Ok(())
 }
@@ -201,7 +205,7 @@ fn push_count(found: &mut Vec<Item>, at: StringPlace, values: &[Value]) -> Resul
 {
     match at {
         StringPlace::InMemory | StringPlace::InInput => Ok(()),
-        StringPlace::InOutput => push(
+        StringPlace::InOutput => push_item(
             found,
             Item {
                 place: Target::OutputCount,
@@ -264,7 +268,7 @@ fn item_by<'a>(
                 relation,
                 value,
             };
-            push(found, item)?;
+            push_item(found, item)?;
             Ok(rest)
         }
         Some(_) => Err(fault_at(RowFaultKind::NotGiven, text)),
@@ -363,7 +367,7 @@ fn lack_at(side: Side, text: &[u8]) -> RowFault
                 fault_at(RowFaultKind::NoPlace, text)
             }
         }
-        Side::Wanted => fault_at(RowFaultKind::NoPlace, text),
+        Side::Alone | Side::Wanted => fault_at(RowFaultKind::NoPlace, text),
     }
 }
 
@@ -397,7 +401,7 @@ fn place_item<'a>(
                 relation: Relation::Equal,
                 value: just(atom),
             };
-            push(found, item)?;
+            push_item(found, item)?;
             Ok(rest)
         }
         None => Err(fault_at(RowFaultKind::NoRelation, rest)),
@@ -408,7 +412,7 @@ fn string_word(side: Side) -> &'static [u8]
     ensures { result.now ≡ string_word side }
 {
     match side {
-        Side::Given => b"in",
+        Side::Given | Side::Alone => b"in",
         Side::Wanted => b"out",
     }
 }
@@ -417,7 +421,7 @@ fn string_place(side: Side) -> StringPlace
     ensures { result ≡ string_place side }
 {
     match side {
-        Side::Given => StringPlace::InInput,
+        Side::Given | Side::Alone => StringPlace::InInput,
         Side::Wanted => StringPlace::InOutput,
     }
 }
@@ -448,12 +452,20 @@ fn item_of<'a>(
     }
 }
 
+/// Returns whether `->` comes next.
+pub fn is_arrow(text: &[u8]) -> bool
+    ensures { result ≡ is_arrow text.now }
+{
+    is_next(b'-', text) && is_next(b'>', &text[1..])
+}
+
 /// Returns whether a side of a row ends: at `->`, or with the line.
 fn is_over(side: Side, text: &[u8]) -> bool
     ensures { result ≡ is_over side text.now }
 {
     match side {
-        Side::Given => is_next(b'-', text) && is_next(b'>', &text[1..]),
+        Side::Given => is_arrow(text),
+        Side::Alone => is_arrow(text) || ends(text),
         Side::Wanted => ends(text),
     }
 }

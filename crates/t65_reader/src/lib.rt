@@ -2,10 +2,14 @@
 //!
 //! `read_row` reads a line, and `read_rows` all lines after the one that names the source. A row
 //! that cannot be read stands among the others.
-//! `specs/RowText.antt` has the definitions, and `specs/Sequences.antt` those of bytes in order;
-//! `t65_values` has those of numbers and values.
+//! `specs/RowText.antt` has the definitions, `specs/Sequences.antt` those of bytes in order, and
+//! `specs/CPrograms.antt` and `specs/CCalls.antt` those of calls of functions of C: the row that
+//! makes such a call is read. `t65_values` has the definitions of numbers and values.
 #![tactic(auto)]
 
+mod c_call;
+mod c_program;
+mod c_result;
 mod item;
 mod line;
 mod row;
@@ -13,6 +17,7 @@ mod sequence;
 mod text;
 
 pub use assembler::Assembly;
+pub use c_program::{CProgram, Function, Size};
 pub use item::string_of;
 pub use line::is_hidden;
 pub use row::{

@@ -3,6 +3,10 @@
 ghost use Rattle.std.specs.Prelude.{◌≤◌, ◌≡◌, ◌≢◌, IfErr, IfOk, None, Option, Some, MatchOption};
 ghost use Rattle.std.specs.Prelude.{length};
 ghost use Rattle.std.specs.Option.{option_map};
+ghost use Rattle.t65_reader.specs.CCalls.{prepared_view};
+ghost use Rattle.t65_reader.specs.CPrograms.{callee_view, program_view};
+ghost use Rattle.t65_reader.specs.RowText.{after_arrow, c_call_of, called_function, row_at};
+ghost use Rattle.t65_reader.specs.RowText.{side_of, subroutine_of};
 ghost use Rattle.t65_reader.specs.RowText.{after_dots, around_of, call_of, call_view, called_of};
 ghost use Rattle.t65_reader.specs.RowText.{asked_for, asking_view, behind_word, is_around, is_call};
 ghost use Rattle.t65_reader.specs.RowText.{is_hidden, is_left_out, is_picked, points_after};
@@ -17,7 +21,10 @@ ghost use Rattle.t65_reader.specs.RowText.{ranges_of, row_of, row_view, row_with
 ghost use Rattle.t65_reader.specs.RowText.{values_of};
 ghost use Rattle.t65_values.specs.ValueText.{after_word, word_of};
 
-use crate::item::{Side, items_of};
+use crate::c_call::{PreparedCall, append, arguments_of, items_from, number_at, prepared_of};
+use crate::c_program::{CProgram, Callee, callee_of};
+use crate::c_result::result_items;
+use crate::item::{Side, is_arrow, items_of};
 use crate::row::{
     Asking, Call, Choice, Entry, MOST_STEPS, Part, Range, Ranges, Request, Row, Signal,
 };
@@ -60,23 +67,31 @@ fn no_ranges() -> Ranges
     }
 }
 
+/// Returns what stands behind `->`; nothing where the line ends before.
+fn after_arrow(text: &[u8]) -> &[u8]
+    ensures { result.now ≡ after_arrow text.now }
+{
+    if is_arrow(text) { after(2, text) } else { text }
+}
+
 /// Reads the address of a call, what is given and what is wanted.
 #[tactic(auto, unfolding(crate::specs::RowText::call_of))]
 fn call_of(
     alloc: Global,
     names: &Assembly,
     letters: Letters,
+    side: Side,
     entry: Entry,
     text: &[u8],
 ) -> Result<Call, RowFault>
     ensures ok { IfOk result
-        (λ call. call_of names.now.names letters entry text.now ≡ Ok (call_view call)) }
+        (λ call. call_of names.now.names letters side entry text.now ≡ Ok (call_view call)) }
     ensures err { IfErr result (λ fault. fault.kind ≢ RowFaultKind.OutOfMemory
-        → call_of names.now.names letters entry text.now ≡ Err fault) }
+        → call_of names.now.names letters side entry text.now ≡ Err fault) }
 {
     let (address, rest) = address_of(names, text)?;
-    let (given, rest) = items_of(alloc, names, letters, Side::Given, rest)?;
-    let (wanted, _) = items_of(alloc, names, letters, Side::Wanted, after(2, rest))?;
+    let (given, rest) = items_of(alloc, names, letters, side, rest)?;
+    let (wanted, _) = items_of(alloc, names, letters, Side::Wanted, after_arrow(rest))?;
     Ok(Call {
         entry,
         address,
@@ -87,23 +102,111 @@ fn call_of(
     })
 }
 
+/// Reads what else a call of a function of C has, behind its arguments: what is given besides,
+/// what the function has to return, and what else is wanted.
+#[tactic(auto, unfolding(crate::specs::RowText::called_function))]
+fn called_function(
+    alloc: Global,
+    names: &Assembly,
+    letters: Letters,
+    callee: Callee<'_>,
+    prepared: PreparedCall,
+    text: &[u8],
+) -> Result<Call, RowFault>
+    ensures ok { IfOk result (λ call. called_function names.now.names letters
+        (callee_view callee.entry) (prepared_view prepared) text.now ≡ Ok (call_view call)) }
+    ensures err { IfErr result (λ fault. fault.kind ≢ RowFaultKind.OutOfMemory
+        → called_function names.now.names letters (callee_view callee.entry)
+        (prepared_view prepared) text.now ≡ Err fault) }
+{
+    let PreparedCall { mut given, start } = prepared;
+    let (items, rest) = items_of(alloc, names, letters, Side::Alone, text)?;
+    append(&mut given, &items)?;
+    let (results, rest) = result_items(alloc, names, letters, after_arrow(rest))?;
+    let (others, _) = items_of(alloc, names, letters, Side::Wanted, rest)?;
+    let mut wanted = items_from(alloc, &[number_at(callee.pointer, start as u32)])?;
+    append(&mut wanted, &results)?;
+    append(&mut wanted, &others)?;
+    Ok(Call {
+        entry: Entry::Subroutine,
+        address: callee.address,
+        request: None,
+        given,
+        wanted,
+        steps: MOST_STEPS,
+    })
+}
+
+/// Reads the name of a function of C, its arguments, and what else its call has.
+#[tactic(auto, unfolding(crate::specs::RowText::c_call_of))]
+fn c_call_of(
+    alloc: Global,
+    names: &Assembly,
+    program: &CProgram,
+    letters: Letters,
+    text: &[u8],
+) -> Result<Call, RowFault>
+    ensures ok { IfOk result (λ call. c_call_of names.now.names (program_view program.now) letters
+        text.now ≡ Ok (call_view call)) }
+    ensures err { IfErr result (λ fault. fault.kind ≢ RowFaultKind.OutOfMemory
+        → c_call_of names.now.names (program_view program.now) letters text.now ≡ Err fault) }
+{
+    let callee = callee_of(names, program, text)?;
+    let inside = after(1, after_word(text));
+    let (list, rest) = arguments_of(alloc, names, letters, callee.sizes, inside)?;
+    let prepared = prepared_of(alloc, names, callee, text, &list)?;
+    called_function(alloc, names, letters, callee, prepared, rest)
+}
+
+/// Reads the call of a subroutine, or of a function of C, behind whose name `(` stands.
+fn subroutine_of(
+    alloc: Global,
+    names: &Assembly,
+    program: &CProgram,
+    letters: Letters,
+    side: Side,
+    text: &[u8],
+) -> Result<Call, RowFault>
+    ensures ok { IfOk result (λ call. subroutine_of names.now.names (program_view program.now)
+        letters side text.now ≡ Ok (call_view call)) }
+    ensures err { IfErr result (λ fault. fault.kind ≢ RowFaultKind.OutOfMemory
+        → subroutine_of names.now.names (program_view program.now) letters side text.now
+        ≡ Err fault) }
+{
+    if is_next(b'(', after_word(text)) {
+        c_call_of(alloc, names, program, letters, text)
+    } else {
+        call_of(alloc, names, letters, side, Entry::Subroutine, text)
+    }
+}
+
 /// Reads `call` with a subroutine, or `interrupt` with a handler.
 #[tactic(auto, unfolding(crate::specs::RowText::entered_of))]
 fn entered_of(
     alloc: Global,
     names: &Assembly,
+    program: &CProgram,
     letters: Letters,
+    side: Side,
     text: &[u8],
 ) -> Result<Call, RowFault>
-    ensures ok { IfOk result
-        (λ call. entered_of names.now.names letters text.now ≡ Ok (call_view call)) }
+    ensures ok { IfOk result (λ call. entered_of names.now.names (program_view program.now)
+        letters side text.now ≡ Ok (call_view call)) }
     ensures err { IfErr result (λ fault. fault.kind ≢ RowFaultKind.OutOfMemory
-        → entered_of names.now.names letters text.now ≡ Err fault) }
+        → entered_of names.now.names (program_view program.now) letters side text.now
+        ≡ Err fault) }
 {
     if is_text(word_of(text), b"call") {
-        call_of(alloc, names, letters, Entry::Subroutine, after_word(text))
+        subroutine_of(alloc, names, program, letters, side, after_word(text))
     } else if is_text(word_of(text), b"interrupt") {
-        call_of(alloc, names, letters, Entry::Interrupt, after_word(text))
+        call_of(
+            alloc,
+            names,
+            letters,
+            side,
+            Entry::Interrupt,
+            after_word(text),
+        )
     } else {
         Err(fault_at(RowFaultKind::NoCall, text))
     }
@@ -150,18 +253,23 @@ fn time_of<'a>(
 fn requested_of(
     alloc: Global,
     names: &Assembly,
+    program: &CProgram,
     letters: Letters,
+    side: Side,
     signal: Signal,
     text: &[u8],
 ) -> Result<Call, RowFault>
     ensures ok { IfOk result
-        (λ call. requested_of names.now.names letters signal text.now ≡ Ok (call_view call)) }
+        (λ call. requested_of names.now.names
+        (program_view program.now) letters side signal text.now
+        ≡ Ok (call_view call)) }
     ensures err { IfErr result (λ fault. fault.kind ≢ RowFaultKind.OutOfMemory
-        → requested_of names.now.names letters signal text.now ≡ Err fault) }
+        → requested_of names.now.names (program_view program.now) letters side signal text.now
+        ≡ Err fault) }
 {
     let (cycle, rest) = time_of(names, letters, text)?;
     let rest = after_sign(b':', rest)?;
-    let mut call = entered_of(alloc, names, letters, rest)?;
+    let mut call = entered_of(alloc, names, program, letters, side, rest)?;
     call.request = Some(Request { signal, cycle });
     Ok(call)
 }
@@ -171,20 +279,49 @@ fn requested_of(
 fn called_of(
     alloc: Global,
     names: &Assembly,
+    program: &CProgram,
     letters: Letters,
+    side: Side,
     text: &[u8],
 ) -> Result<Call, RowFault>
     ensures ok { IfOk result
-        (λ call. called_of names.now.names letters text.now ≡ Ok (call_view call)) }
+        (λ call. called_of names.now.names (program_view program.now) letters side text.now
+        ≡ Ok (call_view call)) }
     ensures err { IfErr result (λ fault. fault.kind ≢ RowFaultKind.OutOfMemory
-        → called_of names.now.names letters text.now ≡ Err fault) }
+        → called_of names.now.names (program_view program.now) letters side text.now ≡ Err fault) }
 {
     if is_text(word_of(text), b"irq") {
-        requested_of(alloc, names, letters, Signal::Irq, after_word(text))
+        requested_of(
+            alloc,
+            names,
+            program,
+            letters,
+            side,
+            Signal::Irq,
+            after_word(text),
+        )
     } else if is_text(word_of(text), b"nmi") {
-        requested_of(alloc, names, letters, Signal::Nmi, after_word(text))
+        requested_of(
+            alloc,
+            names,
+            program,
+            letters,
+            side,
+            Signal::Nmi,
+            after_word(text),
+        )
     } else {
-        entered_of(alloc, names, letters, text)
+        entered_of(alloc, names, program, letters, side, text)
+    }
+}
+
+/// Returns the side of a row's call that stands before `->`.
+fn side_of(part: Part) -> Side
+    ensures { result ≡ side_of part }
+{
+    match part {
+        Part::Test => Side::Given,
+        Part::Setup | Part::Teardown => Side::Alone,
     }
 }
 
@@ -192,18 +329,27 @@ fn called_of(
 fn row_with(
     alloc: Global,
     names: &Assembly,
+    program: &CProgram,
     part: Part,
     ranges: Ranges,
     choice: Choice,
     text: &[u8],
 ) -> Result<Row, RowFault>
-    ensures ok { IfOk result (λ row. row_with part ranges choice
-        (called_of names.now.names (letters_of ranges) text.now) ≡ Ok (row_view row)) }
+    ensures ok { IfOk result (λ row. row_at names.now.names
+        (program_view program.now) part ranges choice text.now
+        ≡ Ok (row_view row)) }
     ensures err { IfErr result (λ fault. fault.kind ≢ RowFaultKind.OutOfMemory
-        → row_with part ranges choice (called_of names.now.names (letters_of ranges) text.now)
+        → row_at names.now.names (program_view program.now) part ranges choice text.now
         ≡ Err fault) }
 {
-    let call = called_of(alloc, names, letters_of(ranges), text)?;
+    let call = called_of(
+        alloc,
+        names,
+        program,
+        letters_of(ranges),
+        side_of(part),
+        text,
+    )?;
     Ok(Row {
         part,
         ranges,
@@ -320,15 +466,22 @@ fn ranges_of(text: &[u8]) -> Result<(Ranges, &[u8]), RowFault>
 
 /// Reads ranges, `:` and a call for values of them.
 #[tactic(auto, unfolding(crate::specs::RowText::chosen_of))]
-fn chosen_of(alloc: Global, names: &Assembly, choice: Choice, text: &[u8]) -> Result<Row, RowFault>
+fn chosen_of(
+    alloc: Global,
+    names: &Assembly,
+    program: &CProgram,
+    choice: Choice,
+    text: &[u8],
+) -> Result<Row, RowFault>
     ensures ok { IfOk result
-        (λ row. chosen_of names.now.names choice text.now ≡ Ok (row_view row)) }
+        (λ row. chosen_of names.now.names (program_view program.now) choice text.now
+        ≡ Ok (row_view row)) }
     ensures err { IfErr result (λ fault. fault.kind ≢ RowFaultKind.OutOfMemory
-        → chosen_of names.now.names choice text.now ≡ Err fault) }
+        → chosen_of names.now.names (program_view program.now) choice text.now ≡ Err fault) }
 {
     let (ranges, rest) = ranges_of(text)?;
     let rest = after_sign(b':', rest)?;
-    row_with(alloc, names, Part::Test, ranges, choice, rest)
+    row_with(alloc, names, program, Part::Test, ranges, choice, rest)
 }
 
 /// Reads how often a call is made: once at least.
@@ -359,45 +512,67 @@ fn seed_of(text: &[u8]) -> Result<(u32, &[u8]), RowFault>
 
 /// Reads a call for values of ranges, or a call alone where no letter of a range stands there.
 #[tactic(auto, unfolding(crate::specs::RowText::drawn_of))]
-fn drawn_of(alloc: Global, names: &Assembly, choice: Choice, text: &[u8]) -> Result<Row, RowFault>
+fn drawn_of(
+    alloc: Global,
+    names: &Assembly,
+    program: &CProgram,
+    choice: Choice,
+    text: &[u8],
+) -> Result<Row, RowFault>
     ensures ok { IfOk result
-        (λ row. drawn_of names.now.names choice text.now ≡ Ok (row_view row)) }
+        (λ row. drawn_of names.now.names (program_view program.now) choice text.now
+        ≡ Ok (row_view row)) }
     ensures err { IfErr result (λ fault. fault.kind ≢ RowFaultKind.OutOfMemory
-        → drawn_of names.now.names choice text.now ≡ Err fault) }
+        → drawn_of names.now.names (program_view program.now) choice text.now ≡ Err fault) }
 {
     if range_letter(word_of(text)).is_some() {
-        chosen_of(alloc, names, choice, text)
+        chosen_of(alloc, names, program, choice, text)
     } else {
-        row_with(alloc, names, Part::Test, no_ranges(), choice, text)
+        row_with(alloc, names, program, Part::Test, no_ranges(), choice, text)
     }
 }
 
 /// Reads how many times, `seed`, where the numbers begin, and a call, with ranges or alone.
 #[tactic(auto, unfolding(crate::specs::RowText::random_of))]
-fn random_of(alloc: Global, names: &Assembly, text: &[u8]) -> Result<Row, RowFault>
-    ensures ok { IfOk result (λ row. random_of names.now.names text.now ≡ Ok (row_view row)) }
+fn random_of(
+    alloc: Global,
+    names: &Assembly,
+    program: &CProgram,
+    text: &[u8],
+) -> Result<Row, RowFault>
+    ensures ok { IfOk result (λ row. random_of names.now.names (program_view program.now) text.now
+        ≡ Ok (row_view row)) }
     ensures err { IfErr result (λ fault. fault.kind ≢ RowFaultKind.OutOfMemory
-        → random_of names.now.names text.now ≡ Err fault) }
+        → random_of names.now.names (program_view program.now) text.now ≡ Err fault) }
 {
     let (count, rest) = count_of(text)?;
     let (seed, rest) = seed_of(rest)?;
     let rest = after_sign(b':', rest)?;
-    drawn_of(alloc, names, Choice::Random { count, seed }, rest)
+    drawn_of(alloc, names, program, Choice::Random { count, seed }, rest)
 }
 
 /// Reads a call for all values of ranges or for some, or a call alone.
 #[tactic(auto, unfolding(crate::specs::RowText::row_of))]
-fn row_of(alloc: Global, names: &Assembly, text: &[u8]) -> Result<Row, RowFault>
-    ensures ok { IfOk result (λ row. row_of names.now.names text.now ≡ Ok (row_view row)) }
+fn row_of(alloc: Global, names: &Assembly, program: &CProgram, text: &[u8]) -> Result<Row, RowFault>
+    ensures ok { IfOk result (λ row. row_of names.now.names (program_view program.now) text.now
+        ≡ Ok (row_view row)) }
     ensures err { IfErr result (λ fault. fault.kind ≢ RowFaultKind.OutOfMemory
-        → row_of names.now.names text.now ≡ Err fault) }
+        → row_of names.now.names (program_view program.now) text.now ≡ Err fault) }
 {
     if is_text(word_of(text), b"all") {
-        chosen_of(alloc, names, Choice::All, after_word(text))
+        chosen_of(alloc, names, program, Choice::All, after_word(text))
     } else if is_text(word_of(text), b"random") {
-        random_of(alloc, names, after_word(text))
+        random_of(alloc, names, program, after_word(text))
     } else {
-        row_with(alloc, names, Part::Test, no_ranges(), Choice::All, text)
+        row_with(
+            alloc,
+            names,
+            program,
+            Part::Test,
+            no_ranges(),
+            Choice::All,
+            text,
+        )
     }
 }
 
@@ -411,31 +586,45 @@ fn points_after(text: &[u8]) -> Result<(u32, &[u8]), RowFault>
 
 /// Reads a row, and how many points it is worth where `points=` stands before it.
 #[tactic(auto, unfolding(crate::specs::RowText::pointed_row_of))]
-fn pointed_row_of(alloc: Global, names: &Assembly, text: &[u8]) -> Result<Row, RowFault>
-    ensures ok { IfOk result (λ row. pointed_row_of names.now.names text.now ≡ Ok (row_view row)) }
+fn pointed_row_of(
+    alloc: Global,
+    names: &Assembly,
+    program: &CProgram,
+    text: &[u8],
+) -> Result<Row, RowFault>
+    ensures ok { IfOk result (λ row. pointed_row_of names.now.names
+        (program_view program.now) text.now
+        ≡ Ok (row_view row)) }
     ensures err { IfErr result (λ fault. fault.kind ≢ RowFaultKind.OutOfMemory
-        → pointed_row_of names.now.names text.now ≡ Err fault) }
+        → pointed_row_of names.now.names (program_view program.now) text.now ≡ Err fault) }
 {
     if is_text(word_of(text), b"points") {
         let (points, rest) = points_after(after_word(text))?;
-        let mut row = row_of(alloc, names, rest)?;
+        let mut row = row_of(alloc, names, program, rest)?;
         row.points = points;
         Ok(row)
     } else {
-        row_of(alloc, names, text)
+        row_of(alloc, names, program, text)
     }
 }
 
 /// Reads `:` and a call that is made before each row, or after it.
 #[tactic(auto, unfolding(crate::specs::RowText::around_of))]
-fn around_of(alloc: Global, names: &Assembly, part: Part, text: &[u8]) -> Result<Row, RowFault>
+fn around_of(
+    alloc: Global,
+    names: &Assembly,
+    program: &CProgram,
+    part: Part,
+    text: &[u8],
+) -> Result<Row, RowFault>
     ensures ok { IfOk result
-        (λ row. around_of names.now.names part text.now ≡ Ok (row_view row)) }
+        (λ row. around_of names.now.names (program_view program.now) part text.now
+        ≡ Ok (row_view row)) }
     ensures err { IfErr result (λ fault. fault.kind ≢ RowFaultKind.OutOfMemory
-        → around_of names.now.names part text.now ≡ Err fault) }
+        → around_of names.now.names (program_view program.now) part text.now ≡ Err fault) }
 {
     let rest = after_sign(b':', text)?;
-    row_with(alloc, names, part, no_ranges(), Choice::All, rest)
+    row_with(alloc, names, program, part, no_ranges(), Choice::All, rest)
 }
 
 /// Returns the text of a row behind `hidden`, if that stands before it.
@@ -451,17 +640,23 @@ fn unhidden(text: &[u8]) -> &[u8]
 
 /// Reads a call before each row, one after each, or a row.
 #[tactic(auto, unfolding(crate::specs::RowText::part_of))]
-fn part_of(alloc: Global, names: &Assembly, text: &[u8]) -> Result<Row, RowFault>
-    ensures ok { IfOk result (λ row. part_of names.now.names text.now ≡ Ok (row_view row)) }
+fn part_of(
+    alloc: Global,
+    names: &Assembly,
+    program: &CProgram,
+    text: &[u8],
+) -> Result<Row, RowFault>
+    ensures ok { IfOk result (λ row. part_of names.now.names (program_view program.now) text.now
+        ≡ Ok (row_view row)) }
     ensures err { IfErr result (λ fault. fault.kind ≢ RowFaultKind.OutOfMemory
-        → part_of names.now.names text.now ≡ Err fault) }
+        → part_of names.now.names (program_view program.now) text.now ≡ Err fault) }
 {
     if is_text(word_of(text), b"setup") {
-        around_of(alloc, names, Part::Setup, after_word(text))
+        around_of(alloc, names, program, Part::Setup, after_word(text))
     } else if is_text(word_of(text), b"teardown") {
-        around_of(alloc, names, Part::Teardown, after_word(text))
+        around_of(alloc, names, program, Part::Teardown, after_word(text))
     } else {
-        pointed_row_of(alloc, names, unhidden(text))
+        pointed_row_of(alloc, names, program, unhidden(text))
     }
 }
 
@@ -607,13 +802,16 @@ pub fn worth_of(only: &[u8], line: &[u8]) -> u32
 pub fn read_row(
     alloc: Global,
     names: &Assembly,
+    program: &CProgram,
     asking: Asking<'_>,
     line: &[u8],
 ) -> Result<Option<Row>, RowFault>
-    ensures ok { IfOk result (λ row. line_of (asking_view asking.entry) names.now.names line.now
+    ensures ok { IfOk result (λ row. line_of (asking_view asking.entry) names.now.names
+        (program_view program.now) line.now
         ≡ Ok (option_map row_view row)) }
     ensures err { IfErr result (λ fault. fault.kind ≢ RowFaultKind.OutOfMemory
-        → line_of (asking_view asking.entry) names.now.names line.now ≡ Err fault) }
+        → line_of (asking_view asking.entry) names.now.names (program_view program.now) line.now
+        ≡ Err fault) }
 {
     if is_left_out(asking.only, line) {
         return Ok(None);
@@ -624,7 +822,7 @@ pub fn read_row(
     } else if is_text(word_of(text), b"source") {
         Err(fault_at(RowFaultKind::SecondSource, text))
     } else {
-        let mut row = part_of(alloc, names, text)?;
+        let mut row = part_of(alloc, names, program, text)?;
         row.call.steps = asking.steps;
         row.choice = seeded(asking.seed, row.choice);
         Ok(Some(row))

@@ -45,7 +45,8 @@ pub fn without_first(text: &[u8]) -> &[u8]
     }
 }
 
-fn push(found: &mut Vec<Value>, value: Value) -> Result<(), RowFault>
+/// Appends a value.
+pub fn push_value(found: &mut Vec<Value>, value: Value) -> Result<(), RowFault>
     ensures ok { IfOk result (λ _. found.new.items ≡ found.old.items ++ value ∷ []) }
     ensures err { IfErr result (λ fault. fault.kind ≡ RowFaultKind.OutOfMemory) }
 {
@@ -62,7 +63,7 @@ fn push_character<'a>(
         (λ behind. with_character found.old.items byte rest.now ≡ (found.new.items, behind.now)) }
     ensures err { IfErr result (λ fault. fault.kind ≡ RowFaultKind.OutOfMemory) }
 {
-    push(found, just(Atom::Number(byte as u32)))?;
+    push_value(found, just(Atom::Number(byte as u32)))?;
     Ok(rest)
 }
 
@@ -87,7 +88,7 @@ fn push_characters<'a>(found: &mut Vec<Value>, text: &'a [u8]) -> Result<&'a [u8
 
 /// Reads the bytes between two `"`, and appends them.
 #[tactic(auto, unfolding(crate::specs::Sequences::string_piece))]
-fn push_string<'a>(found: &mut Vec<Value>, text: &'a [u8]) -> Result<&'a [u8], RowFault>
+pub fn push_string<'a>(found: &mut Vec<Value>, text: &'a [u8]) -> Result<&'a [u8], RowFault>
     ensures ok { IfOk result
         (λ rest. string_piece found.old.items text.now ≡ Ok (found.new.items, rest.now)) }
     ensures err { IfErr result (λ fault. fault.kind ≢ RowFaultKind.OutOfMemory
@@ -109,7 +110,7 @@ fn push_randoms(found: &mut Vec<Value>, first: u32, count: u32) -> Result<(), Ro
     ensures err { IfErr result (λ fault. fault.kind ≡ RowFaultKind.OutOfMemory) }
 {
     for i in 0..count {
-        push(found, just(Atom::Random((first + i) as u16)))?;
+        push_value(found, just(Atom::Random((first + i) as u16)))?;
     }
     Ok(())
 }
@@ -161,7 +162,7 @@ fn push_piece<'a>(
         push_random(found, start, after_word(text))
     } else {
         let (value, rest) = value_of(names, letters, Base::Hex, text)?;
-        push(found, value)?;
+        push_value(found, value)?;
         Ok(rest)
     }
 }

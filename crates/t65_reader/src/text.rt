@@ -2,11 +2,13 @@
 
 ghost use Rattle.std.specs.Prelude.{◌≡◌, ◌≢◌, ◌<◌, ◌+◌, ◌-◌, ◌++◌, ◌∷◌, [], length, IfErr, IfOk, map};
 ghost use Rattle.model.specs.TextLines.{lines_of};
+ghost use Rattle.t65_reader.specs.CPrograms.{program_view};
 ghost use Rattle.t65_reader.specs.RowText.{Rows, asking_view, fault_before, fault_in, is_around};
 ghost use Rattle.t65_reader.specs.RowText.{line_before};
 ghost use Rattle.t65_reader.specs.RowText.{line_of, line_view, points_in, points_of};
 ghost use Rattle.t65_reader.specs.RowText.{rows_after, rows_from};
 
+use crate::c_program::CProgram;
 use crate::line::{is_around, points_in, read_row, worth_of};
 use crate::row::{Asking, Faulty, Line};
 use assembler::Assembly;
@@ -55,6 +57,7 @@ fn push_faulty(lines: &mut Vec<Line>, line: &[u8], fault: TextFault) -> Result<(
 fn push_line(
     alloc: Global,
     names: &Assembly,
+    program: &CProgram,
     asking: Asking<'_>,
     lines: &mut Vec<Line>,
     number: u32,
@@ -62,13 +65,15 @@ fn push_line(
 ) -> Result<(), TextFault>
     ensures ok { IfOk result (λ _. (behind : Rows) → rows_after (map line_view lines.old.items)
         (line_before number line.now
-        (line_of (asking_view asking.entry) names.now.names line.now) behind)
+        (line_of (asking_view asking.entry) names.now.names (program_view program.now) line.now)
+        behind)
         ≡ rows_after (map line_view lines.new.items) behind) }
     ensures err { IfErr result (λ fault. fault.kind ≢ RowFaultKind.OutOfMemory → (behind : Rows)
         → line_before number line.now
-        (line_of (asking_view asking.entry) names.now.names line.now) behind ≡ Err fault) }
+        (line_of (asking_view asking.entry) names.now.names (program_view program.now) line.now)
+        behind ≡ Err fault) }
 {
-    match read_row(alloc, names, asking, line) {
+    match read_row(alloc, names, program, asking, line) {
         Ok(Some(row)) => {
             push_one(lines, number, Line::Row((number, row)))?;
             Ok(())
@@ -92,16 +97,19 @@ fn push_line(
 pub fn read_rows(
     alloc: Global,
     names: &Assembly,
+    program: &CProgram,
     first: u32,
     asking: Asking<'_>,
     text: &[u8],
 ) -> Result<Vec<Line>, TextFault>
     requires { first + length text.now < 4294967296 }
     ensures ok { IfOk result
-        (λ lines. rows_from (asking_view asking.entry) names.now.names first (lines_of text.now)
+        (λ lines. rows_from (asking_view asking.entry) names.now.names
+        (program_view program.now) first (lines_of text.now)
         ≡ Ok (map line_view lines.items)) }
     ensures err { IfErr result (λ fault. fault.kind ≢ RowFaultKind.OutOfMemory
-        → rows_from (asking_view asking.entry) names.now.names first (lines_of text.now)
+        → rows_from (asking_view asking.entry) names.now.names
+        (program_view program.now) first (lines_of text.now)
         ≡ Err fault) }
 {
     let mut lines = Vec::new(alloc);
@@ -109,7 +117,7 @@ pub fn read_rows(
     let mut number = first;
     while rest.len() > 0 {
         let (line, behind) = next_line(rest);
-        push_line(alloc, names, asking, &mut lines, number, line)?;
+        push_line(alloc, names, program, asking, &mut lines, number, line)?;
         rest = behind;
         number += 1;
     }

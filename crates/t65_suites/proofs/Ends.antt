@@ -1,11 +1,15 @@
 -- Why a suite cannot be tested, by what its parts say.
 use Rattle.std.proofs.Common.{◌≡◌, ℕ, List, [], Bool, Ok, Err, false, true, inl, inr, refl, sym, ap, subst}
 use Rattle.std.proofs.lemmas.Bool.{false≢true}
-use Rattle.std.specs.Prelude.{◌⊎◌, String, Result, IfErr, IsErrAnd, string_bytes}
+use Rattle.std.specs.Prelude.{◌⊎◌, Option, None, Some, String, Result, IfErr, IsErrAnd, string_bytes}
 use Rattle.std.specs.declared.alloc.Global.{Global}
 use Rattle.arguments.specs.Values.{base_of}
 use Rattle.arguments.specs.declared.refusal.Refusal.TheVariants.{Map as NoMap, OutOfMemory}
+use Rattle.arguments.specs.declared.load_fault.LoadFault.{LoadFault}
+use Rattle.arguments.specs.declared.load_fault.LoadFault.TheVariants as load
 use Rattle.assembler.specs.Assembly.{AssemblyView}
+use Rattle.clap.specs.Words.{Text}
+use Rattle.debug_files.specs.Loads.{EndsDebug}
 use Rattle.loading.specs.declared.named.NamedFault.{NamedFault}
 use Rattle.model.specs.State.{is_map}
 use Rattle.model.specs.TextLines.{lines_of}
@@ -14,7 +18,8 @@ use Rattle.model.specs.Names.{Definitions}
 use Rattle.t65_suites.specs.HeadText.{SeenHead, head_from}
 use Rattle.t65_reader.specs.RowText.{SeenAsking, SeenLine, points_of, rows_from}
 use Rattle.t65_values.specs.declared.fault.TextFault.{TextFault}
-use Rattle.t65_suites.specs.Ends.{EndsAnyTest, EndsFile, EndsPlaced, EndsRows, EndsTest, HeadedFile}
+use Rattle.t65_reader.specs.CPrograms.{SeenProgram}
+use Rattle.t65_suites.specs.Ends.{EndsAnyTest, EndsFile, EndsPlaced, EndsPlaces, EndsRows, EndsTest, HeadedFile}
 use Rattle.t65_suites.specs.FaultTexts.{fault_at}
 use Rattle.t65_suites.specs.declared.fault.Unplaced.{Unplaced}
 use Rattle.t65_suites.specs.declared.fault.Unplaced.TheVariants.{Debug, Program}
@@ -30,10 +35,15 @@ use Rattle.t65_suites.specs.declared.fault.TestFault.TheVariants.{Rows, TooLarge
 pub head_ends : (text : List ℕ) (fault : TextFault) → head_from 1 (lines_of text) ≡ Err fault → EndsAnyTest (Rows fault)
 head_ends text fault refused = λ reading. inl (text, refused, refl)
 
-pub no_test : (asking : SeenAsking) (names : Definitions) (next : ℕ) (lines : List (List ℕ)) (rows : List SeenLine)
-    → rows_from asking names next lines ≡ Ok rows → tests_of rows ≡ []
-    → EndsRows asking names next lines NoRow
-no_test asking names next lines rows read none = (rows, read, none)
+pub no_test : (asking : SeenAsking) (names : Definitions) (program : SeenProgram) (next : ℕ) (lines : List (List ℕ)) (rows : List SeenLine)
+    → rows_from asking names program next lines ≡ Ok rows → tests_of rows ≡ []
+    → EndsRows asking names program next lines NoRow
+no_test asking names program next lines rows read none = (rows, read, none)
+
+-- Memory that ran out is why places of no program are known.
+pub memory_ends : (debug : Option Text) (fault : LoadFault) → fault ≡ load.Refused OutOfMemory → EndsPlaces debug fault
+memory_ends None fault is = is
+memory_ends (Some file) fault is = subst EndsDebug (sym is) tt
 
 abbrev is_too_large : TestFault → Bool
 is_too_large TooLarge = true
@@ -71,22 +81,23 @@ placed_ends reading text head next lines path name (Debug fault) points headed n
     (headed_file text head next lines headed, ends, are)
 
 pub rows_end : (reading : ReadingAsked) (text : List ℕ) (head : SeenHead) (next : ℕ) (lines : List (List ℕ)) (path : List ℕ) (assembly : AssemblyView)
-    (steps : ℕ) (fault : TestFault) (points : ℕ)
+    (steps : ℕ) (c_program : SeenProgram) (fault : TestFault) (points : ℕ)
     → head_from 1 (lines_of text) ≡ Ok (head, next, lines) → IsProgram (file_asked reading head path) reading.symbols assembly
-    → EndsRows (asking_of steps reading) assembly.names next lines fault → points ≡ points_of reading.only lines
+    → EndsRows (asking_of steps reading) assembly.names c_program next lines fault → points ≡ points_of reading.only lines
     → EndsTest reading points fault
-rows_end reading text head next lines path assembly steps (Rows fault) points headed program ends are =
+rows_end reading text head next lines path assembly steps c_program (Rows fault) points headed program ends are =
     inr (record {
       file = headed_file text head next lines headed;
       path = path;
       assembly = assembly;
       program = program;
       steps = steps;
+      c_program = c_program;
       read = ends;
       points_are = are;
     })
-rows_end reading text head next lines path assembly steps TooLarge points headed program ends are = absurd (too_large ends)
-rows_end reading text head next lines path assembly steps NoRow points headed program ends are = (
+rows_end reading text head next lines path assembly steps c_program TooLarge points headed program ends are = absurd (too_large ends)
+rows_end reading text head next lines path assembly steps c_program NoRow points headed program ends are = (
   ends.0,
   record {
     file = headed_file text head next lines headed;
@@ -94,12 +105,14 @@ rows_end reading text head next lines path assembly steps NoRow points headed pr
     assembly = assembly;
     program = program;
     steps = steps;
+    c_program = c_program;
     read = ends.1;
     points_are = are;
   },
   ends.2,
 )
-rows_end reading text head next lines path assembly steps (Refused refusal) points headed program ends are = subst (EndsTest reading points) (sym ends) tt
+rows_end reading text head next lines path assembly steps c_program (Refused refusal) points headed program ends are =
+    subst (EndsTest reading points) (sym ends) tt
 
 -- Rows that cannot be read, or memory that ran out while that was told.
 pub unread_ends : (reading : ReadingAsked) (points worth : ℕ) (fault : TestFault) (why : FileFault)

@@ -1,3 +1,4 @@
+mod CFunctions
 mod Ends
 mod Heads
 mod Programs

@@ -1,5 +1,5 @@
 -- What was prepared.
-use Rattle.std.proofs.Common.{◌≡◌, ℕ, List, Option, map, refl, sym, ap}
+use Rattle.std.proofs.Common.{◌≡◌, ℕ, List, map, refl, subst, sym, ap}
 use Rattle.std.specs.Prelude.{Ok}
 use Rattle.assembler.specs.Assembly.{AssemblyView}
 use Rattle.model.specs.State.{Map}
@@ -11,6 +11,8 @@ use Rattle.t65_reader.specs.declared.row.Part.TheVariants.{Setup, Teardown}
 use Rattle.t65_suites.specs.Programs.{IsProgram, file_asked}
 use Rattle.t65_suites.specs.Suites.{SuiteAsked, asking_of}
 use Rattle.t65_runner.specs.Parts.{rows_of}
+use Rattle.t65_reader.specs.CPrograms.{SeenProgram}
+use Rattle.t65_suites.specs.CFunctions.{AreFunctions}
 use Rattle.t65_suites.specs.Prepared.{ArePlaces, Ground, IsPrepared, map_of, path_of}
 use Rattle.t65_suites.specs.declared.prepared.Prepared.{Prepared}
 
@@ -25,13 +27,15 @@ ground_at bus_map assembly places rows = record {
 }
 
 pub ready : (prepared : Prepared) (steps : ℕ) (suite : SuiteAsked) (text : List ℕ) (head : SeenHead) (next : ℕ) (lines : List (List ℕ)) (path : List ℕ)
+    (c_program : SeenProgram)
     → head_from 1 (lines_of text) ≡ Ok (head, next, lines) → text ≡ prepared.text.items
     → prepared.map ≡ map_of head → path ≡ path_of suite head.source
     → IsProgram (file_asked suite.reading head path) suite.reading.symbols prepared.assembly
     → ArePlaces suite.reading.debug head.profile path prepared.assembly prepared.places
-    → rows_from (asking_of steps suite.reading) prepared.assembly.names next lines ≡ Ok (map line_view prepared.rows.items)
+    → AreFunctions suite.reading.debug prepared.map prepared.assembly.image head.stack prepared.places c_program
+    → rows_from (asking_of steps suite.reading) prepared.assembly.names c_program next lines ≡ Ok (map line_view prepared.rows.items)
     → prepared.form ≡ suite.reading.form → IsPrepared steps suite prepared
-ready prepared steps suite text head next lines path headed same mapped named program placed read form = record {
+ready prepared steps suite text head next lines path c_program headed same mapped named program placed called read form = record {
   file = record {
     text = text;
     head = head;
@@ -44,6 +48,8 @@ ready prepared steps suite text head next lines path headed same mapped named pr
     program = program;
     places = prepared.places;
     placed = placed;
+    c_program = c_program;
+    called = subst (λ (m : Map). AreFunctions suite.reading.debug m prepared.assembly.image head.stack prepared.places c_program) mapped called;
     rows = map line_view prepared.rows.items;
     read = read;
   };

@@ -15,6 +15,7 @@ use Rattle.model.specs.State.{is_map}
 use Rattle.model.specs.TextLines.{lines_of}
 use Rattle.model.specs.declared.bus_fault.BusFault.TheVariants.{BadMap}
 use Rattle.t65_suites.specs.HeadText.{SeenHead, head_from}
+use Rattle.t65_reader.specs.CPrograms.{SeenProgram}
 use Rattle.t65_reader.specs.RowText.{Rows, SeenAsking, SeenLine, points_of, rows_from}
 use Rattle.t65_runner.specs.Parts.{tests_of}
 use Rattle.t65_suites.specs.Programs.{EndsProgram, IsProgram, file_asked}
@@ -35,14 +36,16 @@ pub record HeadedFile : Type 0 where
   pub headed : head_from 1 (lines_of text) ≡ Ok (head, next, lines)
 
 -- The rows of some file, which are worth so many points together, are read so under the names of
--- some file that is loaded on its map.
+-- some file that is loaded on its map, and with functions of C.
 pub record AreRead (reading : ReadingAsked) (points : ℕ) (rows : Rows) : Type 0 where
   pub file : HeadedFile
   pub path : Text
   pub assembly : AssemblyView
   pub program : IsProgram (file_asked reading file.head path) reading.symbols assembly
   pub steps : ℕ
-  pub read : rows_from (asking_of steps reading) assembly.names file.next file.lines ≡ rows
+  pub c_program : SeenProgram
+  pub read : rows_from (asking_of steps reading) assembly.names c_program file.next file.lines
+      ≡ rows
   pub points_are : points ≡ points_of reading.only file.lines
 
 -- Why a file cannot be tested, where it is what other words are refused for too: its head asks for a
@@ -91,9 +94,11 @@ EndsFile reading points (InProgram path fault) = (file : HeadedFile)
 EndsFile reading points (InDebug fault) = (file : HeadedFile) × EndsPlaces reading.debug fault
     × (points ≡ points_of reading.only file.lines)
 
--- Why rows are not read under some names.
-abbrev pub EndsRows : SeenAsking → Definitions → ℕ → List (List ℕ) → TestFault → Type 0
-EndsRows asking names next lines (NotRows fault) = rows_from asking names next lines ≡ Err fault
-EndsRows asking names next lines NoRow = (rows : List SeenLine)
-    × (rows_from asking names next lines ≡ Ok rows) × (tests_of rows ≡ [])
-EndsRows asking names next lines fault = fault ≡ Refused OutOfMemory
+-- Why rows are not read under some names, with some functions of C.
+abbrev pub EndsRows : SeenAsking → Definitions → SeenProgram → ℕ → List (List ℕ) → TestFault
+    → Type 0
+EndsRows asking names program next lines (NotRows fault)
+    = rows_from asking names program next lines ≡ Err fault
+EndsRows asking names program next lines NoRow = (rows : List SeenLine)
+    × (rows_from asking names program next lines ≡ Ok rows) × (tests_of rows ≡ [])
+EndsRows asking names program next lines fault = fault ≡ Refused OutOfMemory

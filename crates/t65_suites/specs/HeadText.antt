@@ -14,12 +14,14 @@ use Rattle.t65_values.specs.declared.fault.TextFault.{TextFault}
 use Rattle.t65_suites.specs.declared.head.Head.{Head}
 use Rattle.t65_values.specs.declared.fault.Base.TheVariants.{Hex}
 
--- The source that a file names, and the machine that its rows run on.
+-- The source that a file names, the machine that its rows run on, and where its C stack begins, if
+-- that is said.
 pub record SeenHead : Type 0 where
   pub source : List ℕ
   pub profile : Profile
   pub rom : Option (ℕ × ℕ)
   pub port : Option ℕ
+  pub stack : Option ℕ
 
 -- A name of a file as it is written without `"`: no blank, no `;`, no `"` and no control byte.
 abbrev pub is_name_byte : ℕ → Bool
@@ -57,6 +59,11 @@ rom_of head text = and_then (number_of Hex text) (λ first rest.
     then_read (after_sign (byte "-") rest) (λ rest.
     and_then (number_of Hex rest) (λ last rest. Ok (record head { rom = Some (first, last) }, rest))))
 
+-- Where the C stack begins, which grows downwards.
+unfoldable pub stack_of : SeenHead → List ℕ → Reads SeenHead
+stack_of head text
+    = and_then (number_of Hex text) (λ top rest. Ok (record head { stack = Some top }, rest))
+
 -- One option, or nothing where the line ends.
 unfoldable pub option_of : SeenHead → List ℕ → Reads SeenHead
 option_of head text =
@@ -67,22 +74,31 @@ option_of head text =
     then then_read (after_sign (byte "=") (after_word text)) (port_of head)
     else if bytes_eq (word_of text) (codes "rom")
     then then_read (after_sign (byte "=") (after_word text)) (rom_of head)
+    else if bytes_eq (word_of text) (codes "stack")
+    then then_read (after_sign (byte "=") (after_word text)) (stack_of head)
     else Err (fault_at Syntax text)
 
 -- A machine of profile N without ROM, with the port where it is if nothing is said.
 abbrev pub plain_head : List ℕ → SeenHead
 plain_head source
-    = record { source = source; profile = profile.N; rom = None; port = Some DEFAULT_PORT }
+    = record {
+      source = source;
+      profile = profile.N;
+      rom = None;
+      port = Some DEFAULT_PORT;
+      stack = None;
+    }
 
 -- What was read is all of a line.
 abbrev pub then_ends : Reads SeenHead → Result SeenHead RowFault
 then_ends (Ok read) = if ends read.1 then Ok read.0 else Err (fault_at Syntax read.1)
 then_ends (Err fault) = Err fault
 
--- Up to three options in any order, and then the line's end. Of two by one name the later holds.
+-- Up to four options in any order, and then the line's end. Of two by one name the later holds.
 unfoldable pub options_of : SeenHead → List ℕ → Result SeenHead RowFault
 options_of head text = then_ends
-    (and_then (option_of head text) (λ one rest. and_then (option_of one rest) option_of))
+    (and_then (option_of head text) (λ one rest.
+    and_then (option_of one rest) (λ two rest. and_then (option_of two rest) option_of)))
 
 abbrev pub after_file : Reads (List ℕ) → Result SeenHead RowFault
 after_file (Ok read) = options_of (plain_head read.0) read.1
@@ -115,4 +131,5 @@ head_view head = record {
   profile = head.profile;
   rom = head.rom;
   port = head.port;
+  stack = head.stack;
 }

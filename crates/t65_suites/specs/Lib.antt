@@ -1,3 +1,4 @@
+pub mod CFunctions
 pub mod Ends
 pub mod FaultTexts
 pub mod HeadText

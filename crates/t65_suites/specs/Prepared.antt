@@ -1,5 +1,5 @@
 -- What is read of a suite before its tests are run. Source: mos65.
-use Rattle.std.specs.Prelude.{◌≡◌, ℕ, List, Option, Some, None, Ok, map}
+use Rattle.std.specs.Prelude.{◌≡◌, ◌++◌, ℕ, List, Option, Some, None, Ok, map}
 use Rattle.arguments.specs.Values.{base_of}
 use Rattle.assembler.specs.Assembly.{AssemblyView}
 use Rattle.clap.specs.Words.{Text}
@@ -9,6 +9,9 @@ use Rattle.model.specs.State.{Map}
 use Rattle.model.specs.TextLines.{lines_of}
 use Rattle.model.specs.declared.instruction.Profile.{Profile}
 use Rattle.source_map.specs.Lines.{PlacesView, places_of}
+use Rattle.source_map.specs.Names.{names_in}
+use Rattle.t65_reader.specs.CPrograms.{SeenProgram}
+use Rattle.t65_suites.specs.CFunctions.{AreFunctions}
 use Rattle.t65_suites.specs.HeadText.{SeenHead, head_from}
 use Rattle.t65_reader.specs.RowText.{SeenLine, SeenRow, line_view, rows_from}
 use Rattle.t65_reader.specs.declared.row.Part.TheVariants.{Setup, Teardown}
@@ -31,14 +34,20 @@ path_by rows (Some source) name = source
 abbrev pub path_of : SuiteAsked → Text → Text
 path_of suite name = path_by suite.rows suite.source name
 
--- What stands where in a program: by the debug information of a file, or by its own source.
+-- Places with the names of a program besides.
+abbrev pub named_places : PlacesView → AssemblyView → PlacesView
+named_places places assembly = record places { names = places.names ++ names_in assembly }
+
+-- What stands where in a program: by the debug information of a file with the program's names
+-- besides, or by its own source.
 abbrev pub ArePlaces : Option Text → Profile → Text → AssemblyView → PlacesView → Type 0
 ArePlaces None profile path assembly places = places ≡ places_of path assembly
-ArePlaces (Some file) profile path assembly places
-    = AreDebugPlaces (record { profile = profile; image = assembly.image }) places
+ArePlaces (Some file) profile path assembly places = (told : PlacesView)
+    × AreDebugPlaces (record { profile = profile; image = assembly.image }) told
+    × (places ≡ named_places told assembly)
 
 -- The text of a file of rows, its head, the path of the file that they are run on, what is loaded
--- of that, what stands where in it, and what the lines ask for under its names.
+-- of that, what stands where in it, its functions of C, and what the lines ask for under its names.
 pub record TestedFile (steps : ℕ) (suite : SuiteAsked) : Type 0 where
   pub text : List ℕ
   pub head : SeenHead
@@ -51,8 +60,12 @@ pub record TestedFile (steps : ℕ) (suite : SuiteAsked) : Type 0 where
   pub program : IsProgram (file_asked suite.reading head path) suite.reading.symbols assembly
   pub places : PlacesView
   pub placed : ArePlaces suite.reading.debug head.profile path assembly places
+  pub c_program : SeenProgram
+  pub called : AreFunctions suite.reading.debug (map_of head) assembly.image head.stack places
+      c_program
   pub rows : List SeenLine
-  pub read : rows_from (asking_of steps suite.reading) assembly.names next lines ≡ Ok rows
+  pub read : rows_from (asking_of steps suite.reading) assembly.names c_program next lines
+      ≡ Ok rows
 
 -- ---- its machine
 

@@ -5,8 +5,9 @@ use Rattle.std.specs.List.{list_any}
 use Rattle.std.specs.Str.{bytes_eq}
 use Rattle.arguments.specs.Outputs.{is_named}
 use Rattle.clap.specs.Words.{Text}
+use Rattle.debug_files.specs.Written.{IsPathOf}
 use Rattle.t65_suites.specs.Prepared.{path_of}
-use Rattle.t65_suites.specs.Suites.{SuiteAsked}
+use Rattle.t65_suites.specs.Suites.{ReadingAsked, SuiteAsked}
 
 -- A report has the name of a suite's file of rows, or of a file that the words name for it.
 abbrev pub is_read : Text → SuiteAsked → Bool
@@ -35,3 +36,11 @@ IsReadForOne suite path = (path ≡ suite.rows) ⊎ (IsSourceOf suite path ⊎ I
 -- A file is read for one of some suites.
 abbrev pub IsReadFor : List SuiteAsked → Text → Type 0
 IsReadFor suites path = (suite : SuiteAsked) × Contains suites suite × IsReadForOne suite path
+
+-- The path of a source by the debug information that is named, whose name that file has for it.
+abbrev pub IsToldBy : ReadingAsked → Text → Type 0
+IsToldBy reading path = (file : Text) × (root : Option Text) × (reading.debug ≡ Some file)
+    × IsPathOf file root path
+
+abbrev pub IsReadOrTold : ReadingAsked → List SuiteAsked → Text → Type 0
+IsReadOrTold reading suites path = IsReadFor suites path ⊎ IsToldBy reading path

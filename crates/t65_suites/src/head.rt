@@ -6,7 +6,7 @@ ghost use Rattle.model.specs.TextLines.{lines_of};
 ghost use Rattle.t65_suites.specs.HeadText.{after_file, file_of, head_from, head_of, head_view};
 ghost use Rattle.t65_suites.specs.HeadText.{is_name_byte, then_ends};
 ghost use Rattle.t65_suites.specs.HeadText.{option_of, options_of, plain_head, port_of, profile_of};
-ghost use Rattle.t65_suites.specs.HeadText.{rom_of, then_read};
+ghost use Rattle.t65_suites.specs.HeadText.{rom_of, stack_of, then_read};
 ghost use Rattle.t65_values.specs.ValueText.{after_sign, after_word, word_of};
 
 use line_parts::next_line;
@@ -29,6 +29,8 @@ pub struct Head<'a> {
     pub rom: Option<(u16, u16)>,
     /// The first of the port's four addresses, or no port.
     pub port: Option<u16>,
+    /// Where the C stack begins, which grows downwards, if that is said.
+    pub stack: Option<u16>,
 }
 
 /// A test file whose head was read.
@@ -114,6 +116,18 @@ fn rom_of<'a>(head: Head<'a>, text: &'a [u8]) -> Result<(Head<'a>, &'a [u8]), Ro
     Ok((Head { rom, ..head }, rest))
 }
 
+/// Reads where the C stack begins.
+#[tactic(auto, unfolding(crate::specs::HeadText::stack_of))]
+fn stack_of<'a>(head: Head<'a>, text: &'a [u8]) -> Result<(Head<'a>, &'a [u8]), RowFault>
+    ensures ok { IfOk result (λ p. stack_of (head_view head.entry) text.now
+        ≡ Ok (head_view p.0, p.1.now)) }
+    ensures err { IfErr result (λ fault. stack_of (head_view head.entry) text.now ≡ Err fault) }
+{
+    let (top, rest) = hex_of(text)?;
+    let stack = Some(top);
+    Ok((Head { stack, ..head }, rest))
+}
+
 /// Reads one option, or nothing where the line ends.
 #[tactic(auto, unfolding(crate::specs::HeadText::option_of))]
 fn option_of<'a>(head: Head<'a>, text: &'a [u8]) -> Result<(Head<'a>, &'a [u8]), RowFault>
@@ -129,12 +143,14 @@ fn option_of<'a>(head: Head<'a>, text: &'a [u8]) -> Result<(Head<'a>, &'a [u8]),
         port_of(head, after_sign(b'=', after_word(text))?)
     } else if is_text(word_of(text), b"rom") {
         rom_of(head, after_sign(b'=', after_word(text))?)
+    } else if is_text(word_of(text), b"stack") {
+        stack_of(head, after_sign(b'=', after_word(text))?)
     } else {
         Err(fault_at(RowFaultKind::Syntax, text))
     }
 }
 
-/// Reads up to three options and the line's end.
+/// Reads up to four options and the line's end.
 #[tactic(auto, unfolding(crate::specs::HeadText::options_of))]
 fn options_of<'a>(head: Head<'a>, text: &'a [u8]) -> Result<Head<'a>, RowFault>
     ensures ok { IfOk result
@@ -142,6 +158,7 @@ fn options_of<'a>(head: Head<'a>, text: &'a [u8]) -> Result<Head<'a>, RowFault>
     ensures err { IfErr result (λ fault. options_of (head_view head.entry) text.now ≡ Err fault) }
 {
     let (head, rest) = option_of(head, text)?;
+    let (head, rest) = option_of(head, rest)?;
     let (head, rest) = option_of(head, rest)?;
     let (head, rest) = option_of(head, rest)?;
     if ends(rest) {
@@ -166,13 +183,14 @@ fn head_of(text: &[u8]) -> Result<Head<'_>, RowFault>
         profile: Profile::N,
         rom: None,
         port: Some(DEFAULT_PORT),
+        stack: None,
     };
     options_of(plain, rest)
 }
 
 /// Reads the head of a test file: its first line that is neither blank nor a comment. It is
-/// `source NAME` and up to three options: `profile=N` or `profile=C`, `port=HHHH`, `rom=LO-HI`. A
-/// name with a blank in it stands between two `"`.
+/// `source NAME` and up to four options: `profile=N` or `profile=C`, `port=HHHH`, `rom=LO-HI`,
+/// `stack=HHHH`. A name with a blank in it stands between two `"`.
 ///
 /// # Errors
 ///

@@ -2,12 +2,14 @@
 //!
 //! `suites_of` says which these are by the words of a command line, `read_head` reads the line of a
 //! file that names its source and the machine, and `prepare` reads the file and assembles the
-//! source or loads the image (`specs/Programs.antt`), or says why it cannot be tested. `title_of`
-//! and `remarks_of` say that in words.
+//! source or loads the image (`specs/Programs.antt`), or says why it cannot be tested. The
+//! functions of C that rows call come from its debug information (`specs/CFunctions.antt`).
+//! `title_of` and `remarks_of` say why a suite cannot be tested in words.
 //! `replaced_by` finds a file that is read and that a report would replace. Which bytes a file has,
 //! no clause can say.
 #![tactic(auto)]
 
+mod c_functions;
 mod fault;
 mod fault_words;
 mod head;

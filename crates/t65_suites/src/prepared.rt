@@ -7,12 +7,17 @@ ghost use Rattle.arguments.specs.Values.{base_of};
 ghost use Rattle.model.specs.State.{is_map};
 ghost use Rattle.model.specs.TextLines.{lines_of};
 ghost use Rattle.t65_suites.specs.HeadText.{head_from, head_view};
+ghost use Rattle.t65_reader.specs.CPrograms.{program_view};
 ghost use Rattle.t65_reader.specs.RowText.{asking_view, line_view, points_of, rows_from};
-ghost use Rattle.t65_suites.specs.Ends.{EndsAnyTest, EndsFile, EndsPlaced, EndsPlaces, EndsRows};
-ghost use Rattle.t65_suites.specs.Prepared.{ArePlaces, IsPrepared, map_of};
+ghost use Rattle.t65_suites.specs.CFunctions.{AreFunctions};
+ghost use Rattle.std.specs.Option.{option_map};
+ghost use Rattle.t65_suites.specs.Ends.{EndsAnyTest, EndsFile, EndsPlaced, EndsPlaces};
+ghost use Rattle.t65_suites.specs.Ends.{EndsRows};
+ghost use Rattle.t65_suites.specs.Prepared.{ArePlaces, IsPrepared, map_of, named_places};
 ghost use Rattle.t65_suites.specs.Programs.{EndsProgram, IsProgram, file_asked};
 ghost use Rattle.t65_suites.specs.Suites.{asking_of, reading_view, suite_view};
 
+use crate::c_functions::c_program_of;
 use crate::fault::{FileFault, TestFault, Unplaced, Unprepared, fault_at};
 use crate::head::{Head, Opened, read_head};
 use crate::names::{path_of, read_rows_text};
@@ -28,7 +33,7 @@ use source_map::Places;
 use std::alloc::{AllocError, Global};
 use std::rt::Files;
 use t65_failures::faulty_text;
-use t65_reader::{Asking, Line, points_of, read_rows};
+use t65_reader::{Asking, CProgram, Line, points_of, read_rows};
 use t65_reports::RowLines;
 use t65_runner::has_test;
 use t65_values::RowFaultKind;
@@ -107,10 +112,25 @@ fn loaded<H: Files + AllocGlobal>(
     program_of(rt, &words, reading.symbols, map)
 }
 
+/// Returns places with the names of a program besides.
+///
+/// Errors: `OutOfMemory`.
+fn named_places(alloc: Global, places: Places, assembly: &Assembly) -> Result<Places, LoadFault>
+    ensures named { IfOk result (λ named. named ≡ named_places places assembly.now) }
+    ensures refused { IfErr result (λ fault. fault ≡ LoadFault.Refused Refusal.OutOfMemory) }
+{
+    let mut named = places;
+    match named.add_names(alloc, assembly) {
+        Ok(()) => Ok(named),
+        Err(_) => Err(LoadFault::Refused(Refusal::OutOfMemory)),
+    }
+}
+
 /// Returns what stands where in what was loaded of the file of a path: by the debug information
 /// that is named, and otherwise by its source.
 ///
 /// Errors: those of `load_places`, and `OutOfMemory`.
+#[tactic(auto, using(crate::proofs::Ends::memory_ends))]
 fn places_for<H: Files + AllocGlobal>(
     rt: &H,
     reading: Reading<'_>,
@@ -128,39 +148,92 @@ fn places_for<H: Files + AllocGlobal>(
             Err(_) => Err(LoadFault::Refused(Refusal::OutOfMemory)),
         },
         Some(file) => match load_places(rt, file, reading.root, profile, assembly.image()) {
-            Ok(DebugPlaces { places, changed: _ }) => Ok(places),
+            Ok(DebugPlaces { places, sought: _ }) => named_places(rt.alloc(), places, assembly),
             Err(fault) => Err(fault),
         },
     }
 }
 
-/// Returns what is loaded of the file of a path on the map of a head, and its places.
+/// What rows are run on: a program, what stands where in it, and its functions of C.
+#[derive(Drop)]
+struct TestedProgram {
+    assembly: Assembly,
+    places: Places,
+    program: CProgram,
+}
+
+/// Returns the functions of C of what was loaded on the map of a head: none without debug
+/// information.
 ///
-/// Errors: those of `program_of` and of `places_for`.
+/// Errors: `OutOfMemory`.
+fn c_program_for(
+    alloc: Global,
+    debug: Option<&str>,
+    head: Head<'_>,
+    map: MapSpec,
+    assembly: &Assembly,
+    places: &Places,
+) -> Result<CProgram, LoadFault>
+    ensures program { IfOk result (λ program. AreFunctions (option_map (λ d. d.now) debug.entry) map
+        assembly.now.image (head_view head.entry).stack places.now (program_view program)) }
+    ensures refused { IfErr result (λ fault. fault ≡ LoadFault.Refused Refusal.OutOfMemory) }
+{
+    let Some(_) = debug else {
+        return Ok(CProgram::none(alloc));
+    };
+    match c_program_of(alloc, map, assembly.image(), head.stack, places) {
+        Ok(program) => Ok(program),
+        Err(_) => Err(LoadFault::Refused(Refusal::OutOfMemory)),
+    }
+}
+
+/// Returns what is loaded of the file of a path on the map of a head, its places, and its functions
+/// of C.
+///
+/// Errors: those of `program_of`, of `places_for` and of `c_program_for`.
+#[tactic(auto, using(crate::proofs::Ends::memory_ends))]
 fn placed<H: Files + AllocGlobal>(
     rt: &H,
     reading: Reading<'_>,
     head: Head<'_>,
     path: &str,
     map: &MapSpec,
-) -> Result<(Assembly, Places), Unplaced>
+) -> Result<TestedProgram, Unplaced>
     requires map { map.now ≡ map_of (head_view head) }
     requires is_map { is_map (head_view head).rom (base_of (head_view head).port) ≡ true }
     ensures program { IfOk result (λ found. IsProgram
         (file_asked (reading_view reading.entry) (head_view head.entry) path.now)
-        (reading_view reading.entry).symbols found.0) }
+        (reading_view reading.entry).symbols found.assembly) }
     ensures places { IfOk result (λ found. ArePlaces (reading_view reading.entry).debug
-        (head_view head.entry).profile path.now found.0 found.1) }
+        (head_view head.entry).profile path.now found.assembly found.places) }
+    ensures functions { IfOk result (λ found. AreFunctions
+        (reading_view reading.entry).debug map.now found.assembly.image
+        (head_view head.entry).stack found.places (program_view found.program)) }
     ensures refused { IfErr result (EndsPlaced
         (file_asked (reading_view reading.entry) (head_view head.entry) path.now)
         (reading_view reading.entry)) }
 {
-    match loaded(rt, reading, head, path, map) {
-        Ok(assembly) => match places_for(rt, reading, head.profile, path, &assembly) {
-            Ok(places) => Ok((assembly, places)),
+    let assembly = match loaded(rt, reading, head, path, map) {
+        Ok(assembly) => assembly,
+        Err(fault) => return Err(Unplaced::Program(fault)),
+    };
+    match places_for(rt, reading, head.profile, path, &assembly) {
+        Ok(places) => match c_program_for(
+            rt.alloc(),
+            reading.debug,
+            head,
+            *map,
+            &assembly,
+            &places,
+        ) {
+            Ok(program) => Ok(TestedProgram {
+                assembly,
+                places,
+                program,
+            }),
             Err(fault) => Err(Unplaced::Debug(fault)),
         },
-        Err(fault) => Err(Unplaced::Program(fault)),
+        Err(fault) => Err(Unplaced::Debug(fault)),
     }
 }
 
@@ -196,12 +269,13 @@ fn worth_of(reading: Reading<'_>, text: &[u8]) -> u64
     points_of(reading.only.as_bytes(), text)
 }
 
-/// Returns what the lines of a text ask for under the names of a source, one of them a test at
-/// least.
+/// Returns what the lines of a text ask for under the names of a source and with functions of C, a
+/// test at least.
 #[tactic(auto, using(crate::proofs::Ends::no_test))]
 fn rows_in(
     alloc: Global,
     names: &Assembly,
+    program: &CProgram,
     first: u32,
     steps: u32,
     reading: Reading<'_>,
@@ -209,11 +283,19 @@ fn rows_in(
 ) -> Result<Vec<Line>, TestFault>
     requires { first + length text.now < 4294967296 }
     ensures rows { IfOk result (λ rows. rows_from (asking_of steps (reading_view reading.entry))
-        names.now.names first (lines_of text.now) ≡ Ok (map line_view rows.items)) }
+        names.now.names (program_view program.now) first (lines_of text.now)
+        ≡ Ok (map line_view rows.items)) }
     ensures refused { IfErr result (EndsRows (asking_of steps (reading_view reading.entry))
-        names.now.names first (lines_of text.now)) }
+        names.now.names (program_view program.now) first (lines_of text.now)) }
 {
-    match read_rows(alloc, names, first, asking_of(steps, reading), text) {
+    match read_rows(
+        alloc,
+        names,
+        program,
+        first,
+        asking_of(steps, reading),
+        text,
+    ) {
         Ok(rows) => match has_test(alloc, &rows) {
             Ok(true) => Ok(rows),
             Ok(false) => Err(TestFault::NoRow),
@@ -304,12 +386,19 @@ pub fn prepare<H: Files + AllocGlobal>(
     let path = path_of(rt.alloc(), suite, opened.head.source)?;
     let points = worth_of(suite.reading, opened.rest);
     match placed(rt, suite.reading, opened.head, &path, &map) {
-        Ok((assembly, places)) => {
-            let reading = suite.reading;
+        Ok(
+            TestedProgram {
+                assembly,
+                places,
+                program,
+            },
+        ) => {
+            let (reading, next) = (suite.reading, opened.next);
             match rows_in(
                 rt.alloc(),
                 &assembly,
-                opened.next,
+                &program,
+                next,
                 steps,
                 reading,
                 opened.rest,

@@ -6,8 +6,7 @@ ghost use Rattle.std.specs.Prelude.{string_bytes};
 ghost use Rattle.std.specs.Str.{bytes_eq};
 ghost use Rattle.arguments.specs.Outputs.{is_named};
 ghost use Rattle.t65_suites.specs.Replaced.{IsNamedIn, IsReadFor, IsReadForOne, IsSourceOf};
-ghost use Rattle.t65_suites.specs.Replaced.{is_read};
-ghost use Rattle.t65_suites.specs.Replaced.{replaces_any};
+ghost use Rattle.t65_suites.specs.Replaced.{IsReadOrTold, IsToldBy, is_read, replaces_any};
 ghost use Rattle.t65_suites.specs.Suites.{reading_view, suite_view, suites_of};
 
 use crate::fault::TestFault;
@@ -15,6 +14,7 @@ use crate::head::read_head;
 use crate::names::{copied, path_of, read_rows_text};
 use crate::suites::{Reading, Suite, suites_of};
 use arguments::{Refusal, is_one_output};
+use debug_files::replaced_source as source_told;
 use std::rt::Files;
 
 /// Returns the path of the file that a suite's rows are run on.
@@ -231,8 +231,58 @@ fn first_replaced<H: Files + AllocGlobal>(
     Ok(None)
 }
 
+/// Returns the path of a source that the debug information names, if there is some and a report
+/// would replace the source.
+///
+/// Errors: `OutOfMemory` if an allocation fails.
+fn replaced_told<H: Files + AllocGlobal>(
+    rt: &H,
+    reading: Reading<'_>,
+    report: &str,
+) -> Result<Option<String>, TestFault>
+    ensures { IfOk result (λ found. IfSome found
+        (λ path. IsToldBy (reading_view reading.entry) (string_bytes path))) }
+{
+    let Some(file) = reading.debug else {
+        return Ok(None);
+    };
+    match source_told(rt, file, reading.root, report)? {
+        Some(path) => match String::from_utf8(path) {
+            Ok(path) => Ok(Some(path)),
+            Err(_) => Ok(None),
+        },
+        None => Ok(None),
+    }
+}
+
+/// Returns the path of the first file that is read for some suites, or of a source that the debug
+/// information names, if a report would replace it.
+///
+/// Errors: `OutOfMemory` if an allocation fails.
+fn replaced_any<H: Files + AllocGlobal>(
+    rt: &H,
+    suites: &[Suite<'_>],
+    reading: Reading<'_>,
+    report: &str,
+) -> Result<Option<String>, TestFault>
+    ensures spared { IfOk result (λ found. found ≡ None
+        → list_any (is_read report.now) (map suite_view suites.now) ≡ false) }
+    ensures found { IfOk result (λ found. IfSome found
+        (λ path. IsReadOrTold (reading_view reading.entry) (map suite_view suites.now)
+        (string_bytes path))) }
+{
+    match first_replaced(rt, suites, report)? {
+        Some(path) => Ok(Some(path)),
+        None => match replaced_told(rt, reading, report)? {
+            Some(path) => Ok(Some(path)),
+            None => Ok(None),
+        },
+    }
+}
+
 /// Returns the path of the first file that is read for the suites of some files of rows and
-/// sources, and that a report would replace, if there are such a file and a report.
+/// sources, or that their debug information names as a source, and that a report would replace, if
+/// there are such a file and a report.
 ///
 /// Errors: `OutOfMemory` if an allocation fails.
 pub fn replaced_by<H: Files + AllocGlobal>(
@@ -247,16 +297,17 @@ pub fn replaced_by<H: Files + AllocGlobal>(
         → replaces_any (option_map (λ r. r.now) report.entry)
         (suites_of (reading_view reading.entry) (map (λ s. s.now) sources.now)
         (map (λ f. f.now) files.now)) ≡ false) }
-    // The path is that of a file of rows, of what it is run on, or of one that tells of that.
-    ensures found { IfOk result (λ found. IfSome found (λ path. IsReadFor
-        (suites_of (reading_view reading.entry) (map (λ s. s.now) sources.now)
-        (map (λ f. f.now) files.now)) (string_bytes path))) }
+    // The path is that of a file of rows, of what it is run on, of one that tells of that, or of a
+    // source that this names.
+    ensures found { IfOk result (λ found. IfSome found (λ path. IsReadOrTold
+        (reading_view reading.entry) (suites_of (reading_view reading.entry)
+        (map (λ s. s.now) sources.now) (map (λ f. f.now) files.now)) (string_bytes path))) }
 {
     let Some(report) = report else {
         return Ok(None);
     };
     match suites_of(rt.alloc(), files, sources, reading) {
-        Ok(suites) => first_replaced(rt, &suites, report),
+        Ok(suites) => replaced_any(rt, &suites, reading, report),
         Err(_) => Err(TestFault::Refused(Refusal::OutOfMemory)),
     }
 }

@@ -3,8 +3,8 @@
 use Rattle.std.specs.Prelude.{ℕ, List}
 use Rattle.t65_values.specs.declared.fault.Base.TheVariants.{Hex, Decimal}
 use Rattle.t65_values.specs.declared.fault.RowFaultKind.{RowFaultKind}
-use Rattle.t65_values.specs.declared.fault.RowFaultKind.TheVariants.{Syntax, NoNumber, NoAddress, NoEquals, NoColon, NoBracket, OpenString, NoCall, NoArrow, NoPlace, NoRelation, NotGiven, NoRange, NoSeed, NoTime, LongNumber, UndefinedName, AddressRange, EmptyRange, SecondSource, NoSource, OutOfMemory}
-use Rattle.t65_values.specs.declared.wording.TheConstants.{SYNTAX, NO_HEX, NO_DECIMAL, NO_ADDRESS, NO_EQUALS, NO_COLON, NO_BRACKET, OPEN_STRING, NO_CALL, NO_ARROW, NO_PLACE, NO_RELATION, NOT_GIVEN, NO_RANGE, NO_SEED, NO_TIME, LONG_HEX, LONG_DECIMAL, UNDEFINED_NAME, ADDRESS_RANGE, EMPTY_RANGE, SECOND_SOURCE, NO_SOURCE, OUT_OF_MEMORY, ROW_EXAMPLE, RANDOM_EXAMPLE, TIME_EXAMPLE, SOURCE_EXAMPLE, NO_EXAMPLE}
+use Rattle.t65_values.specs.declared.fault.RowFaultKind.TheVariants.{Syntax, NoNumber, NoAddress, NoEquals, NoColon, NoBracket, OpenString, NoCall, NoArrow, NoPlace, NoRelation, NotGiven, NoRange, NoSeed, NoTime, LongNumber, UndefinedName, AddressRange, EmptyRange, NoFunction, UnknownParameters, NoStack, NoRuntimeName, ParameterCount, TextSize, ResultSize, StackRoom, SecondSource, NoSource, OutOfMemory}
+use Rattle.t65_values.specs.declared.wording.TheConstants.{SYNTAX, NO_HEX, NO_DECIMAL, NO_ADDRESS, NO_EQUALS, NO_COLON, NO_BRACKET, OPEN_STRING, NO_CALL, NO_ARROW, NO_PLACE, NO_RELATION, NOT_GIVEN, NO_RANGE, NO_SEED, NO_TIME, LONG_HEX, LONG_DECIMAL, UNDEFINED_NAME, ADDRESS_RANGE, EMPTY_RANGE, NO_FUNCTION, UNKNOWN_PARAMETERS, NO_STACK, NO_RUNTIME_NAME, PARAMETER_COUNT, TEXT_SIZE, RESULT_SIZE, STACK_ROOM, SECOND_SOURCE, NO_SOURCE, OUT_OF_MEMORY, ROW_EXAMPLE, RANDOM_EXAMPLE, TIME_EXAMPLE, SOURCE_EXAMPLE, STACK_EXAMPLE, NO_EXAMPLE}
 
 abbrev pub fault_words : RowFaultKind → List ℕ
 fault_words Syntax = SYNTAX.now
@@ -28,6 +28,14 @@ fault_words (LongNumber Decimal) = LONG_DECIMAL.now
 fault_words UndefinedName = UNDEFINED_NAME.now
 fault_words AddressRange = ADDRESS_RANGE.now
 fault_words EmptyRange = EMPTY_RANGE.now
+fault_words NoFunction = NO_FUNCTION.now
+fault_words UnknownParameters = UNKNOWN_PARAMETERS.now
+fault_words NoStack = NO_STACK.now
+fault_words NoRuntimeName = NO_RUNTIME_NAME.now
+fault_words ParameterCount = PARAMETER_COUNT.now
+fault_words TextSize = TEXT_SIZE.now
+fault_words ResultSize = RESULT_SIZE.now
+fault_words StackRoom = STACK_ROOM.now
 fault_words SecondSource = SECOND_SOURCE.now
 fault_words NoSource = NO_SOURCE.now
 fault_words OutOfMemory = OUT_OF_MEMORY.now
@@ -53,6 +61,14 @@ example_words (LongNumber base) = NO_EXAMPLE.now
 example_words UndefinedName = NO_EXAMPLE.now
 example_words AddressRange = NO_EXAMPLE.now
 example_words EmptyRange = NO_EXAMPLE.now
+example_words NoFunction = NO_EXAMPLE.now
+example_words UnknownParameters = NO_EXAMPLE.now
+example_words NoStack = STACK_EXAMPLE.now
+example_words NoRuntimeName = NO_EXAMPLE.now
+example_words ParameterCount = NO_EXAMPLE.now
+example_words TextSize = NO_EXAMPLE.now
+example_words ResultSize = NO_EXAMPLE.now
+example_words StackRoom = NO_EXAMPLE.now
 example_words SecondSource = NO_EXAMPLE.now
 example_words NoSource = SOURCE_EXAMPLE.now
 example_words OutOfMemory = NO_EXAMPLE.now

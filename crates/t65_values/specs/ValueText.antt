@@ -1,6 +1,6 @@
 -- What stands at the front of a text of a test file: words, signs, numbers, addresses and values.
 -- Source: mos65.
-use Rattle.std.specs.Prelude.{ℕ, ℤ, pos, negsuc, ◌+◌, ◌==◌, ◌/◌, ◌%◌, ◌&&◌, ◌||◌, nat_le, nat_lt, Bool, true, false, if◌then◌else◌, List, [], ◌∷◌, length, take, drop, codes, Option, Some, None, Result, Ok, Err}
+use Rattle.std.specs.Prelude.{ℕ, ℤ, pos, negsuc, ◌+◌, ◌-◌, ◌*◌, ◌==◌, ◌/◌, ◌%◌, ◌&&◌, ◌||◌, nat_le, nat_lt, Bool, true, false, if◌then◌else◌, List, [], ◌∷◌, length, take, drop, codes, Option, Some, None, Result, Ok, Err}
 use Rattle.std.specs.Str.{byte, bytes_eq}
 use Rattle.std.specs.List.{list_all, prefix_len}
 use Rattle.lexer.specs.Front.{is_next}
@@ -70,6 +70,21 @@ up_to most digits number = if (length digits == 0) || nat_lt most (length digits
 abbrev pub number_in_word : Base → List ℕ → Option ℕ
 number_in_word Hex digits = up_to 4 digits (hex_number digits)
 number_in_word Decimal digits = up_to 7 digits (decimal_number digits)
+
+-- Two parts of a number, the upper one before four hex digits.
+abbrev pub joined_halves : Option ℕ → Option ℕ → Option ℕ
+joined_halves (Some upper) (Some lower) = Some (65536 * upper + lower)
+joined_halves (Some upper) None = None
+joined_halves None lower = None
+
+abbrev pub wide_halves : ℕ → List ℕ → Option ℕ
+wide_halves upper word
+    = joined_halves (hex_number (take upper word)) (hex_number (drop upper word))
+
+-- The number of five to eight hex digits.
+abbrev pub wide_number : List ℕ → Option ℕ
+wide_number word = if nat_lt 4 (length word) && nat_le (length word) 8
+    then wide_halves (length word - 4) word else None
 
 -- Whether a word has digits alone, and more than four hex ones, or more than seven decimal ones.
 abbrev pub is_long : Base → List ℕ → Bool

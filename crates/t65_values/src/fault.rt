@@ -54,6 +54,22 @@ pub enum RowFaultKind {
     AddressRange,
     /// The last value of a range is below its first.
     EmptyRange,
+    /// No function of C has the name.
+    NoFunction,
+    /// It is not known how the function takes its parameters.
+    UnknownParameters,
+    /// It is not said where the C stack begins.
+    NoStack,
+    /// A name of cc65's runtime is not known.
+    NoRuntimeName,
+    /// The function has another number of parameters.
+    ParameterCount,
+    /// A text is given for a parameter of another size than an address.
+    TextSize,
+    /// A result has a number of digits that no result of C has, or too many parts.
+    ResultSize,
+    /// The C stack has no room for the parameters and the texts.
+    StackRoom,
     /// A row of a file names a second source.
     SecondSource,
     /// The first line that is not blank names no source.
@@ -89,6 +105,14 @@ impl RowFaultKind {
             RowFaultKind::UndefinedName => wording::UNDEFINED_NAME,
             RowFaultKind::AddressRange => wording::ADDRESS_RANGE,
             RowFaultKind::EmptyRange => wording::EMPTY_RANGE,
+            RowFaultKind::NoFunction => wording::NO_FUNCTION,
+            RowFaultKind::UnknownParameters => wording::UNKNOWN_PARAMETERS,
+            RowFaultKind::NoStack => wording::NO_STACK,
+            RowFaultKind::NoRuntimeName => wording::NO_RUNTIME_NAME,
+            RowFaultKind::ParameterCount => wording::PARAMETER_COUNT,
+            RowFaultKind::TextSize => wording::TEXT_SIZE,
+            RowFaultKind::ResultSize => wording::RESULT_SIZE,
+            RowFaultKind::StackRoom => wording::STACK_ROOM,
             RowFaultKind::SecondSource => wording::SECOND_SOURCE,
             RowFaultKind::NoSource => wording::NO_SOURCE,
             RowFaultKind::OutOfMemory => wording::OUT_OF_MEMORY,
@@ -109,6 +133,7 @@ impl RowFaultKind {
             RowFaultKind::NoRange | RowFaultKind::NoSeed => wording::RANDOM_EXAMPLE,
             RowFaultKind::NoTime => wording::TIME_EXAMPLE,
             RowFaultKind::NoSource => wording::SOURCE_EXAMPLE,
+            RowFaultKind::NoStack => wording::STACK_EXAMPLE,
             RowFaultKind::NoNumber(_)
             | RowFaultKind::NoAddress
             | RowFaultKind::NoEquals
@@ -120,6 +145,13 @@ impl RowFaultKind {
             | RowFaultKind::UndefinedName
             | RowFaultKind::AddressRange
             | RowFaultKind::EmptyRange
+            | RowFaultKind::NoFunction
+            | RowFaultKind::UnknownParameters
+            | RowFaultKind::NoRuntimeName
+            | RowFaultKind::ParameterCount
+            | RowFaultKind::TextSize
+            | RowFaultKind::ResultSize
+            | RowFaultKind::StackRoom
             | RowFaultKind::SecondSource
             | RowFaultKind::OutOfMemory => wording::NO_EXAMPLE,
         }

@@ -21,7 +21,7 @@ pub use fault::{Base, RowFault, RowFaultKind, TextFault};
 pub use lexer::is_next;
 pub use scan::{
     address_of, after, after_sign, after_word, ends, fault_at, hex_of, is_text, number_of,
-    skip_blanks, word_of,
+    skip_blanks, wide_number, word_of,
 };
 pub use value::{Letters, letter_in, value_of};
 pub use visible::{characters_of, push_visible, push_visible_text};

@@ -10,7 +10,7 @@ ghost use Rattle.t65_values.specs.ValueText.{address_of, after_sign, after_word}
 ghost use Rattle.t65_values.specs.ValueText.{base_address_of, ends, fault_at, name_of};
 ghost use Rattle.t65_values.specs.ValueText.{is_long, lack_of, number_fault, number_in_word, number_of};
 ghost use Rattle.t65_values.specs.ValueText.{number_or_fault, skip_blanks};
-ghost use Rattle.t65_values.specs.ValueText.{sum_or_fault, unnamed, word_of};
+ghost use Rattle.t65_values.specs.ValueText.{sum_or_fault, unnamed, wide_halves, wide_number, word_of};
 
 use crate::fault::{Base, RowFault, RowFaultKind};
 use assembler::Assembly;
@@ -118,6 +118,28 @@ fn hex_in_word(word: &[u8]) -> Option<u16>
         return None;
     }
     hex_number(word)
+}
+
+/// Returns the number that the hex digits of a word write, of which so many stand before the last
+/// four.
+fn wide_halves(upper: usize, word: &[u8]) -> Option<u32>
+    requires upper { upper ≤ 4 }
+    requires last { length word.now ≡ upper + 4 }
+    ensures { result ≡ wide_halves upper word.now }
+{
+    let upper_half = hex_number(&word[..upper])?;
+    let lower_half = hex_number(&word[upper..])?;
+    Some(65536 * upper_half as u32 + lower_half as u32)
+}
+
+/// Returns the number that five to eight hex digits write.
+pub fn wide_number(word: &[u8]) -> Option<u32>
+    ensures { result ≡ wide_number word.now }
+{
+    if word.len() <= 4 || word.len() > 8 {
+        return None;
+    }
+    wide_halves(word.len() - 4, word)
 }
 
 /// Returns the number that one to seven decimal digits write.

@@ -43,6 +43,25 @@ pub const ADDRESS_RANGE: &str = "this is no address";
 
 pub const EMPTY_RANGE: &str = "the last value is below the first";
 
+pub const NO_FUNCTION: &str = "no function of C has this name; --debug-info names them";
+
+pub const UNKNOWN_PARAMETERS: &str =
+    "it is not known how this function takes its parameters, as with ...";
+
+pub const NO_STACK: &str = "the first line has to say where the C stack begins";
+
+pub const NO_RUNTIME_NAME: &str =
+    "sp, or sreg for four bytes, is no known name; ld65 -Ln writes them for --symbols";
+
+pub const PARAMETER_COUNT: &str = "the function has another number of parameters";
+
+pub const TEXT_SIZE: &str = "this parameter has no room for the address of a text";
+
+pub const RESULT_SIZE: &str =
+    "a result has two, four or eight hex digits, or is a value of at most two parts";
+
+pub const STACK_ROOM: &str = "the C stack has no room for what this call is given";
+
 pub const SECOND_SOURCE: &str = "a file has one source";
 
 pub const NO_SOURCE: &str = "a file names its source first";
@@ -60,6 +79,9 @@ pub const TIME_EXAMPLE: &str = ", as in: irq at cycle 12: call NAME -> A=46";
 
 /// Stands behind the words where no source is named.
 pub const SOURCE_EXAMPLE: &str = ", as in: source NAME.a65";
+
+/// Stands behind the words where it is not said where the C stack begins.
+pub const STACK_EXAMPLE: &str = ", as in: source NAME.hex stack=8000";
 
 /// Stands behind all others.
 pub const NO_EXAMPLE: &str = "";

@@ -5,17 +5,25 @@ use Rattle.word_mon.specs.Files.{IsReloaded, Reloads, Repeats, ServesAgain}
 use Rattle.word_mon.specs.Notes.{SeenNote, notes_after, placed_in}
 use Rattle.word_mon.specs.Screens.{said_again}
 use Rattle.word_mon.specs.declared.terminal.Terminal.{Terminal}
-use Rattle.mon_dispatch.specs.Lines.{Follows, Says, Serves}
+use Rattle.mon_dispatch.specs.Lines.{Follows, Says, Serves, Tells}
 use Rattle.mon_dispatch.specs.LineTexts.{behind_text, line_text, slip_line}
 use Rattle.mon_dispatch.specs.declared.lines.Outcome.{Outcome}
 use Rattle.mon_lines.specs.Lines.{SeenCommand, SeenLine, SeenSlip, draw, line_of, page, reload, save}
+use Rattle.mon_lines.specs.declared.command.Command.{Command}
+use Rattle.mon_lines.specs.declared.command.Command.TheVariants as variant
 use Rattle.mon_session.specs.EventTexts.{shown_text}
 use Rattle.mon_session.specs.declared.mon_state.MonState.{MonState}
+
+-- something is said by each line that can be read
+tells_say : (command : Command) (a b : MonState) → Tells command a b → (said : List ℕ) × Says said a b
+tells_say variant.Where a b p = (_, p.2)
+tells_say (variant.Locals number) a b p = (_, p.2)
+tells_say command a b p = (line_text command a, p)
 
 -- something is said of each line
 says_of : (read : Result SeenCommand SeenSlip) (outcome : Outcome) (a b : MonState)
     → Follows read outcome a b → (said : List ℕ) × Says said a b
-says_of (Ok seen) outcome a b p = (line_text p.0 a, p.4)
+says_of (Ok seen) outcome a b p = tells_say p.0 a b p.4
 says_of (Err slip) outcome a b p = (slip_line slip, p.2)
 
 serves_say : (read : SeenLine) (is_over : Bool) (a b : MonState) → Serves read is_over a b

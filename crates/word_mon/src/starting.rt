@@ -13,7 +13,7 @@ use crate::terminal::of_memory;
 use arguments::{LoadFault, Refusal};
 use arguments_play::MonWords;
 use assembler::Assembly;
-use debug_files::{DebugPlaces, load_places_of, tell_changed};
+use debug_files::{DebugPlaces, Sought, load_places_of, tell_changed};
 use loading::{ImageNames, Loaded, load_names, tell_warnings};
 use mon_files::Known;
 use mon_session::MonState;
@@ -126,7 +126,7 @@ fn debug_places<H: Files + AllocGlobal>(
 }
 
 /// Returns the places of what was loaded: by its debug information, if such a file is named, with
-/// the names of the sources that have changed since.
+/// how its sources were found.
 fn known_places<H: Files + AllocGlobal>(
     rt: &H,
     words: &MonWords<'_>,
@@ -141,7 +141,7 @@ fn known_places<H: Files + AllocGlobal>(
     match words.debug_info {
         None => Ok(DebugPlaces {
             places: places_of(rt.alloc(), words.file.file, &loaded.assembly)?,
-            changed: Vec::new(rt.alloc()),
+            sought: Sought::new(rt.alloc()),
         }),
         Some(path) => debug_places(rt, words, path, loaded),
     }
@@ -149,13 +149,13 @@ fn known_places<H: Files + AllocGlobal>(
 
 /// Returns the line that tells how many warnings a source has, if there is a source and it has
 /// some, or that fill at the port was left out, and the one that tells which sources have changed
-/// since debug information was made; or a beginning of them where memory runs out.
+/// since debug information was made, or are not found; or a beginning of them where no memory is.
 fn warning_line_of(
     alloc: Global,
     words: &MonWords<'_>,
     assembly: Option<&Assembly>,
     fill: Option<u32>,
-    changed: &[u8],
+    sought: &Sought,
 ) -> Vec<u8>
     ensures { IsWarningLine (map_of (file_view words.now.file))
         (option_map (λ a. a.now) assembly.entry) fill (mon_view words.now).debug_info
@@ -163,7 +163,7 @@ fn warning_line_of(
 {
     let mut line: Vec<u8> = Vec::new(alloc);
     tell_warnings(alloc, &words.file, assembly, 0, fill, &mut line);
-    tell_changed(words.debug_info, changed, &mut line);
+    tell_changed(words.debug_info, sought, &mut line);
     line
 }
 
@@ -192,12 +192,9 @@ pub fn start<H: Files + AllocGlobal>(
         (mon_view words.now).debug_info (file_view words.now.file)) }
 {
     let known = known_places(rt, words, &loaded)?;
-    let DebugPlaces {
-        mut places,
-        changed,
-    } = known;
+    let DebugPlaces { mut places, sought } = known;
     let source = loaded.assembly.as_ref();
-    let warning_line = warning_line_of(rt.alloc(), words, source, loaded.fill, changed.as_slice());
+    let warning_line = warning_line_of(rt.alloc(), words, source, loaded.fill, &sought);
     let Loaded {
         session,
         assembly,

@@ -16,7 +16,7 @@ use Rattle.model.specs.Event.{start}
 use Rattle.model.specs.Session.{Session, new_session}
 use Rattle.word_page.specs.Asked.{PageAsked}
 use Rattle.source_map.specs.Lines.{PlacesView}
-use Rattle.word_page.specs.Done.{AreNamed, IsDone, IsInput, IsRefused, IsShown, Ran, ShownIfDebugged, ShownIfFound, ShownIfNamed, place_in, start_in, start_of}
+use Rattle.word_page.specs.Done.{AreNamed, IsApart, IsDone, IsInput, IsRefused, IsShown, Ran, ShownIfDebugged, ShownIfFound, ShownIfNamed, place_in, start_in, start_of}
 use Rattle.word_run.specs.Known.{AreDebugged, known_by}
 use Rattle.word_run.specs.Runs.{Start, TellsEnding}
 use Rattle.word_run.specs.Statuses.{status_of_ending}
@@ -30,55 +30,63 @@ told_at one other heard why steps pc at same there told =
     (subst (λ (k : Option PlacesView). TellsEnding k heard why steps pc) same told)
 
 -- What was told of a run is told of the definition's.
-pub shown : (a : PageAsked) (known : Option PlacesView) (until : Option ℕ) (s : Start) (t : Session) (heard : Heard) (end : Played) (status : ℕ)
-    (input : List ℕ) → IsInput a.input input → Ran until a.steps s input end t
+pub shown : (a : PageAsked) (debug known : Option PlacesView) (until : Option ℕ) (s : Start) (t : Session) (heard : Heard) (end : Played) (status : ℕ)
+    (input : List ℕ) → IsInput a.input input → IsApart a debug → Ran until a.steps s input end t
     → status ≡ status_of_ending end.ending 0 → TellsEnding known heard end.ending end.steps t.current.regs.pc
-    → IsShown a known until s heard status
-shown a known until s t heard end status input is ran ended told =
+    → IsShown a debug known until s heard status
+shown a debug known until s t heard end status input is apart ran ended told =
     let outcome : Outcome = played until a.steps (begun s.session s.written input) in
     let same = ran.1 in
     let E : Ending → Type 0 = λ x. TellsEnding known heard x end.steps t.current.regs.pc in
     let N : ℕ → Type 0 = λ x. TellsEnding known heard outcome.ending x t.current.regs.pc in
     let S : Session → Type 0 = λ x. TellsEnding known heard outcome.ending outcome.steps x.current.regs.pc in
-    inr (input, is, (ended ∙ ap (λ (why : Ending). status_of_ending why 0) same.ending, subst S same.session (subst N same.steps (subst E same.ending told))))
+    let at = subst S same.session (subst N same.steps (subst E same.ending told)) in
+    inr (input, is, apart, (ended ∙ ap (λ (why : Ending). status_of_ending why 0) same.ending, at))
 
 -- A place that was not found.
-pub unfound : (a : PageAsked) (assembly names told : Option AssemblyView) (w : List Bool) (s : Start) (debug : Option PlacesView) (heard : Heard)
+pub unfound : (a : PageAsked) (assembly names told : Option AssemblyView) (w : List Bool) (s : Start) (debug asked : Option PlacesView) (heard : Heard)
     (between : Option (List ℕ)) (status : ℕ) → AreDebugged a.debug_info s.session.current w assembly debug
-    → TellsChanged a.debug_info heard.held between → told ≡ names
-    → Err status ≡ place_in (names_of assembly) (names_of told) a.until → Tells (record { held = between; now = heard.now }) (unplaced_line a.until)
+    → TellsChanged a.debug_info heard.held between → told ≡ names → asked ≡ debug
+    → Err status ≡ place_in (names_of assembly) (names_of told) asked a.until
+    → Tells (record { held = between; now = heard.now }) (unplaced_line asked a.until)
     → ShownIfDebugged a assembly names w s heard status
-unfound a assembly names told w s debug heard between status debugged changed same is line =
+unfound a assembly names told w s debug asked heard between status debugged changed same known is line =
     let H : Heard = record { held = between; now = heard.now } in
-    let place : Err status ≡ place_in (names_of assembly) (names_of names) a.until =
-    is ∙ ap (λ (n : Option AssemblyView). place_in (names_of assembly) (names_of n) a.until) same in
+    let place : Err status ≡ place_in (names_of assembly) (names_of names) asked a.until =
+    is ∙ ap (λ (n : Option AssemblyView). place_in (names_of assembly) (names_of n) asked a.until) same in
+    let at : Err status ≡ place_in (names_of assembly) (names_of names) debug a.until =
+    place ∙ ap (λ (d : Option PlacesView). place_in (names_of assembly) (names_of names) d a.until) known in
+    let tells = subst (λ (d : Option PlacesView). Tells H (unplaced_line d a.until)) known line in
     inr (
       debug,
       debugged,
       between,
       changed,
-      subst (λ (r : Result (Option ℕ) ℕ). ShownIfFound a (known_by a.file.file assembly debug) r s H status) place (refl, line),
+      subst (λ (r : Result (Option ℕ) ℕ). ShownIfFound a (known_by a.file.file assembly debug) debug r s H status) at (refl, tells),
     )
 
 -- A place that was found, of which nothing was told.
 pub found : {E : Type 0} (contents : E → Option (List ℕ)) (a : PageAsked) (assembly names told : Option AssemblyView) (w : List Bool) (s : Start)
-    (debug known : Option PlacesView) (until : Option ℕ) (first second middle last : E) (status : ℕ)
+    (debug asked known : Option PlacesView) (until : Option ℕ) (first second middle last : E) (status : ℕ)
     → AreDebugged a.debug_info s.session.current w assembly debug → TellsChanged a.debug_info (contents first) (contents second) → told ≡ names
-    → Ok until ≡ place_in (names_of assembly) (names_of told) a.until → middle ≡ second → known ≡ known_by a.file.file assembly debug
-    → IsShown a known until s (record { held = contents middle; now = contents last }) status
+    → asked ≡ debug → Ok until ≡ place_in (names_of assembly) (names_of told) asked a.until → middle ≡ second
+    → known ≡ known_by a.file.file assembly debug
+    → IsShown a debug known until s (record { held = contents middle; now = contents last }) status
     → ShownIfDebugged a assembly names w s (record { held = contents first; now = contents last }) status
-found contents a assembly names told w s debug known until first second middle last status debugged changed same is quiet knows shown =
+found contents a assembly names told w s debug asked known until first second middle last status debugged changed same by_debug is quiet knows shown =
     let H : Heard = record { held = contents second; now = contents last } in
-    let place : Ok until ≡ place_in (names_of assembly) (names_of names) a.until =
-    is ∙ ap (λ (n : Option AssemblyView). place_in (names_of assembly) (names_of n) a.until) same in
-    let heard = subst (λ e. IsShown a known until s (record { held = contents e; now = contents last }) status) quiet shown in
-    let by = subst (λ (k : Option PlacesView). IsShown a k until s H status) knows heard in
+    let place : Ok until ≡ place_in (names_of assembly) (names_of names) asked a.until =
+    is ∙ ap (λ (n : Option AssemblyView). place_in (names_of assembly) (names_of n) asked a.until) same in
+    let at : Ok until ≡ place_in (names_of assembly) (names_of names) debug a.until =
+    place ∙ ap (λ (d : Option PlacesView). place_in (names_of assembly) (names_of names) d a.until) by_debug in
+    let heard = subst (λ e. IsShown a debug known until s (record { held = contents e; now = contents last }) status) quiet shown in
+    let by = subst (λ (k : Option PlacesView). IsShown a debug k until s H status) knows heard in
     inr (
       debug,
       debugged,
       contents second,
       changed,
-      subst (λ (r : Result (Option ℕ) ℕ). ShownIfFound a (known_by a.file.file assembly debug) r s H status) place by,
+      subst (λ (r : Result (Option ℕ) ℕ). ShownIfFound a (known_by a.file.file assembly debug) debug r s H status) at by,
     )
 
 -- A file that was loaded.

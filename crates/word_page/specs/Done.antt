@@ -1,7 +1,7 @@
 -- What `page` does to the error stream, and its exit status. No clause can say which image and
 -- names a file stands for, which input and notes a file has, nor what the page's file got.
 -- Source: mos65.
-use Rattle.std.specs.Prelude.{◌≡◌, ◌⊎◌, ⊤, ℕ, Bool, [], List, Option, Some, None, Result, Ok, Err}
+use Rattle.std.specs.Prelude.{◌≡◌, ◌⊎◌, ⊤, ℕ, Bool, false, [], List, Option, Some, None, Result, Ok, Err}
 use Rattle.accesses.specs.Writing.{bytes_in, or_everywhere}
 use Rattle.arguments.specs.Asked.{FileAsked, map_of}
 use Rattle.arguments.specs.FaultLines.{file_line}
@@ -14,6 +14,7 @@ use Rattle.console.specs.Written.{RanAs}
 use Rattle.console.specs.declared.ending.Played.{Played}
 use Rattle.debug_files.specs.Changed.{TellsChanged}
 use Rattle.debug_files.specs.Loaded.{IsUndebugged}
+use Rattle.debug_files.specs.Written.{replaces_source}
 use Rattle.loading.specs.Loads.{AreImageNames, IsLoaded}
 use Rattle.loading.specs.Named.{MayLose}
 use Rattle.loading.specs.Warned.{left_text}
@@ -86,19 +87,25 @@ abbrev pub IsRun : Option PlacesView → Heard → ℕ → Outcome → Type 0
 IsRun known heard status end = (status ≡ status_of_ending end.ending 0)
     × TellsEnding known heard end.ending end.steps end.play.session.current.regs.pc
 
+-- The page has not the path of a source that debug information names.
+abbrev pub IsApart : PageAsked → Option PlacesView → Type 0
+IsApart a debug = replaces_source a.debug_info a.source_root debug (Some a.out) ≡ false
+
 -- A session ran up to a place, or there is no whole page.
-abbrev pub IsShown : PageAsked → Option PlacesView → Option ℕ → Start → Heard → ℕ → Type 0
-IsShown a known until s heard status = IsRefused heard status
-    ⊎ ((input : List ℕ) × IsInput a.input input
+abbrev pub IsShown : PageAsked → Option PlacesView → Option PlacesView → Option ℕ → Start → Heard
+    → ℕ → Type 0
+IsShown a debug known until s heard status = IsRefused heard status
+    ⊎ ((input : List ℕ) × IsInput a.input input × IsApart a debug
     × IsRun known heard status (played until a.steps (begun s.session s.written input)))
 
--- The same up to the place of the words, if it is found; otherwise the error stream got that it is
--- no place.
-abbrev pub ShownIfFound : PageAsked → Option PlacesView → Result (Option ℕ) ℕ → Start → Heard
-    → ℕ → Type 0
-ShownIfFound a known (Ok until) s heard status = IsShown a known until s heard status
-ShownIfFound a known (Err refused) s heard status
-    = (status ≡ refused) × Tells heard (unplaced_line a.until)
+-- The same up to the place of the words, if it is found; otherwise the error stream got why it is no
+-- place.
+abbrev pub ShownIfFound : PageAsked → Option PlacesView → Option PlacesView → Result (Option ℕ) ℕ
+    → Start → Heard → ℕ → Type 0
+ShownIfFound a known debug (Ok until) s heard status
+    = IsShown a debug known until s heard status
+ShownIfFound a known debug (Err refused) s heard status
+    = (status ≡ refused) × Tells heard (unplaced_line debug a.until)
 
 -- ---- names and places
 
@@ -117,13 +124,16 @@ abbrev pub place_besides : Definitions → Definitions → Option (List ℕ) →
 place_besides source names None = None
 place_besides source names (Some word) = if_unplaced (place_of source word) (place_of names word)
 
--- The place of a word by the source or by a file of names; the source comes first.
+-- The place of a word by the source, by a file of names or by debug information: the first of these
+-- that has it.
 abbrev pub found_or : Option ℕ → Result (Option ℕ) ℕ → Result (Option ℕ) ℕ
 found_or (Some address) rest = Ok (Some address)
 found_or None rest = rest
 
-abbrev pub place_in : Definitions → Definitions → Option (List ℕ) → Result (Option ℕ) ℕ
-place_in source names word = found_or (place_besides source names word) (place_asked source word)
+abbrev pub place_in : Definitions → Definitions → Option PlacesView → Option (List ℕ)
+    → Result (Option ℕ) ℕ
+place_in source names debug word
+    = found_or (place_besides source names word) (place_asked source debug word)
 
 -- The debug information that is named was read, the error stream got which of its sources have
 -- changed, and the place of the words was looked for among names and in the source; or it was not
@@ -135,8 +145,8 @@ ShownIfDebugged a assembly names loaded s heard status
     ⊎ ((debug : Option PlacesView)
     × AreDebugged a.debug_info s.session.current loaded assembly debug
     × (between : Option (List ℕ)) × TellsChanged a.debug_info heard.held between
-    × ShownIfFound a (known_by a.file.file assembly debug)
-    (place_in (names_of assembly) (names_of names) a.until) s
+    × ShownIfFound a (known_by a.file.file assembly debug) debug
+    (place_in (names_of assembly) (names_of names) debug a.until) s
     (record { held = between; now = heard.now }) status)
 
 -- The names were read, the error stream got how many lines gave none and that fill at the port was

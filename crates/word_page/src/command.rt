@@ -33,7 +33,7 @@ pub fn page_command<'a>(alloc: Global) -> Result<Command<'a>, Error>
     let out = "The page to write, as run.html";
     let symbols = "A file of names, as asm --symbols writes it [default: none]";
     let input = "The file with what is typed [default: no input]";
-    let until = "Where the run ends: a name, an address, or a sum of both [default: none]";
+    let until = "Where the run ends: a name, an address, or FILE:LINE [default: none]";
     let steps = "The most steps that the page has [default: 100000]";
     let title = "The title of the page [default: the name of FILE]";
     let at = "The step at which the page is opened, N [default: 0]";

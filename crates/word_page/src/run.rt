@@ -11,7 +11,8 @@ ghost use Rattle.model.specs.State.{is_map};
 ghost use Rattle.model.specs.Writers.{AppendsFront};
 ghost use Rattle.word_page.specs.Asked.{PageAsked, words_in, page_view};
 ghost use Rattle.word_page.specs.CommandLine.{page};
-ghost use Rattle.word_page.specs.Done.{AreNamed, EndsFile, EndsPage, IsDone, IsInput, IsShown};
+ghost use Rattle.word_page.specs.Done.{AreNamed, EndsFile, EndsPage, IsApart, IsDone, IsInput};
+ghost use Rattle.word_page.specs.Done.{IsShown};
 ghost use Rattle.word_page.specs.Done.{Ran, ShownIfDebugged, place_besides, place_in, start_in};
 ghost use Rattle.word_run.specs.Known.{known_by};
 ghost use Rattle.word_run.specs.Told.{unplaced_line};
@@ -26,7 +27,7 @@ use arguments::{
 };
 use assembler::Assembly;
 use console::Played;
-use debug_files::tell_changed;
+use debug_files::{check_sources, tell_changed};
 use loading::{Loaded, load, load_counted_names, place_of, tell_left_out};
 use page_writer::{
     Note, Opening, Program, SendFault, Texts, facts_of, push_opening, source_of, viewer, write_page,
@@ -148,16 +149,27 @@ fn created<'a, H: Files + AllocGlobal>(
     begin_file(rt, out)
 }
 
-/// Begins the file of the page, unless it is one that was read, or is there and is no page.
+/// Begins the file of the page, unless it is one that was read or a source that debug information
+/// names, or is there and is no page.
 ///
 /// Errors: `WriteFile` if it is, or cannot be made; `OutOfMemory` if an allocation fails.
 #[tactic(auto, using(crate::proofs::Ends::unwritten_ends))]
 fn begun_file<'a, H: Files + AllocGlobal>(
     rt: &H,
     words: &PageWords<'a>,
+    debug: Option<&Places>,
 ) -> Result<NewFile<'a, H::File>, Refusal>
-    ensures { IfErr result EndsFile }
+    ensures apart { IfOk result
+        (λ _. IsApart (page_view words.now) (option_map (λ p. p.now) debug.entry)) }
+    ensures refused { IfErr result EndsFile }
 {
+    check_sources(
+        rt,
+        words.debug_info,
+        words.source_root,
+        debug,
+        Some(words.out),
+    )?;
     let notes = words.opening.notes;
     let read = [
         Some(words.file.file),
@@ -252,13 +264,15 @@ fn make_page<H: Files + AllocGlobal>(
     ensures ran { IfOk result (λ end. Ran until words.now.steps
         (start_in words.now.is_free loaded.old.session loaded.old.written)
         input.now end loaded.new.session) }
+    ensures apart { IfOk result
+        (λ _. IsApart (page_view words.now) (option_map (λ p. p.now) debug.entry)) }
     ensures assembly { loaded.new.assembly ≡ loaded.old.assembly }
     ensures refused { IfErr result EndsFile }
 {
     let Ok(said) = said_of(rt.alloc(), words, loaded, names, debug, opening) else {
         return Err(Refusal::OutOfMemory);
     };
-    let mut file = begun_file(rt, words)?;
+    let mut file = begun_file(rt, words, debug)?;
     match write_run(rt.alloc(), words, loaded, &said, until, input, &mut file) {
         Ok(played) => {
             file.end(rt)?;
@@ -281,6 +295,8 @@ fn show_run<'a, H: Files + AllocGlobal>(
         × Ran until words.now.steps
         (start_in words.now.is_free loaded.old.session loaded.old.written)
         input end loaded.new.session) }
+    ensures apart { IfOk result
+        (λ _. IsApart (page_view words.now) (option_map (λ p. p.now) debug.entry)) }
     ensures assembly { loaded.new.assembly ≡ loaded.old.assembly }
     ensures refused { IfErr result EndsPage }
 {
@@ -311,7 +327,8 @@ fn show_to<H: Files + AllocGlobal, E: Write>(
     until: Option<u16>,
     errors: &mut E,
 ) -> u8
-    ensures { IsShown (page_view words.now) (known_by words.now.file.file.now loaded.old.assembly
+    ensures { IsShown (page_view words.now) (option_map (λ p. p.now) debug.entry)
+        (known_by words.now.file.file.now loaded.old.assembly
         (option_map (λ p. p.now) debug.entry)) until
         (start_in words.now.is_free loaded.old.session loaded.old.written) (record {
           held = E.contents errors.old;
@@ -346,25 +363,28 @@ fn place_besides(loaded: &Loaded, names: Option<&Assembly>, word: Option<&str>) 
     }
 }
 
-/// Returns the address of the place that a word names by the source or by a file of names, or
-/// `None` if there is no word.
+/// Returns the address of the place that a word names by the source, by a file of names or by debug
+/// information, or `None` if there is no word.
 ///
 /// Errors: as `place_named`.
 fn place_in<E: Write>(
     loaded: &Loaded,
     names: Option<&Assembly>,
+    debug: Option<&Places>,
     word: Option<&str>,
     errors: &mut E,
 ) -> Result<Option<u16>, u8>
     ensures place { result ≡ place_in (names_of loaded.now.assembly)
-        (names_of (option_map (λ a. a.now) names.entry)) (option_map (λ w. w.now) word.entry) }
+        (names_of (option_map (λ a. a.now) names.entry)) (option_map (λ p. p.now) debug.entry)
+        (option_map (λ w. w.now) word.entry) }
     ensures quiet { OnOk result (errors.new ≡ errors.old) }
     ensures told { OnErr result (AppendsFront (E.contents errors.old) (E.contents errors.new)
-        (unplaced_line (option_map (λ w. w.now) word.entry))) }
+        (unplaced_line (option_map (λ p. p.now) debug.entry)
+        (option_map (λ w. w.now) word.entry))) }
 {
     match place_besides(loaded, names, word) {
         Some(address) => Ok(Some(address)),
-        None => place_named(loaded, word, errors),
+        None => place_named(loaded, debug, word, errors),
     }
 }
 
@@ -388,12 +408,12 @@ fn show_loaded<H: Files + AllocGlobal, E: Write>(
         Ok(debug) => debug,
         Err(fault) => return fault.tell(words.debug_info.unwrap_or(words.file.file), errors),
     };
-    tell_changed(words.debug_info, debug.changed.as_slice(), errors);
-    let until = match place_in(loaded, names, words.until, errors) {
+    tell_changed(words.debug_info, &debug.sought, errors);
+    let places = debug.places.as_ref();
+    let until = match place_in(loaded, names, places, words.until, errors) {
         Ok(until) => until,
         Err(status) => return status,
     };
-    let places = debug.places.as_ref();
     show_to(rt, words, loaded, names, places, until, errors)
 }
 

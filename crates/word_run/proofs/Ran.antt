@@ -13,7 +13,7 @@ use Rattle.arguments.specs.Asked.{map_of}
 use Rattle.debug_files.specs.Changed.{TellsChanged}
 use Rattle.loading.specs.Machine.{IsMachine}
 use Rattle.loading.specs.Named.{MayLose}
-use Rattle.loading.specs.Place.{names_of, place_of}
+use Rattle.loading.specs.Place.{names_of}
 use Rattle.model.specs.Event.{start}
 use Rattle.model.specs.Names.{Definitions}
 use Rattle.model.specs.State.{State}
@@ -29,7 +29,7 @@ use Rattle.model.specs.State.{Map}
 use Rattle.source_map.specs.Lines.{PlacesView}
 use Rattle.word_run.specs.Known.{AreDebugged, known_by}
 use Rattle.word_run.specs.Runs.{IsDone, RanDebugged, RanIfFound, RanOrInterrupted, Start, Streams, TellsEnd, TellsInterrupted, start_of}
-use Rattle.word_run.specs.Places.{or_status, place_asked}
+use Rattle.word_run.specs.Places.{or_status, place_asked, place_known}
 use Rattle.word_run.specs.Statuses.{refusal_of, status_of_ending}
 use Rattle.word_run.specs.Told.{unplaced_line}
 
@@ -154,17 +154,18 @@ ran_file a s w assembly source fill image streams interrupted held between now s
 
 -- A place that was found, of which nothing was told, with what is known of the program.
 pub ran_found : {E : Type 0} (contents : E → Option (List ℕ)) (a : RunAsked) (s : Session) (w v : List Bool)
-    (assembly : Option AssemblyView) (debug known : Option PlacesView) (until : Option ℕ)
+    (assembly : Option AssemblyView) (debug asked known : Option PlacesView) (until : Option ℕ)
     (streams : Streams) (interrupted : Bool) (first second middle last : E) (status : ℕ) (Alone : Type 0)
     → AreDebugged a.debug_info s.current w assembly debug
-    → TellsChanged a.debug_info (contents first) (contents second)
-    → Ok until ≡ place_asked (names_of assembly) a.until → middle ≡ second → known ≡ known_by a.file.file assembly debug
+    → TellsChanged a.debug_info (contents first) (contents second) → asked ≡ debug
+    → Ok until ≡ place_asked (names_of assembly) asked a.until → middle ≡ second → known ≡ known_by a.file.file assembly debug
     → v ≡ or_everywhere a.is_free w
     → RanOrInterrupted a known until (record { session = s; written = v }) streams interrupted
     (record { held = contents middle; now = contents last }) status
     → RanDebugged a assembly w (record { session = s; written = or_everywhere a.is_free w }) streams interrupted
     (record { held = contents first; now = contents last }) status Alone
-ran_found contents a s w v assembly debug known until streams interrupted first second middle last status A debugged changed place quiet names counts ran =
+ran_found contents a s w v assembly debug asked known until streams interrupted first second middle last status A debugged changed same place quiet names
+    counts ran =
     let H : Heard = record { held = contents second; now = contents last } in
     let T : Start = record { session = s; written = or_everywhere a.is_free w } in
     let K = known_by a.file.file assembly debug in
@@ -172,22 +173,25 @@ ran_found contents a s w v assembly debug known until streams interrupted first 
     (record { held = contents e; now = contents last }) status) quiet ran in
     let told = subst (λ x. RanOrInterrupted a x until (record { session = s; written = v }) streams interrupted H status) names heard in
     let from = subst (λ x. RanOrInterrupted a K until (record { session = s; written = x }) streams interrupted H status) counts told in
-    inr (debug, debugged, contents second, changed, subst (λ r. RanIfFound a K r T streams interrupted H status A) place from)
+    let at = place ∙ ap (λ (d : Option PlacesView). place_asked (names_of assembly) d a.until) same in
+    inr (debug, debugged, contents second, changed, subst (λ r. RanIfFound a K debug r T streams interrupted H status A) at from)
 
 -- A place that was not found.
-pub ran_unfound : (a : RunAsked) (s : Start) (w : List Bool) (assembly : Option AssemblyView) (debug : Option PlacesView)
+pub ran_unfound : (a : RunAsked) (s : Start) (w : List Bool) (assembly : Option AssemblyView) (debug asked : Option PlacesView)
     (streams : Streams) (interrupted : Bool) (heard : Heard) (between : Option (List ℕ)) (status : ℕ) (Alone : Type 0)
-    → AreDebugged a.debug_info s.session.current w assembly debug → TellsChanged a.debug_info heard.held between
-    → Err status ≡ place_asked (names_of assembly) a.until → Tells (record { held = between; now = heard.now }) (unplaced_line a.until) → Alone
+    → AreDebugged a.debug_info s.session.current w assembly debug → TellsChanged a.debug_info heard.held between → asked ≡ debug
+    → Err status ≡ place_asked (names_of assembly) asked a.until → Tells (record { held = between; now = heard.now }) (unplaced_line asked a.until) → Alone
     → RanDebugged a assembly w s streams interrupted heard status Alone
-ran_unfound a s w assembly debug streams interrupted heard between status A debugged changed place told alone =
+ran_unfound a s w assembly debug asked streams interrupted heard between status A debugged changed same place told alone =
+    let H : Heard = record { held = between; now = heard.now } in
+    let at = place ∙ ap (λ (d : Option PlacesView). place_asked (names_of assembly) d a.until) same in
+    let line = subst (λ (d : Option PlacesView). Tells H (unplaced_line d a.until)) same told in
     inr (
       debug,
       debugged,
       between,
       changed,
-      subst (λ r. RanIfFound a (known_by a.file.file assembly debug) r s streams interrupted
-          (record { held = between; now = heard.now }) status A) place (refl, told, alone),
+      subst (λ r. RanIfFound a (known_by a.file.file assembly debug) debug r s streams interrupted H status A) at (refl, line, alone),
     )
 
 -- The status of a place that was not found is not 0.
@@ -195,6 +199,7 @@ unplaced : (found : Option ℕ) (status : ℕ) → Err status ≡ or_status foun
 unplaced (Some address) status is zero = cc
 unplaced None status is zero = cc
 
-pub unfound_status : (names : Definitions) (word : Option (List ℕ)) (status : ℕ) → Err status ≡ place_asked names word → status ≡ 0 → ⊥
-unfound_status names None status is zero = cc
-unfound_status names (Some word) status is zero = unplaced (place_of names word) status is zero
+pub unfound_status : (names : Definitions) (debug : Option PlacesView) (word : Option (List ℕ)) (status : ℕ) → Err status ≡ place_asked names debug word
+    → status ≡ 0 → ⊥
+unfound_status names debug None status is zero = cc
+unfound_status names debug (Some word) status is zero = unplaced (place_known names debug word) status is zero

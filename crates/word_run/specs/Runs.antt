@@ -120,13 +120,13 @@ RanOrInterrupted a known until s streams interrupted heard status
     ⊎ ((interrupted ≡ true) × Interrupted a known until s streams heard status)
 
 -- A session ran up to the place of the words, if it is found; otherwise the streams were left
--- alone, `Alone`, and the error stream got that it is no place.
-abbrev pub RanIfFound : RunAsked → Option PlacesView → Result (Option ℕ) ℕ → Start → Streams
-    → Bool → Heard → ℕ → Type 0 → Type 0
-RanIfFound a known (Ok until) s streams interrupted heard status Alone
+-- alone, `Alone`, and the error stream got why it is no place.
+abbrev pub RanIfFound : RunAsked → Option PlacesView → Option PlacesView → Result (Option ℕ) ℕ
+    → Start → Streams → Bool → Heard → ℕ → Type 0 → Type 0
+RanIfFound a known debug (Ok until) s streams interrupted heard status Alone
     = RanOrInterrupted a known until s streams interrupted heard status
-RanIfFound a known (Err refused) s streams interrupted heard status Alone = (status ≡ refused)
-    × Tells heard (unplaced_line a.until) × Alone
+RanIfFound a known debug (Err refused) s streams interrupted heard status Alone
+    = (status ≡ refused) × Tells heard (unplaced_line debug a.until) × Alone
 
 -- The debug information that is named was read, the error stream got which of its sources have
 -- changed, and a session ran, of which that is known; or it was not read, and the error stream got
@@ -138,7 +138,8 @@ RanDebugged a assembly loaded s streams interrupted heard status Alone
     ⊎ ((debug : Option PlacesView)
     × AreDebugged a.debug_info s.session.current loaded assembly debug
     × (between : Option (List ℕ)) × TellsChanged a.debug_info heard.held between
-    × RanIfFound a (known_by a.file.file assembly debug) (place_asked (names_of assembly) a.until)
+    × RanIfFound a (known_by a.file.file assembly debug) debug
+    (place_asked (names_of assembly) debug a.until)
     s streams interrupted (heard_of between heard.now) status Alone)
 
 -- A session at the start of an image, with the image's bytes written, or all if a run goes on where

@@ -1,14 +1,15 @@
 -- What the error stream gets of a run: why it did not come to its end, and its cycles and steps.
 -- Source: mos65.
-use Rattle.std.specs.Prelude.{◌≡◌, ◌⊎◌, ℕ, ◌==◌, List, [], ◌++◌, codes, decimal, if◌then◌else◌, Option, Some, None}
+use Rattle.std.specs.Prelude.{◌≡◌, ◌⊎◌, ℕ, ◌==◌, List, [], ◌++◌, codes, decimal, if◌then◌else◌, is_some, Option, Some, None}
 use Rattle.console.specs.declared.ending.Ending.{Ending}
 use Rattle.console.specs.declared.ending.Ending.TheVariants.{Limit, Unwritten, NoReset, NoVector, Refused}
 use Rattle.model.specs.FaultTexts.{event_fault_text}
 use Rattle.model.specs.Text.{hex_address, hex_byte}
 use Rattle.model.specs.declared.event.EventFault.{EventFault}
 use Rattle.model.specs.declared.event.EventFault.TheVariants.{ConsoleFull, Undocumented}
-use Rattle.word_run.specs.declared.wording.TheConstants.{AFTER, AFTER_CYCLES, BREAK_AT, CONSOLE_FULL, CYCLES, CYCLES_END, FROM, INTERRUPTED, NO_INSTRUCTION, NO_PLACE, NO_RESET, NO_VECTOR, PROGRAM, RAN_INTO, STEP, STEPS, STOPPED, UNWRITTEN}
-use Rattle.source_map.specs.Lines.{PlacesView, line_words, row_at}
+use Rattle.word_run.specs.declared.wording.TheConstants.{AFTER, AFTER_CYCLES, BREAK_AT, CONSOLE_FULL, CYCLES, CYCLES_END, FROM, INTERRUPTED, NO_FILE, NO_INSTRUCTION, NO_LINE, NO_PLACE, NO_RESET, NO_VECTOR, PROGRAM, RAN_INTO, STEP, STEPS, STOPPED, UNWRITTEN}
+use Rattle.mon_line_parts.specs.SourceLines.{line_number, own_line}
+use Rattle.source_map.specs.Lines.{PlacesView, address_from, line_words, row_at}
 use Rattle.source_map.specs.Names.{Near, name_near}
 
 abbrev pub step_word : ℕ → List ℕ
@@ -105,11 +106,24 @@ unfoldable pub interrupted_line : List ℕ → ℕ → ℕ → List ℕ
 interrupted_line site pc cycles = interrupted_text pc
     ++ (site ++ (AFTER_CYCLES.now ++ decimal cycles ++ CYCLES_END.now))
 
--- A word that stands for no place.
-abbrev pub no_place_line : List ℕ → List ℕ
-no_place_line word
-    = PROGRAM.now ++ (word ++ NO_PLACE.now)
+-- ---- a word that stands for no place
 
-abbrev pub unplaced_line : Option (List ℕ) → List ℕ
-unplaced_line None = []
-unplaced_line (Some word) = no_place_line word
+-- Why a word that is written as a line is no place: its file is not one of debug information; or it
+-- is, and no line from there on has bytes; or what stands behind the line is no sum.
+abbrev pub line_fault : PlacesView → Option (ℕ × ℕ) → List ℕ
+line_fault places None = NO_FILE.now
+line_fault places (Some line)
+    = if is_some (address_from places.sites line.0 line.1) then NO_PLACE.now else NO_LINE.now
+
+-- Why a word is no place.
+abbrev pub why_unplaced : Option PlacesView → List ℕ → List ℕ
+why_unplaced None word = NO_PLACE.now
+why_unplaced (Some places) word
+    = if is_some (line_number word) then line_fault places (own_line places word) else NO_PLACE.now
+
+abbrev pub unplaced_word : Option PlacesView → List ℕ → List ℕ
+unplaced_word debug word = PROGRAM.now ++ (word ++ why_unplaced debug word)
+
+abbrev pub unplaced_line : Option PlacesView → Option (List ℕ) → List ℕ
+unplaced_line debug None = []
+unplaced_line debug (Some word) = unplaced_word debug word

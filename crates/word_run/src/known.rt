@@ -6,7 +6,7 @@ ghost use Rattle.word_run.specs.Known.{AreDebugged, with_names_of};
 
 use arguments::{LoadFault, Refusal};
 use assembler::Assembly;
-use debug_files::{DebugPlaces, load_places_of};
+use debug_files::{DebugPlaces, Sought, load_places_of};
 use loading::Loaded;
 use source_map::Places;
 use std::alloc::{AllocError, Global};
@@ -22,12 +22,11 @@ pub struct Known<'f, 'a, 'd> {
     pub debug: Option<&'d Places>,
 }
 
-/// The places of debug information, if a file of it is named, and the names of its sources that
-/// have changed since that was made.
+/// The places of debug information, if a file of it is named, and how its sources were found.
 #[derive(Drop)]
 pub struct Debugged {
     pub places: Option<Places>,
-    pub changed: Vec<u8>,
+    pub sought: Sought,
 }
 
 /// Adds the names of an assembly, if there is one.
@@ -73,18 +72,15 @@ pub fn load_debug<H: Files + AllocGlobal>(
     let Some(file) = file else {
         return Ok(Debugged {
             places: None,
-            changed: Vec::new(rt.alloc()),
+            sought: Sought::new(rt.alloc()),
         });
     };
     let session = &loaded.session;
     let debug = load_places_of(rt, file, root, session, &loaded.written)?;
-    let DebugPlaces {
-        mut places,
-        changed,
-    } = debug;
+    let DebugPlaces { mut places, sought } = debug;
     with_names(rt.alloc(), &mut places, loaded.assembly.as_ref())?;
     Ok(Debugged {
         places: Some(places),
-        changed,
+        sought,
     })
 }

@@ -4,12 +4,14 @@
 //! that of `console`, from the start of an image that the file can have. `specs/Told.antt` says
 //! what the error stream gets of a run's end; other words tell it by the same calls. `Known` is
 //! what is known of a program's names and lines: by its source, or by debug information
-//! (`specs/Known.antt`). A run can be interrupted by its writer, `Interruptible`.
+//! (`specs/Known.antt`). Places are found by both (`specs/Places.antt`). A run can be interrupted
+//! by its writer, `Interruptible`.
 #![tactic(auto)]
 
 mod ended;
 mod interruptible;
 mod known;
+mod places;
 mod run;
 mod site;
 mod started;

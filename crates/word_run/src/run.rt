@@ -152,8 +152,9 @@ fn run_loaded<H: Files + AllocGlobal, R: Read, W: Write, S: Read, E: Write>(
         Ok(debug) => debug,
         Err(fault) => return fault.tell(words.debug_info.unwrap_or(words.file.file), errors),
     };
-    tell_changed(words.debug_info, debug.changed.as_slice(), errors);
-    let until = match place_named(&loaded, words.until, errors) {
+    tell_changed(words.debug_info, &debug.sought, errors);
+    let places = debug.places.as_ref();
+    let until = match place_named(&loaded, places, words.until, errors) {
         Ok(until) => until,
         Err(status) => return status,
     };
@@ -165,7 +166,6 @@ fn run_loaded<H: Files + AllocGlobal, R: Read, W: Write, S: Read, E: Write>(
         fill: _,
     } = loaded;
     let source = assembly.as_ref();
-    let places = debug.places.as_ref();
     let known = Known {
         file: words.file.file,
         assembly: source,

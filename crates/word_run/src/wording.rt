@@ -34,7 +34,12 @@ pub const FROM: &str = ", from ";
 
 pub const NO_RESET: &str = "; nothing stands at FFFC\n";
 
+/// How the line ends that names a word that stands for no place.
 pub const NO_PLACE: &str = " is no name of the source and no address\n";
+
+pub const NO_FILE: &str = " names no file of the debug information\n";
+
+pub const NO_LINE: &str = ": no line of this file from there on has bytes\n";
 
 /// How the line begins that says where a run was interrupted.
 pub const INTERRUPTED: &str = "mos65: interrupted at ";

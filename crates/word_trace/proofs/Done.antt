@@ -44,7 +44,7 @@ told_of known heard ending why steps count pc at e n p told =
 -- A trace that came to an end, what its program has put out, and what was told of it.
 pub traced_to : (a : TraceAsked) (b : Begin) (from to : Option ℕ) (limit : ℕ) (t : Session) (streams : Streams) (heard : Heard)
     (out said : Option (List ℕ)) (end : Played) (flag : Bool) (status : ℕ)
-    → limit ≡ a.steps → b.session.current.bus.out ≡ [] → IsApart a
+    → limit ≡ a.steps → b.session.current.bus.out ≡ [] → IsApart a b.debug
     → TracedAs a b from to limit streams t end flag
     → ((text : List ℕ) × (t.current.bus.out ≡ b.session.current.bus.out ++ text) × Appends heard.held out text)
     → AppendsFront out said (unbegun_text flag)
@@ -100,13 +100,13 @@ traced_between asked begin from to a b streams heard status A is_from is_to done
 
 -- A place that is not found.
 pub unfound_from : (asked : TraceAsked) (begin : Begin) (a b : Result (Option ℕ) ℕ) (streams : Streams) (heard : Heard) (status : ℕ) (Alone : Type 0)
-    → Err status ≡ a → Tells heard (unplaced_line asked.from) → Alone → TracedIfFound asked begin a b streams heard status Alone
+    → Err status ≡ a → Tells heard (unplaced_line begin.debug asked.from) → Alone → TracedIfFound asked begin a b streams heard status Alone
 unfound_from asked begin a b streams heard status A is told alone =
     let F : Result (Option ℕ) ℕ → Type 0 = λ r. TracedIfFound asked begin r b streams heard status A in subst F is (refl, told, alone)
 
 pub unfound_to : (asked : TraceAsked) (begin : Begin) (from : Option ℕ) (a b : Result (Option ℕ) ℕ) (streams : Streams) (heard : Heard) (status : ℕ)
     (Alone : Type 0)
-    → Ok from ≡ a → Err status ≡ b → Tells heard (unplaced_line asked.to) → Alone → TracedIfFound asked begin a b streams heard status Alone
+    → Ok from ≡ a → Err status ≡ b → Tells heard (unplaced_line begin.debug asked.to) → Alone → TracedIfFound asked begin a b streams heard status Alone
 unfound_to asked begin from a b streams heard status A is_from is told alone =
     let F : Result (Option ℕ) ℕ → Type 0 = λ r. TracedIfFound asked begin r b streams heard status A in
     let T : Result (Option ℕ) ℕ → Type 0 = λ r. TracedIfFound asked begin (Ok from) r streams heard status A in

@@ -16,6 +16,7 @@ use Rattle.console.specs.declared.turn.Player.{Player}
 use Rattle.arguments.specs.Asked.{map_of}
 use Rattle.debug_files.specs.Changed.{TellsChanged}
 use Rattle.debug_files.specs.Loaded.{IsUndebugged}
+use Rattle.debug_files.specs.Written.{replaces_source}
 use Rattle.loading.specs.Machine.{IsMachine, IsUnmade}
 use Rattle.loading.specs.Named.{MayLose}
 use Rattle.loading.specs.Place.{names_of}
@@ -221,9 +222,10 @@ WroteFront a b notes held now = Appends held now [] ⊎ ((sites : Sites) × AreS
     × GotFront (notes (none_gathered a sites (first_written a.finds_unwritten b.written))) held now)
 
 -- The file for lcov has not the name of the file that is run, or of a file of names or of debug
--- information.
-abbrev pub IsApart : TraceAsked → Type 0
-IsApart a = clash (Some a.file.file ∷ a.symbols ∷ a.debug_info ∷ []) (a.lcov ∷ []) ≡ false
+-- information, or the path of a source that this names.
+abbrev pub IsApart : TraceAsked → Option PlacesView → Type 0
+IsApart a debug = (clash (Some a.file.file ∷ a.symbols ∷ a.debug_info ∷ []) (a.lcov ∷ []) ≡ false)
+    × (replaces_source a.debug_info a.source_root debug a.lcov ≡ false)
 
 -- Memory ran out, a stream failed, or the file for lcov cannot be written.
 abbrev pub IsOfStreams : Refusal → Type 0
@@ -276,7 +278,7 @@ IsTraced a b from to streams heard (Ok end) = (input : List ℕ)
     × AreBytesOf streams.given input × AreBytesOf streams.left end.play.input
     × WroteNotes a b (λ g. trace_noted from to a.steps g (play_of a b input))
     streams.held streams.now
-    × TellsTrace (known_by a.file.file b.assembly b.debug) heard (reached from (play_of a b input)).ending end × IsApart a
+    × TellsTrace (known_by a.file.file b.assembly b.debug) heard (reached from (play_of a b input)).ending end × IsApart a b.debug
 IsTraced a b from to streams heard (Err refusal) = IsOfStreams refusal
     × ((input : List ℕ) × AreBytesOf streams.given input
     × WroteFront a b (λ g. trace_noted from to a.steps g (play_of a b input))
@@ -294,15 +296,15 @@ TracedTo a b from to streams heard status = (outcome : Result Outcome Refusal)
     × IsTraced a b from to streams heard outcome × (status ≡ status_of_trace outcome)
 
 -- A session was traced between the places of the words, if they are found; otherwise the streams
--- were left alone, `Alone`, and the error stream got which word is no place.
+-- were left alone, `Alone`, and the error stream got which word is no place, and why.
 abbrev pub TracedIfFound : TraceAsked → Begin → Result (Option ℕ) ℕ → Result (Option ℕ) ℕ
     → Streams → Heard → ℕ → Type 0 → Type 0
 TracedIfFound a b (Ok from) (Ok to) streams heard status Alone
     = TracedTo a b from to streams heard status
 TracedIfFound a b (Ok from) (Err refused) streams heard status Alone
-    = (status ≡ refused) × Tells heard (unplaced_line a.to) × Alone
+    = (status ≡ refused) × Tells heard (unplaced_line b.debug a.to) × Alone
 TracedIfFound a b (Err refused) to streams heard status Alone
-    = (status ≡ refused) × Tells heard (unplaced_line a.from) × Alone
+    = (status ≡ refused) × Tells heard (unplaced_line b.debug a.from) × Alone
 
 -- A trace between the places of the words, with the debug information that they name; before it the
 -- error stream got which of its sources have changed. Or that was not read, and the error stream got
@@ -314,7 +316,7 @@ TracedDebugged a assembly session loaded streams heard status Alone
     ⊎ ((debug : Option PlacesView) × AreDebugged a.debug_info session.current loaded assembly debug
     × (between : Option (List ℕ)) × TellsChanged a.debug_info heard.held between
     × TracedIfFound a (record { assembly = assembly; debug = debug; session = session; written = loaded })
-    (place_asked (names_of assembly) a.from) (place_asked (names_of assembly) a.to) streams
+    (place_asked (names_of assembly) debug a.from) (place_asked (names_of assembly) debug a.to) streams
     (record { held = between; now = heard.now }) status Alone)
 
 -- What was done for words: nothing was loaded, the error stream got why, and the others were left

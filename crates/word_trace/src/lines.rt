@@ -9,6 +9,7 @@ use accesses::Tally;
 use arguments::{Refusal, check_outputs, name_of, write_file};
 use arguments_play::TraceWords;
 use assembler::Assembly;
+use debug_files::check_sources;
 use source_map::Places;
 use std::alloc::{AllocError, Global};
 use std::rt::Files;
@@ -23,13 +24,18 @@ fn name_in(word: Option<&str>) -> Option<&str> {
 }
 
 /// Checks that the file for lcov, if one is asked for, is neither a file to run nor one of names or
-/// of debug information.
+/// of debug information, nor a source that this names.
 ///
 /// Errors: `WriteFile` with `SameFile` where it is one of them, `OutOfMemory` if an allocation
 /// fails.
 #[tactic(auto, using(crate::proofs::Refusing::ends_writing))]
-pub fn check_lines<H: Files + AllocGlobal>(rt: &H, words: &TraceWords<'_>) -> Result<(), Refusal>
-    ensures apart { IfOk result (λ _. IsApart (trace_view words.now)) }
+pub fn check_lines<H: Files + AllocGlobal>(
+    rt: &H,
+    words: &TraceWords<'_>,
+    debug: Option<&Places>,
+) -> Result<(), Refusal>
+    ensures apart { IfOk result
+        (λ _. IsApart (trace_view words.now) (option_map (λ p. p.now) debug.entry)) }
     ensures fault { IfErr result IsOfStreams }
 {
     check_outputs(
@@ -47,6 +53,7 @@ pub fn check_lines<H: Files + AllocGlobal>(rt: &H, words: &TraceWords<'_>) -> Re
         ],
         &[words.lcov],
     )?;
+    check_sources(rt, words.debug_info, words.source_root, debug, words.lcov)?;
     Ok(())
 }
 

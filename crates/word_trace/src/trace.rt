@@ -431,7 +431,8 @@ fn trace_span<H: Files + AllocGlobal, R: Read, O: Write, E: Write>(
         (λ g. trace_noted span.from span.to span.limit g
         (play_of (trace_view words.now) (begin_view loaded.old debug.entry) told))
         (O.contents output.old) (O.contents output.new)) }
-    ensures apart { IfOk result (λ _. IsApart (trace_view words.now)) }
+    ensures apart { IfOk result
+        (λ _. IsApart (trace_view words.now) (option_map (λ p. p.now) debug.entry)) }
     ensures fault { IfErr result IsOfStreams }
     ensures assembly { loaded.new.assembly ≡ loaded.old.assembly }
     ensures output { (text : List ℕ) × (loaded.new.session.current.bus.out
@@ -439,7 +440,7 @@ fn trace_span<H: Files + AllocGlobal, R: Read, O: Write, E: Write>(
         × Writes (E.contents errors.old) (E.contents errors.new) text result }
 {
     let alloc = rt.alloc();
-    check_lines(rt, words)?;
+    check_lines(rt, words, debug)?;
     let mut tracer = make_tracer(alloc, words, loaded, debug)?;
     let written = copied(alloc, &loaded.written)?.or_everywhere(words.is_free);
     let session = &mut loaded.session;
@@ -539,17 +540,19 @@ fn trace_loaded<H: Files + AllocGlobal, R: Read, O: Write, E: Write>(
     requires idle { input_waits loaded.old.session.current.bus ≡ false }
     requires silent { loaded.old.session.current.bus.out ≡ [] }
     ensures { TracedIfFound (trace_view words.now) (begin_view loaded.old debug.entry)
-        (place_asked (names_of loaded.old.assembly) (trace_view words.now).from)
-        (place_asked (names_of loaded.old.assembly) (trace_view words.now).to)
+        (place_asked (names_of loaded.old.assembly) (option_map (λ p. p.now) debug.entry)
+        (trace_view words.now).from)
+        (place_asked (names_of loaded.old.assembly) (option_map (λ p. p.now) debug.entry)
+        (trace_view words.now).to)
         (streams_of (R.remaining input.old) (R.remaining input.new) (O.contents output.old)
         (O.contents output.new)) (heard_of (E.contents errors.old) (E.contents errors.new))
         result ((input.new ≡ input.old) × (output.new ≡ output.old)) }
 {
-    let from = match place_named(loaded, words.from, errors) {
+    let from = match place_named(loaded, debug, words.from, errors) {
         Ok(from) => from,
         Err(status) => return status,
     };
-    let to = match place_named(loaded, words.to, errors) {
+    let to = match place_named(loaded, debug, words.to, errors) {
         Ok(to) => to,
         Err(status) => return status,
     };
@@ -581,7 +584,7 @@ fn trace_debugged<H: Files + AllocGlobal, R: Read, O: Write, E: Write>(
 {
     match load_debug(rt, words.debug_info, words.source_root, loaded) {
         Ok(debug) => {
-            tell_changed(words.debug_info, debug.changed.as_slice(), errors);
+            tell_changed(words.debug_info, &debug.sought, errors);
             let places = debug.places.as_ref();
             trace_loaded(rt, words, loaded, places, input, output, errors)
         }
@@ -618,7 +621,7 @@ fn trace_words<H: Files + AllocGlobal, R: Read, O: Write, E: Write>(
 /// The statuses are those of `run`, and 10 if `--steps` ended the trace. Rows, or what was counted
 /// or found, go to `output`, and the program's own output to `errors`. How often each line was run
 /// goes to its file when the trace has ended; the status is 4 where that cannot be written, or is
-/// the file to run or the file of names.
+/// the file to run, the file of names, that of debug information or a source that this names.
 pub fn trace_program<H: Files + AllocGlobal, R: Read, O: Write, E: Write>(
     rt: &H,
     words: &[&str],

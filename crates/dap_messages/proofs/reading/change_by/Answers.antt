@@ -1,5 +1,9 @@
-use Rattle.dap_messages.specs.Seen.{set_variable, write_memory}
+use Rattle.dap_messages.specs.Seen.{evaluate, set_variable, write_memory}
 use Rattle.dap_messages.proofs.reading.change_by.Goals as goal
+
+pub returns-in-Evaluate : goal.returns-in-Evaluate
+returns-in-Evaluate c = rw c.in-Evaluate.is
+    (λ i. evaluate (c.text_or.ensures i) (c.is_console.ensures i) (c.number_at.ensures i))
 
 pub returns-in-SetVariable : goal.returns-in-SetVariable
 returns-in-SetVariable c = rw c.in-SetVariable.is

@@ -18,7 +18,7 @@ returns-in-Source g c =
     let path = c.in-Source.path.now in
     let sets : IfOk c.set_source.result (λ v. SetsSourceOf c.args.counting path c.number_lines-wanted.result
     (record old { listed = c.number_lines-wanted.new.listed }) new (answer_view v))
-    = rw (← source.path, ← source.assembly, ← source.counting)
+    = rw (← source.files, ← source.counting)
     (IfOk-weaker c.set_source.result _ _ (λ v h. (h, c.set_source.ensures.kept)) c.set_source.ensures.sets) in
     let numbered = c.number_lines-wanted.ensures in
     rw c.in-Source.is (subst (λ (held : Listed). IfOk c.set_source.result

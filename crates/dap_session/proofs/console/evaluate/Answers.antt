@@ -13,7 +13,8 @@ returns-then-is_console c =
     let line = c.evaluate_line.ensures in
     record {
       done = IfOk-weaker c.evaluate_line.result _ _
-          (λ ms done. subst (λ (b : Bool). Evaluates b text old c.evaluate_line.new.client (map said_of ms.items)) (sym c.if-is_console.true) done) line.done;
+          (λ ms done. subst (λ (b : Bool). Evaluates b c.args.frame text old c.evaluate_line.new.client (map said_of ms.items))
+          (sym c.if-is_console.true) done) line.done;
       refused = line.refused;
       why = IfErr-weaker c.evaluate_line.result _ _ (λ f why.
           subst (λ (b : Bool). IfRefused f (IsNoLook text b old.mon)) (sym c.if-is_console.true) why) line.why;
@@ -22,13 +23,14 @@ returns-then-is_console c =
 pub returns-clause-done : goal.returns-clause-done
 returns-clause-done c =
     let old = c.args.client.now in
-    IfOk-weaker c.look.result _ _
-    (λ ms looks. subst (λ (b : Bool). Evaluates b c.args.text.now old old (map said_of ms.items)) (sym c.if-is_console.false) (refl, looks)) c.look.ensures.done
+    IfOk-weaker c.look_in.result _ _
+    (λ ms looks. subst (λ (b : Bool). Evaluates b c.args.frame c.args.text.now old old (map said_of ms.items))
+    (sym c.if-is_console.false) (refl, looks)) c.look_in.ensures.done
 
 pub returns-clause-why : goal.returns-clause-why
 returns-clause-why c =
     let old = c.args.client.now in
-    IfErr-weaker c.look.result _ _
+    IfErr-weaker c.look_in.result _ _
     (λ f why. refused_by_more f _ (IsNoLook c.args.text.now c.args.is_console old.mon)
     (λ none. subst (λ (b : Bool). IsNoLook c.args.text.now b old.mon) (sym c.if-is_console.false) (refl, none)) why)
-    c.look.ensures.why
+    c.look_in.ensures.why

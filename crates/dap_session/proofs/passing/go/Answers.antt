@@ -9,14 +9,14 @@ use Rattle.dap_session.proofs.passing.go.Goals as goal
 pub returns : goal.returns
 returns c = λ before is.
     let old = c.args.client.now in
-    let move = c.make_move-halt.ensures in
-    let halt = c.make_move-halt.result in
+    let move = c.in_ok-halt.ensures in
+    let halt = c.in_ok-halt.halt in
     let kept = c.with_halt_at.ensures.kept in
     let reason = move.reason ∙ ap (λ (n : Option ℕ). moved_reason n c.args.way old.mon) c.steps_of.ensures in
     IfOk-weaker c.with_halt_at.result _ _
     (λ ms told. (
       ap stand_of kept.0 ∙ move.stand ∙ ap (λ (n : Option ℕ). moved n c.args.way old.mon) c.steps_of.ensures,
-      subst (λ (d : MonState). KeepsWatches old.mon d) (sym kept.0) move.watches,
+      subst (λ (d : MonState). KeepsWatches old.mon d) (sym kept.0) c.make_move.ensures.watches,
       kept.1,
       (
         halt,

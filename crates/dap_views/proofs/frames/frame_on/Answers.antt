@@ -1,20 +1,21 @@
-use Rattle.std.proofs.Common.{◌∙◌, ℕ, Option, ap, sym}
+use Rattle.std.proofs.Common.{◌∙◌, Option, ap, sym}
 use Rattle.dap_messages.proofs.Shown.{item_as}
-use Rattle.dap_messages.specs.SeenAnswers.{frame_at_line, frame_without_line}
-use Rattle.dap_views.specs.Frames.{frame_on}
+use Rattle.dap_messages.specs.SeenAnswers.{frame_without_line}
+use Rattle.dap_views.specs.Frames.{frame_in, frame_on}
+use Rattle.dap_views.specs.declared.source.FilePath.{FilePath}
+use Rattle.source_map.specs.declared.rows.Row.{Row}
 use Rattle.dap_views.proofs.frames.frame_on.Goals as goal
 
 pub returns-in-Some : goal.returns-in-Some
 returns-in-Some c = λ w is.
-    let file = c.args.file.now in
+    let source = c.args.source.now in
     let frame = c.args.frame in
-    let name = c.args.name.now in
-    item_as _ _ _ ((λ i. frame_at_line (c.from-id.ensures i) frame.address w (c.shown_line.ensures i) (c.first_column.ensures i) name file.path.now)
-    ∙ sym (ap (λ (line : Option ℕ). frame_on file.path.now file.counting name frame w line) c.in-Some.is)) (c.frame_at_line.ensures w is)
+    item_as _ _ _ (ap (λ (file : Option FilePath). frame_in source.counting frame w file c.in-Some.row.line) c.file_at-file.ensures
+    ∙ sym (ap (λ (row : Option Row). frame_on source.files.now source.counting frame w row) c.in-Some.is)) (c.frame_in.ensures w is)
 
 pub returns-in-None : goal.returns-in-None
 returns-in-None c = λ w is.
-    let file = c.args.file.now in
+    let source = c.args.source.now in
     let frame = c.args.frame in
-    item_as _ _ _ (ap (λ n. frame_without_line n frame.address w) c.from-id.ensures
-    ∙ sym (ap (λ (line : Option ℕ). frame_on file.path.now file.counting c.args.name.now frame w line) c.in-None.is)) (c.frame_without_line.ensures w is)
+    item_as _ _ _ (ap (λ n. frame_without_line n frame.address w) c.from.ensures
+    ∙ sym (ap (λ (row : Option Row). frame_on source.files.now source.counting frame w row) c.in-None.is)) (c.frame_without_line.ensures w is)

@@ -9,10 +9,9 @@ use Rattle.dap_views.proofs.frames.frames_shown.Goals as goal
 pub returns : goal.returns
 returns c =
     let source = c.args.source.now in
-    let name = c.last_part-name.result.now in
-    let f = frame_shown c.args.mon.now.places source.path.now source.counting name in
+    let f = frame_shown c.args.mon.now.places source.files.now source.counting in
     let same = c.as_slice-all.ensures.value ∙ c.in_ok-frames.ensures in
     let count = ap (λ (frames : List Frame). length frames) same in
     let built = c.frames_body.ensures _ c.frames_listed-shown.ensures in
     IfOk-weaker c.frames_body.result _ _
-    (λ v is. (name, is ∙ (λ i. frames_body (page_of c.args.asked (map f (same i))) (count i)))) built
+    (λ v is. is ∙ (λ i. frames_body (page_of c.args.asked (map f (same i))) (count i))) built

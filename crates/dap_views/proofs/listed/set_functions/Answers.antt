@@ -1,4 +1,4 @@
-use Rattle.std.proofs.Common.{List, refl, subst}
+use Rattle.std.proofs.Common.{List, None, refl, subst}
 use Rattle.std.proofs.lemmas.Result.{IfOk-weaker}
 use Rattle.dap_messages.specs.declared.request.FunctionBreakpoint.{FunctionBreakpoint}
 use Rattle.dap_views.proofs.Listing.{sets_list}
@@ -10,7 +10,7 @@ pub returns-clause-sets : goal.returns-clause-sets
 returns-clause-sets c =
     let find = found_name c.args.mon.now.places c.args.mon.now.session.current.regs.pc in
     let found = subst (λ (all : List FunctionBreakpoint). Finds find all c.in_ok-list.list) c.as_slice.ensures.value c.in_ok-list.ensures in
-    sets_list find c.args.counting c.args.wanted.first c.args.wanted.list.items c.args.listed.now.functions.items c.set_list.new.held.items
+    sets_list find c.args.counting None c.args.wanted.first c.args.wanted.list.items c.args.listed.now.functions.items c.set_list.new.held.items
     c.args.mon.now c.set_list.new.mon c.in_ok-list.list c.set_list.result found c.set_list.ensures.held c.set_list.ensures.place c.set_list.ensures.answer
 
 pub returns-clause-held : goal.returns-clause-held

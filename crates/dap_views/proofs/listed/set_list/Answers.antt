@@ -16,7 +16,7 @@ returns-clause-place c =
 
 pub returns-clause-held : goal.returns-clause-held
 returns-clause-held c =
-    IfOk-weaker c.answers.result _ _ (λ v h. c.in_ok-placed.ensures ∙ ap (placed_of c.args.first) c.as_slice.ensures.value) c.answers.ensures
+    IfOk-weaker c.answers.result _ _ (λ v h. c.in_ok-placed.ensures ∙ ap (placed_of c.args.file c.args.first) c.as_slice.ensures.value) c.answers.ensures
 
 pub returns-clause-answer : goal.returns-clause-answer
 returns-clause-answer c =

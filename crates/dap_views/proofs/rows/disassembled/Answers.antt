@@ -7,7 +7,7 @@ use Rattle.dap_views.proofs.rows.disassembled.Goals.{in-Some, in-None}
 
 pub returns : goal.returns
 returns c =
-    let rows = rows_at c.args.mon.now c.args.source.now.path.now c.args.source.now.counting in
+    let rows = rows_at c.args.mon.now c.args.source.now.files.now c.args.source.now.counting in
     let offset = c.args.offset in
     let count = c.args.count in
     let same_offset = to_z-of_z w64 offset c.ranges.offset in

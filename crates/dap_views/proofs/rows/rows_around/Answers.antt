@@ -9,7 +9,7 @@ use Rattle.dap_views.proofs.rows.rows_around.Goals as goal
 pub returns : goal.returns
 returns c =
     let mon = c.args.mon.now in
-    let path = c.args.source.now.path.now in
+    let files = c.args.source.now.files.now in
     let counting = c.args.source.now.counting in
     let end = c.from-until.result in
     let same_offset = to_z-of_z w64 c.args.offset c.ranges.offset in
@@ -22,7 +22,7 @@ returns c =
     ((c.saturating_sub.ensures ∙ ap (λ n. n - c.moved-back.result.0) found) i + c.moved-back.result.1) (begun i)) in
     let front = subst (λ n. HasItems (lacking_rows n c.saturating_sub-lacking.result) c.lacking_rows-front.result) c.min.ensures
     c.lacking_rows-front.ensures in
-    let same = around mon path counting end (behind c.args.offset) (ahead c.args.offset) c.args.count _ _ _ _ _ _ back on lacking first refl
+    let same = around mon files counting end (behind c.args.offset) (ahead c.args.offset) c.args.count _ _ _ _ _ _ back on lacking first refl
     c.saturating_sub-left.ensures in
-    let until = ap (λ (end : ℕ). rows_around mon path counting end (behind c.args.offset) (ahead c.args.offset) c.args.count) c.from-until.ensures in
+    let until = ap (λ (end : ℕ). rows_around mon files counting end (behind c.args.offset) (ahead c.args.offset) c.args.count) c.from-until.ensures in
     subst (λ (ds : List SeenItem). IfOk c.with_rows.result (HasItems ds)) (same ∙ until) (c.with_rows.ensures _ front)

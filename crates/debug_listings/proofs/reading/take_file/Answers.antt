@@ -1,5 +1,5 @@
 use Rattle.std.proofs.Common.{arith, refl}
-use Rattle.debug_listings.specs.Listing.{reading_view}
+use Rattle.debug_listings.specs.Reading.{reading_view}
 use Rattle.debug_listings.proofs.Files.{file_taken}
 use Rattle.debug_listings.proofs.reading.take_file.Goals as goal
 

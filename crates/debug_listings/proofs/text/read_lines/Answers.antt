@@ -1,6 +1,7 @@
 use Rattle.std.proofs.Common.{◌∙◌, ap, arith, sym, true-eqb}
 use Rattle.model.specs.TextLines.{lines_of}
-use Rattle.debug_listings.specs.Listing.{lines_read, reading_view}
+use Rattle.debug_listings.specs.Reading.{reading_view}
+use Rattle.debug_listings.specs.Texts.{lines_read}
 use Rattle.debug_records.proofs.LineLengths.{length-first_line}
 use Rattle.debug_records.proofs.Passing.{passed_on_in_file}
 use Rattle.debug_listings.proofs.Ways.{line_more, line_refused, no_line_left}

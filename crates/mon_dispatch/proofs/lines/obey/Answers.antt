@@ -1,9 +1,8 @@
 use Rattle.std.proofs.Common.{◌≡◌, ◌++◌, Result, Ok, Err, refl}
 use Rattle.std.specs.Prelude.{⊤, OnOk}
 use Rattle.std.specs.declared.alloc.AllocError.{AllocError}
-use Rattle.mon_dispatch.specs.LineTexts.{line_text}
 use Rattle.mon_dispatch.specs.LookTexts.{look_text}
-use Rattle.mon_dispatch.specs.Lines.{Does}
+use Rattle.mon_dispatch.specs.Lines.{Does, Tells}
 use Rattle.mon_lines.specs.declared.command.Command.{Command}
 use Rattle.mon_lines.specs.declared.command.Command.TheVariants as line
 use Rattle.mon_session.specs.Course.{ShowsOnly}
@@ -30,6 +29,8 @@ returns-in_default-clause-does c = always c.look.result (Does c.args.command.now
     by_command (line.Back u) e shows = absurd (c.in_default.not-Back u e)
     by_command line.Rback e shows = absurd (c.in_default.not-Rback e)
     by_command (line.Redo n) e shows = absurd (c.in_default.not-Redo n e)
+    by_command line.Where e shows = absurd (c.in_default.not-Where e)
+    by_command (line.Locals n) e shows = absurd (c.in_default.not-Locals n e)
     by_command (line.History n) e shows = absurd (c.in_default.not-History n e)
     by_command (line.Break a t n) e shows = absurd (c.in_default.not-Break a t n e)
     by_command (line.Watch s k) e shows = absurd (c.in_default.not-Watch s k e)
@@ -55,7 +56,7 @@ returns-in_default-clause-text c =
   where
     by_command : (command : Command) → c.args.command.now ≡ command
         → OnOk c.look.result (c.look.new.mon.text.items ≡ c.args.mon.now.text.items ++ look_text command c.args.mon.now.session.current c.args.mon.now.places)
-        → OnOk c.look.result (c.look.new.mon.text.items ≡ c.args.mon.now.text.items ++ line_text command c.args.mon.now)
+        → OnOk c.look.result (Tells command c.args.mon.now c.look.new.mon)
     by_command line.Nothing e said = absurd (c.in_default.not-Nothing e)
     by_command (line.Step n) e said = absurd (c.in_default.not-Step n e)
     by_command line.Over e said = absurd (c.in_default.not-Over e)
@@ -67,6 +68,8 @@ returns-in_default-clause-text c =
     by_command (line.Back u) e said = absurd (c.in_default.not-Back u e)
     by_command line.Rback e said = absurd (c.in_default.not-Rback e)
     by_command (line.Redo n) e said = absurd (c.in_default.not-Redo n e)
+    by_command line.Where e said = absurd (c.in_default.not-Where e)
+    by_command (line.Locals n) e said = absurd (c.in_default.not-Locals n e)
     by_command (line.History n) e said = absurd (c.in_default.not-History n e)
     by_command (line.Break a t n) e said = absurd (c.in_default.not-Break a t n e)
     by_command (line.Watch s k) e said = absurd (c.in_default.not-Watch s k e)

@@ -1,5 +1,5 @@
 use Rattle.std.proofs.Common.{◌≡◌, ◌+◌, ◌++◌, drop}
-use Rattle.t65_reader.specs.RowText.{value_items}
+use Rattle.t65_reader.specs.Items.{value_items}
 use Rattle.t65_reader.proofs.item.push_items.Given as goal
 
 abbrev pub invariant-loop-i : goal.invariant-loop-i

@@ -14,7 +14,7 @@ pub loop-i-preserved : goal.loop-i-preserved
 loop-i-preserved c = record {
   rest = one_drawn _ _ _ (c.args.first + c.loop-i.i) (c.args.first + (c.loop-i.i + 1)) (c.args.count - c.loop-i.i) (c.args.count - (c.loop-i.i + 1))
       (omega arith) (omega arith)
-      (c.in_ok-push.ensures.ok ∙ ap (λ (v : Value). c.loop-i.found.items ++ v ∷ []) c.just.ensures) c.loop-i.invariant.rest;
+      (c.in_ok-push_value.ensures.ok ∙ ap (λ (v : Value). c.loop-i.found.items ++ v ∷ []) c.just.ensures) c.loop-i.invariant.rest;
 }
 
 pub returns-clause-ok : goal.returns-clause-ok

@@ -30,15 +30,15 @@ returns-in_err-path-clause-refused g c =
 
 pub returns-in-Ok-rows_in-clause-prepared : goal.returns-in-Ok-rows_in-clause-prepared
 returns-in-Ok-rows_in-clause-prepared g c = ready _ c.args.steps (suite_view c.args.suite) c.deref.result.now (head_view c.in_ok-opened.opened.head)
-    c.in_ok-opened.opened.next (lines_of c.in_ok-opened.opened.rest.now) _
+    c.in_ok-opened.opened.next (lines_of c.in_ok-opened.opened.rest.now) _ _
     c.in_ok-opened.ensures.head c.deref.ensures.value c.in_ok-map.ensures.map (c.deref-2.ensures ∙ c.in_ok-path.ensures.path) c.in-Ok.ensures.program
-    c.in-Ok.ensures.places c.in-Ok-rows_in.ensures.rows refl
+    c.in-Ok.ensures.places c.in-Ok.ensures.functions c.in-Ok-rows_in.ensures.rows refl
 
 pub returns-in-Err-rows_in-clause-refused : goal.returns-in-Err-rows_in-clause-refused
 returns-in-Err-rows_in-clause-refused g c =
     unread_ends (suite_view c.args.suite).reading c.worth_of-points.result _ c.in-Err-rows_in.fault _ c.unread.ensures.fault c.unread.ensures.points
     (rows_end (suite_view c.args.suite).reading c.deref.result.now (head_view c.in_ok-opened.opened.head) c.in_ok-opened.opened.next
-    (lines_of c.in_ok-opened.opened.rest.now) _ _ c.args.steps c.in-Err-rows_in.fault c.worth_of-points.result
+    (lines_of c.in_ok-opened.opened.rest.now) _ _ c.args.steps _ c.in-Err-rows_in.fault c.worth_of-points.result
     c.in_ok-opened.ensures.head c.in-Ok.ensures.program c.in-Err-rows_in.ensures.refused c.worth_of-points.ensures)
 
 pub returns-in-Err-clause-refused : goal.returns-in-Err-clause-refused

@@ -21,11 +21,11 @@ returns-in-Ok g c =
     }) end.ending end.steps c.regs-pc.result.pc now.current.regs.pc
     (ap (λ (a : Option AssemblyView). known_by file a debug) (c.as_ref-assembly.ensures.value ∙ c.in-Ok.ensures.assembly))
     (ap (λ (r : Regs). r.pc) c.regs-pc.ensures) c.tell_ending.ensures.told in
-    shown (page_view c.args.words.now) (known_by file source debug) c.args.until
+    shown (page_view c.args.words.now) debug (known_by file source debug) c.args.until
     (start_in c.args.words.now.is_free c.args.loaded.now.session c.args.loaded.now.written) now (record {
       held = g.E.Write.contents c.args.errors.now;
       now = g.E.Write.contents c.tell_ending.new.errors;
-    }) end c.status_of_ending.result ran.0 ran.1 ran.2 c.status_of_ending.ensures told
+    }) end c.status_of_ending.result ran.0 ran.1 c.in-Ok.ensures.apart ran.2 c.status_of_ending.ensures told
 
 pub returns-in-Err : goal.returns-in-Err
 returns-in-Err g c = inl c.tell.ensures

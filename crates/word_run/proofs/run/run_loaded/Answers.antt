@@ -27,28 +27,30 @@ returns-in-Err-place_named-clause-done g c =
     let held = g.W.Write.contents c.args.output.now.inner in
     ran_unfound (run_view c.args.words.now)
     (record { session = loaded.session; written = or_everywhere c.args.words.now.is_free loaded.written })
-    loaded.written loaded.assembly _ (streams_of given given held held) c.args.output.now.interrupted
+    loaded.written loaded.assembly _ _ (streams_of given given held held) c.args.output.now.interrupted
     (heard_of (g.E.Write.contents c.args.errors.now) (g.E.Write.contents c.place_named.new.errors))
     (g.E.Write.contents c.tell_changed.new.errors)
     c.in-Err-place_named.status ((c.args.input.now ≡ c.args.input.now) × (c.args.output.now ≡ c.args.output.now))
-    c.in-Ok.ensures.places c.tell_changed.ensures.told c.in-Err-place_named.ensures.place c.in-Err-place_named.ensures.told (refl, refl)
+    c.in-Ok.ensures.places c.tell_changed.ensures.told c.as_ref-places.ensures.value c.in-Err-place_named.ensures.place
+    c.in-Err-place_named.ensures.told (refl, refl)
 
 pub returns-in-Err-place_named-clause-quiet : goal.returns-in-Err-place_named-clause-quiet
 returns-in-Err-place_named-clause-quiet g c untold none zero =
-    absurd (unfound_status (names_of c.args.loaded.assembly) (run_view c.args.words.now).until c.in-Err-place_named.status
+    absurd (unfound_status (names_of c.args.loaded.assembly) (option_map (λ p. p.now) c.as_ref-places.result) (run_view c.args.words.now).until
+    c.in-Err-place_named.status
     c.in-Err-place_named.ensures.place zero)
 
 pub returns-clause-done : goal.returns-clause-done
 returns-clause-done g c =
     let loaded = c.args.loaded in
     let ran = c.run_to.new in
-    ran_found g.E.Write.contents (run_view c.args.words.now) loaded.session loaded.written c.or_everywhere-written.result loaded.assembly _ _
+    ran_found g.E.Write.contents (run_view c.args.words.now) loaded.session loaded.written c.or_everywhere-written.result loaded.assembly _ _ _
     c.in-Ok-place_named.until
     (streams_of (g.R.Read.remaining c.args.input.now) (g.R.Read.remaining ran.input) (g.W.Write.contents c.args.output.now.inner)
     (g.W.Write.contents ran.output.inner)) ran.output.interrupted
     c.args.errors.now c.tell_changed.new.errors c.place_named.new.errors ran.errors c.run_to.result
     ((ran.input ≡ c.args.input.now) × (ran.output ≡ c.args.output.now))
-    c.in-Ok.ensures.places c.tell_changed.ensures.told c.in-Ok-place_named.ensures.place c.in-Ok-place_named.ensures.quiet
+    c.in-Ok.ensures.places c.tell_changed.ensures.told c.as_ref-places.ensures.value c.in-Ok-place_named.ensures.place c.in-Ok-place_named.ensures.quiet
     (ap₂ (known_by c.args.words.now.file.file.now) c.as_ref-source.ensures.value c.as_ref-places.ensures.value) c.or_everywhere-written.ensures
     c.run_to.ensures.ran
 

@@ -25,7 +25,7 @@ returns-in-Ok g c =
       c.in-Ok.ensures.places,
       g.E.Write.contents c.tell_changed.new.errors,
       c.tell_changed.ensures.told,
-      subst (λ (debug : Option PlacesView). TracedIfFound a (begin_with c.args.loaded.now debug) (place_asked names a.from) (place_asked names a.to)
+      subst (λ (debug : Option PlacesView). TracedIfFound a (begin_with c.args.loaded.now debug) (place_asked names debug a.from) (place_asked names debug a.to)
           (streams_of (g.R.Read.remaining c.args.input.now) (g.R.Read.remaining ran.input) (g.O.Write.contents c.args.output.now)
           (g.O.Write.contents ran.output)) (heard_of (g.E.Write.contents c.tell_changed.new.errors) (g.E.Write.contents ran.errors)) c.trace_loaded.result
           ((ran.input ≡ c.args.input.now) × (ran.output ≡ c.args.output.now))) c.as_ref-places.ensures.value c.trace_loaded.ensures,

@@ -1,4 +1,4 @@
-use Rattle.std.proofs.Common.{◌≡◌, ◌∙◌, refl}
+use Rattle.std.proofs.Common.{◌≡◌, ◌∙◌, option_map, refl}
 use Rattle.loading.specs.Place.{names_of}
 use Rattle.word_run.specs.Places.{place_asked}
 use Rattle.arguments_play.specs.Trace.{trace_view}
@@ -8,8 +8,8 @@ use Rattle.word_trace.proofs.trace.trace_loaded.Goals as goal
 
 pub returns-in-Err : goal.returns-in-Err
 returns-in-Err g c =
-    let names = names_of c.args.loaded.now.assembly in let a = trace_view c.args.words.now in
-    unfound_from a (begin_view c.args.loaded.now c.args.debug) (place_asked names a.from) (place_asked names a.to) (record {
+    let names = names_of c.args.loaded.now.assembly in let a = trace_view c.args.words.now in let known = option_map (λ p. p.now) c.args.debug in
+    unfound_from a (begin_view c.args.loaded.now c.args.debug) (place_asked names known a.from) (place_asked names known a.to) (record {
       given = g.R.Read.remaining c.args.input.now;
       left = g.R.Read.remaining c.args.input.now;
       held = g.O.Write.contents c.args.output.now;
@@ -22,8 +22,8 @@ returns-in-Err g c =
 
 pub returns-in-Err-place_named : goal.returns-in-Err-place_named
 returns-in-Err-place_named g c =
-    let names = names_of c.args.loaded.now.assembly in let a = trace_view c.args.words.now in
-    unfound_to a (begin_view c.args.loaded.now c.args.debug) c.in-Ok.from (place_asked names a.from) (place_asked names a.to) (record {
+    let names = names_of c.args.loaded.now.assembly in let a = trace_view c.args.words.now in let known = option_map (λ p. p.now) c.args.debug in
+    unfound_to a (begin_view c.args.loaded.now c.args.debug) c.in-Ok.from (place_asked names known a.from) (place_asked names known a.to) (record {
       given = g.R.Read.remaining c.args.input.now;
       left = g.R.Read.remaining c.args.input.now;
       held = g.O.Write.contents c.args.output.now;
@@ -37,9 +37,9 @@ returns-in-Err-place_named g c =
 
 pub returns : goal.returns
 returns g c =
-    let names = names_of c.args.loaded.now.assembly in let a = trace_view c.args.words.now in
+    let names = names_of c.args.loaded.now.assembly in let a = trace_view c.args.words.now in let known = option_map (λ p. p.now) c.args.debug in
     traced_between a (begin_view c.args.loaded.now c.args.debug) c.in-Ok.from c.in-Ok-place_named.to
-    (place_asked names a.from) (place_asked names a.to) (record {
+    (place_asked names known a.from) (place_asked names known a.to) (record {
       given = g.R.Read.remaining c.args.input.now;
       left = g.R.Read.remaining c.trace_told.new.input;
       held = g.O.Write.contents c.args.output.now;

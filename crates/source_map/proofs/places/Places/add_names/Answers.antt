@@ -13,5 +13,6 @@ returns-clause-err c = IfErr-weaker c.append.result _ _ (λ _ h. (
     sites = (c.self.view_is i).sites;
     sources = (c.self.view_is i).sources;
     is_whole = (c.self.view_is i).is_whole;
+    functions = (c.self.view_is i).functions;
   },
 )) c.append.ensures.err

@@ -1,0 +1,7 @@
+use Rattle.std.proofs.Common.{◌≡◌, ◌++◌, drop, map}
+use Rattle.call_frames.specs.Found.{routines_in}
+use Rattle.source_map.specs.Names.{named}
+use Rattle.call_frames.proofs.found.routines_in.Given as goal
+
+abbrev pub invariant-loop-name : goal.invariant-loop-name
+invariant-loop-name l = l.routines.items ++ routines_in (map named (drop l.name-index l.names)) ≡ routines_in (map named l.names)
