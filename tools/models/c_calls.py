@@ -9,13 +9,13 @@ import collections
 import re
 
 PUSHED = {"pusha": 1, "pushax": 2, "pusheax": 4, "enter": 1}
-JSR = 0x20
+JSR, RTS = 0x20, 0x60
 ROW = re.compile(r" *\d+  ([0-9A-F]{4})  ((?:[0-9A-F]{2} )+) .*A=.. X=.. Y=.. S=(..) \S{8}(.*)")
 STORE = re.compile(r"([0-9A-F]{4})=([0-9A-F]{2})")
 Function = collections.namedtuple("Function", "name start size locals")
 # A call that has not returned: where it was made, S and `sp` at the function's first byte, and what
-# `sp` is once the last parameter is pushed.
-Call = collections.namedtuple("Call", "function caller s sp base")
+# the function calls first to push its last parameter, if it does.
+Call = collections.namedtuple("Call", "function caller s sp pushes")
 
 
 def labels_in(text):
@@ -41,8 +41,8 @@ def functions_in(records):
 
 def calls_of(rows, functions, labels):
     """For each state before a row of `trace --stores`: PC, what `sp` is, and the calls of functions
-    of C that have not returned, the first first; or None where PC is in no function of the last of
-    them."""
+    of C that have not returned, the first first; or None where PC is not in the function of the
+    last of them, or at the end of one with `...`, which has taken off what Y said."""
     names = {address: name for name, address in labels.items() if name in PUSHED}
     memory, calls, s, before = {}, [], 0xFD, None
     pointer = labels["sp"]
@@ -54,12 +54,16 @@ def calls_of(rows, functions, labels):
         sp = memory.get(pointer, 0) | memory.get(pointer + 1, 0) << 8
         if before and before[1][0] == JSR and pc in functions:
             first = names.get(code[1] | code[2] << 8) if code[0] == JSR else None
-            calls.append(Call(functions[pc], before[0], s, sp, sp - PUSHED.get(first, 0)))
-        last = calls[-1].function if calls else None
-        is_in = last and last.start <= pc < last.start + last.size
-        yield pc, sp, list(calls) if is_in else None
+            calls.append(Call(functions[pc], before[0], s, sp, first))
+        is_known = calls and is_in(calls[-1], pc, code)
+        yield pc, sp, list(calls) if is_known else None
         memory.update((int(at, 16), int(byte, 16)) for at, byte in STORE.findall(found[4]))
         s, before = int(found[3], 16), (pc, code)
+
+
+def is_in(call, pc, code):
+    start, size = call.function.start, call.function.size
+    return start <= pc < start + size and not (call.pushes == "enter" and code[0] == RTS)
 
 
 def frames_of(pc, sp, calls):
@@ -71,5 +75,6 @@ def frames_of(pc, sp, calls):
 
 def locals_of(call, sp):
     """Where the parameters and locals of a call are: those that are there yet."""
-    found = {name: call.base + offset for name, offset in call.function.locals.items()}
+    base = call.sp - PUSHED.get(call.pushes, 0)
+    found = {name: base + offset for name, offset in call.function.locals.items()}
     return {name: address for name, address in found.items() if address >= sp}
