@@ -41,7 +41,11 @@ unfolding debug_info lines_read lines_from with_text said_by fields_within next_
     with_span span_of with_new finished
 no_segment = refl
 
-pub twice : debug_info (version ++ codes "seg\tid=0,name=" ++ 34 ∷ codes "A" ++ 34 ∷ codes ",start=0x0,size=1\r\nseg\tid=0,name=" ++ 34 ∷ codes "B" ++ 34 ∷ codes ",start=1,size=1\n") ≡ fault_in_file 3 8 fault.IdTwice
+abbrev two_segments : List ℕ
+two_segments = version ++ codes "seg\tid=0,name=" ++ 34 ∷ codes "A" ++ 34 ∷ codes ",start=0x0,size=1\r\nseg\tid=0,name="
+    ++ 34 ∷ codes "B" ++ 34 ∷ codes ",start=1,size=1\n"
+
+pub twice : debug_info two_segments ≡ fault_in_file 3 8 fault.IdTwice
 unfolding debug_info lines_read lines_from with_text said_by fields_within next_field field_of field_with number_of with_said with_version with_record
     with_segment segment_of with_new finished
 twice = refl
@@ -64,6 +68,7 @@ row file line kind depth start end = record {
   depth = depth;
   start = start;
   end = end;
+  has_code = true;
   is_data = false;
 }
 
@@ -138,6 +143,20 @@ in_banks = refl
 pub in_one_bank : clear_rows (record no_info { segments = Some bank ∷ None ∷ [] }) (behind ∷ called ∷ []) ≡ behind ∷ called ∷ []
 in_one_bank = refl
 
+-- ---- BSS over code that is run once: the row of the code alone is shown
+
+abbrev bss : Segment
+bss = record { name = codes "BSS"; start = 0x8000; size = 0x100; is_read_only = false; output = None }
+
+abbrev variable : Row
+variable = record (row 0 2 kind.Assembler 0 0x8000 0x8001) { has_code = false; is_data = true }
+
+pub over_code : clear_rows (record no_info { segments = Some bank ∷ Some bss ∷ [] }) (behind ∷ variable ∷ called ∷ []) ≡ behind ∷ called ∷ []
+over_code = refl
+
+pub in_bss : clear_rows (record no_info { segments = Some bss ∷ [] }) (variable ∷ []) ≡ variable ∷ []
+in_bss = refl
+
 -- ---- a function of C with its local, as cc65 wrote it
 
 abbrev names_in : Result Info DebugFault → List (Option CSymbol)
@@ -150,7 +169,8 @@ scopes_in (Err fault) = []
 
 abbrev function_lines : List ℕ
 function_lines = version ++ codes "csym\tid=0,name=" ++ 34 ∷ codes "sum_of" ++ 34 ∷ codes ",scope=0,type=1,sc=ext,sym=0\ncsym\tid=1,name="
-    ++ 34 ∷ codes "rest" ++ 34 ∷ codes ",scope=0,type=1,sc=auto,offs=-2\nscope\tid=0,name=" ++ 34 ∷ codes "_sum_of" ++ 34 ∷ codes ",mod=0,type=scope,size=60,sym=0\nsym\tid=0,name="
+    ++ 34 ∷ codes "rest" ++ 34 ∷ codes ",scope=0,type=1,sc=auto,offs=-2\nscope\tid=0,name="
+    ++ 34 ∷ codes "_sum_of" ++ 34 ∷ codes ",mod=0,type=scope,size=60,sym=0\nsym\tid=0,name="
     ++ 34 ∷ codes "_sum_of" ++ 34 ∷ codes ",val=0x81AF,type=lab\n"
 
 pub two_names : names_in (debug_info function_lines)

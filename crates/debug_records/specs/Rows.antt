@@ -37,6 +37,7 @@ row_with line span segment = if is_parameter line.kind then None else Some (reco
   depth = line.depth;
   start = first_address span segment;
   end = first_address span segment + span.size;
+  has_code = not (has_no_code segment);
   is_data = span.is_data || has_no_code segment;
 })
 
@@ -53,10 +54,11 @@ rows_of info = filter_map (row_of info) info.uses
 
 -- ---- rows that are told apart from others
 
--- Whether a row and a segment have an address together.
+-- Whether a row and a segment have an address together. One without code hides no code: BSS may lie
+-- over code that has run before it.
 abbrev pub meets : Row → Option Segment → Bool
 meets row None = false
-meets row (Some segment) = nat_lt 0 segment.size
+meets row (Some segment) = not (row.has_code && has_no_code segment) && nat_lt 0 segment.size
     && nat_lt row.start (segment.start + segment.size) && nat_lt segment.start row.end
 
 -- Whether a row has an address together with two segments, or with one where one was found before.

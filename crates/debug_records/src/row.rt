@@ -14,6 +14,8 @@ pub struct Row {
     pub depth: u32,
     pub start: u64,
     pub end: u64,
+    /// Whether its segment may have code: it is read only, or its bytes are in a file.
+    pub has_code: bool,
     /// Whether the bytes are data, as far as the file says so.
     pub is_data: bool,
 }

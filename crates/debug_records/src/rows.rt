@@ -44,6 +44,7 @@ fn row_with(line: Line, span: Span, segment: Segment<'_>) -> Option<Row>
         depth: line.depth,
         start,
         end: start + span.size as u64,
+        has_code: !has_no_code(segment),
         is_data: span.is_data || has_no_code(segment),
     })
 }
@@ -81,7 +82,8 @@ pub fn rows_of(alloc: Global, info: &DebugInfo<'_>) -> Result<Vec<Row>, AllocErr
     Ok(rows)
 }
 
-/// Returns whether a row and a segment have an address together.
+/// Returns whether a row and a segment have an address together: of a row with code, a segment that
+/// has code too.
 fn meets(row: Row, segment: Option<Segment<'_>>) -> bool
     ensures { result ≡ meets row (option_map segment_view segment.entry) }
 {
@@ -89,7 +91,10 @@ fn meets(row: Row, segment: Option<Segment<'_>>) -> bool
         None => false,
         Some(segment) => {
             let start = segment.start as u64;
-            segment.size > 0 && row.start < start + segment.size as u64 && start < row.end
+            !(row.has_code && has_no_code(segment))
+                && segment.size > 0
+                && row.start < start + segment.size as u64
+                && start < row.end
         }
     }
 }
