@@ -4,6 +4,7 @@ use Rattle.std.specs.Prelude.{ℕ, ◌+◌, ◌%◌, ◌==◌, ◌&&◌, ◌||�
 use Rattle.debug_listings.specs.Lines.{Said, nothing, head, row, repeated, begins}
 use Rattle.debug_listings.specs.Reading.{Read, Reading, flushed, with_file}
 use Rattle.debug_listings.specs.declared.line.Bytes.{Bytes}
+use Rattle.debug_listings.specs.declared.reading.Form.{Form}
 use Rattle.debug_listings.specs.declared.reading.Form.TheVariants.{Listing}
 use Rattle.debug_listings.specs.declared.reading.Span.{Span as Begun}
 use Rattle.debug_records.specs.Faults.{◌>>=◌, fault_at}
@@ -41,15 +42,23 @@ abbrev pub with_numbered : List ℕ → ℕ → Bytes → Reading → Read
 with_numbered line number bytes r
     = flushed line r >>= λ more. with_begun line number more.file bytes more
 
--- A row without a number goes on with the data of the line before it. 64tass writes 8 bytes of a
--- line into its first row, and 16 into each row that others follow.
-abbrev pub goes_on : Begun → Bytes → Bool
-goes_on begun bytes = begun.is_data && bytes.is_data && (begun.size % 16 == 8)
+-- How many bytes of a line 64tass writes into its first row, if others follow, which have 16.
+abbrev pub first_in : Form → ℕ
+first_in (Listing (Some columns)) = columns.first
+first_in other = 8
+
+-- Whether the rows of data are full.
+abbrev pub is_full : Form → Begun → Bool
+is_full form begun = begun.is_data && begun.size % 16 == first_in form % 16
+
+-- A row without a number goes on with the data of the line before it.
+abbrev pub goes_on : Form → Begun → Bytes → Bool
+goes_on form begun bytes = is_full form begun && bytes.is_data
     && (begun.start + begun.size == bytes.start)
 
 abbrev pub with_more : List ℕ → Option Begun → Bytes → Reading → Read
 with_more line None bytes r = Err (fault_at NoLineNumber line)
-with_more line (Some begun) bytes r = if goes_on begun bytes
+with_more line (Some begun) bytes r = if goes_on r.form begun bytes
     then Ok (record r { last = Some (record begun { size = begun.size + bytes.count }) })
     else Err (fault_at NoLineNumber line)
 
@@ -64,13 +73,13 @@ with_bytes_if line number (Some bytes) r = if bytes.count == 0 then Ok r
     else with_bytes line number bytes r
 
 -- Rows that are left out go on with the data before them, behind full rows, as far as memory goes.
-abbrev pub can_repeat : Begun → ℕ → Bool
-can_repeat begun count = begun.is_data && (begun.size % 16 == 8) && nat_le count 65536
+abbrev pub can_repeat : Form → Begun → ℕ → Bool
+can_repeat form begun count = is_full form begun && nat_le count 65536
     && nat_le (begun.size + count) 65536
 
 abbrev pub with_repeated : List ℕ → Option Begun → ℕ → Reading → Read
 with_repeated line None count r = Err (fault_at NoLineNumber line)
-with_repeated line (Some begun) count r = if can_repeat begun count
+with_repeated line (Some begun) count r = if can_repeat r.form begun count
     then Ok (record r { last = Some (record begun { size = begun.size + count }) })
     else Err (fault_at NoLineNumber line)
 
@@ -83,11 +92,23 @@ with_said line (row numbers bytes) r
     = in_file line numbers.file r >>= with_bytes_if line numbers.line bytes
 with_said line (repeated count) r = with_repeated line r.last count r
 
+-- Without the column of the source, or with it and without that of the monitor, first rows have more
+-- or fewer bytes.
+abbrev pub first_by : List ℕ → ℕ
+first_by line = if begins line (codes ";Line\t;Offset\t;Hex\t\t;Monitor\t;Source")
+    || begins line (codes ";Line\t;Offset\t;PC\t;Hex\t\t;Monitor\t;Source") then 8
+    else if begins line (codes ";Line\t;Offset\t;Hex\t\t;Source")
+    || begins line (codes ";Line\t;Offset\t;PC\t;Hex\t\t;Source") then 4
+    else 16
+
+abbrev pub with_form : Bool → List ℕ → Reading → Read
+with_form has_run line r
+    = Ok (record r { form = Listing (Some (record { has_run = has_run; first = first_by line })) })
+
 -- The columns are named once, before the first file: with tabs of 8, and with numbers of lines.
 abbrev pub with_columns : List ℕ → Reading → Read
-with_columns line r = if begins line (codes ";Line\t;Offset\t;PC\t;Hex")
-    then Ok (record r { form = Listing (Some true) })
-    else if begins line (codes ";Line\t;Offset\t;Hex") then Ok (record r { form = Listing (Some false) })
+with_columns line r = if begins line (codes ";Line\t;Offset\t;PC\t;Hex") then with_form true line r
+    else if begins line (codes ";Line\t;Offset\t;Hex") then with_form false line r
     else if begins line (codes ";Offset") then Err (fault_at NoNumbers line)
     else if begins line (codes ";Line") then Err (fault_at NoColumns line)
     else Ok r

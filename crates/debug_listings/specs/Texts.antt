@@ -20,7 +20,7 @@ use Rattle.debug_records.specs.declared.fault.DebugFaultKind.TheVariants.{NoColu
 
 abbrev pub with_line : Form → List ℕ → Reading → Read
 with_line (Listing None) line r = with_columns line r
-with_line (Listing (Some has_run)) line r = said_by has_run line >>= λ said. with_said line said r
+with_line (Listing (Some columns)) line r = said_by columns.has_run line >>= λ said. with_said line said r
 with_line (Report late) line r = report_line line >>= λ shown. with_report_line line late shown r
 
 unfoldable pub with_text : List ℕ → Reading → Read
@@ -52,7 +52,7 @@ ended r = flushed_last r >>= info_in
 
 abbrev pub info_by : Form → Reading → Result Info DebugFault
 info_by (Listing None) r = at_start NoColumns
-info_by (Listing (Some has_run)) r = ended r
+info_by (Listing (Some columns)) r = ended r
 info_by (Report late) r = ended (settled None r)
 
 unfoldable pub finished : Reading → Result Info DebugFault

@@ -1,15 +1,16 @@
 //! What a listing of 64tass adds to what was read.
 
-ghost use Rattle.std.specs.Prelude.{◌≡◌, ◌≤◌, ◌<◌, ◌+◌, true};
+ghost use Rattle.std.specs.Prelude.{◌≡◌, ◌≤◌, ◌<◌, ◌+◌, Ok, true};
 ghost use Rattle.debug_listings.specs.Lines.{said_view};
-ghost use Rattle.debug_listings.specs.Listing.{can_repeat, goes_on, in_file, with_begun, with_bytes};
-ghost use Rattle.debug_listings.specs.Listing.{with_bytes_if, with_columns, with_head, with_more};
+ghost use Rattle.debug_listings.specs.Listing.{can_repeat, first_by, first_in, goes_on, in_file};
+ghost use Rattle.debug_listings.specs.Listing.{is_full, with_begun, with_bytes, with_bytes_if};
+ghost use Rattle.debug_listings.specs.Listing.{with_columns, with_form, with_head, with_more};
 ghost use Rattle.debug_listings.specs.Listing.{with_numbered, with_repeated, with_said};
 ghost use Rattle.debug_listings.specs.Reading.{reading_view};
 ghost use Rattle.debug_records.specs.Faults.{Gives};
 
 use crate::line::{Bytes, Said, begins, fault_at};
-use crate::reading::{Form, Reading, Span, flush, take_file};
+use crate::reading::{Columns, Form, Reading, Span, flush, take_file};
 use debug_records::{DebugFaultKind, LineError, record_at};
 
 /// Takes a head.
@@ -74,14 +75,30 @@ fn take_numbered(
     begin(reading, line, number, bytes)
 }
 
-/// Returns whether bytes go on with the data that were read last, whose rows are full so far.
-fn goes_on(last: Span, bytes: Bytes) -> bool
-    ensures more { result ≡ goes_on last bytes }
+/// Returns how many bytes of a line the first row has where others follow, which have 16.
+fn first_in(form: Form) -> u8
+    ensures { result ≡ first_in form }
+{
+    match form {
+        Form::Listing(Some(columns)) => columns.first,
+        Form::Listing(None) | Form::Report(_) => 8,
+    }
+}
+
+/// Returns whether bytes are data whose rows are full so far.
+fn is_full(form: Form, last: Span) -> bool
+    ensures { result ≡ is_full form last }
+{
+    last.is_data && last.size % 16 == first_in(form) as u32 % 16
+}
+
+/// Returns whether bytes go on with the data that were read last.
+fn goes_on(form: Form, last: Span, bytes: Bytes) -> bool
+    ensures more { result ≡ goes_on form last bytes }
     ensures small { result ≡ true → last.size < 65536 }
 {
-    last.is_data
+    is_full(form, last)
         && bytes.is_data
-        && last.size % 16 == 8
         && last.start as u64 + last.size as u64 == bytes.start as u64
 }
 
@@ -93,7 +110,7 @@ fn take_more(reading: &mut Reading<'_>, line: &[u8], bytes: Bytes) -> Result<(),
     let Some(last) = reading.last else {
         return Err(LineError::Fault(fault_at(DebugFaultKind::NoLineNumber, line)));
     };
-    if !goes_on(last, bytes) {
+    if !goes_on(reading.form, last, bytes) {
         return Err(LineError::Fault(fault_at(DebugFaultKind::NoLineNumber, line)));
     }
     reading.last = Some(Span {
@@ -104,14 +121,11 @@ fn take_more(reading: &mut Reading<'_>, line: &[u8], bytes: Bytes) -> Result<(),
 }
 
 /// Returns whether so many bytes can go on with the data that were read last.
-fn can_repeat(last: Span, count: u32) -> bool
-    ensures can { result ≡ can_repeat last count }
+fn can_repeat(form: Form, last: Span, count: u32) -> bool
+    ensures can { result ≡ can_repeat form last count }
     ensures small { result ≡ true → last.size + count ≤ 65536 }
 {
-    last.is_data
-        && last.size % 16 == 8
-        && count <= 65536
-        && last.size as u64 + count as u64 <= 65536
+    is_full(form, last) && count <= 65536 && last.size as u64 + count as u64 <= 65536
 }
 
 /// Takes so many bytes that repeat those before them.
@@ -122,7 +136,7 @@ fn take_repeated(reading: &mut Reading<'_>, line: &[u8], count: u32) -> Result<(
     let Some(last) = reading.last else {
         return Err(LineError::Fault(fault_at(DebugFaultKind::NoLineNumber, line)));
     };
-    if !can_repeat(last, count) {
+    if !can_repeat(reading.form, last, count) {
         return Err(LineError::Fault(fault_at(DebugFaultKind::NoLineNumber, line)));
     }
     reading.last = Some(Span {
@@ -190,16 +204,44 @@ pub fn take_said<'a>(
     }
 }
 
+/// Returns how many bytes the first rows of lines have, by the line that names the columns.
+fn first_by(line: &[u8]) -> u8
+    ensures { result ≡ first_by line.now }
+{
+    if begins(line, b";Line\t;Offset\t;Hex\t\t;Monitor\t;Source")
+        || begins(line, b";Line\t;Offset\t;PC\t;Hex\t\t;Monitor\t;Source")
+    {
+        8
+    } else if begins(line, b";Line\t;Offset\t;Hex\t\t;Source")
+        || begins(line, b";Line\t;Offset\t;PC\t;Hex\t\t;Source")
+    {
+        4
+    } else {
+        16
+    }
+}
+
+/// Takes the columns of a listing.
+fn take_form(reading: &mut Reading<'_>, has_run: bool, line: &[u8])
+    ensures { Ok (reading_view reading.new)
+        ≡ with_form has_run line.now (reading_view reading.old) }
+{
+    reading.form = Form::Listing(Some(Columns {
+        has_run,
+        first: first_by(line),
+    }));
+}
+
 /// Takes a line before the columns were named.
 pub fn take_columns(reading: &mut Reading<'_>, line: &[u8]) -> Result<(), LineError>
     ensures { Gives (λ _. reading_view reading.new) result
         (with_columns line.now (reading_view reading.old)) }
 {
     if begins(line, b";Line\t;Offset\t;PC\t;Hex") {
-        reading.form = Form::Listing(Some(true));
+        take_form(reading, true, line);
         Ok(())
     } else if begins(line, b";Line\t;Offset\t;Hex") {
-        reading.form = Form::Listing(Some(false));
+        take_form(reading, false, line);
         Ok(())
     } else if begins(line, b";Offset") {
         Err(LineError::Fault(fault_at(DebugFaultKind::NoNumbers, line)))

@@ -31,12 +31,21 @@ pub struct Span {
     pub is_close: bool,
 }
 
+/// The columns of a listing.
+#[derive(Clone, Copy)]
+pub struct Columns {
+    /// Whether there is one of the addresses where bytes run.
+    pub has_run: bool,
+    /// How many bytes of data the first row of a line has, where others follow; and each of these
+    /// has 16.
+    pub first: u8,
+}
+
 /// The form of a text, and what its lines said of it so far.
 #[derive(Clone, Copy)]
 pub enum Form {
-    /// A listing of 64tass: whether the columns were named, and if so whether there is one of the
-    /// addresses where bytes run.
-    Listing(Option<bool>),
+    /// A listing of 64tass: its columns, if they were named.
+    Listing(Option<Columns>),
     /// A report of ACME: whether bytes of a line that is not shown may come with the next one.
     Report(bool),
 }

@@ -47,8 +47,8 @@ fn take_text<'a>(reading: &mut Reading<'a>, line: &'a [u8]) -> Result<(), LineEr
 {
     match reading.form {
         Form::Listing(None) => take_columns(reading, line),
-        Form::Listing(Some(has_run)) => {
-            let said = said_by(has_run, line)?;
+        Form::Listing(Some(columns)) => {
+            let said = said_by(columns.has_run, line)?;
             take_said(reading, line, said)
         }
         Form::Report(is_late) => {
