@@ -29,4 +29,5 @@ module _ {A : Type 0} where
 
   pub six_behind : (ds : List A) (a b c d e f : A) → ds ++ a ∷ [] ++ b ∷ [] ++ c ∷ [] ++ d ∷ [] ++ e ∷ [] ++ f ∷ [] ≡ ds ++ (a ∷ b ∷ c ∷ d ∷ e ∷ f ∷ [])
   six_behind ds a b c d e f =
-      four_behind (ds ++ a ∷ [] ++ b ∷ []) c d e f ∙ append_assoc (ds ++ a ∷ []) (b ∷ []) (c ∷ d ∷ e ∷ f ∷ []) ∙ append_assoc ds (a ∷ []) (b ∷ c ∷ d ∷ e ∷ f ∷ [])
+      four_behind (ds ++ a ∷ [] ++ b ∷ []) c d e f ∙ append_assoc (ds ++ a ∷ []) (b ∷ []) (c ∷ d ∷ e ∷ f ∷ [])
+      ∙ append_assoc ds (a ∷ []) (b ∷ c ∷ d ∷ e ∷ f ∷ [])

@@ -184,8 +184,9 @@ impl Places {
         })
     }
 
-    /// Makes the places of a program by debug information, with its names and functions. The image has the bytes
-    /// of the program where it runs; the files are those of the information, by number.
+    /// Makes the places of a program by debug information, with its names and functions. The image
+    /// has the bytes of the program where it runs; the files are those of the information, by
+    /// number.
     ///
     /// Errors: `AllocError` if an allocation fails.
     pub fn of_debug(
