@@ -1,13 +1,11 @@
 -- Breakpoints of a state of `mon` set and cleared. Source: Debug Adapter Protocol 1.65; mos65.
-use Rattle.std.specs.Prelude.{ℕ, ◌≡◌, if◌then◌else◌, List, [], ◌∷◌}
+use Rattle.std.specs.Prelude.{ℕ, ◌≡◌, List, [], ◌∷◌}
 use Rattle.dap_messages.specs.declared.listed.Placed.{Placed}
-use Rattle.model.specs.Breakpoints.{break_set}
 use Rattle.mon_runs.specs.Goals.{without_break}
 use Rattle.mon_runs.specs.Looked.{Place}
 use Rattle.mon_session.specs.declared.mon_state.MonState.{MonState}
-use Rattle.mon_runs.specs.Breaks.{is_set, or_same, with_break}
+pub use Rattle.mon_runs.specs.Breaks.{all_set, set_at}
 use Rattle.mon_runs.specs.Stops.{without}
-use Rattle.mon_runs.specs.declared.breaks.Break.{Break}
 
 -- The session, which has the addresses, and the breaks with their tests.
 abbrev pub place_of : MonState → Place
@@ -26,13 +24,3 @@ cleared_at address place = (without_break address place.0, without address place
 abbrev pub all_cleared : List Placed → Place → Place
 all_cleared [] place = place
 all_cleared (placed ∷ rest) place = all_cleared rest (cleared_at placed.address place)
-
--- A breakpoint is set, in place of the one at its address. Nothing is changed where the session has
--- 256 others.
-abbrev pub set_at : Break → Place → Place
-set_at stop place = let given = break_set stop.address place.0 in
-    (or_same place.0 given, if is_set given then with_break stop place.1 else place.1)
-
-abbrev pub all_set : List Break → Place → Place
-all_set [] place = place
-all_set (stop ∷ rest) place = all_set rest (set_at stop place)

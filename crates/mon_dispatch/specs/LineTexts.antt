@@ -1,9 +1,8 @@
 -- What is written for each kind of line. Source: mos65.
 use Rattle.std.specs.Prelude.{ℕ, List, [], ◌++◌, Option, None, Some, codes}
-use Rattle.model.specs.Breakpoints.{break_set}
 use Rattle.model.specs.declared.event.Event.TheVariants as event
-use Rattle.mon_settings.specs.StopLines.{is_set, stands_at, why_unwatched}
-use Rattle.mon_settings.specs.StopTexts.{deleted_text, list_text, register_deleted_text, set_text, watched_text}
+use Rattle.mon_settings.specs.StopLines.{addresses_at, have_room, standing_of, why_unwatched}
+use Rattle.mon_settings.specs.StopTexts.{all_deleted_text, list_text, register_deleted_text, set_text, watched_text}
 use Rattle.mon_settings.specs.Displays.{all_displays_text, display_set_text, displays_text, is_displayed, undisplayed_text}
 use Rattle.mon_settings.specs.FlagLines.{flag_setting}
 use Rattle.mon_settings.specs.Names.{without_names}
@@ -14,6 +13,7 @@ use Rattle.mon_by_line.specs.ByLine.{line_back_text, line_run_text}
 use Rattle.mon_lines.specs.Lines.{SeenSlip}
 use Rattle.mon_lines.specs.declared.command.Command.{Command}
 use Rattle.mon_lines.specs.declared.command.Command.TheVariants as line
+use Rattle.mon_lines.specs.declared.command.Test.{Test}
 use Rattle.mon_dispatch.specs.LookTexts.{look_text}
 use Rattle.mon_steps.specs.RunLines.{stand_of, watches_of}
 use Rattle.mon_steps.specs.RunTexts.{out_text, over_text, run_text, some_steps_text, until_text}
@@ -26,6 +26,11 @@ use Rattle.mon_texts.specs.Slips.{slip_text}
 use Rattle.mon_dispatch.specs.declared.lines.Outcome.{Outcome}
 use Rattle.mon_dispatch.specs.declared.lines.Outcome.TheVariants as outcome
 use Rattle.mon_dispatch.specs.declared.wording.TheConstants.{IS_DECIMAL, IS_HEX}
+
+-- Breaks that are set, or that the session has no room for.
+abbrev pub broken_text : List ℕ → List Test → ℕ → MonState → List ℕ
+broken_text addresses tests times mon
+    = set_text mon.places addresses tests times (have_room addresses mon.session)
 
 -- A line at a state of `mon` that can be read.
 abbrev pub line_text : Command → MonState → List ℕ
@@ -46,8 +51,8 @@ line_text line.Rback mon
     = undo_to_stop_text mon.stops mon.places (course_of mon)
 line_text (line.Redo count) mon = redo_text count mon.places.names (course_of mon)
 line_text (line.History count) mon = history_text count mon.places (course_of mon)
-line_text (line.Break address tests times) mon
-    = set_text mon.places address tests.items times (is_set (break_set address mon.session))
+line_text (line.Break address at tests times) mon
+    = broken_text (addresses_at mon.places address at) tests.items times mon
 line_text (line.Watch stretch kind) mon =
     let bytes : Watch = watching.Bytes stretch kind in
     watched_text mon.places.names bytes (why_unwatched bytes mon.session)
@@ -56,8 +61,8 @@ line_text (line.WatchRegister register) mon =
     watched_text mon.places.names watch (why_unwatched watch mon.session)
 line_text line.List mon
     = list_text mon.places.names mon.stops.breaks.items mon.stops.watches.items
-line_text (line.Delete address) mon = deleted_text mon.places.names address
-    (stands_at address mon.stops.watches.items mon.session)
+line_text (line.Delete address at) mon = all_deleted_text mon.places.names
+    (addresses_at mon.places address at) (standing_of mon)
 line_text (line.DeleteRegister register) mon
     = register_deleted_text register (is_watched register mon.stops.watches.items)
 line_text (line.Display None) mon

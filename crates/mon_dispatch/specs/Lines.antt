@@ -1,18 +1,17 @@
 -- What each kind of line does. Source: mos65.
 use Rattle.std.specs.Prelude.{ℕ, ◌≡◌, Bool, true, false, if◌then◌else◌, List, [], ◌∷◌, ◌++◌, Some, Result, Ok, Err}
-use Rattle.model.specs.Breakpoints.{break_set}
 use Rattle.model.specs.declared.event.Event.TheVariants as event
 use Rattle.mon_by_line.specs.ByLine.{ran_to_line, undone_if_held}
 use Rattle.mon_lines.specs.Lines.{SeenCommand, SeenLine, SeenSlip, command_view, seen_line}
 use Rattle.mon_lines.specs.declared.command.Command.{Command}
 use Rattle.mon_lines.specs.declared.command.Command.TheVariants as line
-use Rattle.mon_runs.specs.Stops.{first_with, new_changes, without, without_first_with, without_register}
-use Rattle.mon_runs.specs.declared.breaks.Break.{Break}
+use Rattle.mon_runs.specs.Stops.{new_changes, without_register}
 use Rattle.mon_runs.specs.declared.watches.Watch.{Watch}
 use Rattle.mon_runs.specs.declared.watches.Watch.TheVariants as watching
 use Rattle.mon_lines.specs.declared.command.Register.{Register}
+use Rattle.mon_lines.specs.declared.command.Test.{Test}
 use Rattle.mon_session.specs.Course.{Course, KeepsStops, ShowsOnly, course_of, happened}
-use Rattle.mon_settings.specs.StopLines.{can_watch, changes_left, is_set, or_same, with_break, with_watch, without_stops}
+use Rattle.mon_settings.specs.StopLines.{KeepsPast, KeepsWatches, SetsBreaks, addresses_at, all_deleted, can_watch, standing_of, with_watch}
 use Rattle.mon_settings.specs.ByteLines.{all_happened, assembled, bytes_put, inputs}
 use Rattle.mon_settings.specs.Displays.{with_display, without_display}
 use Rattle.mon_settings.specs.FlagLines.{flag_setting}
@@ -30,19 +29,10 @@ use Rattle.mon_dispatch.specs.declared.lines.Outcome.TheVariants as outcome
 abbrev pub Says : List ℕ → MonState → MonState → Type 0
 Says text old new = new.text.items ≡ old.text.items ++ text
 
--- The events, the places, and what is shown at each stop are what they were.
-abbrev pub KeepsPast : MonState → MonState → Type 0
-KeepsPast old new = (new.events ≡ old.events) × (new.places ≡ old.places)
-    × (new.displays ≡ old.displays)
-
--- A break is set.
-abbrev pub SetsBreak : Break → MonState → MonState → Type 0
-SetsBreak stop old new = let given = break_set stop.address old.session in
-    (new.session ≡ or_same old.session given)
-    × (new.stops.breaks.items ≡ (if is_set given then with_break stop old.stops.breaks.items
-    else old.stops.breaks.items))
-    × (new.stops.watches ≡ old.stops.watches) × (new.stops.changes ≡ old.stops.changes)
-    × KeepsPast old new
+-- Breaks are set at all of some addresses, or at none.
+abbrev pub Breaks : List ℕ → List Test → ℕ → MonState → MonState → Type 0
+Breaks addresses tests times old new
+    = SetsBreaks addresses tests times old new × KeepsWatches old new
 
 -- A watch is set.
 abbrev pub SetsWatch : Watch → MonState → MonState → Type 0
@@ -54,15 +44,9 @@ SetsWatch watch old new = let watches = old.stops.watches.items in
     else old.stops.changes.items))
     × (new.stops.breaks ≡ old.stops.breaks) × KeepsPast old new
 
--- The break and the first watch at an address are cleared.
-abbrev pub Deletes : ℕ → MonState → MonState → Type 0
-Deletes address old new = let watches = old.stops.watches.items in
-    let left = without_first_with address watches in
-    (new.session ≡ without_stops address watches old.session)
-    × (new.stops.breaks.items ≡ without address old.stops.breaks.items)
-    × (new.stops.watches.items ≡ left)
-    × (new.stops.changes.items
-    ≡ changes_left left old.stops.changes.items (first_with address watches))
+-- The break and the first watch at each of some addresses are cleared.
+abbrev pub Deletes : List ℕ → MonState → MonState → Type 0
+Deletes addresses old new = (standing_of new ≡ all_deleted addresses (standing_of old))
     × KeepsPast old new
 
 -- The first watch of a register is cleared.
@@ -104,12 +88,12 @@ Does line.Rback old new
 Does (line.Redo count) old new
     = Becomes (remade (most_remade count old.events.undone) (course_of old)) old new
 Does (line.History count) old new = Becomes (history_shown count (course_of old)) old new
-Does (line.Break address tests times) old new = (stop : Break) × (stop.address ≡ address)
-    × (stop.tests.items ≡ tests.items) × (stop.times ≡ times) × (stop.visits ≡ 0) × SetsBreak stop old new
+Does (line.Break address at tests times) old new
+    = Breaks (addresses_at old.places address at) tests.items times old new
 Does (line.Watch stretch kind) old new
     = SetsWatch (watching.Bytes stretch kind) old new
 Does (line.WatchRegister register) old new = SetsWatch (watching.Register register) old new
-Does (line.Delete address) old new = Deletes address old new
+Does (line.Delete address at) old new = Deletes (addresses_at old.places address at) old new
 Does (line.DeleteRegister register) old new = DeletesRegister register old new
 Does (line.Display (Some address)) old new
     = SetsDisplays (with_display address old.displays.items) old new

@@ -1,9 +1,13 @@
 //! What a line does.
 
-ghost use Rattle.std.specs.Prelude.{◌≡◌, ◌≤◌, ◌++◌, IfOk, OnOk, Some, length};
+ghost use Rattle.std.specs.Prelude.{◌≡◌, ◌++◌, IfOk, OnOk, Some};
 ghost use Rattle.std.specs.Option.{option_copied};
-ghost use Rattle.mon_dispatch.specs.Lines.{Does, Follows, Says, Serves, Tells, is_over, outcome_of};
-ghost use Rattle.mon_dispatch.specs.LineTexts.{behind_text, if_decimal, line_text, moved_text};
+ghost use Rattle.mon_dispatch.specs.Lines.{Breaks, Deletes, Does, Follows, Says, Serves, Tells};
+ghost use Rattle.mon_dispatch.specs.Lines.{is_over, outcome_of};
+ghost use Rattle.mon_dispatch.specs.LineTexts.{behind_text, broken_text, if_decimal, line_text};
+ghost use Rattle.mon_dispatch.specs.LineTexts.{moved_text};
+ghost use Rattle.mon_settings.specs.StopLines.{addresses_at, standing_of};
+ghost use Rattle.mon_settings.specs.StopTexts.{all_deleted_text};
 ghost use Rattle.mon_lines.specs.Lines.{asked_view, line_view};
 ghost use Rattle.mon_session.specs.Course.{ShowsOnly};
 
@@ -14,11 +18,12 @@ use formatting::push_text;
 use mon_by_line::{run_to_line, undo_to_line};
 use mon_calls::{push_locals, push_where};
 use mon_lines::{Command, ReadLine, Slip, Test};
-use mon_runs::{Break, Watch};
+use mon_runs::Watch;
 use mon_session::MonState;
 use mon_settings::{
-    ask_nmi, assemble, delete, delete_register, display, hand_in, list, list_displays, put, reset,
-    set, set_break, set_flag, set_irq, set_watch, show_displays, undisplay,
+    addresses_at, ask_nmi, assemble, delete, delete_register, display, hand_in, list,
+    list_displays, put, reset, set, set_breaks, set_flag, set_irq, set_watch, show_displays,
+    undisplay,
 };
 use mon_steps::{
     redo, run, run_until, show_history, step_out, step_over, steps, undo, undo_to_stop,
@@ -63,24 +68,39 @@ fn display_or_list(mon: &mut MonState, place: Option<u16>) -> Result<(), AllocEr
     }
 }
 
-/// Returns a copy of tests.
-fn copy_of(tests: &[Test]) -> ArrayVec<Test, 4>
-    requires { length tests.now ≤ 4 }
-    ensures { result.items ≡ tests.now }
+/// Sets breaks at an address or at a line, and shows them.
+fn break_at(
+    mon: &mut MonState,
+    alloc: Global,
+    place: (u16, Option<(u32, u32)>),
+    tests: &ArrayVec<Test, 4>,
+    times: u32,
+) -> Result<(), AllocError>
+    ensures does { OnOk result
+        (Breaks (addresses_at mon.old.places place.0 place.1) tests.now.items times
+        mon.old mon.new) }
+    ensures text { OnOk result (Says
+        (broken_text (addresses_at mon.old.places place.0 place.1) tests.now.items times mon.old)
+        mon.old mon.new) }
 {
-    let mut copy = ArrayVec::new();
-    let _ = copy.try_extend_from_slice(tests);
-    copy
+    let addresses = addresses_at(alloc, &mon.places, place.0, place.1)?;
+    set_breaks(mon, alloc, addresses.as_slice(), tests, times)
 }
 
-/// Makes a break that was not visited yet.
-fn break_of(address: u16, tests: &ArrayVec<Test, 4>, times: u32) -> Break
-    ensures address { result.address ≡ address }
-    ensures tests { result.tests.items ≡ tests.now.items }
-    ensures times { result.times ≡ times }
-    ensures visits { result.visits ≡ 0 }
+/// Deletes what stands at an address or at a line, and says so.
+fn delete_at(
+    mon: &mut MonState,
+    alloc: Global,
+    address: u16,
+    line: Option<(u32, u32)>,
+) -> Result<(), AllocError>
+    ensures does { OnOk result
+        (Deletes (addresses_at mon.old.places address line) mon.old mon.new) }
+    ensures text { OnOk result (Says (all_deleted_text mon.old.places.names
+        (addresses_at mon.old.places address line) (standing_of mon.old)) mon.old mon.new) }
 {
-    Break::new(address, copy_of(tests.as_slice()), times)
+    let addresses = addresses_at(alloc, &mon.places, address, line)?;
+    delete(mon, addresses.as_slice())
 }
 
 /// Does what a line asks for, and says so.
@@ -107,9 +127,10 @@ fn obey(mon: &mut MonState, alloc: Global, command: &Command<'_>) -> Result<(), 
         Command::History(count) => show_history(mon, *count),
         Command::Break {
             address,
+            line,
             tests,
             times,
-        } => set_break(mon, break_of(*address, tests, *times)),
+        } => break_at(mon, alloc, (*address, *line), tests, *times),
         Command::Watch { stretch, kind } => {
             let bytes = Watch::Bytes {
                 stretch: *stretch,
@@ -119,7 +140,7 @@ fn obey(mon: &mut MonState, alloc: Global, command: &Command<'_>) -> Result<(), 
         }
         Command::WatchRegister(register) => set_watch(mon, Watch::Register(*register)),
         Command::List => list(mon),
-        Command::Delete(address) => delete(mon, *address),
+        Command::Delete { address, line } => delete_at(mon, alloc, *address, *line),
         Command::DeleteRegister(register) => delete_register(mon, *register),
         Command::Display(place) => display_or_list(mon, *place),
         Command::Undisplay(address) => undisplay(mon, *address),

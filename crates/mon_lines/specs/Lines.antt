@@ -8,7 +8,7 @@ use Rattle.model.specs.declared.event.Setting.{Setting}
 use Rattle.model.specs.declared.instruction.Mnemonic.{Mnemonic}
 use Rattle.model.specs.declared.instruction.Profile.TheVariants.{C}
 use Rattle.mon_line_parts.specs.Reading.{Reads, SeenFlaw, unknown, several, missing, behind, long, after, after_word, and_then, file_of, is_empty, is_word, number_in, past, skip, flaw_view, word_of}
-use Rattle.mon_line_parts.specs.Values.{PlacesView, address_of, bit_of, bytes_of, count_of}
+use Rattle.mon_line_parts.specs.Values.{PlacesView, address_of, bit_of, bytes_of, count_of, line_alone}
 use Rattle.mon_lines.specs.Parts.{address_at, ends_of, flag_of, is_register_or_flag, kind_of, level_of, setting_of, shown_of, stretch_of, tests_of, times_of, undoing_of, watched_register}
 use Rattle.mon_line_parts.specs.Topics.{nearest_of, subject_of, topic_of}
 use Rattle.mon_lines.specs.declared.command.Command.{Command}
@@ -44,11 +44,11 @@ pub data SeenCommand : Type 0 where
   calls : SeenCommand
   locals : Option ℕ → SeenCommand
   history : ℕ → SeenCommand
-  break_at : ℕ → List Test → ℕ → SeenCommand
+  break_at : ℕ → Option (ℕ × ℕ) → List Test → ℕ → SeenCommand
   watch : Stretch → WatchKind → SeenCommand
   watch_register : Register → SeenCommand
   list : SeenCommand
-  delete : ℕ → SeenCommand
+  delete : ℕ → Option (ℕ × ℕ) → SeenCommand
   delete_register : Register → SeenCommand
   display : Option ℕ → SeenCommand
   undisplay : ℕ → SeenCommand
@@ -91,11 +91,11 @@ command_view (command.Redo count) = redo count
 command_view command.Where = calls
 command_view (command.Locals frame) = locals frame
 command_view (command.History count) = history count
-command_view (command.Break address tests times) = break_at address tests.items times
+command_view (command.Break address line tests times) = break_at address line tests.items times
 command_view (command.Watch stretch kind) = watch stretch kind
 command_view (command.WatchRegister register) = watch_register register
 command_view command.List = list
-command_view (command.Delete address) = delete address
+command_view (command.Delete address line) = delete address line
 command_view (command.DeleteRegister register) = delete_register register
 command_view (command.Display address) = display address
 command_view (command.Undisplay address) = undisplay address
@@ -124,13 +124,13 @@ command_view command.Quit = quit
 
 -- ---- what follows a first word
 
--- A place, tests, and how often they have to hold.
+-- A place, or a line of the source alone, tests, and how often they have to hold.
 abbrev pub break_from : PlacesView → ℕ → List ℕ → Reads SeenCommand
 break_from places pc text =
     and_then (address_at places pc text) (λ address rest.
     and_then (tests_of places pc rest) (λ tests rest.
     and_then (times_of places rest) (λ times rest.
-    Ok (break_at address tests times, rest))))
+    Ok (break_at address (line_alone places text) tests times, rest))))
 
 -- A place or two, and what is watched there.
 abbrev pub bytes_watched_from : PlacesView → ℕ → List ℕ → Reads SeenCommand
@@ -147,11 +147,12 @@ watched_by places pc text None = bytes_watched_from places pc text
 abbrev pub watched_from : PlacesView → ℕ → List ℕ → Reads SeenCommand
 watched_from places pc text = watched_by places pc text (watched_register (word_of text))
 
--- What is deleted: the watch of a register, or what stands at a place.
+-- What is deleted: the watch of a register, or what stands at a place, or at a line alone.
 abbrev pub deleted_by : PlacesView → ℕ → List ℕ → Option Register → Reads SeenCommand
 deleted_by places pc text (Some register) = Ok (delete_register register, after_word text)
 deleted_by places pc text None =
-    and_then (address_at places pc text) (λ address rest. Ok (delete address, rest))
+    and_then (address_at places pc text) (λ address rest.
+    Ok (delete address (line_alone places text), rest))
 
 abbrev pub deleted_from : PlacesView → ℕ → List ℕ → Reads SeenCommand
 deleted_from places pc text = deleted_by places pc text (watched_register (word_of text))

@@ -115,8 +115,11 @@ pub enum Command<'a> {
     /// The parameters and locals of C of one call, counted from 1, or of all.
     Locals(Option<u32>),
     History(u32),
+    /// Breaks are set at an address, or at all addresses of a line of a file of the source, which
+    /// stands alone; `address` is the lowest one then.
     Break {
         address: u16,
+        line: Option<(u32, u32)>,
         tests: ArrayVec<Test, 4>,
         times: u32,
     },
@@ -126,7 +129,11 @@ pub enum Command<'a> {
     },
     WatchRegister(Register),
     List,
-    Delete(u16),
+    /// What stands at an address is deleted, or at all addresses of a line that stands alone.
+    Delete {
+        address: u16,
+        line: Option<(u32, u32)>,
+    },
     DeleteRegister(Register),
     /// An address is shown at each stop; what is shown so, if no address is given.
     Display(Option<u16>),

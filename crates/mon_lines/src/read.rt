@@ -24,8 +24,8 @@ use crate::tests::{flag_of, register_of, tests_of, times_of};
 use model::Setting;
 use mon_line_parts::{
     Flaw, Lack, Places, Topic, address_of, after, after_word, bit_of, byte_of, bytes_of, count_of,
-    file_of, is_empty, is_next, is_word, nearest_of, number_in, past, skip, subject_of, topic_of,
-    word_of,
+    file_of, is_empty, is_next, is_word, line_alone, nearest_of, number_in, past, skip, subject_of,
+    topic_of, word_of,
 };
 use optable::{Mnemonic, Profile, mnemonic_in};
 
@@ -39,11 +39,13 @@ fn break_at<'a>(
         ≡ Ok (command_view p.0, p.1.now)) }
     ensures err { IfErr result (λ why. break_from places.now pc text.now ≡ Err (flaw_view why)) }
 {
+    let line = line_alone(places, text);
     let (address, rest) = address_of(places, pc, text)?;
     let (tests, rest) = tests_of(places, pc, rest)?;
     let (times, rest) = times_of(places, rest)?;
     let command = Command::Break {
         address,
+        line,
         tests,
         times,
     };
@@ -82,7 +84,7 @@ fn watched<'a>(
     }
 }
 
-/// Reads what is deleted: the watch of a register, or what stands at an address.
+/// Reads what is deleted: the watch of a register, or what stands at an address or at a line.
 fn deleted<'a>(
     places: &Places,
     pc: u16,
@@ -95,8 +97,9 @@ fn deleted<'a>(
     match watched_register(word_of(text)) {
         Some(register) => Ok((Command::DeleteRegister(register), after_word(text))),
         None => {
+            let line = line_alone(places, text);
             let (address, rest) = address_of(places, pc, text)?;
-            Ok((Command::Delete(address), rest))
+            Ok((Command::Delete { address, line }, rest))
         }
     }
 }

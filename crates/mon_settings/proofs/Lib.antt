@@ -1,3 +1,4 @@
 mod Stopped
 pub mod Made
 mod Naming
+mod BreakList

@@ -1,16 +1,59 @@
 -- What lines do to breaks and watches. Source: mos65.
-use Rattle.std.specs.Prelude.{ℕ, ◌+◌, ◌-◌, ◌||◌, Bool, nat_le, is_none, is_ok, is_some, if◌then◌else◌, List, zero, suc, Option, Some, None, Result, Ok, Err}
+use Rattle.std.specs.Prelude.{ℕ, ◌≡◌, ◌+◌, ◌-◌, ◌||◌, Bool, nat_eq, nat_le, not, is_none, is_ok, is_some, if◌then◌else◌, List, [], ◌∷◌, length, map, zero, suc, Option, Some, None, Result, Ok, Err}
+use Rattle.std.specs.List.{count_by, list_any}
 use Rattle.mon_settings.specs.declared.watches.Unwatched.{Unwatched}
 use Rattle.mon_settings.specs.declared.watches.Unwatched.TheVariants.{Port, Full, Wide}
 use Rattle.model.specs.Session.{Session}
-use Rattle.model.specs.Breakpoints.{break_cleared, watch_set, watch_cleared}
+use Rattle.model.specs.Breakpoints.{break_cleared, table_size, watch_set, watch_cleared}
 use Rattle.model.specs.declared.session_fault.SessionFault.{SessionFault}
 use Rattle.model.specs.declared.session_fault.SessionFault.TheVariants.{AlreadySet, PortAddress}
 use Rattle.mon_lines.specs.declared.command.Stretch.{Stretch}
+use Rattle.mon_lines.specs.declared.command.Test.{Test}
+use Rattle.mon_session.specs.declared.mon_state.MonState.{MonState}
+use Rattle.source_map.specs.Lines.{PlacesView, addresses_of_line}
 use Rattle.mon_lines.specs.declared.command.WatchKind.TheVariants.{Change}
-pub use Rattle.mon_runs.specs.Breaks.{is_set, or_same, with_break}
-use Rattle.mon_runs.specs.Stops.{changed, changes_of, first_with, has_access, without_first_with}
+pub use Rattle.mon_runs.specs.Breaks.{all_set, or_same, set_at}
+use Rattle.mon_runs.specs.Looked.{Place}
+use Rattle.mon_runs.specs.Stops.{changed, changes_of, first_with, has_access, without, without_first_with}
+use Rattle.mon_runs.specs.declared.breaks.Break.{Break}
 use Rattle.mon_runs.specs.declared.watches.Watch.{Watch}
+
+-- ---- breaks
+
+-- Where breaks are set or cleared: at an address, or at all addresses of a line of a file.
+abbrev pub addresses_at : PlacesView → ℕ → Option (ℕ × ℕ) → List ℕ
+addresses_at places address None = address ∷ []
+addresses_at places address (Some line) = addresses_of_line places.sites line.0 line.1
+
+-- Whether the session has room for breaks at all of some addresses.
+abbrev pub have_room : List ℕ → Session → Bool
+have_room addresses s = nat_le
+    (count_by (λ address. not (list_any (nat_eq address) s.breaks)) addresses)
+    (table_size - length s.breaks)
+
+-- The session, which has the addresses, and the breaks with their tests.
+abbrev pub place_of : MonState → Place
+place_of mon = (mon.session, mon.stops.breaks.items)
+
+-- A break with its tests, which was not visited yet.
+abbrev pub break_view : Break → ℕ × List Test × ℕ × ℕ
+break_view stop = (stop.address, stop.tests.items, stop.times, stop.visits)
+
+abbrev pub new_break : List Test → ℕ → ℕ → ℕ × List Test × ℕ × ℕ
+new_break tests times address = (address, tests, times, 0)
+
+-- Breaks with the same tests are set at all of some addresses, or at none.
+abbrev pub SetsBreaks : List ℕ → List Test → ℕ → MonState → MonState → Type 0
+SetsBreaks addresses tests times old new = (stops : List Break)
+    × (map break_view stops ≡ map (new_break tests times) addresses)
+    × (place_of new ≡ (if have_room addresses old.session then all_set stops (place_of old)
+    else place_of old))
+
+-- Events, watches, names, lines, and what is shown at each stop are what they were.
+abbrev pub KeepsWatches : MonState → MonState → Type 0
+KeepsWatches old new = (new.events ≡ old.events) × (new.stops.watches ≡ old.stops.watches)
+    × (new.stops.changes ≡ old.stops.changes) × (new.places ≡ old.places)
+    × (new.displays ≡ old.displays)
 
 -- ---- watches of changes in the session
 
@@ -112,3 +155,37 @@ stands_at address watches s
 abbrev pub changes_left : List Watch → List ℕ → Option Watch → List ℕ
 changes_left left changes None = changes
 changes_left left changes (Some watch) = changes_of left changes
+
+-- What stands in a session: breaks, watches, and the addresses at which a change stops a run.
+pub record Standing : Type 0 where
+  pub session : Session
+  pub breaks : List Break
+  pub watches : List Watch
+  pub changes : List ℕ
+
+abbrev pub standing_of : MonState → Standing
+standing_of mon = record {
+  session = mon.session;
+  breaks = mon.stops.breaks.items;
+  watches = mon.stops.watches.items;
+  changes = mon.stops.changes.items;
+}
+
+-- The break and the first watch at an address are cleared.
+abbrev pub deleted_at : ℕ → Standing → Standing
+deleted_at address now = record {
+  session = without_stops address now.watches now.session;
+  breaks = without address now.breaks;
+  watches = without_first_with address now.watches;
+  changes = changes_left (without_first_with address now.watches) now.changes
+      (first_with address now.watches);
+}
+
+abbrev pub all_deleted : List ℕ → Standing → Standing
+all_deleted [] now = now
+all_deleted (address ∷ rest) now = all_deleted rest (deleted_at address now)
+
+-- Events, names, lines, and what is shown at each stop are what they were.
+abbrev pub KeepsPast : MonState → MonState → Type 0
+KeepsPast old new = (new.events ≡ old.events) × (new.places ≡ old.places)
+    × (new.displays ≡ old.displays)

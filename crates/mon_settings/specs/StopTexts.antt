@@ -1,7 +1,9 @@
 -- What is said of breaks and watches. Source: mos65.
-use Rattle.std.specs.Prelude.{ℕ, ◌-◌, ◌==◌, ◌&&◌, nat_le, nat_lt, not, Bool, false, if◌then◌else◌, List, [], ◌∷◌, ◌++◌, length, take, get_or, Option, None, Some, codes}
+use Rattle.std.specs.Prelude.{ℕ, ◌==◌, ◌&&◌, ◌+◌, nat_le, nat_lt, not, Bool, false, if◌then◌else◌, List, [], ◌∷◌, ◌++◌, drop, length, take, get_or, Option, None, Some, codes}
 use Rattle.std.specs.List.{flat_map}
 use Rattle.std.specs.Str.{bytes_eq}
+use Rattle.model.specs.Text.{hex_address}
+use Rattle.mon_settings.specs.StopLines.{Standing, deleted_at, stands_at}
 use Rattle.mon_texts.specs.Pushed.{is_code}
 use Rattle.mon_settings.specs.declared.watches.Unwatched.{Unwatched}
 use Rattle.mon_settings.specs.declared.watches.Unwatched.TheVariants.{Port, Full, Wide}
@@ -21,7 +23,7 @@ use Rattle.mon_settings.specs.declared.wording.TheConstants.{DELETED, NOTHING_AT
 
 -- The line of a break: its place, its tests, and how often they have to hold.
 abbrev pub break_text : List Named → Break → List ℕ
-break_text names stop = break_line names stop.address stop.tests.items stop.times
+break_text names stop = break_line names (stop.address ∷ []) stop.tests.items stop.times
 
 -- That no instruction of the source begins at an address, if all lines of the program are known.
 abbrev pub none_begins : List Named → ℕ → List ℕ
@@ -34,12 +36,12 @@ lines_text places address
     && not (is_code (row_at places.lines address))
     then none_begins places.names address else []
 
--- A name is a text with a colon and four bytes behind it, as `loop:E150`: a name that had another
+-- A name is a text with a colon and its own address behind it, as `loop:E150`: the text had another
 -- address before.
 abbrev pub is_again : List ℕ → Named → Bool
 is_again text name = if nat_le (length name.text) (length text) then false
-    else ((length name.text - length text) == 5) && (get_or name.text (length text) 0 == 58)
-    && bytes_eq (take (length text) name.text) text
+    else (get_or name.text (length text) 0 == 58) && bytes_eq (take (length text) name.text) text
+    && bytes_eq (drop (length text + 1) name.text) (hex_address name.address)
 
 abbrev pub again_of : List Named → Option (List ℕ) → Option (List ℕ)
 again_of names None = None
@@ -53,11 +55,14 @@ again_line (Some other) = SECOND_ADDRESS.now ++ other ++ codes "\n"
 unfoldable pub again_text : List Named → ℕ → List ℕ
 again_text names address = again_line (again_of names (name_at names address))
 
--- What is said of a break that is set, or that cannot be.
-abbrev pub set_text : PlacesView → ℕ → List Test → ℕ → Bool → List ℕ
-set_text places address tests times is_set = if is_set
-    then break_line places.names address tests times ++ lines_text places address
-    ++ again_text places.names address
+-- What is to be known of a break at an address.
+abbrev pub break_notes : PlacesView → ℕ → List ℕ
+break_notes places address = lines_text places address ++ again_text places.names address
+
+-- What is said of breaks that are set, or that there is no room for.
+abbrev pub set_text : PlacesView → List ℕ → List Test → ℕ → Bool → List ℕ
+set_text places addresses tests times has_room = if has_room
+    then break_line places.names addresses tests times ++ flat_map (break_notes places) addresses
     else BREAKS_FULL.now
 
 -- ---- a watch
@@ -85,6 +90,13 @@ watched_text names watch (Some why) = unwatched_text why
 abbrev pub deleted_text : List Named → ℕ → Bool → List ℕ
 deleted_text names address stood = (if stood then DELETED.now
     else NOTHING_AT.now) ++ place_text names address ++ codes "\n"
+
+-- The same of addresses that are cleared one after another.
+abbrev pub all_deleted_text : List Named → List ℕ → Standing → List ℕ
+all_deleted_text names [] now = []
+all_deleted_text names (address ∷ rest) now
+    = deleted_text names address (stands_at address now.watches now.session)
+    ++ all_deleted_text names rest (deleted_at address now)
 
 -- What is said once a register is not watched, or where it was not watched.
 abbrev pub register_deleted_text : Register → Bool → List ℕ

@@ -2,17 +2,22 @@
 
 ghost use Rattle.std.specs.Prelude.{◌≡◌, ◌++◌, OnOk, map};
 ghost use Rattle.std.specs.Option.{option_copied};
-ghost use Rattle.mon_session.specs.Course.{ShowsOnly};
+ghost use Rattle.std.specs.Str.{bytes_eq};
 ghost use Rattle.mon_settings.specs.StopTexts.{again_line, again_of, again_text, is_again};
 ghost use Rattle.source_map.specs.Names.{first_text, named};
 
 use crate::wording::SECOND_ADDRESS;
-use formatting::push_text;
-use mon_session::MonState;
-use source_map::Name;
+use formatting::{digits_of_address, push_text};
+use source_map::{Name, Places};
 use std::alloc::AllocError;
 
-/// Returns whether a name is a text with a colon and four bytes behind it, as `loop:E150`.
+fn is_text(one: &[u8], other: &[u8]) -> bool
+    ensures { result ≡ bytes_eq one.now other.now }
+{
+    one == other
+}
+
+/// Returns whether a name is a text with a colon and its own address behind it, as `loop:E150`.
 fn is_again(text: &[u8], name: &Name) -> bool
     ensures { result ≡ is_again text.now (named name.now) }
 {
@@ -20,7 +25,9 @@ fn is_again(text: &[u8], name: &Name) -> bool
     if bytes.len() <= text.len() {
         return false;
     }
-    bytes.len() - text.len() == 5 && bytes[text.len()] == b':' && &bytes[..text.len()] == text
+    bytes[text.len()] == b':'
+        && &bytes[..text.len()] == text
+        && is_text(&bytes[text.len() + 1..], &digits_of_address(name.address))
 }
 
 /// Returns the first name that is a text with an address behind it.
@@ -59,14 +66,15 @@ fn push_again(text: &mut Vec<u8>, other: Option<&[u8]>) -> Result<(), AllocError
     Ok(())
 }
 
-/// Says that the name of an address has a second one, if it has.
+/// Appends that the name of an address has a second one, if it has.
+///
+/// Errors: `AllocError` if an allocation fails.
 #[tactic(auto, unfolding(crate::specs::StopTexts::again_text))]
-pub fn say_again(mon: &mut MonState, address: u16) -> Result<(), AllocError>
-    ensures shows { ShowsOnly mon.old mon.new }
-    ensures text { OnOk result
-        (mon.new.text.items ≡ mon.old.text.items ++ again_text mon.old.places.names address) }
+pub fn push_second(text: &mut Vec<u8>, places: &Places, address: u16) -> Result<(), AllocError>
+    ensures { OnOk result
+        (text.new.items ≡ text.old.items ++ again_text places.now.names address) }
 {
-    let names = mon.places.names();
+    let names = places.names();
     let other = again_of(names.all(), names.name_at(address));
-    push_again(&mut mon.text, other)
+    push_again(text, other)
 }

@@ -1,41 +1,121 @@
-//! Lines that set a break.
+//! Lines that set breaks.
 
-ghost use Rattle.std.specs.Prelude.{◌≡◌, ◌++◌, IfOk, OnErr, OnOk, if◌then◌else◌};
+ghost use Rattle.std.specs.Prelude.{◌≡◌, ◌++◌, IfOk, OnOk, map, nat_eq};
+ghost use Rattle.std.specs.List.{flat_map, list_any};
 ghost use Rattle.mon_texts.specs.Pushed.{is_code};
-ghost use Rattle.model.specs.Breakpoints.{break_set};
-ghost use Rattle.mon_settings.specs.StopLines.{is_set, or_same, with_break};
-ghost use Rattle.mon_settings.specs.StopTexts.{again_text, break_text, lines_text};
+ghost use Rattle.mon_settings.specs.StopLines.{SetsBreaks, KeepsWatches, addresses_at, break_view};
+ghost use Rattle.mon_settings.specs.StopLines.{all_set, have_room, new_break, place_of, set_at};
+ghost use Rattle.mon_settings.specs.StopTexts.{break_notes, break_text, lines_text};
 ghost use Rattle.mon_settings.specs.StopTexts.{none_begins, set_text};
 ghost use Rattle.source_map.specs.Lines.{row_at};
-ghost use Rattle.mon_session.specs.Course.{IsEither, KeepsStops, ShowsOnly, course_of};
+ghost use Rattle.mon_session.specs.Course.{ShowsOnly};
 
-use crate::again::say_again;
+use crate::again::push_second;
 use crate::wording::NO_INSTRUCTION_BEGINS;
+use arrayvec::ArrayVec;
+use formatting::push_text;
 use mon_instructions::push_place;
-use mon_runs::{Break, SessionFault};
+use mon_lines::Test;
+use mon_runs::{Break, Session, SessionFault};
 use mon_session::MonState;
 use mon_session::wording::BREAKS_FULL;
 use mon_texts::push_break;
 use source_map::Places;
-use std::alloc::AllocError;
+use std::alloc::{AllocError, Global};
 
-/// Sets a break in the session, and returns whether it is set there. Nothing is changed if memory
-/// ran out.
-fn break_in_session(mon: &mut MonState, address: u16) -> Result<bool, AllocError>
-    ensures session { OnOk result (mon.new.session
-        ≡ or_same mon.old.session (break_set address mon.old.session)) }
-    ensures set { IfOk result
-        (λ is_there. is_there ≡ is_set (break_set address mon.old.session)) }
-    ensures memory { OnErr result (mon.new.session ≡ mon.old.session) }
-    ensures events { mon.new.events ≡ mon.old.events }
-    ensures stops { KeepsStops mon.old mon.new }
+/// The most breaks of a session.
+const MOST_BREAKS: usize = 256;
+
+/// Returns where breaks are set or cleared: at an address, or at all addresses of a line of a file.
+///
+/// Errors: `AllocError` if an allocation fails.
+pub fn addresses_at(
+    alloc: Global,
+    places: &Places,
+    address: u16,
+    line: Option<(u32, u32)>,
+) -> Result<Vec<u16>, AllocError>
+    ensures { IfOk result (λ found. found.items ≡ addresses_at places.now address line) }
+{
+    match line {
+        None => Vec::from_slice(alloc, &[address]),
+        Some((file, line)) => places.sites_of_line(alloc, file, line),
+    }
+}
+
+/// Returns whether a break of the session is at an address.
+fn has_break(session: &Session, address: u16) -> bool
+    ensures { result ≡ list_any (nat_eq address) session.now.breaks }
+{
+    for index in 0..session.break_count() {
+        if session.break_at(index) == Some(address) {
+            return true;
+        }
+    }
+    false
+}
+
+/// Returns whether the session has room for breaks at all of some addresses.
+fn have_room(session: &Session, addresses: &[u16]) -> bool
+    ensures { result ≡ have_room addresses.now session.now }
+{
+    let free = MOST_BREAKS.saturating_sub(session.break_count() as usize);
+    addresses
+        .iter()
+        .filter(|address| !has_break(session, **address))
+        .count()
+        <= free
+}
+
+/// Returns a copy of tests.
+fn copy_of(tests: &ArrayVec<Test, 4>) -> ArrayVec<Test, 4>
+    ensures { result.items ≡ tests.now.items }
+{
+    let mut copy = ArrayVec::new();
+    let _ = copy.try_extend_from_slice(tests.as_slice());
+    copy
+}
+
+/// Makes breaks with the same tests, none of which was visited yet.
+fn breaks_at(
+    alloc: Global,
+    addresses: &[u16],
+    tests: &ArrayVec<Test, 4>,
+    times: u32,
+) -> Result<Vec<Break>, AllocError>
+    ensures { IfOk result (λ stops. map break_view stops.items
+        ≡ map (new_break tests.now.items times) addresses.now) }
+{
+    let mut stops = Vec::new(alloc);
+    for address in addresses {
+        stops.push(Break::new(*address, copy_of(tests), times))?;
+    }
+    Ok(stops)
+}
+
+/// Sets a break, in place of the one at its address. Does nothing if the session has 256 others.
+fn set_one(mon: &mut MonState, stop: Break) -> Result<(), AllocError>
+    ensures place { OnOk result (place_of mon.new ≡ set_at stop (place_of mon.old)) }
+    ensures kept { KeepsWatches mon.old mon.new }
     ensures text { mon.new.text ≡ mon.old.text }
 {
-    match mon.session.set_break(address) {
-        Ok(()) | Err(SessionFault::AlreadySet) => Ok(true),
+    match mon.session.set_break(stop.address) {
+        Ok(()) | Err(SessionFault::AlreadySet) => mon.stops.note_break(stop),
         Err(SessionFault::OutOfMemory) => Err(AllocError),
-        Err(_) => Ok(false),
+        Err(_) => Ok(()),
     }
+}
+
+/// Sets breaks one after another.
+fn set_each(mon: &mut MonState, stops: Vec<Break>) -> Result<(), AllocError>
+    ensures place { OnOk result (place_of mon.new ≡ all_set stops.items (place_of mon.old)) }
+    ensures kept { KeepsWatches mon.old mon.new }
+    ensures text { mon.new.text ≡ mon.old.text }
+{
+    for stop in stops {
+        set_one(mon, stop)?;
+    }
+    Ok(())
 }
 
 /// Returns whether an instruction of the source begins at an address.
@@ -48,27 +128,43 @@ fn begins_instruction(places: &Places, address: u16) -> bool
     }
 }
 
-/// Says that no instruction of the source begins at an address.
-fn say_none_begins(mon: &mut MonState, address: u16) -> Result<(), AllocError>
-    ensures shows { ShowsOnly mon.old mon.new }
-    ensures text { OnOk result
-        (mon.new.text.items ≡ mon.old.text.items ++ none_begins mon.old.places.names address) }
+/// Appends that no instruction of the source begins at an address.
+fn push_none_begins(text: &mut Vec<u8>, places: &Places, address: u16) -> Result<(), AllocError>
+    ensures { OnOk result
+        (text.new.items ≡ text.old.items ++ none_begins places.now.names address) }
 {
-    mon.say(NO_INSTRUCTION_BEGINS)?;
-    push_place(&mut mon.text, &mon.places, address)?;
-    mon.say("\n")
+    push_text(text, NO_INSTRUCTION_BEGINS)?;
+    push_place(text, places, address)?;
+    push_text(text, "\n")
 }
 
-/// Says where no instruction of the source begins, if all lines of the program are known.
+/// Appends that no instruction of the source begins at an address, if all lines of the program are
+/// known and none does.
 #[tactic(auto, unfolding(crate::specs::StopTexts::lines_text))]
-fn say_lines(mon: &mut MonState, address: u16) -> Result<(), AllocError>
-    ensures shows { ShowsOnly mon.old mon.new }
-    ensures text { OnOk result
-        (mon.new.text.items ≡ mon.old.text.items ++ lines_text mon.old.places address) }
+fn push_lines(text: &mut Vec<u8>, places: &Places, address: u16) -> Result<(), AllocError>
+    ensures { OnOk result (text.new.items ≡ text.old.items ++ lines_text places.now address) }
 {
-    let places = &mon.places;
     if places.is_whole() && places.has_lines() && !begins_instruction(places, address) {
-        return say_none_begins(mon, address);
+        return push_none_begins(text, places, address);
+    }
+    Ok(())
+}
+
+/// Appends what is to be known of a break at an address.
+fn push_note(text: &mut Vec<u8>, places: &Places, address: u16) -> Result<(), AllocError>
+    ensures { OnOk result (text.new.items ≡ text.old.items ++ break_notes places.now address) }
+{
+    push_lines(text, places, address)?;
+    push_second(text, places, address)
+}
+
+/// Appends what is to be known of breaks at addresses.
+fn push_notes(text: &mut Vec<u8>, places: &Places, addresses: &[u16]) -> Result<(), AllocError>
+    ensures { OnOk result (text.new.items
+        ≡ text.old.items ++ flat_map (break_notes places.now) addresses.now) }
+{
+    for address in addresses {
+        push_note(text, places, *address)?;
     }
     Ok(())
 }
@@ -81,62 +177,40 @@ pub fn push_stop(text: &mut Vec<u8>, stop: &Break, places: &Places) -> Result<()
     push_break(
         text,
         places,
-        stop.address,
+        &[stop.address],
         stop.tests.as_slice(),
         stop.times,
     )
 }
 
-/// Notes a break, in place of one that stands there, and shows it.
-fn note_break(mon: &mut MonState, stop: Break) -> Result<(), AllocError>
-    ensures course { course_of mon.new ≡ course_of mon.old }
-    ensures breaks { OnOk result (mon.new.stops.breaks.items
-        ≡ with_break stop mon.old.stops.breaks.items) }
-    ensures memory { OnErr result (IsEither mon.new.stops.breaks.items
-        mon.old.stops.breaks.items (with_break stop mon.old.stops.breaks.items)) }
-    ensures watches { mon.new.stops.watches ≡ mon.old.stops.watches }
-    ensures changes { mon.new.stops.changes ≡ mon.old.stops.changes }
-    ensures places { mon.new.places ≡ mon.old.places }
-    ensures displays { mon.new.displays ≡ mon.old.displays }
-    ensures text { OnOk result (mon.new.text.items ≡ mon.old.text.items
-        ++ break_text mon.old.places.names stop ++ lines_text mon.old.places stop.address
-        ++ again_text mon.old.places.names stop.address) }
-{
-    let address = stop.address;
-    push_stop(&mut mon.text, &stop, &mon.places)?;
-    mon.stops.note_break(stop)?;
-    say_lines(mon, address)?;
-    say_again(mon, address)
-}
-
-/// Sets a break, in place of one that stands there, and shows it. Nothing is changed if the session
-/// has 256 others.
+/// Sets breaks with the same tests at all of some addresses, in place of those that stand there,
+/// and shows them. Nothing is changed if the session has no room for all of them.
 ///
-/// Errors: `AllocError` if an allocation fails; the session or both the session and the stops may
-/// have the break then.
-pub fn set_break(mon: &mut MonState, stop: Break) -> Result<(), AllocError>
-    ensures session { OnOk result (mon.new.session
-        ≡ or_same mon.old.session (break_set stop.address mon.old.session)) }
-    ensures breaks { OnOk result (mon.new.stops.breaks.items
-        ≡ (if is_set (break_set stop.address mon.old.session)
-        then with_break stop mon.old.stops.breaks.items
-        else mon.old.stops.breaks.items)) }
-    ensures session_memory { OnErr result (IsEither mon.new.session mon.old.session
-        (or_same mon.old.session (break_set stop.address mon.old.session))) }
-    ensures breaks_memory { OnErr result (IsEither mon.new.stops.breaks.items
-        mon.old.stops.breaks.items (with_break stop mon.old.stops.breaks.items)) }
-    ensures watches { mon.new.stops.watches ≡ mon.old.stops.watches }
-    ensures changes { mon.new.stops.changes ≡ mon.old.stops.changes }
-    ensures events { mon.new.events ≡ mon.old.events }
-    ensures places { mon.new.places ≡ mon.old.places }
-    ensures displays { mon.new.displays ≡ mon.old.displays }
+/// Errors: `AllocError` if an allocation fails; some of the breaks may be set then.
+pub fn set_breaks(
+    mon: &mut MonState,
+    alloc: Global,
+    addresses: &[u16],
+    tests: &ArrayVec<Test, 4>,
+    times: u32,
+) -> Result<(), AllocError>
+    ensures breaks { OnOk result (SetsBreaks addresses.now tests.now.items times mon.old mon.new) }
+    ensures kept { KeepsWatches mon.old mon.new }
     ensures text { OnOk result (mon.new.text.items ≡ mon.old.text.items
-        ++ set_text mon.old.places stop.address stop.tests.items stop.times
-        (is_set (break_set stop.address mon.old.session))) }
+        ++ set_text mon.old.places addresses.now tests.now.items times
+        (have_room addresses.now mon.old.session)) }
 {
-    if break_in_session(mon, stop.address)? {
-        note_break(mon, stop)
-    } else {
-        mon.say(BREAKS_FULL)
+    let stops = breaks_at(alloc, addresses, tests, times)?;
+    if !have_room(&mon.session, addresses) {
+        return mon.say(BREAKS_FULL);
     }
+    set_each(mon, stops)?;
+    push_break(
+        &mut mon.text,
+        &mon.places,
+        addresses,
+        tests.as_slice(),
+        times,
+    )?;
+    push_notes(&mut mon.text, &mon.places, addresses)
 }

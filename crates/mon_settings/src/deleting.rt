@@ -1,13 +1,12 @@
 //! Lines that delete and show breaks and watches.
 
-ghost use Rattle.std.specs.Prelude.{◌≡◌, ◌++◌, OnOk};
+ghost use Rattle.std.specs.Prelude.{◌≡◌, ◌++◌, IsOk, OnOk};
 ghost use Rattle.std.specs.List.{flat_map};
-ghost use Rattle.mon_settings.specs.StopLines.{changes_left, stands_at, without_stops};
-ghost use Rattle.mon_settings.specs.StopTexts.{break_text, deleted_text, list_text, stops_text};
+ghost use Rattle.mon_settings.specs.StopLines.{KeepsPast, all_deleted, deleted_at, stands_at, standing_of};
+ghost use Rattle.mon_settings.specs.StopTexts.{all_deleted_text, break_text, deleted_text, list_text, stops_text};
 ghost use Rattle.mon_settings.specs.StopTexts.{register_deleted_text, watch_text};
 ghost use Rattle.mon_session.specs.Course.{ShowsOnly};
-ghost use Rattle.mon_runs.specs.Stops.{first_with, is_watched, without, without_first_with};
-ghost use Rattle.mon_runs.specs.Stops.{without_register};
+ghost use Rattle.mon_runs.specs.Stops.{is_watched, without_register};
 
 use crate::breaks::push_stop;
 use crate::watches::{push_watched, unwatch_changes};
@@ -23,19 +22,8 @@ use std::alloc::AllocError;
 
 /// Clears the break and the first watch at an address, and returns whether there was one.
 fn forget(mon: &mut MonState, address: u16) -> bool
-    ensures session { mon.new.session
-        ≡ without_stops address mon.old.stops.watches.items mon.old.session }
-    ensures breaks { mon.new.stops.breaks.items
-        ≡ without address mon.old.stops.breaks.items }
-    ensures watches { mon.new.stops.watches.items
-        ≡ without_first_with address mon.old.stops.watches.items }
-    ensures changes { mon.new.stops.changes.items
-        ≡ changes_left (without_first_with address mon.old.stops.watches.items)
-        mon.old.stops.changes.items
-        (first_with address mon.old.stops.watches.items) }
-    ensures events { mon.new.events ≡ mon.old.events }
-    ensures places { mon.new.places ≡ mon.old.places }
-    ensures displays { mon.new.displays ≡ mon.old.displays }
+    ensures standing { standing_of mon.new ≡ deleted_at address (standing_of mon.old) }
+    ensures kept { KeepsPast mon.old mon.new }
     ensures stood { result
         ≡ stands_at address mon.old.stops.watches.items mon.old.session }
     ensures text { mon.new.text ≡ mon.old.text }
@@ -51,40 +39,53 @@ fn forget(mon: &mut MonState, address: u16) -> bool
     }
 }
 
-/// Says whether something stood at an address, where nothing stands now.
-fn say_deleted(mon: &mut MonState, address: u16, stood: bool) -> Result<(), AllocError>
-    ensures shows { ShowsOnly mon.old mon.new }
-    ensures text { OnOk result (mon.new.text.items ≡ mon.old.text.items
-        ++ deleted_text mon.old.places.names address stood) }
+/// Appends whether something stood at an address, where nothing stands now.
+fn push_deleted(
+    text: &mut Vec<u8>,
+    places: &Places,
+    address: u16,
+    stood: bool,
+) -> Result<(), AllocError>
+    ensures { OnOk result (text.new.items ≡ text.old.items
+        ++ deleted_text places.now.names address stood) }
 {
-    mon.say(if stood { DELETED } else { NOTHING_AT })?;
-    push_place(&mut mon.text, &mon.places, address)?;
-    mon.say("\n")
+    push_text(text, if stood { DELETED } else { NOTHING_AT })?;
+    push_place(text, places, address)?;
+    push_text(text, "\n")
 }
 
-/// Clears the break and the first watch at an address, and says so.
-///
-/// Errors: `AllocError` if an allocation fails; both are cleared all the same.
-pub fn delete(mon: &mut MonState, address: u16) -> Result<(), AllocError>
-    ensures session { mon.new.session
-        ≡ without_stops address mon.old.stops.watches.items mon.old.session }
-    ensures breaks { mon.new.stops.breaks.items
-        ≡ without address mon.old.stops.breaks.items }
-    ensures watches { mon.new.stops.watches.items
-        ≡ without_first_with address mon.old.stops.watches.items }
-    ensures changes { mon.new.stops.changes.items
-        ≡ changes_left (without_first_with address mon.old.stops.watches.items)
-        mon.old.stops.changes.items
-        (first_with address mon.old.stops.watches.items) }
-    ensures events { mon.new.events ≡ mon.old.events }
-    ensures places { mon.new.places ≡ mon.old.places }
-    ensures displays { mon.new.displays ≡ mon.old.displays }
+/// Clears the break and the first watch at an address, and says so unless that failed before.
+fn delete_one(
+    mon: &mut MonState,
+    address: u16,
+    said: Result<(), AllocError>,
+) -> Result<(), AllocError>
+    ensures standing { standing_of mon.new ≡ deleted_at address (standing_of mon.old) }
+    ensures kept { KeepsPast mon.old mon.new }
+    ensures before { OnOk result (IsOk said) }
     ensures text { OnOk result (mon.new.text.items ≡ mon.old.text.items
         ++ deleted_text mon.old.places.names address
         (stands_at address mon.old.stops.watches.items mon.old.session)) }
 {
     let stood = forget(mon, address);
-    say_deleted(mon, address, stood)
+    said?;
+    push_deleted(&mut mon.text, &mon.places, address, stood)
+}
+
+/// Clears the break and the first watch at each of some addresses, and says so.
+///
+/// Errors: `AllocError` if an allocation fails; all are cleared all the same.
+pub fn delete(mon: &mut MonState, addresses: &[u16]) -> Result<(), AllocError>
+    ensures standing { standing_of mon.new ≡ all_deleted addresses.now (standing_of mon.old) }
+    ensures kept { KeepsPast mon.old mon.new }
+    ensures text { OnOk result (mon.new.text.items ≡ mon.old.text.items
+        ++ all_deleted_text mon.old.places.names addresses.now (standing_of mon.old)) }
+{
+    let mut said = Ok(());
+    for address in addresses {
+        said = delete_one(mon, *address, said);
+    }
+    said
 }
 
 /// Appends that a register is not watched any more, or was not watched.

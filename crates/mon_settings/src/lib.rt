@@ -22,7 +22,7 @@ mod watches;
 pub mod wording;
 
 pub use asm::assemble;
-pub use breaks::set_break;
+pub use breaks::{addresses_at, set_breaks};
 pub use bytes::{hand_in, put};
 pub use deleting::{delete, delete_register, list};
 pub use displays::{display, is_displayed, list_displays, show_displays, undisplay};

@@ -70,9 +70,19 @@ tests_text names (test ∷ tests)
 abbrev pub times_text : ℕ → List ℕ
 times_text times = if nat_lt 1 times then TIMES.now ++ decimal times else []
 
--- The line of a break: its place, its tests, and how often they have to hold.
-unfoldable pub break_line : List Named → ℕ → List Test → ℕ → List ℕ
-break_line names address tests times = BREAK_AT.now ++ place_text names address
+-- Places with commas between them.
+abbrev pub further_place : List Named → ℕ → List ℕ
+further_place names address = codes ", " ++ place_text names address
+
+abbrev pub places_text : List Named → List ℕ → List ℕ
+places_text names [] = []
+places_text names (address ∷ others)
+    = place_text names address ++ flat_map (further_place names) others
+
+-- The line of breaks that have the same tests: their places, the tests, and how often they have to
+-- hold.
+unfoldable pub break_line : List Named → List ℕ → List Test → ℕ → List ℕ
+break_line names addresses tests times = BREAK_AT.now ++ places_text names addresses
     ++ tests_text names tests ++ times_text times ++ codes "\n"
 
 -- ---- watches

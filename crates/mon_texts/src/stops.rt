@@ -3,7 +3,8 @@
 ghost use Rattle.std.specs.Prelude.{◌≡◌, ◌++◌, OnOk};
 ghost use Rattle.std.specs.List.{flat_map};
 ghost use Rattle.source_map.specs.Names.{name_at};
-ghost use Rattle.mon_texts.specs.Stops.{break_line, further_test, kind_text, last_text};
+ghost use Rattle.mon_texts.specs.Stops.{break_line, further_place, further_test, kind_text, last_text};
+ghost use Rattle.mon_texts.specs.Stops.{places_text};
 ghost use Rattle.mon_texts.specs.Stops.{left_text, name_or_digits, number_text, register_name};
 ghost use Rattle.mon_texts.specs.Stops.{register_watch_line, sign, test_text, tests_text};
 ghost use Rattle.mon_texts.specs.Stops.{times_text, watch_line};
@@ -146,22 +147,61 @@ fn push_times(text: &mut Vec<u8>, times: u32) -> Result<(), AllocError>
     Ok(())
 }
 
-/// Appends the line of a break: its place, its tests, and how often they have to hold.
+/// Appends a place behind another one.
+fn push_further_place(text: &mut Vec<u8>, places: &Places, address: u16) -> Result<(), AllocError>
+    ensures { OnOk result (text.new.items ≡ text.old.items
+        ++ further_place places.now.names address) }
+{
+    push_text(text, ", ")?;
+    push_place(text, places, address)
+}
+
+/// Appends places behind the first one.
+fn push_other_places(
+    text: &mut Vec<u8>,
+    places: &Places,
+    addresses: &[u16],
+) -> Result<(), AllocError>
+    ensures { OnOk result (text.new.items ≡ text.old.items
+        ++ flat_map (further_place places.now.names) addresses.now) }
+{
+    for address in addresses {
+        push_further_place(text, places, *address)?;
+    }
+    Ok(())
+}
+
+/// Appends places with commas between them.
+fn push_places(text: &mut Vec<u8>, places: &Places, addresses: &[u16]) -> Result<(), AllocError>
+    ensures { OnOk result (text.new.items
+        ≡ text.old.items ++ places_text places.now.names addresses.now) }
+{
+    match addresses {
+        [] => Ok(()),
+        [first, others @ ..] => {
+            push_place(text, places, *first)?;
+            push_other_places(text, places, others)
+        }
+    }
+}
+
+/// Appends the line of breaks that have the same tests: their places, the tests, and how often
+/// they have to hold.
 ///
 /// Errors: `AllocError` if an allocation fails.
 #[tactic(auto, unfolding(crate::specs::Stops::break_line))]
 pub fn push_break(
     text: &mut Vec<u8>,
     places: &Places,
-    address: u16,
+    addresses: &[u16],
     tests: &[Test],
     times: u32,
 ) -> Result<(), AllocError>
     ensures ok { OnOk result (text.new.items ≡ text.old.items
-        ++ break_line places.now.names address tests.now times) }
+        ++ break_line places.now.names addresses.now tests.now times) }
 {
     push_text(text, BREAK_AT)?;
-    push_place(text, places, address)?;
+    push_places(text, places, addresses)?;
     push_tests(text, places, tests)?;
     push_times(text, times)?;
     push_text(text, "\n")

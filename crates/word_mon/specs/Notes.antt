@@ -27,7 +27,7 @@ placed_shown None = None
 placed_shown (Some address) = Some (placing.Display address)
 
 abbrev pub placed_seen : SeenCommand → Option Placed
-placed_seen (break_at address tests times) = Some (placing.Break address)
+placed_seen (break_at address line tests times) = Some (placing.Break address)
 placed_seen (watch stretch kind) = Some (placing.Watch stretch.first)
 placed_seen (watch_register register) = Some (placing.Register register)
 placed_seen (display place) = placed_shown place
