@@ -5,11 +5,11 @@ use Rattle.std.proofs.lemmas.Option.{slice_get-get_or}
 use Rattle.std.proofs.lemmas.Bool.Decides.{nat_tests}
 use Rattle.std.specs.List.{list_any}
 use Rattle.std.specs.Option.{option_eq}
-use Rattle.std.specs.Prelude.{◌||◌, ◌==◌, slice_get}
+use Rattle.std.specs.Prelude.{◌||◌, slice_get}
 
-is_this : ℕ → Option ℕ → Bool
+abbrev is_this : ℕ → Option ℕ → Bool
 is_this a None = false
-is_this a (Some at) = at == a
+is_this a (Some at) = nat_eq a at
 
 here : (a : ℕ) (xs : List ℕ) (i : ℕ) → i < length xs → list_any (nat_eq a) (drop i xs)
     ≡ (is_this a (slice_get xs i) || list_any (nat_eq a) (drop (suc i) xs))
