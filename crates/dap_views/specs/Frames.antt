@@ -1,9 +1,10 @@
 -- The frames of the stack: where the program is, and the calls and interrupts that have led there.
 -- Source: Debug Adapter Protocol 1.65, "StackTrace Request"; what is taken for a call or an
 -- interrupt, mos65: what `where` of `mon` takes for one.
-use Rattle.std.specs.Prelude.{ℕ, zero, suc, ◌+◌, ◌==◌, nat_le, ◌≡◌, Bool, true, false, if◌then◌else◌, List, [], ◌∷◌, ◌++◌, length, map, slice_get, string_bytes, Option, Some, None}
+use Rattle.std.specs.Prelude.{ℕ, zero, suc, ◌+◌, ◌==◌, nat_le, ◌≡◌, Bool, true, false, if◌then◌else◌, List, [], ◌∷◌, ◌++◌, drop, length, map, slice_get, string_bytes, Option, Some, None}
 use Rattle.std.specs.List.{flat_map, list_any}
 use Rattle.std.specs.Str.Lossy.{utf8_lossy}
+use Rattle.c_frames.specs.declared.walk.Frame.{Frame as CFrame}
 use Rattle.call_frames.specs.Found.{function_at}
 use Rattle.dap_messages.specs.Counting.{first_column, shown_line}
 use Rattle.dap_messages.specs.declared.counting.Counting.{Counting}
@@ -14,11 +15,12 @@ use Rattle.dap_views.specs.declared.source.FilePath.{FilePath}
 use Rattle.dap_views.specs.declared.stack.Frame.{Frame}
 use Rattle.model.specs.State.{State}
 use Rattle.mon_instructions.specs.Places.{place_text}
-use Rattle.mon_texts.specs.Calls.{at_line, calls_text, from_line}
+use Rattle.mon_calls.specs.Calls.{called_line, stack_behind, where_text}
+use Rattle.mon_calls.specs.Spots.{from_line, spot_line}
 use Rattle.mon_texts.specs.Pushed.{entry_len, pushed_at}
 use Rattle.mon_texts.specs.declared.pushed.Pushed.{Pushed}
 use Rattle.mon_texts.specs.declared.pushed.Pushed.TheVariants.{Call, Break, Interrupt, Byte}
-use Rattle.mon_texts.specs.declared.wording.TheConstants.{CALLED_FROM, INTERRUPTED_AT}
+use Rattle.mon_texts.specs.declared.wording.TheConstants.{CALLED_FROM, INTERRUPTED_AT, PROGRAM_AT}
 use Rattle.source_map.specs.Functions.{FunctionView}
 use Rattle.source_map.specs.Lines.{PlacesView, row_at}
 use Rattle.source_map.specs.Names.{Named}
@@ -60,15 +62,18 @@ has_frame frames id = list_any (λ frame. frame.id == id) frames
 -- ---- they are those of `where`
 
 -- The line that `where` has of a frame.
-abbrev pub where_line : State → List Named → Frame → List ℕ
-where_line s names frame = from_line
-    (if frame.is_interrupted then INTERRUPTED_AT.now else CALLED_FROM.now) s names frame.address
+abbrev pub where_line : State → PlacesView → Frame → List ℕ
+where_line s places frame = from_line
+    (if frame.is_interrupted then INTERRUPTED_AT.now else CALLED_FROM.now) s places frame.address
 
--- `where` has a line of each frame below the first, and no other, in the same order.
+-- Behind the frames of C, `where` has a line of each frame from there on, and no other, in the same
+-- order. Where no frame of C is known, these are all below the first.
 abbrev pub FramesAreThoseOfWhere : Type 0
-FramesAreThoseOfWhere = (s : State) (places : PlacesView) → calls_text s places
-    ≡ at_line places.names s.regs.pc
-    ++ flat_map (where_line s places.names) (left_frames s places.lines)
+FramesAreThoseOfWhere = (s : State) (places : PlacesView) (frames : List CFrame)
+    → where_text s places frames ≡ spot_line PROGRAM_AT.now places s.regs.pc
+    ++ flat_map (called_line s places) (drop 1 frames)
+    ++ flat_map (where_line s places)
+    (frames_from 256 s.bus.memory places.lines (257 + stack_behind frames s.regs.s))
 
 -- ---- what is shown of a frame
 

@@ -2,7 +2,7 @@
 
 ghost use Rattle.dap_views.specs.Frames.{FramesAreThoseOfWhere};
 
-/// States that `where` of `mon` has a line of each frame below the first, and no other.
+/// States that `where` of `mon` has a line of each frame behind those of C, and no other.
 pub fn frames_are_those_of_where()
     ensures { FramesAreThoseOfWhere }
 {}

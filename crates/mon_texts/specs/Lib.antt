@@ -5,5 +5,4 @@ pub mod Stops
 pub mod Memory
 pub mod Slips
 pub mod Help
-pub mod Calls
 pub mod Screen

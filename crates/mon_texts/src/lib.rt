@@ -1,11 +1,10 @@
-//! What `mon` shows of a session: registers, memory, the stack, calls, the screen, breaks and
-//! watches; help, and what is missing or wrong in a line.
+//! What `mon` shows of a session: registers, memory, the stack, the screen, breaks and watches;
+//! help, and what is missing or wrong in a line.
 //!
 //! Each call appends to a text, and changes no session. Names are put where addresses stand. The
 //! words stand in `wording`.
 #![tactic(auto)]
 
-mod calls;
 mod help;
 mod memory;
 mod pushed;
@@ -16,7 +15,6 @@ mod state;
 mod stops;
 pub mod wording;
 
-pub use calls::push_calls;
 pub use help::{push_example, push_help};
 pub use memory::push_memory;
 pub use pushed::{Pushed, pushed_at, pushed_len};
