@@ -28,7 +28,8 @@ TYPED = re.compile(r"[A-Za-z0-9_@.:]{1,63}")
 C, ASSEMBLER, MACRO, PARAMETER = 1, 0, 2, 3
 # Bytes from `start` on, before `end`, which a line of a file made, and whether they are said to be
 # data.
-Row = collections.namedtuple("Row", "start end file line kind depth is_data")
+Row = collections.namedtuple("Row", "start end file line kind depth is_data has_code",
+                             defaults=[True])
 
 
 def number(text):
@@ -91,7 +92,7 @@ class DebugFile(Lines):
             fields = {name: value.strip('"') for name, value in FIELD.findall(rest)}
             if "id" in fields:
                 self.records[word][int(fields["id"])] = fields
-        files = {id: it["name"] for id, it in self.records["file"].items()}
+        files = {id: it["name"].replace("\\", "/") for id, it in self.records["file"].items()}
         super().__init__([row for row in self.all_rows() if self.is_clear(row)], files)
 
     def all_rows(self):
@@ -102,21 +103,25 @@ class DebugFile(Lines):
                 span = self.records["span"][int(id)]
                 segment = self.records["seg"][int(span["seg"])]
                 start = number(segment["start"]) + int(span["start"])
-                has_code = segment.get("type") == "ro" or "oname" in segment
+                has_code = self.has_code(segment)
                 if kind != PARAMETER:
                     yield Row(start, start + int(span["size"]), int(line["file"]),
                               int(line["line"]), kind, int(line.get("count", "0")),
-                              "type" in span or not has_code)
+                              "type" in span or not has_code, has_code)
+
+    def has_code(self, segment):
+        return segment.get("type") == "ro" or "oname" in segment
 
     def segments_at(self, row):
-        """How many segments have an address of a row."""
-        ranges = [(number(it["start"]), number(it["size"])) for it in self.records["seg"].values()]
+        """How many segments have an address of a row; of a row of code, how many with code."""
+        ranges = [(number(it["start"]), number(it["size"])) for it in self.records["seg"].values()
+                  if self.has_code(it) or not row.has_code]
         return sum(size > 0 and row.start < start + size and start < row.end
                    for start, size in ranges)
 
     def is_clear(self, row):
         """Whether it is known whose bytes a row has: not where a file is the main one of two
-        modules, nor where two segments run."""
+        modules, nor where two segments run, but for those without code over code."""
         mains = [int(it["file"]) for it in self.records["mod"].values()]
         return mains.count(row.file) < 2 and self.segments_at(row) < 2
 
@@ -149,7 +154,7 @@ class Listing(Lines):
             head, listed, repeated = (it.match(line) for it in (HEAD, shape, REPEATED))
             if head:
                 file = int(head[1])
-                files[file] = head[2]
+                files[file] = head[2].replace("\\", "/")
             if repeated:
                 rows[-1] = rows[-1]._replace(end=rows[-1].end + int(repeated[1]))
             if listed:
@@ -177,7 +182,7 @@ class Report(Lines):
         for line in text.split("\n"):
             row = REPORTED.match(line)
             if line.startswith(SOURCE):
-                is_late, name = bool(names), line[len(SOURCE):]
+                is_late, name = bool(names), line[len(SOURCE):].replace("\\", "/")
                 names += [name] * (name not in names)
                 file = names.index(name)
             elif row:

@@ -5,6 +5,7 @@ use Rattle.arguments.specs.Files.{EndsReading}
 use Rattle.arguments.specs.declared.load_fault.LoadFault.{LoadFault}
 use Rattle.arguments.specs.declared.load_fault.LoadFault.TheVariants.{Refused}
 use Rattle.debug_files.specs.Forms.{info_of}
+use Rattle.debug_files.specs.Paths.{slashed}
 use Rattle.debug_files.specs.Told.{IsToldAs}
 use Rattle.debug_records.specs.Info.{Info}
 use Rattle.debug_records.specs.Records.{File}
@@ -13,10 +14,10 @@ use Rattle.debug_records.specs.declared.fault.DebugFault.{DebugFault}
 use Rattle.source_map.specs.Debugged.{Program, debug_places}
 use Rattle.source_map.specs.Lines.{PlacesView, SourceView}
 
--- The name of a file, if there is one of the number.
+-- The name of a file with `/` for `\`, if there is one of the number.
 abbrev pub named : Option File → List ℕ
 named None = []
-named (Some file) = file.name
+named (Some file) = slashed file.name
 
 abbrev pub names_in : List SourceView → List (List ℕ)
 names_in sources = map (λ source. source.name) sources

@@ -1,5 +1,12 @@
 -- Where a source lies that a debug file names. Source: mos65.
-use Rattle.std.specs.Prelude.{ℕ, ◌+◌, ◌==◌, Bool, false, if◌then◌else◌, List, [], ◌∷◌, ◌++◌, codes, take, Option, Some, None}
+use Rattle.std.specs.Prelude.{ℕ, ◌+◌, ◌==◌, Bool, false, if◌then◌else◌, List, [], ◌∷◌, ◌++◌, codes, map, take, Option, Some, None}
+
+-- The name of a source with `/` where Windows writes `\`.
+abbrev pub slashed_byte : ℕ → ℕ
+slashed_byte b = if b == 92 then 47 else b
+
+abbrev pub slashed : List ℕ → List ℕ
+slashed name = map slashed_byte name
 
 -- Where the name of the file begins in the rest of a path: after the last `/`, if there is one.
 unfoldable pub name_start : ℕ → ℕ → List ℕ → ℕ

@@ -2,9 +2,27 @@
 
 ghost use Rattle.std.specs.Prelude.{◌≡◌, ◌≤◌, ◌++◌, IfOk, OnOk, length, option_map};
 ghost use Rattle.debug_files.specs.Paths.{begins_at_root, folder_of, name_start, root_folder};
-ghost use Rattle.debug_files.specs.Paths.{source_path};
+ghost use Rattle.debug_files.specs.Paths.{slashed, slashed_byte, source_path};
 
 use std::alloc::{AllocError, Global};
+
+/// Returns a byte of a name: `/` for `\`.
+fn slashed_byte(byte: u8) -> u8
+    ensures { result ≡ slashed_byte byte }
+{
+    if byte == b'\\' { b'/' } else { byte }
+}
+
+/// Returns the name of a source with `/` where Windows writes `\`.
+pub fn slashed(alloc: Global, name: &[u8]) -> Result<Vec<u8>, AllocError>
+    ensures { IfOk result (λ made. made.items ≡ slashed name.now) }
+{
+    let mut made = Vec::new(alloc);
+    for byte in name {
+        made.push(slashed_byte(*byte))?;
+    }
+    Ok(made)
+}
 
 /// Returns where the name of the file begins in its path: after the last `/`, if there is one.
 fn name_start(path: &[u8]) -> usize

@@ -7,7 +7,7 @@ ghost use Rattle.debug_records.specs.Views.{file_view};
 ghost use Rattle.source_map.specs.Lines.{source_view};
 
 use crate::changed::{Sought, SourceState, state_of};
-use crate::paths::source_path;
+use crate::paths::{slashed, source_path};
 use arguments::{Refusal, read_most};
 use debug_records::File;
 use source_map::SourceFile;
@@ -114,7 +114,8 @@ fn text_of<H: Files + AllocGlobal>(
     }
 }
 
-/// Returns a source with its text: no name and no text if there is no file of the number.
+/// Returns a source with its text, by its name with `/` for `\`: no name and no text if there is no
+/// file of the number.
 ///
 /// Errors: `OutOfMemory` if an allocation fails.
 fn source_of<H: Files + AllocGlobal>(
@@ -131,8 +132,13 @@ fn source_of<H: Files + AllocGlobal>(
     match source {
         None => of_memory(SourceFile::of_text(rt.alloc(), b"", b"")),
         Some(source) => {
-            let text = text_of(rt, file, root, source, sought)?;
-            of_memory(SourceFile::of_text(rt.alloc(), source.name, text.as_slice()))
+            let name = of_memory(slashed(rt.alloc(), source.name))?;
+            let named = File {
+                name: name.as_slice(),
+                size: source.size,
+            };
+            let text = text_of(rt, file, root, named, sought)?;
+            of_memory(SourceFile::of_text(rt.alloc(), name.as_slice(), text.as_slice()))
         }
     }
 }
