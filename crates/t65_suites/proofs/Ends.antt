@@ -11,15 +11,18 @@ use Rattle.assembler.specs.Assembly.{AssemblyView}
 use Rattle.clap.specs.Words.{Text}
 use Rattle.debug_files.specs.Loads.{EndsDebug}
 use Rattle.loading.specs.declared.named.NamedFault.{NamedFault}
-use Rattle.model.specs.State.{is_map}
+use Rattle.model.specs.State.{Map, is_map}
 use Rattle.model.specs.TextLines.{lines_of}
 use Rattle.model.specs.declared.bus_fault.BusFault.TheVariants.{BadMap}
 use Rattle.model.specs.Names.{Definitions}
 use Rattle.t65_suites.specs.HeadText.{SeenHead, head_from}
-use Rattle.t65_reader.specs.RowText.{SeenAsking, SeenLine, points_of, rows_from}
+use Rattle.source_map.specs.Lines.{PlacesView}
+use Rattle.t65_reader.specs.RowText.{Rows, SeenAsking, SeenLine, points_of, rows_from}
 use Rattle.t65_values.specs.declared.fault.TextFault.{TextFault}
 use Rattle.t65_reader.specs.CPrograms.{SeenProgram}
-use Rattle.t65_suites.specs.Ends.{EndsAnyTest, EndsFile, EndsPlaced, EndsPlaces, EndsRows, EndsTest, HeadedFile}
+use Rattle.t65_suites.specs.CFunctions.{AreFunctions}
+use Rattle.t65_suites.specs.Prepared.{ArePlaces, map_of}
+use Rattle.t65_suites.specs.Ends.{AreRead, EndsAnyTest, EndsFile, EndsPlaced, EndsPlaces, EndsRows, EndsTest, HeadedFile}
 use Rattle.t65_suites.specs.FaultTexts.{fault_at}
 use Rattle.t65_suites.specs.declared.fault.Unplaced.{Unplaced}
 use Rattle.t65_suites.specs.declared.fault.Unplaced.TheVariants.{Debug, Program}
@@ -30,9 +33,9 @@ use Rattle.t65_suites.specs.declared.fault.Unprepared.{Unprepared}
 use Rattle.t65_suites.specs.declared.fault.FileFault.{FileFault}
 use Rattle.t65_suites.specs.declared.fault.FileFault.TheVariants.{InProgram, InRows}
 use Rattle.t65_suites.specs.declared.fault.TestFault.{TestFault}
-use Rattle.t65_suites.specs.declared.fault.TestFault.TheVariants.{Rows, TooLarge, NoRow, Refused}
+use Rattle.t65_suites.specs.declared.fault.TestFault.TheVariants.{Rows as NotRows, TooLarge, NoRow, Refused}
 
-pub head_ends : (text : List ℕ) (fault : TextFault) → head_from 1 (lines_of text) ≡ Err fault → EndsAnyTest (Rows fault)
+pub head_ends : (text : List ℕ) (fault : TextFault) → head_from 1 (lines_of text) ≡ Err fault → EndsAnyTest (NotRows fault)
 head_ends text fault refused = λ reading. inl (text, refused, refl)
 
 pub no_test : (asking : SeenAsking) (names : Definitions) (program : SeenProgram) (next : ℕ) (lines : List (List ℕ)) (rows : List SeenLine)
@@ -80,38 +83,45 @@ placed_ends reading text head next lines path name (Program fault) points headed
 placed_ends reading text head next lines path name (Debug fault) points headed named ends are =
     (headed_file text head next lines headed, ends, are)
 
-pub rows_end : (reading : ReadingAsked) (text : List ℕ) (head : SeenHead) (next : ℕ) (lines : List (List ℕ)) (path : List ℕ) (assembly : AssemblyView)
-    (steps : ℕ) (c_program : SeenProgram) (fault : TestFault) (points : ℕ)
+-- What is told of the rows of a file that cannot be tested.
+abbrev read_so : (reading : ReadingAsked) (text : List ℕ) (head : SeenHead) (next : ℕ) (lines : List (List ℕ)) (path : List ℕ) (assembly : AssemblyView)
+    (places : PlacesView) (steps : ℕ) (c_program : SeenProgram) (bus_map : Map) (points : ℕ) (rows : Rows)
     → head_from 1 (lines_of text) ≡ Ok (head, next, lines) → IsProgram (file_asked reading head path) reading.symbols assembly
+    → ArePlaces reading.debug head.profile path assembly places → bus_map ≡ map_of head
+    → AreFunctions reading.debug bus_map assembly.image head.stack places c_program
+    → rows_from (asking_of steps reading) assembly.names c_program next lines ≡ rows → points ≡ points_of reading.only lines
+    → AreRead reading points rows
+read_so reading text head next lines path assembly places steps c_program bus_map points rows headed program placed same called read are = record {
+  file = headed_file text head next lines headed;
+  path = path;
+  assembly = assembly;
+  program = program;
+  places = places;
+  placed = placed;
+  steps = steps;
+  c_program = c_program;
+  called = subst (λ m. AreFunctions reading.debug m assembly.image head.stack places c_program) same called;
+  read = read;
+  points_are = are;
+}
+
+pub rows_end : (reading : ReadingAsked) (text : List ℕ) (head : SeenHead) (next : ℕ) (lines : List (List ℕ)) (path : List ℕ) (assembly : AssemblyView)
+    (places : PlacesView) (steps : ℕ) (c_program : SeenProgram) (bus_map : Map) (fault : TestFault) (points : ℕ)
+    → head_from 1 (lines_of text) ≡ Ok (head, next, lines) → IsProgram (file_asked reading head path) reading.symbols assembly
+    → ArePlaces reading.debug head.profile path assembly places → bus_map ≡ map_of head
+    → AreFunctions reading.debug bus_map assembly.image head.stack places c_program
     → EndsRows (asking_of steps reading) assembly.names c_program next lines fault → points ≡ points_of reading.only lines
     → EndsTest reading points fault
-rows_end reading text head next lines path assembly steps c_program (Rows fault) points headed program ends are =
-    inr (record {
-      file = headed_file text head next lines headed;
-      path = path;
-      assembly = assembly;
-      program = program;
-      steps = steps;
-      c_program = c_program;
-      read = ends;
-      points_are = are;
-    })
-rows_end reading text head next lines path assembly steps c_program TooLarge points headed program ends are = absurd (too_large ends)
-rows_end reading text head next lines path assembly steps c_program NoRow points headed program ends are = (
+rows_end reading text head next lines path assembly places steps c_program bus_map (NotRows fault) points headed program placed same called ends are =
+    inr (read_so reading text head next lines path assembly places steps c_program bus_map points (Err fault) headed program placed same called ends are)
+rows_end reading text head next lines path assembly places steps c_program bus_map TooLarge points headed program placed same called ends are =
+    absurd (too_large ends)
+rows_end reading text head next lines path assembly places steps c_program bus_map NoRow points headed program placed same called ends are = (
   ends.0,
-  record {
-    file = headed_file text head next lines headed;
-    path = path;
-    assembly = assembly;
-    program = program;
-    steps = steps;
-    c_program = c_program;
-    read = ends.1;
-    points_are = are;
-  },
+  read_so reading text head next lines path assembly places steps c_program bus_map points (Ok ends.0) headed program placed same called ends.1 are,
   ends.2,
 )
-rows_end reading text head next lines path assembly steps c_program (Refused refusal) points headed program ends are =
+rows_end reading text head next lines path assembly places steps c_program bus_map (Refused refusal) points headed program placed same called ends are =
     subst (EndsTest reading points) (sym ends) tt
 
 -- Rows that cannot be read, or memory that ran out while that was told.

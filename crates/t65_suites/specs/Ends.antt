@@ -14,7 +14,10 @@ use Rattle.model.specs.Names.{Definitions}
 use Rattle.model.specs.State.{is_map}
 use Rattle.model.specs.TextLines.{lines_of}
 use Rattle.model.specs.declared.bus_fault.BusFault.TheVariants.{BadMap}
+use Rattle.source_map.specs.Lines.{PlacesView}
+use Rattle.t65_suites.specs.CFunctions.{AreFunctions}
 use Rattle.t65_suites.specs.HeadText.{SeenHead, head_from}
+use Rattle.t65_suites.specs.Prepared.{ArePlaces, map_of}
 use Rattle.t65_reader.specs.CPrograms.{SeenProgram}
 use Rattle.t65_reader.specs.RowText.{Rows, SeenAsking, SeenLine, points_of, rows_from}
 use Rattle.t65_runner.specs.Parts.{tests_of}
@@ -36,14 +39,18 @@ pub record HeadedFile : Type 0 where
   pub headed : head_from 1 (lines_of text) ≡ Ok (head, next, lines)
 
 -- The rows of some file, which are worth so many points together, are read so under the names of
--- some file that is loaded on its map, and with functions of C.
+-- some file that is loaded on its map, and with its functions of C.
 pub record AreRead (reading : ReadingAsked) (points : ℕ) (rows : Rows) : Type 0 where
   pub file : HeadedFile
   pub path : Text
   pub assembly : AssemblyView
   pub program : IsProgram (file_asked reading file.head path) reading.symbols assembly
+  pub places : PlacesView
+  pub placed : ArePlaces reading.debug file.head.profile path assembly places
   pub steps : ℕ
   pub c_program : SeenProgram
+  pub called : AreFunctions reading.debug (map_of file.head) assembly.image file.head.stack places
+      c_program
   pub read : rows_from (asking_of steps reading) assembly.names c_program file.next file.lines
       ≡ rows
   pub points_are : points ≡ points_of reading.only file.lines

@@ -38,8 +38,9 @@ pub returns-in-Err-rows_in-clause-refused : goal.returns-in-Err-rows_in-clause-r
 returns-in-Err-rows_in-clause-refused g c =
     unread_ends (suite_view c.args.suite).reading c.worth_of-points.result _ c.in-Err-rows_in.fault _ c.unread.ensures.fault c.unread.ensures.points
     (rows_end (suite_view c.args.suite).reading c.deref.result.now (head_view c.in_ok-opened.opened.head) c.in_ok-opened.opened.next
-    (lines_of c.in_ok-opened.opened.rest.now) _ _ c.args.steps _ c.in-Err-rows_in.fault c.worth_of-points.result
-    c.in_ok-opened.ensures.head c.in-Ok.ensures.program c.in-Err-rows_in.ensures.refused c.worth_of-points.ensures)
+    (lines_of c.in_ok-opened.opened.rest.now) _ _ _ c.args.steps _ _ c.in-Err-rows_in.fault c.worth_of-points.result
+    c.in_ok-opened.ensures.head c.in-Ok.ensures.program c.in-Ok.ensures.places c.in_ok-map.ensures.map c.in-Ok.ensures.functions
+    c.in-Err-rows_in.ensures.refused c.worth_of-points.ensures)
 
 pub returns-in-Err-clause-refused : goal.returns-in-Err-clause-refused
 returns-in-Err-clause-refused g c =
