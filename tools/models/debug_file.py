@@ -36,6 +36,10 @@ def number(text):
     return int(text, 16) if text.startswith("0x") else int(text)
 
 
+def counted(count, thing):
+    return f"{count} {thing}{'' if count == 1 else 's'}"
+
+
 class Lines:
     """The rows of a program, and the names of the files that they are of."""
 
@@ -81,9 +85,37 @@ class Lines:
         row = self.shown(address) if self.begun(address) else None
         return bool(row) and row.start == address
 
+    def line_count(self):
+        return len(self.rows)
+
+    def file_size(self, id):
+        """How many bytes a file had, if that is told."""
+        return None
+
+    def is_twice(self, id):
+        """Whether a file may be one of two."""
+        return False
+
+    def segments(self):
+        """The rows of the segments that have bytes, and of addresses without a line that is shown."""
+        return []
+
+    def told(self, size_now):
+        """The rows of `info`. `size_now` gives how many bytes the file of a name has, or None."""
+        rows = [f"debug   {self.TOOL}, {counted(self.line_count(), 'line')}"]
+        for id, name in sorted(self.files.items()):
+            then, now = self.file_size(id), size_now(name)
+            found = "not found" if now is None else "found" + (
+                " with another size" if then not in (None, now) else "")
+            rows.append(f"file    {name}{'' if then is None else '  ' + counted(then, 'byte')}, {found}"
+                        + "; two files have this name, no line of them is shown" * self.is_twice(id))
+        return rows + self.segments()
+
 
 class DebugFile(Lines):
     """The records of a debug file, by word and number."""
+
+    TOOL = "ld65"
 
     def __init__(self, text):
         self.records = collections.defaultdict(dict)
@@ -125,6 +157,32 @@ class DebugFile(Lines):
         mains = [int(it["file"]) for it in self.records["mod"].values()]
         return mains.count(row.file) < 2 and self.segments_at(row) < 2
 
+    def line_count(self):
+        return len(self.records["line"])
+
+    def file_size(self, id):
+        return number(self.records["file"][id]["size"])
+
+    def is_twice(self, id):
+        return [int(it["file"]) for it in self.records["mod"].values()].count(id) > 1
+
+    def hidden(self):
+        """The ranges of the addresses that lines have, and of which none is shown."""
+        had, shown = (set().union(*(range(it.start, min(it.end, 65536)) for it in rows))
+                      for rows in (self.all_rows(), self.rows))
+        missing = had - shown
+        starts = sorted(it for it in missing if it - 1 not in missing)
+        return list(zip(starts, sorted(it for it in missing if it + 1 not in missing)))
+
+    def segments(self):
+        held = [(it["name"], number(it["start"]), number(it["start"]) + number(it["size"]) - 1,
+                 f"  {it['oname']}+{int(it['ooffs']):04X}" if "oname" in it else "")
+                for _, it in sorted(self.records["seg"].items()) if number(it["size"])]
+        rows = [f"segment {name}  {first:04X}-{last:04X}{place}" for name, first, last, place in held]
+        for first, last in self.hidden():
+            names = "".join(f" {it[0]}" for it in held if it[1] <= last and first <= it[2])
+            rows.append(f"hidden  {first:04X}-{last:04X}  no line is shown; segments{names}")
+        return rows
 
     def names(self):
         """The names that its symbols give addresses, in the order of their numbers. One that was
@@ -146,6 +204,8 @@ LISTED = r"(\d*)(?::(\d+))?\t([.>])([0-9a-f]+)\t{}((?:[0-9a-f]{{2}} ?)+)(?:\t|$)
 class Listing(Lines):
     """A listing of 64tass with numbers of lines. It has a column of addresses where bytes run only
     if some run elsewhere."""
+
+    TOOL = "64tass"
 
     def __init__(self, text):
         rows, files, file = [], {}, None
@@ -176,6 +236,8 @@ LENGTHS = {it.opcode: it.length for it in table.ROWS_N}
 class Report(Lines):
     """A report of ACME. Bytes of a line are taken to stand one behind another if the next ones stand
     right behind them, or if they are one instruction; otherwise the first alone."""
+
+    TOOL = "ACME"
 
     def __init__(self, text):
         rows, names, file, is_late, is_open = [], [], None, False, False

@@ -7,3 +7,4 @@ pub mod Writes
 pub mod Word
 pub mod Forms
 pub mod RightTapes
+pub mod DebugRows

@@ -6,3 +6,4 @@ pub mod Rows
 pub mod Steps
 pub mod Told
 pub mod Word
+pub mod Debugged

@@ -14,11 +14,13 @@ ghost use Rattle.word_info.specs.Told.{IsHint, IsMendableCapture, IsNoCapture, I
 ghost use Rattle.word_info.specs.Told.{IsSumsText, IsTapeEnd, is_tape, records_in, tells_none};
 ghost use Rattle.word_info.specs.Behind.{records_behind};
 ghost use Rattle.word_info.specs.Rows.{behind_row};
-ghost use Rattle.word_info.specs.Word.{Asks, EndsInfo, IsAbout, IsSaid};
+ghost use Rattle.word_info.specs.Debugged.{IsAnswer, IsTold};
+ghost use Rattle.word_info.specs.Word.{Asks, EndsInfo, IsAbout};
 ghost use Rattle.tape_words.specs.Asked.{info_asked, info_view};
 ghost use Rattle.tape_words.specs.CommandLines.{info};
 
 use crate::behind::records_behind;
+use crate::debugged::{debug_answer, debug_form};
 use crate::fact_list::{data_records, facts_of};
 use crate::fact_text::{OfTape, behind_text, image_text, no_image_text};
 use crate::overlaps::{overlaps_of, text_overlaps_of};
@@ -507,12 +509,44 @@ fn answer_of(
     }
 }
 
+/// Returns what is to be said of bytes that are no debug information. The only error is that an
+/// allocation failed.
+fn other_told(
+    alloc: Global,
+    words: &InfoWords<'_>,
+    map: &MapSpec,
+    bytes: &[u8],
+) -> Result<Answer, AllocError>
+    requires { map.now.port ≡ words.now.port }
+    ensures { IfOk result (IsAnswer (info_view words.now)) }
+{
+    let answer = answer_of(alloc, words, map, bytes)?;
+    Ok(answer)
+}
+
+/// Returns what is to be said of an image or of debug information. The only error is that an
+/// allocation failed.
+fn answer_by<H: Files + AllocGlobal>(
+    rt: &H,
+    words: &InfoWords<'_>,
+    map: &MapSpec,
+    bytes: &[u8],
+) -> Result<Answer, AllocError>
+    requires { map.now.port ≡ words.now.port }
+    ensures { IfOk result (IsAnswer (info_view words.now)) }
+{
+    match debug_form(words.form, bytes) {
+        Some(form) => debug_answer(rt, words, form, bytes),
+        None => other_told(rt.alloc(), words, map, bytes),
+    }
+}
+
 /// Returns what is to be said of the file that the words name.
 fn answer_to<'a, H: Files + AllocGlobal>(
     rt: &H,
     words: &InfoWords<'a>,
 ) -> Result<Answer, FileRefusal<'a>>
-    ensures about { IfOk result (IsAbout (info_view words.now)) }
+    ensures about { IfOk result (IsAnswer (info_view words.now)) }
     ensures refused { IfErr result (λ why. EndsInfo (info_view words.now) why.refusal) }
 {
     let file = words.tape;
@@ -526,17 +560,17 @@ fn answer_to<'a, H: Files + AllocGlobal>(
         }
     };
     let text = read_text(rt, file)?;
-    answer_of(rt.alloc(), words, &map, &text).map_err(|_| FileRefusal {
+    answer_by(rt, words, &map, &text).map_err(|_| FileRefusal {
         file,
         refusal: Refusal::OutOfMemory,
     })
 }
 
-/// Does what the words after `info` ask for, and returns the exit status: 0 if the file is an
-/// image, 1 if it is none, 2 if the words or the map are wrong, 3 if memory ran out, 4 if reading
-/// or writing failed. What is in the image, or what is wrong with it, goes to `output`. For 2 and
-/// above a line on `errors` says why, with the name of the file; that it cannot be written changes
-/// no status.
+/// Does what the words after `info` ask for, and returns the exit status: 0 if the file is an image
+/// or debug information, 1 if it is neither, 2 if the words or the map are wrong, 3 if memory ran
+/// out, 4 if reading or writing failed. What is in the file, or what is wrong with it, goes to
+/// `output`. For 2 and above a line on `errors` says why, with the name of the file; that it cannot
+/// be written changes no status.
 pub fn tape_info<H: Files + AllocGlobal, O: Write, E: Write>(
     rt: &H,
     words: &[&str],
@@ -548,13 +582,15 @@ pub fn tape_info<H: Files + AllocGlobal, O: Write, E: Write>(
     ensures quiet { result ≡ 0 → errors.new ≡ errors.old }
     // Words or a map that are refused leave the output as it was.
     ensures untouched { 2 ≤ result → result ≤ 3 → output.new ≡ output.old }
-    // 0 means that the rows of some image were written, or the help that is asked for.
+    // 0 means that the rows of some image or of some debug information were written, or the help
+    // that is asked for.
     ensures right { result ≡ 0 → AsksForHelp info (texts words.entry.now)
-        ⊎ Asks (texts words.entry.now) (λ asked. Tells (IsSaid asked) true
+        ⊎ Asks (texts words.entry.now) (λ asked. Tells (IsTold asked) true
         (O.contents output.old) (O.contents output.new)) }
-    // 1 means that it was written why some bytes are no image, or that the file is too long.
+    // 1 means that it was written why some bytes are no image, or the first fault of some debug
+    // information; or that the file is too long.
     ensures wrong { result ≡ 1 → Asks (texts words.entry.now)
-        (λ asked. Tells (IsSaid asked) false (O.contents output.old) (O.contents output.new)
+        (λ asked. Tells (IsTold asked) false (O.contents output.old) (O.contents output.new)
         ⊎ (output.new ≡ output.old)) }
     // 2 means that the words do not fit, that a value is wrong, or that the port makes no map.
     ensures refused { result ≡ 2 → Misfits info (texts words.entry.now)
@@ -564,7 +600,7 @@ pub fn tape_info<H: Files + AllocGlobal, O: Write, E: Write>(
     // 4 means that a beginning was written of what is said of some bytes, or nothing; or help is
     // asked for.
     ensures begun { result ≡ 4 → AsksForHelp info (texts words.entry.now)
-        ⊎ Asks (texts words.entry.now) (λ asked. TellsFront (IsSaid asked)
+        ⊎ Asks (texts words.entry.now) (λ asked. TellsFront (IsTold asked)
         (O.contents output.old) (O.contents output.new) ⊎ (output.new ≡ output.old)) }
 {
     match read_info_words(rt.alloc(), words) {

@@ -1,7 +1,8 @@
 use Rattle.std.proofs.Common.{inl, inr}
 use Rattle.arguments.proofs.Parsed.{says_of_words}
 use Rattle.arguments.specs.Words.{texts}
-use Rattle.word_info.specs.Word.{EndsInfo, IsSaid}
+use Rattle.word_info.specs.Debugged.{IsTold}
+use Rattle.word_info.specs.Word.{EndsInfo}
 use Rattle.word_info.proofs.Word.{no_map}
 use Rattle.tape_words.specs.Asked.{info_view}
 use Rattle.tape_words.specs.CommandLines.{info}
@@ -13,7 +14,7 @@ returns-in-Ok-clause-right g c = λ zero. inr (
   info_view c.in-Ok.words,
   c.in-Ok.ensures.taken,
   c.in-Ok.ensures.asked,
-  said_right (IsSaid (info_view c.in-Ok.words)) c.answer_to.result c.answered.result _ _ c.answer_to.ensures.about c.answered.ensures.said zero,
+  said_right (IsTold (info_view c.in-Ok.words)) c.answer_to.result c.answered.result _ _ c.answer_to.ensures.about c.answered.ensures.said zero,
 )
 
 pub returns-in-Ok-clause-wrong : goal.returns-in-Ok-clause-wrong
@@ -21,7 +22,7 @@ returns-in-Ok-clause-wrong g c = λ one. (
   info_view c.in-Ok.words,
   c.in-Ok.ensures.taken,
   c.in-Ok.ensures.asked,
-  said_wrong (IsSaid (info_view c.in-Ok.words)) c.answer_to.result c.answered.result _ _ _ c.answer_to.ensures.about c.answered.ensures.said
+  said_wrong (IsTold (info_view c.in-Ok.words)) c.answer_to.result c.answered.result _ _ _ c.answer_to.ensures.about c.answered.ensures.said
       c.answered.ensures.alone one,
 )
 
@@ -30,7 +31,7 @@ returns-in-Ok-clause-refused g c = λ two. inr (inr (
   info_view c.in-Ok.words,
   c.in-Ok.ensures.taken,
   c.in-Ok.ensures.asked,
-  no_map (info_view c.in-Ok.words) (said_two (IsSaid (info_view c.in-Ok.words)) c.answer_to.result c.answered.result _ _
+  no_map (info_view c.in-Ok.words) (said_two (IsTold (info_view c.in-Ok.words)) c.answer_to.result c.answered.result _ _
       (EndsInfo (info_view c.in-Ok.words)) c.answer_to.ensures.about c.answered.ensures.said c.answer_to.ensures.refused two),
 ))
 
@@ -39,7 +40,7 @@ returns-in-Ok-clause-begun g c = λ four. inr (
   info_view c.in-Ok.words,
   c.in-Ok.ensures.taken,
   c.in-Ok.ensures.asked,
-  said_front (IsSaid (info_view c.in-Ok.words)) c.answer_to.result c.answered.result _ _ _ c.answer_to.ensures.about c.answered.ensures.said
+  said_front (IsTold (info_view c.in-Ok.words)) c.answer_to.result c.answered.result _ _ _ c.answer_to.ensures.about c.answered.ensures.said
       c.answered.ensures.alone four,
 )
 
