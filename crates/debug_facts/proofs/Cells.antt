@@ -1,7 +1,8 @@
 -- The cells of addresses, one address after another.
 use Rattle.std.proofs.Common.{◌≡◌, ◌∙◌, ℕ, ◌+◌, ◌-◌, ◌<◌, ◌++◌, List, [], ◌∷◌, Option, None, length, get_or, sym, ap, subst, arith, inl, inr, length-append}
 use Rattle.std.proofs.lemmas.Bool.{cases_lt}
-use Rattle.std.proofs.Math.ListN.{get_or-append, get_or-append_seam}
+use Rattle.std.proofs.Math.ListN.{get_or-append}
+use Rattle.std.proofs.Math.Seq.{get_or-append_seam}
 use Rattle.debug_records.specs.Info.{Table, record_at}
 use Rattle.debug_records.specs.Rows.{IsTable, shown_at}
 use Rattle.debug_records.specs.declared.row.Row.{Row}
