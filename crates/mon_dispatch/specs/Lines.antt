@@ -11,7 +11,7 @@ use Rattle.mon_runs.specs.declared.watches.Watch.TheVariants as watching
 use Rattle.mon_lines.specs.declared.command.Register.{Register}
 use Rattle.mon_lines.specs.declared.command.Test.{Test}
 use Rattle.mon_session.specs.Course.{Course, KeepsStops, ShowsOnly, course_of, happened}
-use Rattle.mon_settings.specs.StopLines.{KeepsPast, KeepsWatches, SetsBreaks, addresses_at, all_deleted, can_watch, standing_of, with_watch}
+use Rattle.mon_settings.specs.StopLines.{KeepsPast, KeepsWatches as KeepsWatched, SetsBreaks, addresses_at, all_deleted, can_watch, standing_of, with_watch}
 use Rattle.mon_settings.specs.ByteLines.{all_happened, assembled, bytes_put, inputs}
 use Rattle.mon_settings.specs.Displays.{with_display, without_display}
 use Rattle.mon_settings.specs.FlagLines.{flag_setting}
@@ -32,7 +32,7 @@ Says text old new = new.text.items ≡ old.text.items ++ text
 -- Breaks are set at all of some addresses, or at none.
 abbrev pub Breaks : List ℕ → List Test → ℕ → MonState → MonState → Type 0
 Breaks addresses tests times old new
-    = SetsBreaks addresses tests times old new × KeepsWatches old new
+    = SetsBreaks addresses tests times old new × KeepsWatched old new
 
 -- A watch is set.
 abbrev pub SetsWatch : Watch → MonState → MonState → Type 0
