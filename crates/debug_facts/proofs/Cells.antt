@@ -43,12 +43,12 @@ all_made rows clear found shown cells all told made = record {
       ∙ ap (hidden_cell (shown_at rows address)) (told.rows address below));
 }
 
-pub same_tables : (found shown first second : Table Row) (cells : List (Option ℕ)) → first ≡ found → second ≡ shown
-    → AreCells first second 65536 cells → AreCells found shown 65536 cells
-same_tables found shown first second cells e f made =
+pub same_tables : (found shown first second : Table Row) (cells : List (Option ℕ))
+    → AreCells first second 65536 cells → first ≡ found → second ≡ shown → AreCells found shown 65536 cells
+same_tables found shown first second cells made e f =
     subst (λ (t : Table Row). AreCells found t 65536 cells) f (subst (λ (t : Table Row). AreCells t second 65536 cells) e made)
 
-pub same_rows : (rows clear first second : List Row) (cells : List (Option ℕ)) → first ≡ rows → second ≡ clear
-    → AreHiddenAmong first second cells → AreHiddenAmong rows clear cells
-same_rows rows clear first second cells e f hidden =
+pub same_rows : (rows clear first second : List Row) (cells : List (Option ℕ))
+    → AreHiddenAmong first second cells → first ≡ rows → second ≡ clear → AreHiddenAmong rows clear cells
+same_rows rows clear first second cells hidden e f =
     subst (λ (r : List Row). AreHiddenAmong rows r cells) f (subst (λ (r : List Row). AreHiddenAmong r second cells) e hidden)

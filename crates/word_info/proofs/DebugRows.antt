@@ -10,14 +10,14 @@ use Rattle.word_info.specs.Debugged.{AreDebugRows, hidden_rows}
 use Rattle.word_info.specs.Facts.{ranges_of}
 use Rattle.word_info.specs.declared.ranges.Range.{Range}
 
-pub rows_by : (form : DebugForm) (info : Info) (states same : List SourceState) (said : List ℕ) → same ≡ states
-    → AreDebugRows form info same said → AreDebugRows form info states said
-rows_by form info states same said e rows = subst (λ (s : List SourceState). AreDebugRows form info s said) e rows
+pub rows_by : (form : DebugForm) (info : Info) (states same : List SourceState) (said : List ℕ)
+    → AreDebugRows form info same said → same ≡ states → AreDebugRows form info states said
+rows_by form info states same said rows e = subst (λ (s : List SourceState). AreDebugRows form info s said) e rows
 
 pub rows_told : (form : DebugForm) (info : Info) (states : List SourceState) (cells : List (Option ℕ)) (segments : Table Segment)
-    (ranges : List Range) (front said : List ℕ) → AreHidden info cells → segments ≡ info.segments → ranges ≡ ranges_of cells
-    → front ≡ known_text form info states → said ≡ front ++ hidden_rows segments ranges → AreDebugRows form info states said
-rows_told form info states cells segments ranges front said hidden same found known told = (
+    (ranges : List Range) (front said : List ℕ) → AreHidden info cells → said ≡ front ++ hidden_rows segments ranges
+    → front ≡ known_text form info states → segments ≡ info.segments → ranges ≡ ranges_of cells → AreDebugRows form info states said
+rows_told form info states cells segments ranges front said hidden told known same found = (
   cells,
   hidden,
   told ∙ (ap (λ (f : List ℕ). f ++ hidden_rows segments ranges) known

@@ -9,4 +9,4 @@ returns-clause-size c = c.in_ok-cells.ensures.size
 pub returns-clause-hidden : goal.returns-clause-hidden
 returns-clause-hidden c =
     let info = info_view c.args.info.now in
-    same_rows (rows_of info) (clear_rows info (rows_of info)) _ _ _ cc cc c.in_ok-cells.ensures
+    same_rows (rows_of info) (clear_rows info (rows_of info)) _ _ _ c.in_ok-cells.ensures (cc) (cc)
