@@ -1,3 +1,4 @@
+use Rattle.std.proofs.Common.{◌∙◌, ap}
 use Rattle.debug_records.specs.Rows.{clear_rows, rows_of}
 use Rattle.debug_records.specs.Views.{info_view}
 use Rattle.debug_facts.proofs.Cells.{same_rows}
@@ -9,4 +10,5 @@ returns-clause-size c = c.in_ok-cells.ensures.size
 pub returns-clause-hidden : goal.returns-clause-hidden
 returns-clause-hidden c =
     let info = info_view c.args.info.now in
-    same_rows (rows_of info) (clear_rows info (rows_of info)) _ _ _ c.in_ok-cells.ensures (cc) (cc)
+    same_rows (rows_of info) (clear_rows info (rows_of info)) _ _ _ c.in_ok-cells.ensures (c.as_slice-2.ensures.value ∙ c.in_ok-rows.ensures)
+    (c.as_slice-3.ensures.value ∙ (c.in_ok-clear.ensures ∙ ap (clear_rows info) (c.as_slice.ensures.value ∙ c.in_ok-rows.ensures)))

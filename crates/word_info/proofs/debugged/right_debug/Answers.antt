@@ -11,5 +11,5 @@ returns c = inr (record {
   info = info_view c.args.info.now;
   reads = c.requires.reads;
   states = c.in_ok-states.states.items;
-  rows = rows_by _ _ _ _ _ c.in_ok-text.ensures (cc);
+  rows = rows_by _ _ _ _ _ c.in_ok-text.ensures c.as_slice.ensures.value;
 })
