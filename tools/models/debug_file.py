@@ -74,11 +74,14 @@ class Lines:
         return row and f"{self.file_name(row.file)}:{row.line}"
 
     def addresses(self, file, line):
-        """Where the rows of a line begin, or of the next line of its file that has bytes."""
+        """Where the rows of a line begin, or of the next line of its file that has bytes: no row that
+        is among the bytes of one that begins before it."""
         rows = [it for it in self.rows if self.file_name(it.file) == file and it.line >= line
                 and it.start < it.end]
         lowest = min((it.line for it in rows), default=None)
-        return sorted({it.start for it in rows if it.line == lowest})
+        own = [it for it in rows if it.line == lowest]
+        return sorted({it.start for it in own
+                       if not any(of.start < it.start and it.end <= of.end for of in own)})
 
     def begins(self, address):
         """Whether a line begins at an address."""
