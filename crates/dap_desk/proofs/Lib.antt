@@ -1,2 +1,3 @@
 mod BreakList
+mod LineCalls
 mod LineRuns

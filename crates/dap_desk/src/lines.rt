@@ -142,7 +142,7 @@ pub fn go_to_line(alloc: Global, mon: &mut MonState, into: bool) -> Result<Halt,
 
 /// Undoes as many events as lead back to where a line begins, and notes them. `starts` says where
 /// lines begin.
-fn go_back_to_line(mon: &mut MonState, starts: &[LineStart])
+pub fn go_back_to_line(mon: &mut MonState, starts: &[LineStart])
     ensures course { course_of mon.new ≡ undone_to_line starts.now (course_of mon.old) }
     ensures stops { KeepsStops mon.old mon.new }
     ensures text { mon.new.text ≡ mon.old.text }
