@@ -65,8 +65,8 @@ fn debug_rows(
     Ok(words)
 }
 
-/// Returns how each file is found that debug information names. The only error is that an allocation
-/// failed.
+/// Returns how each file is found that debug information names. The only error is that an
+/// allocation failed.
 fn found_states<H: Files + AllocGlobal>(
     rt: &H,
     path: &str,
