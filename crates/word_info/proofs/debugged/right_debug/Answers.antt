@@ -4,7 +4,7 @@ use Rattle.word_info.proofs.DebugRows.{rows_by}
 use Rattle.word_info.proofs.debugged.right_debug.Goals as goal
 
 pub returns : goal.returns
-returns c = inr (record {
+returns g c = inr (record {
   bytes = c.args.bytes.now;
   form = c.args.form;
   begun = c.requires.begun;
