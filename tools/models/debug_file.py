@@ -91,6 +91,10 @@ class Lines:
     def line_count(self):
         return len(self.rows)
 
+    def written_name(self, id):
+        """The name of a file as it was written, which may have `\\` for `/`."""
+        return self.files[id]
+
     def file_size(self, id):
         """How many bytes a file had, if that is told."""
         return None
@@ -110,7 +114,8 @@ class Lines:
             then, now = self.file_size(id), size_now(name)
             found = "not found" if now is None else "found" + (
                 " with another size" if then not in (None, now) else "")
-            rows.append(f"file    {name}{'' if then is None else '  ' + counted(then, 'byte')}, {found}"
+            size = "" if then is None else "  " + counted(then, "byte")
+            rows.append(f"file    {self.written_name(id)}{size}, {found}"
                         + "; two files have this name, no line of them is shown" * self.is_twice(id))
         return rows + self.segments()
 
@@ -162,6 +167,9 @@ class DebugFile(Lines):
 
     def line_count(self):
         return len(self.records["line"])
+
+    def written_name(self, id):
+        return self.records["file"][id]["name"]
 
     def file_size(self, id):
         return number(self.records["file"][id]["size"])
