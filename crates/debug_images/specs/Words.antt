@@ -45,11 +45,15 @@ part_words file (part ∷ parts)
 abbrev pub with_parts : Text → List Part → List Text → List Text
 with_parts file parts rest = part_words file parts ++ (codes "--debug-info" ∷ file ∷ rest)
 
--- What words with a debug file of some text are: each of its files stands at an address.
+-- What words with some files are: each of these stands at an address.
+abbrev pub AreWords : Text → List Part → List Text → List Text → Type 0
+AreWords file parts rest made
+    = (first_unplaced parts ≡ None) × (made ≡ with_parts file parts rest)
+
+-- The same with a debug file of some text.
 abbrev pub IsWords : Text → List ℕ → List Text → List Text → Type 0
 IsWords file text rest made = (info : Info) × (debug_info text ≡ Ok info)
-    × (first_unplaced (parts_of info.segments) ≡ None)
-    × (made ≡ with_parts file (parts_of info.segments) rest)
+    × AreWords file (parts_of info.segments) rest made
 
 abbrev pub IsWithParts : List Text → List Text → Type 0
 IsWithParts [] made = ⊥

@@ -1,9 +1,11 @@
 //! The words of a program by its debug file.
 
-ghost use Rattle.std.specs.Prelude.{◌≡◌, IfOk, map, string_bytes};
+ghost use Rattle.std.specs.Prelude.{◌≡◌, IfErr, IfOk, IfSome, map, option_map, string_bytes, true};
 ghost use Rattle.arguments.specs.Words.{texts};
-ghost use Rattle.debug_images.specs.Words.{IsWithParts, IsWords, with_parts};
-ghost use Rattle.debug_images.specs.Parts.{part_view};
+ghost use Rattle.debug_images.specs.Faults.{EndsImage, EndsParts, EndsText, EndsWords};
+ghost use Rattle.debug_images.specs.Parts.{has_file, part_view, parts_of};
+ghost use Rattle.debug_images.specs.Words.{AreWords, IsWithParts, IsWords, part_words, with_parts};
+ghost use Rattle.debug_records.specs.Views.{segment_view};
 
 use crate::fault::ImageFault;
 use crate::parts::{Part, end_of, first_unplaced, parts_of};
@@ -24,10 +26,14 @@ fn with_parts(
     parts: &[Part<'_>],
     rest: &[&str],
 ) -> Result<Vec<String>, ImageFault>
-    ensures { IfOk result (λ words. map string_bytes words.items
+    ensures made { IfOk result (λ words. map string_bytes words.items
         ≡ with_parts file.now (map part_view parts.now) (texts rest.entry.now)) }
+    ensures refused { IfErr result (EndsWords (part_words file.now (map part_view parts.now))) }
 {
-    let mut words = part_words(alloc, file, parts)?;
+    let mut words = match part_words(alloc, file, parts) {
+        Ok(words) => words,
+        Err(why) => return Err(why),
+    };
     push_words(alloc, &mut words, &["--debug-info", file])?;
     push_words(alloc, &mut words, rest)?;
     Ok(words)
@@ -56,7 +62,11 @@ fn first_short<'a, H: Files + AllocGlobal>(
     file: &str,
     parts: &[Part<'a>],
     segments: &[Option<Segment<'_>>],
-) -> Result<Option<&'a [u8]>, AllocError> {
+) -> Result<Option<&'a [u8]>, AllocError>
+    // How many bytes a file has, no clause can say.
+    ensures { IfOk result (λ found. IfSome found
+        (λ name. has_file name.now (map part_view parts.now) ≡ true)) }
+{
     for part in parts {
         if is_short(rt, file, part.file, end_of(part.file, segments))? {
             return Ok(Some(part.file));
@@ -65,21 +75,19 @@ fn first_short<'a, H: Files + AllocGlobal>(
     Ok(None)
 }
 
-/// Returns words with the files of a program, by the text of its debug file.
-fn words_by<H: Files + AllocGlobal>(
+/// Returns words with the files of a program, if each stands at an address and is long enough.
+fn words_of<H: Files + AllocGlobal>(
     rt: &H,
     file: &str,
-    text: &[u8],
+    segments: &[Option<Segment<'_>>],
     rest: &[&str],
 ) -> Result<Vec<String>, ImageFault>
-    ensures { IfOk result (λ words. IsWords file.now text.now (texts rest.entry.now)
+    ensures made { IfOk result (λ words. AreWords file.now
+        (parts_of (map (option_map segment_view) segments.now)) (texts rest.entry.now)
         (map string_bytes words.items)) }
+    ensures refused { IfErr result (EndsParts file.now
+        (parts_of (map (option_map segment_view) segments.now))) }
 {
-    let info = match read_debug_info(rt.alloc(), text) {
-        Ok(info) => info,
-        Err(error) => return Err(ImageFault::Unread(load_fault(error))),
-    };
-    let segments = info.segments.as_slice();
     let parts = parts_of(rt.alloc(), segments)?;
     if parts.is_empty() {
         return Err(ImageFault::NoFile);
@@ -93,21 +101,39 @@ fn words_by<H: Files + AllocGlobal>(
     with_parts(rt.alloc(), file, parts.as_slice(), rest)
 }
 
+/// Returns words with the files of a program, by the text of its debug file.
+fn words_by<H: Files + AllocGlobal>(
+    rt: &H,
+    file: &str,
+    text: &[u8],
+    rest: &[&str],
+) -> Result<Vec<String>, ImageFault>
+    ensures made { IfOk result (λ words. IsWords file.now text.now (texts rest.entry.now)
+        (map string_bytes words.items)) }
+    ensures refused { IfErr result (EndsText file.now text.now) }
+{
+    match read_debug_info(rt.alloc(), text) {
+        Ok(info) => words_of(rt, file, info.segments.as_slice(), rest),
+        Err(error) => Err(ImageFault::Unread(load_fault(error))),
+    }
+}
+
 /// Reads the debug file that stands first among words, and returns words with the files of its
 /// program in its place, and with its debug information.
 ///
 /// # Errors
 ///
 /// `Unread` if the debug file is not read, or with the first fault of its text; `NoFile` if no
-/// segment has bytes in a file; `NoPlace` with the first file whose segments do not agree on where
-/// it stands; `Short` with the first file that has fewer bytes than its segments; `Unreadable` if
-/// the name of a file is no text; `OutOfMemory` if an allocation fails.
+/// segment has bytes in a file, or there is no word; `NoPlace` with the first file whose segments
+/// do not agree on where it stands; `Short` with the first file that has fewer bytes than its
+/// segments; `Unreadable` if the name of a file is no text; `OutOfMemory` if an allocation fails.
 pub fn image_words<H: Files + AllocGlobal>(
     rt: &H,
     words: &[&str],
 ) -> Result<Vec<String>, ImageFault>
-    ensures { IfOk result
+    ensures made { IfOk result
         (λ made. IsWithParts (texts words.entry.now) (map string_bytes made.items)) }
+    ensures refused { IfErr result (EndsImage (texts words.entry.now)) }
 {
     let [file, rest @ ..] = words else {
         return Err(ImageFault::NoFile);

@@ -1,6 +1,8 @@
 //! Why a program is not found by its debug file.
 
 ghost use Rattle.std.specs.Prelude.{◌≡◌};
+ghost use Rattle.debug_images.specs.Faults.{of_file, status_of_image, told_text};
+ghost use Rattle.model.specs.Writers.{AppendsFront};
 
 use arguments::{LoadFault, Refusal, put_named, refuse_file};
 use std::alloc::{AllocError, AllocFailed};
@@ -53,15 +55,23 @@ impl<T: Drop> From<AllocFailed<T>> for ImageFault {
 }
 
 /// Writes what is said of a file of the linker, and returns the exit status 1.
-fn tell_of<E: Write>(file: &str, name: &[u8], what: &str, errors: &mut E) -> u8 {
+fn tell_of<E: Write>(file: &str, name: &[u8], what: &str, errors: &mut E) -> u8
+    ensures status { result ≡ 1 }
+    ensures told { AppendsFront (E.contents errors.old) (E.contents errors.new)
+        (of_file file.now name.now what.now) }
+{
     put_named(file, &[b": ", name, what.as_bytes(), b"\n"], errors);
     1
 }
 
 impl ImageFault {
-    /// Writes why the program of a debug file is not found, and returns the exit status, even if
-    /// that cannot be written.
-    pub fn tell<E: Write>(self, file: &str, errors: &mut E) -> u8 {
+    /// Writes why the program of a debug file is not found, or a beginning of that if a write
+    /// fails, and returns the exit status.
+    pub fn tell<E: Write>(self, file: &str, errors: &mut E) -> u8
+        ensures status { result ≡ status_of_image self.entry }
+        ensures told { AppendsFront (E.contents errors.old) (E.contents errors.new)
+            (told_text file.now self.entry) }
+    {
         match self {
             ImageFault::Unread(fault) => fault.tell(file, errors),
             ImageFault::NoPlace(name) => tell_of(file, name.as_slice(), NO_PLACE, errors),

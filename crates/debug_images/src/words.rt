@@ -1,7 +1,8 @@
 //! Words with the files of a program.
 
-ghost use Rattle.std.specs.Prelude.{◌≡◌, ◌∷◌, ◌++◌, [], IfOk, OnOk, map, string_bytes};
+ghost use Rattle.std.specs.Prelude.{◌≡◌, ◌∷◌, ◌++◌, [], IfErr, IfOk, OnOk, map, string_bytes};
 ghost use Rattle.arguments.specs.Words.{texts};
+ghost use Rattle.debug_images.specs.Faults.{EndsWords};
 ghost use Rattle.debug_images.specs.Parts.{part_view};
 ghost use Rattle.debug_images.specs.Words.{asks_for_program, name_in, names_program, part_word};
 ghost use Rattle.debug_images.specs.Words.{part_word_if, part_words, path_of};
@@ -56,16 +57,20 @@ fn part_word(alloc: Global, file: &str, name: &[u8], base: u16) -> Result<Vec<u8
     Ok(word)
 }
 
-/// Appends a word of some bytes.
+/// Appends a word of some bytes. The only errors are that an allocation failed, or that the bytes
+/// are no text.
 fn push_bytes(words: &mut Vec<String>, bytes: Vec<u8>) -> Result<(), ImageFault>
-    ensures { OnOk result (map string_bytes words.new.items
+    ensures pushed { OnOk result (map string_bytes words.new.items
         ≡ map string_bytes words.old.items ++ bytes.items ∷ []) }
+    ensures refused { IfErr result (EndsWords (bytes.items ∷ [])) }
 {
-    let Ok(word) = String::from_utf8(bytes) else {
-        return Err(ImageFault::Unreadable);
-    };
-    words.push(word)?;
-    Ok(())
+    match String::from_utf8(bytes) {
+        Ok(word) => {
+            words.push(word)?;
+            Ok(())
+        }
+        Err(_) => Err(ImageFault::Unreadable),
+    }
 }
 
 /// Appends a word.
@@ -77,7 +82,8 @@ fn push_text(alloc: Global, words: &mut Vec<String>, text: &str) -> Result<(), A
     Ok(())
 }
 
-/// Appends the word of a file, if it is known where it stands.
+/// Appends the word of a file, if it is known where it stands. The only errors are that an
+/// allocation failed, or that its name is no text.
 fn push_part(
     alloc: Global,
     words: &mut Vec<String>,
@@ -85,8 +91,9 @@ fn push_part(
     name: &[u8],
     base: Option<u16>,
 ) -> Result<(), ImageFault>
-    ensures { OnOk result (map string_bytes words.new.items
+    ensures pushed { OnOk result (map string_bytes words.new.items
         ≡ map string_bytes words.old.items ++ part_word_if file.now name.now base) }
+    ensures refused { IfErr result (EndsWords (part_word_if file.now name.now base)) }
 {
     match base {
         None => Ok(()),
@@ -100,12 +107,16 @@ fn push_part(
 /// Returns the words of files. The only errors are that an allocation failed, or that a name is no
 /// text.
 pub fn part_words(alloc: Global, file: &str, parts: &[Part<'_>]) -> Result<Vec<String>, ImageFault>
-    ensures { IfOk result (λ words. map string_bytes words.items
+    ensures made { IfOk result (λ words. map string_bytes words.items
         ≡ part_words file.now (map part_view parts.now)) }
+    ensures refused { IfErr result (EndsWords (part_words file.now (map part_view parts.now))) }
 {
     let mut words = Vec::new(alloc);
     for part in parts {
-        push_part(alloc, &mut words, file, part.file, address_of(part.base))?;
+        match push_part(alloc, &mut words, file, part.file, address_of(part.base)) {
+            Ok(()) => {}
+            Err(why) => return Err(why),
+        }
     }
     Ok(words)
 }
