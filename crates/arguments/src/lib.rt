@@ -53,7 +53,7 @@ pub use outputs::{check_outputs, check_replaced, check_source, create, write_out
 pub use refusal::{ReadFault, Refusal};
 pub use refused::{finish, refuse, refuse_file, refuse_image_file, refused_words};
 pub use same_file::{is_one_file, is_one_output};
-pub use shown::{put_shown, shown_name};
+pub use shown::{push_shown, put_shown, shown_name};
 pub use value::{
     address_asked, debug_history_asked, form_asked, form_in, form_said_by, history_asked,
     port_asked, profile_asked, rom_asked, steps_asked, value_fault, wrong_value,

@@ -1,8 +1,8 @@
-//! Names of files as they are shown.
+//! Names as they are shown: those of files, and those that files have.
 
 ghost use Rattle.std.specs.Char.{is_control};
-ghost use Rattle.std.specs.Prelude.{◌≡◌, IfOk, if◌then◌else◌, string_bytes};
-ghost use Rattle.arguments.specs.Shown.{shown_name};
+ghost use Rattle.std.specs.Prelude.{◌≡◌, ◌||◌, ◌++◌, IfOk, OnOk, if◌then◌else◌, string_bytes};
+ghost use Rattle.arguments.specs.Shown.{breaks_or_turns, shown_bytes, shown_name};
 ghost use Rattle.model.specs.Writers.{Writes};
 
 use crate::output::{NotWritten, put};
@@ -14,18 +14,30 @@ use std::io::Write;
 /// How many bytes are put together before they are written.
 const MOST_AT_ONCE: usize = 60;
 
+/// Returns whether a character ends a line or a paragraph, or turns the direction of a text.
+fn breaks_or_turns(character: char) -> bool
+    ensures { result ≡ breaks_or_turns character }
+{
+    character == '\u{61C}'
+        || (character >= '\u{200E}' && character <= '\u{200F}')
+        || (character >= '\u{2028}' && character <= '\u{202E}')
+        || (character >= '\u{2066}' && character <= '\u{2069}')
+}
+
 /// Returns how a character is shown.
 fn shown_char(character: char) -> char
-    ensures { result ≡ (if is_control character then 63 else character) }
+    ensures { result
+        ≡ (if is_control character || breaks_or_turns character then 63 else character) }
 {
-    if character.is_control() {
+    if character.is_control() || breaks_or_turns(character) {
         '?'
     } else {
         character
     }
 }
 
-/// Writes the name of a file as it is shown: a control character is `?`.
+/// Writes a name as it is shown: a control character, and one that ends a line or turns the
+/// direction of a text, is `?`.
 ///
 /// Errors: `NotWritten` if a write fails: a beginning of it was then written.
 pub fn put_shown<O: Write>(output: &mut O, name: &str) -> Result<(), NotWritten>
@@ -47,7 +59,7 @@ pub fn put_shown<O: Write>(output: &mut O, name: &str) -> Result<(), NotWritten>
     put(output, text.as_slice())
 }
 
-/// Returns the name of a file as it is shown: a control character is `?`.
+/// Returns a name as it is shown, as `put_shown` writes it.
 ///
 /// Errors: `AllocError` if an allocation fails.
 pub fn shown_name(alloc: Global, name: &str) -> Result<String, AllocError>
@@ -60,8 +72,20 @@ pub fn shown_name(alloc: Global, name: &str) -> Result<String, AllocError>
     Ok(text)
 }
 
-/// A writer that shows the lines that it is given: a control character is `?`, but for the end of a
-/// line.
+/// Appends a name of any bytes as it is shown: as `put_shown` writes it, with U+FFFD for each
+/// sequence that is no UTF-8. Names of a debug file, of C functions and of locals are such.
+///
+/// Errors: `AllocError` if an allocation fails.
+pub fn push_shown(text: &mut Vec<u8>, name: &[u8]) -> Result<(), AllocError>
+    ensures { OnOk result (text.new.items ≡ text.old.items ++ shown_bytes name.now) }
+{
+    let lossy = String::from_utf8_lossy(*text.allocator(), name)?;
+    let shown = shown_name(*text.allocator(), &lossy)?;
+    text.extend_from_slice(shown.as_bytes())?;
+    Ok(())
+}
+
+/// A writer that shows the lines that it is given, as `put_shown` does, but for the end of a line.
 #[derive(Drop)]
 pub struct ShownLines<'a, W> {
     /// What it writes to.
