@@ -3,6 +3,7 @@ pub mod CommandLine
 pub mod FaultLines
 pub mod FileNames
 pub mod Files
+pub mod Given
 pub mod OtherFiles
 pub mod Outputs
 pub mod Refusals

@@ -18,6 +18,7 @@ mod file_names;
 mod file_options;
 mod file_refusal;
 mod files;
+mod given;
 mod load_fault;
 mod machine_files;
 mod map;
@@ -42,6 +43,7 @@ pub use file_names::{
 pub use file_options::{FileForm, FileWords, file_words, with_file_options};
 pub use file_refusal::FileRefusal;
 pub use files::{check_output, read_given, read_given_source, read_most, read_source, write_file};
+pub use given::has_option;
 pub use load_fault::{LoadFault, tell_no_image, tell_noted};
 pub use machine_files::{OtherFiles, other_files, with_files_options};
 pub use map::map_of;
