@@ -7,7 +7,7 @@ import ctypes.util
 import os
 import shutil
 import struct
-from typing import Any, Optional, Tuple
+from typing import Any, Optional, Tuple, Union
 
 from .accesses import Access
 from .faults import (
@@ -180,11 +180,13 @@ _CALLS = {
 _OWN_FILE = os.path.join(os.path.dirname(os.path.abspath(__file__)), "libmos65.so")
 
 
-def find_library(library: Optional[str] = None) -> Optional[str]:
+def find_library(library: Union[str, "os.PathLike[str]", None] = None) -> Optional[str]:
     """The library's file: the one that is given, that of MOS65_LIBRARY, the one in this package,
     the one in `lib` beside the program's folder, the one in ~/.local, or the system's. None where
     there is none."""
-    found = library or os.environ.get("MOS65_LIBRARY")
+    if library is not None:
+        return os.fsdecode(library)
+    found = os.environ.get("MOS65_LIBRARY")
     if found:
         return found
     if os.path.isfile(_OWN_FILE):
@@ -213,24 +215,39 @@ def fault_of(status: int, told: Optional[_Fault] = None) -> Fault:
 
 
 class Library:
-    """The calls of a library, declared as `mos65.h` declares them."""
+    """The calls of a library, declared as `mos65.h` declares them. Raises Refused: NoLibrary for a
+    file that is not the library, Version for one of another version."""
 
     _loaded: dict = {}
 
     def __new__(cls, file: str) -> "Library":
         if file not in cls._loaded:
             it = super().__new__(cls)
-            it._declare(ctypes.CDLL(file))
+            it._load(file)
             cls._loaded[file] = it
         return cls._loaded[file]
 
-    def _declare(self, loaded: ctypes.CDLL) -> None:
-        for name, arguments in _CALLS.items():
-            call = getattr(loaded, f"mos65_{name}")
-            call.argtypes, call.restype = arguments, ctypes.c_uint32
-            setattr(self, name.rstrip("_"), call)
-        if self.version_number() // 100 != VERSION_NUMBER // 100:
-            raise Refused("Version", text=f"the library's version is {self.version_number()}")
+    def _load(self, file: str) -> None:
+        try:
+            loaded = ctypes.CDLL(file)
+        except OSError as error:
+            told = str(error)
+            text = told if told.startswith(f"{file}:") else f"{file}: {told}"
+            raise Refused("NoLibrary", text=text) from None
+        # The version comes first: another one may lack calls.
+        for name in _CALLS:
+            try:
+                self._declare(loaded, name)
+            except AttributeError:
+                text = f"{file} is not the library of mos65: it has no mos65_{name}"
+                raise Refused("NoLibrary", text=text) from None
+
+    def _declare(self, loaded: ctypes.CDLL, name: str) -> None:
+        call = getattr(loaded, f"mos65_{name}")
+        call.argtypes, call.restype = _CALLS[name], ctypes.c_uint32
+        setattr(self, name.rstrip("_"), call)
+        if name == "version_number" and call() // 100 != VERSION_NUMBER // 100:
+            raise Refused("Version", text=f"the library's version is {call()}")
 
 
 class Session:

@@ -2,6 +2,7 @@
 
 from __future__ import annotations
 
+import functools
 import operator
 import os
 import re
@@ -10,9 +11,10 @@ import warnings
 import weakref
 from contextlib import contextmanager
 from dataclasses import replace
+from threading import get_ident
 from types import TracebackType
 from typing import Any, Callable, Dict, Hashable, Iterable, Iterator, List, Optional, Tuple
-from typing import Type, Union
+from typing import Type, TypeVar, Union, cast
 
 from . import events, images, pipe, words
 from . import library as by_library
@@ -36,16 +38,32 @@ _BREAK_BIT = 0x10
 _DIRECTIVE = re.compile(r"\s*(?:\w+\s*:\s*)?\.")
 
 
-def _check_map(
-    history: int, port: Optional[int], rom: Optional[Tuple[int, int]], profile: str
-) -> None:
+def _number(name: str, shown: str, value: Any, most: int) -> int:
+    """A number from 0 to `most`. Raises MapFault of this name for all else."""
+    try:
+        number = operator.index(value)
+    except TypeError:
+        raise MapFault(name, text=f"{shown} is no number") from None
+    if not 0 <= number <= most:
+        raise MapFault(name, text=f"{shown} is not within 0..{most}")
+    return number
+
+
+def _rom_of(rom: Any) -> Optional[Tuple[int, int]]:
+    """The first and the last address of ROM, or None. Raises MapFault for all else."""
+    if rom is None:
+        return None
+    shown = f"rom={rom!r:.60}"
+    try:
+        first, last = rom
+    except (TypeError, ValueError):
+        raise MapFault("Map", text=f"{shown} is no pair (first address, last address)") from None
+    return _number("Map", shown, first, 0xFFFF), _number("Map", shown, last, 0xFFFF)
+
+
+def _check_profile(profile: Any) -> None:
     if profile not in ("N", "C"):
-        raise MapFault("Profile", text=repr(profile))
-    if not 0 <= history <= 65536:
-        raise MapFault("History", text=str(history))
-    for it in (*(() if port is None else (port,)), *(rom or ())):
-        if not 0 <= it <= 0xFFFF:
-            raise MapFault("Map", text=hex(it))
+        raise MapFault("Profile", text=f"profile={profile!r:.60} is neither 'N' nor 'C'")
 
 
 def _bytes_of(data: Bytes) -> bytes:
@@ -58,6 +76,22 @@ def _bytes_of(data: Bytes) -> bytes:
         return bytes(data)
     except ValueError:
         raise Refused("Value", text="a byte is 0 to 255") from None
+
+
+_Call = TypeVar("_Call", bound=Callable[..., Any])
+
+
+def _in_its_thread(call: _Call) -> _Call:
+    """A call of a machine that raises Refused, Thread, in a thread that did not open it."""
+
+    @functools.wraps(call)
+    def checked(self: "Machine", *given: Any, **options: Any) -> Any:
+        if get_ident() != self._thread:
+            text = "a machine is used by the thread that opened it, and this is another one"
+            raise Refused("Thread", text=text)
+        return call(self, *given, **options)
+
+    return cast(_Call, checked)
 
 
 class Machine:
@@ -80,7 +114,8 @@ class Machine:
     library: True for the library, False for the program, None for the library where it is found;
         or the library's file
     program: the program's file, where it is not `mos65` on the PATH. It reads Intel HEX, S-records,
-        PRG files and files of names, also for a machine by the library
+        PRG files and files of names, also for a machine by the library. It is asked for its
+        version once, which tells whether it is mos65
     timeout: how many seconds the program may take for a reply
 
     `symbols` has the names with their numbers, `lines` the line of each address at which one of the
@@ -90,8 +125,14 @@ class Machine:
     Raises FileNotFoundError, or another OSError, where the file cannot be read; AssemblyFault,
     TapeFault and ImageFault for what is in it; MapFault where history, port, ROM or profile are
     none; SessionFault, PortAddress, where an image has a byte at the port; Refused where bytes go
-    past 0xFFFF, two forms are said, a source is given names, or no library is found; Fault,
-    OutOfMemory; EngineDied where there is no program, or it ends; Timeout.
+    past 0xFFFF, two forms are said, or a source is given names; Refused, NoLibrary, where no
+    library is found or the file is none of mos65; Fault, OutOfMemory; EngineDied, NoProgram, where
+    there is no program or it is none of mos65; EngineDied where it ends; Timeout.
+
+    A machine is used by the thread that opened it: in another one each call that asks it something
+    or changes it raises Refused, Thread, and nothing is changed. Names and lines are for all. A
+    lock around each call would not do: threads that write, call and read would do so between each
+    other's calls, and a machine of the library stays on its thread (`mos65.h`).
 
     Every call raises Closed once the machine is closed, and over the pipe EngineDied where the
     program has ended and Timeout where it does not answer. The calls name what they raise beside
@@ -114,12 +155,17 @@ class Machine:
         port: Optional[int] = 0xF000,
         rom: Optional[Tuple[int, int]] = None,
         profile: str = "N",
-        library: Union[bool, str, None] = None,
-        program: Optional[str] = None,
+        library: Union[bool, File, None] = None,
+        program: Optional[File] = None,
         timeout: float = 10.0,
     ) -> None:
-        _check_map(history, port, rom, profile)
-        self.port, self.history, self._name, self._program = port, history, "", program
+        self._thread = get_ident()
+        _check_profile(profile)
+        history, rom = _number("History", f"history={history!r:.60}", history, 65536), _rom_of(rom)
+        if port is not None:
+            port = _number("Map", f"port={port!r:.60}", port, 0xFFFF)
+        self.port, self.history, self._name = port, history, ""
+        self._program, self._timeout = program, timeout
         source, form = self._read(source, form, tape, at)
         if symbols is not None and form == "source":
             raise Refused("Words", text="a source has its own names")
@@ -147,6 +193,9 @@ class Machine:
         self._request = RequestLine()
         Machine.open_machines.add(self)
 
+    def _mos65(self) -> str:
+        return words.find_program(self._program, self._timeout)
+
     def _read(
         self, source: Any, form: Optional[str], tape: Optional[bool], at: Optional[int]
     ) -> Tuple[bytes, str]:
@@ -158,13 +207,13 @@ class Machine:
         form = images.form_of(self._name, source, form, tape, at)
         if form not in images.CONVERTED:
             return source, form
-        return words.converted(words.find_program(self._program), source, form), "tape"
+        return words.converted(self._mos65(), source, form), "tape"
 
     def _open(self) -> Source:
         """Opens the machine by the library or the program, as `library` says."""
         library, file = self._opening[1]["library"], None
         if library is not False:
-            file = by_library.find_library(library if isinstance(library, str) else None)
+            file = by_library.find_library(None if library is True else library)
             if library is True and not file:
                 raise Refused("NoLibrary", text="libmos65.so is not found")
         self.is_library = file is not None
@@ -193,7 +242,7 @@ class Machine:
 
     def _open_pipe(self) -> Source:
         source, options = self._opening
-        program, form, rom = words.find_program(self._program), options["form"], options["rom"]
+        program, form, rom = self._mos65(), options["form"], options["rom"]
         given = [f"--history={self.history}", *self._map_options()]
         given += [f"--rom={rom[0]:04X}-{rom[1]:04X}"] if rom else []
         given += {"tape": ["--tape"], "bin": [f"--bin={options['at'] or 0:04X}"]}.get(form, [])
@@ -221,7 +270,7 @@ class Machine:
     def _names_of(self, symbols: File) -> Dict[str, int]:
         with open(symbols, "rb"):
             pass
-        found, left_out = words.names_of(words.find_program(self._program), os.fspath(symbols))
+        found, left_out = words.names_of(self._mos65(), os.fspath(symbols))
         if left_out:
             warnings.warn(f"{os.fspath(symbols)}: names left out: {left_out}", stacklevel=3)
         return found
@@ -239,6 +288,7 @@ class Machine:
     ) -> None:
         self.close()
 
+    @_in_its_thread
     def close(self) -> None:
         """Closes the machine. Each later call raises Closed; a second close does nothing."""
         if self in Machine.open_machines:
@@ -247,6 +297,7 @@ class Machine:
         Machine.open_machines.discard(self)
         self._way.close()
 
+    @_in_its_thread
     def copy(self) -> "Machine":
         """A second machine in the same state, with the same history, breakpoints and watches.
 
@@ -306,15 +357,18 @@ class Machine:
     # ---- memory and registers
 
     @property
+    @_in_its_thread
     def registers(self) -> Registers:
         """The registers, and the cycles since the start."""
         return self._way.registers()
 
     @property
+    @_in_its_thread
     def cycles(self) -> int:
         """The cycles since the start, whose reset took 7."""
         return self._way.registers().cycles
 
+    @_in_its_thread
     def set(self, **values: int) -> None:
         """Sets registers: a, x, y, s and p to a byte, pc to a place. Each is an event.
 
@@ -348,6 +402,7 @@ class Machine:
             raise Refused("Value", text=f"{register}={value}")
         return 1
 
+    @_in_its_thread
     def read(self, place: Place, count: int = 1) -> bytes:
         """Bytes of memory, 0 at the port. Nothing is changed.
 
@@ -357,6 +412,7 @@ class Machine:
             raise Refused("Count", text=str(count))
         return self._way.read(self._range(place, count), count)
 
+    @_in_its_thread
     def write(self, place: Place, data: Bytes) -> int:
         """Puts bytes into memory, or one byte that is given as a number; into ROM too. Returns how
         many events that were: one for each three bytes.
@@ -419,6 +475,7 @@ class Machine:
             raise Refused("Range", text=f"${first:04X} to ${end:04X}")
         return first, end - first
 
+    @_in_its_thread
     def disassemble(self, place: Place, count: int = 1) -> List[Tuple[int, str]]:
         """The address and the text of so many instructions, or up to 0xFFFF."""
         address, rows = self.address(place), []
@@ -433,10 +490,12 @@ class Machine:
     # ---- the console and the signals
 
     @property
+    @_in_its_thread
     def output(self) -> bytes:
         """All bytes that the program has put out."""
         return self._way.output()
 
+    @_in_its_thread
     def send(self, data: Bytes) -> None:
         """Hands in input, bytes or one byte that is given as a number, one event for each byte.
 
@@ -446,10 +505,12 @@ class Machine:
         for byte in _bytes_of(data):
             self._make("send", bytes([byte]), 1)
 
+    @_in_its_thread
     def reset(self) -> None:
         """Resets the machine, which takes 7 cycles. Raises EventFault, CyclesFull."""
         self._make("reset", None, 1)
 
+    @_in_its_thread
     def irq(self, level: bool, at: Optional[int] = None, *, by: Hashable = None) -> None:
         """Asks for an IRQ, or no longer, now or at a cycle, as `at` says; one event.
 
@@ -463,6 +524,7 @@ class Machine:
         self._make("irq", bool(asking), 1)
         self._request.note(self.event_number, asking, self.history)
 
+    @_in_its_thread
     def nmi(self, at: Optional[int] = None) -> None:
         """Signals an NMI, now or at a cycle, as `at` says. Raises Refused as `at` does."""
         if at is not None:
@@ -473,6 +535,7 @@ class Machine:
     # ---- devices
 
     @property
+    @_in_its_thread
     def event_number(self) -> int:
         """How many events have led here from the start.
 
@@ -482,6 +545,7 @@ class Machine:
         moment = self._devices.moment
         return self._events.number if moment is None else moment
 
+    @_in_its_thread
     def at(self, cycle: int, call: Callable[[], None]) -> None:
         """Calls `call` at a cycle: before the first step that begins when so many have passed.
 
@@ -492,6 +556,7 @@ class Machine:
             raise Refused("Cycle", text=str(cycle))
         self._devices.at(cycle, call)
 
+    @_in_its_thread
     def on_read(self, first: Place, last: Place, call: Callable[[int], int]) -> None:
         """Has a device give what an instruction reads at first..last: `call(address)` before it.
 
@@ -507,6 +572,7 @@ class Machine:
             raise Refused("History", text="a device needs a history of one event")
         self._devices.place(self._device_range(first, last), call, None)
 
+    @_in_its_thread
     def on_write(self, first: Place, last: Place, call: Callable[[int, int], None]) -> None:
         """Has a device take what an instruction stores at first..last.
 
@@ -520,6 +586,7 @@ class Machine:
             raise Refused("Rom", text=f"${rom[0]:04X}..${rom[1]:04X}")
         self._devices.place(places, None, call)
 
+    @_in_its_thread
     def on_reach(self, place: Place, call: Callable[[], None]) -> None:
         """Has `call()` made before each step that begins at a place, also where an interrupt comes
         in that step's place. It takes one of the 256 breakpoints.
@@ -542,6 +609,7 @@ class Machine:
         low, high = (self.read(0x100 + (s + it) % 256)[0] for it in (1, 2))
         self.set(s=(s + 2) % 256, pc=(low + 256 * high + 1) % 0x10000)
 
+    @_in_its_thread
     def on_back(self, call: Callable[[int], None]) -> None:
         """Tells a device where the machine went back to: `call(event_number)` after each `back`.
 
@@ -564,6 +632,7 @@ class Machine:
 
     # ---- running
 
+    @_in_its_thread
     def step(self) -> Registers:
         """Makes one step, and returns the registers after it.
 
@@ -575,6 +644,7 @@ class Machine:
             self._make("step", None, 1)
         return self._way.registers()
 
+    @_in_its_thread
     def run(self, limit: int = _LIMIT) -> RunEnd:
         """Runs up to `limit` steps: to a watch, a breakpoint, or a step that is refused.
 
@@ -582,6 +652,7 @@ class Machine:
         """
         return self._run(self._limit(limit))
 
+    @_in_its_thread
     def run_to(self, place: Place, limit: int = _LIMIT) -> RunEnd:
         """Runs as `run` does, and stops at a place too.
 
@@ -595,6 +666,7 @@ class Machine:
         self._events.note("step", None, end.steps)
         return end
 
+    @_in_its_thread
     def run_until_cycle(self, cycle: int) -> RunEnd:
         """Runs up to the end of the first step after which so many cycles have passed.
 
@@ -634,6 +706,7 @@ class Machine:
             if not is_set:
                 self._way.clear_break(address)
 
+    @_in_its_thread
     def call(
         self,
         place: Place,
@@ -711,6 +784,7 @@ class Machine:
             raise Refused("Limit", text=str(limit))
         return limit
 
+    @_in_its_thread
     def back(self, count: int = 1) -> None:
         """Goes back over the last `count` events; over none, where it is 0.
 
@@ -726,10 +800,12 @@ class Machine:
             self._devices.went_back()
 
     @property
+    @_in_its_thread
     def held(self) -> int:
         """How many events can be gone back over."""
         return self._way.held()
 
+    @_in_its_thread
     def break_at(self, place: Place) -> None:
         """Sets a breakpoint. Raises SessionFault: AlreadySet, TableFull."""
         address = self.address(place)
@@ -739,6 +815,7 @@ class Machine:
             raise SessionFault("AlreadySet", 3)
         self._breaks.append(address)
 
+    @_in_its_thread
     def clear_break(self, place: Place) -> None:
         """Clears a breakpoint. Raises SessionFault: NotSet."""
         address = self.address(place)
@@ -748,6 +825,7 @@ class Machine:
             raise SessionFault("NotSet", 4)
         self._breaks.remove(address)
 
+    @_in_its_thread
     def watch(self, place: Place) -> None:
         """Sets a watch: a run stops after a step that changes this byte.
 
@@ -758,6 +836,7 @@ class Machine:
         self._way.set_watch(address)
         self._watches.append(address)
 
+    @_in_its_thread
     def clear_watch(self, place: Place) -> None:
         """Clears a watch. Raises SessionFault: NotSet."""
         address = self.address(place)
@@ -768,7 +847,7 @@ class Machine:
 
     def __repr__(self) -> str:
         try:
-            r = self._way.registers()
+            r = self.registers
         except Fault as fault:
             return f"<mos65.Machine: {fault.name}>"
         state = f"A={r.a:02X} X={r.x:02X} Y={r.y:02X} S={r.s:02X} {r.flags}"
@@ -787,6 +866,7 @@ class Machine:
         file = f"{self._name}:" if self._name else "line "
         return shown if line is None else f"{shown}, {file}{line}"
 
+    @_in_its_thread
     def warnings(self) -> str:
         """The warnings of the source as `mos65 check` prints them, an empty text where there is
         none; of an image none is known."""
@@ -795,13 +875,14 @@ class Machine:
             return ""
         if self.is_library:
             return self._way.warnings()
-        return self._checked(words.find_program(self._program))
+        return self._checked(self._mos65())
 
     def line(self, place: Place) -> Optional[Tuple[int, str]]:
         """The line of the source that begins at a place, counted from 1, and its text."""
         number = self.lines.get(self.address(place))
         return None if number is None else (number, self._texts[number - 1])
 
+    @_in_its_thread
     def last_steps(self, count: int = 20) -> List[Step]:
         """The last steps, the oldest first, as many as are held.
 
@@ -828,6 +909,7 @@ class Machine:
                 events.make(self._way, rest.pop())
         return found
 
+    @_in_its_thread
     def coverage(self) -> Dict[int, int]:
         """How often a step began at the instruction of each line of the source: the numbers of the
         lines that have one, counted from 1, with their counts.

@@ -9,7 +9,7 @@ import re
 import shutil
 import subprocess
 import tempfile
-from typing import Dict, List, Optional, Sequence, Tuple
+from typing import Dict, List, Optional, Sequence, Set, Tuple, Union
 
 from .faults import AssemblyFault, EngineDied, Fault, ImageFault, MapFault, SessionFault, TapeFault
 from .values import Source, texts_of
@@ -21,13 +21,39 @@ UNNAMED = "source"
 _FAULT = re.compile(r"(?m)^source:(\d+):\d+: (\w+) (\d+): ")
 
 
-def find_program(program: Optional[str]) -> str:
-    """The program to run: the one that is given, that of MOS65_PROGRAM, or `mos65` on the PATH."""
-    found = program or os.environ.get("MOS65_PROGRAM") or shutil.which("mos65")
+# The programs that have said who they are.
+_known: Set[str] = set()
+
+
+def find_program(program: Union[str, "os.PathLike[str]", None], seconds: float = 10.0) -> str:
+    """The program to run: the one that is given, that of MOS65_PROGRAM, or `mos65` on the PATH.
+
+    Raises EngineDied, NoProgram, where there is none, or it does not say within so many seconds
+    that it is mos65.
+    """
+    given = None if program is None else os.fsdecode(program)
+    found = given or os.environ.get("MOS65_PROGRAM") or shutil.which("mos65")
     if not found:
         raise EngineDied("NoProgram", text="mos65 is not on the PATH")
     # It is started in other folders too.
-    return os.path.abspath(found) if os.sep in found else found
+    found = os.path.abspath(found) if os.sep in found else found
+    if found not in _known:
+        _ask_name(found, seconds)
+        _known.add(found)
+    return found
+
+
+def _ask_name(program: str, seconds: float) -> None:
+    """Raises EngineDied where a program does not say that it is mos65."""
+    try:
+        told = _run(program, "--version", seconds=seconds)[1]
+    except subprocess.TimeoutExpired:
+        text = f"{program} does not answer --version in {seconds} seconds"
+        raise EngineDied("NoProgram", text=text) from None
+    if not told.startswith("mos65"):
+        first = told.partition("\n")[0]
+        text = f"{program} is not mos65: its answer to --version is {first!r:.60}"
+        raise EngineDied("NoProgram", text=text)
 
 
 def refusal(text: str, status: int) -> Fault:
@@ -49,10 +75,13 @@ def refusal(text: str, status: int) -> Fault:
     return EngineDied("EngineDied", text=f"status {status}: {line}")
 
 
-def _run(*words: str, folder: Optional[str] = None) -> Tuple[int, str, str]:
+def _run(
+    *words: str, folder: Optional[str] = None, seconds: Optional[float] = None
+) -> Tuple[int, str, str]:
     """The status, the output and the error stream of the program."""
+    how = {"stdin": subprocess.DEVNULL, "capture_output": True, "cwd": folder, "timeout": seconds}
     try:
-        ran = subprocess.run(words, stdin=subprocess.DEVNULL, capture_output=True, cwd=folder)
+        ran = subprocess.run(words, **how)
     except OSError as error:
         raise EngineDied("NoProgram", text=f"{words[0]}: {error.strerror}") from None
     return ran.returncode, *(it.decode("utf-8", "replace") for it in (ran.stdout, ran.stderr))
