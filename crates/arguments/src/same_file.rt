@@ -49,15 +49,26 @@ fn linked(alloc: Global, path: &str, target: &PathBuf) -> Result<PathBuf, AllocE
     Path::new(folder_of(path)).join(alloc, target.as_str())
 }
 
-/// Returns the path that a path names: another one, if it is a link.
+/// How many links are followed at most, as Linux does it. Source: path_resolution(7).
+const MOST_LINKS: u8 = 40;
+
+/// Returns the path that is reached from a path by links: itself, if it is none. Of links that name
+/// each other it is one of them.
 fn followed<H: Files + AllocGlobal>(rt: &H, path: &str) -> io::Result<PathBuf> {
-    match fs::read_link(rt, path) {
-        Ok(target) => Ok(linked(rt.alloc(), path, &target)?),
-        Err(error) => match error.kind() {
-            ErrorKind::OutOfMemory => Err(error),
-            _ => Ok(PathBuf::from_str(rt.alloc(), path)?),
-        },
+    let mut reached = PathBuf::from_str(rt.alloc(), path)?;
+    for _ in 0..MOST_LINKS {
+        match fs::read_link(rt, &reached) {
+            Ok(target) => {
+                let next = linked(rt.alloc(), reached.as_str(), &target)?;
+                reached = next;
+            }
+            Err(error) => match error.kind() {
+                ErrorKind::OutOfMemory => return Err(error),
+                _ => return Ok(reached),
+            },
+        }
     }
+    Ok(reached)
 }
 
 /// Returns whether two paths have one last part, in one folder.
